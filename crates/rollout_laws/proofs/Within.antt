@@ -1,0 +1,58 @@
+-- A Done takes no room, and places within a legal history are as good as its own.
+use Rattle.std.proofs.Common.{◌≡◌, ℕ, ◌≤◌, true, List, [], ◌∷◌, ◌++◌, subst, sym}
+use Rattle.rollout_rules.specs.Wan.{Problem, Plan}
+use Rattle.rollout_rules.specs.Network.{IsNetwork}
+use Rattle.rollout_rules.specs.Items.{Resource, number_of}
+use Rattle.rollout_rules.specs.Valid.{is_valid_plan}
+use Rattle.rollout_rules.specs.History.{Places, places_of}
+use Rattle.rollout_rules.specs.Room.{least_stage, room}
+use Rattle.rollout_rules.specs.Legal.{may_end, is_legal}
+use Rattle.rollout_rules.specs.Safe.{IsSafe}
+use Rattle.rollout_rules.specs.declared.op.Op.{Op}
+use Rattle.rollout_rules.specs.declared.op.Entry.{Entry}
+use Rattle.rollout_rules.specs.declared.op.Entry.TheVariants.{Done}
+use Rattle.rollout_rules.proofs.Numbers.{number_of-below}
+use Rattle.rollout_laws.specs.Good.{begun_at, IsGood, IsBetween, AreWithin, AreHeldWithin, places_held}
+use Rattle.rollout_laws.proofs.Histories.{ends}
+use Rattle.rollout_laws.proofs.Rooms.{least_stage-up, stand-later, room-later}
+use Rattle.rollout_laws.proofs.Goods.{good-later}
+use Rattle.rollout_laws.proofs.Moves.{done-between, begun_at-places, legal-good}
+use Rattle.rollout_laws.proofs.Validity.{plan-is_valid}
+use Rattle.rollout_laws.proofs.Safety.{good-safe}
+
+pub done-room : (p : Problem) (plan : Plan) (h : List Entry) (op : Op) → may_end h op ≡ true → (s : ℕ) (r : Resource) → room p plan (places_of p (h ++ Done op ∷ [])) s r ≤ room p plan (places_of p h) s r
+done-room p plan h op may s r = room-later p plan (places_of p h) (places_of p (h ++ Done op ∷ [])) (done-between p h op (ends h op may)) s r
+
+pub done-least : (p : Problem) (plan : Plan) (h : List Entry) (op : Op) → may_end h op ≡ true → least_stage p plan (places_of p h) ≤ least_stage p plan (places_of p (h ++ Done op ∷ []))
+done-least p plan h op may =
+    let later = places_of p (h ++ Done op ∷ []) in
+    least_stage-up p plan (places_of p h) later (stand-later p plan (places_of p h) later (done-between p h op (ends h op may)))
+
+module _ (p : Problem) (plan : Plan) (h : List Entry) (at : Places) where
+  within-between : is_legal p plan h ≡ true → AreWithin p h at → IsBetween p (places_of p h) at
+  within-between legal within = record {
+    settled = within.settled;
+    begun = λ i here. subst (λ n. begun_at at i ≤ n) (sym (begun_at-places p plan h legal i)) (within.begun i here);
+  }
+
+  pub within-good : IsNetwork p → is_valid_plan p plan ≡ true → is_legal p plan h ≡ true → AreWithin p h at → IsGood p plan at
+  within-good net valid legal within = good-later p plan net (places_of p h) at (legal-good p plan net (plan-is_valid p plan valid) h legal) (within-between legal within)
+
+  pub within-safe : IsNetwork p → is_valid_plan p plan ≡ true → is_legal p plan h ≡ true → AreWithin p h at → IsSafe p plan at
+  within-safe net valid legal within = good-safe p plan net (plan-is_valid p plan valid) at (within-good net valid legal within)
+
+  pub within-least : is_legal p plan h ≡ true → AreWithin p h at → least_stage p plan (places_of p h) ≤ least_stage p plan at
+  within-least legal within = least_stage-up p plan (places_of p h) at (stand-later p plan (places_of p h) at (within-between legal within))
+
+  pub within-room : is_legal p plan h ≡ true → AreWithin p h at → (s : ℕ) (r : Resource) → room p plan at s r ≤ room p plan (places_of p h) s r
+  within-room legal within s r = room-later p plan (places_of p h) at (within-between legal within) s r
+
+-- what switches hold is within the history
+held-within : (p : Problem) (h : List Entry) (held : ℕ → ℕ) → AreHeldWithin p h held → AreWithin p h (places_held p held)
+held-within p h held within = record {
+  settled = λ i here. within.settled (number_of p i) (number_of-below p i here);
+  begun = λ i here. within.begun (number_of p i) (number_of-below p i here);
+}
+
+pub held-safe : (p : Problem) (plan : Plan) (h : List Entry) (held : ℕ → ℕ) → IsNetwork p → is_valid_plan p plan ≡ true → is_legal p plan h ≡ true → AreHeldWithin p h held → IsSafe p plan (places_held p held)
+held-safe p plan h held net valid legal within = within-safe p plan h (places_held p held) net valid legal (held-within p h held within)
