@@ -1,0 +1,4 @@
+pub mod FailingTurns
+pub mod Memory
+pub mod ReadAll
+pub mod Streams

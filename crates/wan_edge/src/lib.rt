@@ -1,0 +1,28 @@
+//! The outside of a controller, as traits: a [`Source`] is read and a [`Sink`] is written, and each
+//! may fail. What is read and written is told by two ghost members, where an object tells it, and a
+//! third counts failures: a call answers [`Failed`] only where the count rose.
+//!
+//! Beside the traits stand objects in memory, which fail at calls of the caller's choice, plain
+//! ones, which never fail, and the two walks that every program needs: reading to the end within a
+//! limit and writing to the end. The words of the contracts are those of `specs/Streams.antt`.
+#![tactic(auto)]
+
+mod failing_turns;
+mod memory_sink;
+mod memory_source;
+mod plain_sink;
+mod plain_source;
+mod reading;
+mod stream;
+#[cfg(test)]
+mod tests;
+mod writing;
+
+pub use failing_turns::{FailingTurns, Turns};
+pub use memory_sink::MemorySink;
+pub use memory_source::MemorySource;
+pub use plain_sink::PlainSink;
+pub use plain_source::{Nums8, PlainSource};
+pub use reading::{ReadFault, read_all};
+pub use stream::{Failed, Sink, Source};
+pub use writing::write_all;
