@@ -1,0 +1,81 @@
+use super::*;
+use std::test::Fail;
+
+const LONG: &str =
+    "sixteen letters.sixteen letters.sixteen letters.sixteen letters.sixteen letters.sixteen letters.sixteen letters.sixteen letters.";
+
+#[test]
+fn the_largest_values_are_taken(rt: HostRuntime) -> Result<(), Fail> {
+    let mut problem = Problem::new(rt.alloc());
+    problem.add_switch(LONG, LARGEST_TABLE)?;
+    problem.add_link(0, 0, LARGEST_CAPACITY)?;
+    problem.add_flow(LONG)?;
+    assert_eq!(rt; problem.find_switch(LONG), Some(0));
+    assert_eq!(rt; problem.find_flow(LONG), Some(0));
+    assert_eq!(rt; LONG.len(), LONGEST_NAME);
+    Ok(())
+}
+
+// Adds a switch where there is room and its name is new.
+fn add_new_switch(problem: &mut Problem, name: &str) -> Result<(), Memory> {
+    if problem.switches().len() < MOST_SWITCHES
+        && name.len() <= LONGEST_NAME
+        && problem.find_switch(name).is_none()
+    {
+        problem.add_switch(name, 1)?;
+    }
+    Ok(())
+}
+
+// Adds a link where there is room, both switches are there, and none joins them.
+fn add_new_link(problem: &mut Problem, from: u32, to: u32) -> Result<(), Memory> {
+    let switches = problem.switches().len();
+    if problem.links().len() < MOST_LINKS
+        && (from as usize) < switches
+        && (to as usize) < switches
+        && problem.find_link(from, to).is_none()
+    {
+        problem.add_link(from, to, 1)?;
+    }
+    Ok(())
+}
+
+#[test]
+fn the_last_switch_and_the_last_link_are_found(rt: HostRuntime) -> Result<(), Fail> {
+    let mut problem = Problem::new(rt.alloc());
+    for number in 0..MOST_SWITCHES {
+        let name = format!(in rt.alloc(); "s{number}")?;
+        add_new_switch(&mut problem, &name)?;
+    }
+    for from in 0..64 {
+        for to in 0..32 {
+            add_new_link(&mut problem, from, to)?;
+        }
+    }
+    assert_eq!(rt; problem.find_switch("s1023"), Some(1023));
+    assert_eq!(rt; problem.find_link(63, 31), Some(2047));
+    assert_eq!(rt;
+        (problem.switches().len(), problem.links().len()),
+        (MOST_SWITCHES, MOST_LINKS)
+    );
+    Ok(())
+}
+
+#[test]
+fn a_plan_keeps_its_stages_in_order(rt: HostRuntime) -> Result<(), Fail> {
+    let mut plan = Plan::new(rt.alloc(), 2);
+    plan.add_stage(Stage {
+        rates: Nums::new(rt.alloc()),
+        installed: Marks::new(rt.alloc()),
+    })?;
+    let mut rates = Nums::new(rt.alloc());
+    rates.push(3)?;
+    let mut installed = Marks::new(rt.alloc());
+    installed.push(true)?;
+    plan.add_stage(Stage { rates, installed })?;
+    let last = &plan.stages.as_slice()[1];
+    assert_eq!(rt; last.rates.as_slice(), [3].as_slice());
+    assert_eq!(rt; last.installed.as_slice(), [true].as_slice());
+    assert_eq!(rt; plan.scale, 2);
+    Ok(())
+}
