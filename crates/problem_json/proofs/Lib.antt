@@ -1,0 +1,15 @@
+pub mod Steps
+pub mod Found
+pub mod Routes
+pub mod Growth
+pub mod Text
+mod Ranges
+mod Plain
+mod Places
+mod Adding
+mod ReadValues
+mod FoundRows
+mod ReadNetwork
+mod ReadPaths
+mod ReadTunnels
+mod ReadAgain

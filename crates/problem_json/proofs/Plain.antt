@@ -1,0 +1,78 @@
+-- A document has whole numbers alone, and its lists and objects do not nest deep.
+use Rattle.std.proofs.Common.{◌≡◌, ℕ, zero, suc, ◌+◌, ◌≤◌, List, [], ◌∷◌, ◌++◌, map, length, false, Option, Some, None, refl, arith}
+use Rattle.std.proofs.lemmas.Bool.{or_from, or_parts}
+use Rattle.rollout_rules.specs.Sums.{list_below}
+use Rattle.rollout_rules.specs.Wan.{Link, Problem, Plan, Stage, switch_at, tunnel_at, flow_at, tunnel_of}
+use Rattle.serde_json.specs.Data.{Data, boolean, depth, items_depth}
+use Rattle.serde_json.specs.View.{items_of}
+use Rattle.serde_json.specs.Written.{has_float, items_have_float}
+use Rattle.problem_json.specs.Writing.{number_data, rate_data, list_data, name_data, switch_data, link_data, tunnel_data, flow_data, problem_data, stage_data, plan_data, document_data}
+
+-- a value without floats in which at most n lists and objects stand inside one another
+pub record IsPlain (n : ℕ) (d : Data) : Type 0 where
+  pub whole : has_float d ≡ false
+  pub shallow : depth d ≤ n
+
+record ArePlain (n : ℕ) (ds : List Data) : Type 0 where
+  pub whole : items_have_float (items_of ds) ≡ false
+  pub shallow : items_depth (items_of ds) ≤ n
+
+one_before : (n : ℕ) (d : Data) (ds : List Data) → IsPlain n d → ArePlain n ds → ArePlain n (d ∷ ds)
+one_before n d ds one all = record { whole = or_from (has_float d) (items_have_float (items_of ds)) one.whole all.whole; shallow = omega arith }
+
+one_behind : (n : ℕ) (ds : List Data) (d : Data) → ArePlain n ds → IsPlain n d → ArePlain n (ds ++ d ∷ [])
+one_behind n [] d all one = one_before n d [] one all
+one_behind n (x ∷ ds) d all one =
+    let both = or_parts (has_float x) (items_have_float (items_of ds)) all.whole in
+    let rest : ArePlain n ds = record { whole = both.1; shallow = omega arith } in
+    let first : IsPlain n x = record { whole = both.0; shallow = omega arith } in
+    one_before n x (ds ++ d ∷ []) first (one_behind n ds d rest one)
+
+of_map : {A : Type 0} (n : ℕ) (f : A → Data) → ((a : A) → IsPlain n (f a)) → (xs : List A) → ArePlain n (map f xs)
+of_map n f each [] = record { whole = refl; shallow = omega arith }
+of_map n f each (x ∷ xs) = one_before n (f x) (map f xs) (each x) (of_map n f each xs)
+
+of_below : (n : ℕ) (f : ℕ → Data) → ((k : ℕ) → IsPlain n (f k)) → (m : ℕ) → ArePlain n (list_below m f)
+of_below n f each zero = record { whole = refl; shallow = omega arith }
+of_below n f each (suc m) = one_behind n (list_below m f) (f m) (of_below n f each m) (each m)
+
+of_rate : (r : Option ℕ) → IsPlain 0 (rate_data r)
+of_rate None = record { whole = refl; shallow = omega arith }
+of_rate (Some n) = record { whole = refl; shallow = omega arith }
+
+of_tunnel : (p : Problem) (t : ℕ) → IsPlain 2 (tunnel_data p t)
+of_tunnel p t =
+    let new = of_rate (tunnel_at p t).new in
+    let old = of_rate (tunnel_at p t).old in
+    let path = of_map 0 (name_data p) (λ w. record { whole = refl; shallow = omega arith }) (tunnel_at p t).path in
+    record { whole = or_from _ _ new.whole (or_from _ _ old.whole (or_from _ _ path.whole refl)); shallow = omega arith }
+
+of_flow : (p : Problem) (f : ℕ) → IsPlain 4 (flow_data p f)
+of_flow p f =
+    let tunnels = of_below 2 (λ j. tunnel_data p (tunnel_of p f j)) (λ j. of_tunnel p (tunnel_of p f j)) (flow_at p f).tunnels in
+    record { whole = or_from _ _ tunnels.whole refl; shallow = omega arith }
+
+of_problem : (p : Problem) → IsPlain 6 (problem_data p)
+of_problem p =
+    let flows = of_below 4 (flow_data p) (of_flow p) (length p.flows) in
+    let links = of_map 1 (link_data p) (λ l. record { whole = refl; shallow = omega arith }) p.links in
+    let switches = of_map 1 switch_data (λ s. record { whole = refl; shallow = omega arith }) p.switches in
+    record { whole = or_from _ _ flows.whole (or_from _ _ links.whole (or_from _ _ switches.whole refl)); shallow = omega arith }
+
+of_stage : (s : Stage) → IsPlain 2 (stage_data s)
+of_stage s =
+    let installed = of_map 0 boolean (λ b. record { whole = refl; shallow = omega arith }) s.installed in
+    let rates = of_map 0 number_data (λ n. record { whole = refl; shallow = omega arith }) s.rates in
+    record { whole = or_from _ _ installed.whole (or_from _ _ rates.whole refl); shallow = omega arith }
+
+of_plan : (plan : Plan) → IsPlain 4 (plan_data plan)
+of_plan plan =
+    let stages = of_map 2 stage_data of_stage plan.stages in
+    record { whole = or_from _ _ stages.whole refl; shallow = omega arith }
+
+pub document_is_plain : (p : Problem) (plan : Plan) → IsPlain 7 (document_data p plan)
+unfolding document_data
+document_is_plain p plan =
+    let steps = of_plan plan in
+    let problem = of_problem p in
+    record { whole = or_from _ _ steps.whole (or_from _ _ problem.whole refl); shallow = omega arith }

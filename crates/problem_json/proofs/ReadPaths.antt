@@ -1,0 +1,89 @@
+-- The path of a tunnel, read again switch by switch, and the links along it.
+use Rattle.std.proofs.Common.{◌≡◌, ℕ, zero, suc, ◌+◌, ◌-◌, ◌<◌, ◌≤◌, Bool, true, false, ◌||◌, ◌==◌, not, List, [], ◌∷◌, ◌++◌, length, map, take, get_or, slice_index, is_some, Option, Some, unwrap_or, Result, Ok, codes, refl, sym, ap, ap₂, ◌∙◌, arith}
+use Rattle.std.proofs.lemmas.Bool.{or_left, or_right, not_from_false, false_from_ne_true, eqb-true, eq-eqb, le-leb}
+use Rattle.std.proofs.lemmas.List.{take_more, take_all, get_or-take, length-take-le, length-map}
+use Rattle.std.specs.List.{list_any}
+use Rattle.rollout_rules.specs.Wan.{Problem, Tunnel, link_at}
+use Rattle.rollout_rules.specs.Network.{IsNetwork, IsPath, most_hops}
+use Rattle.rollout_rules.specs.Building.{find_link, links_along}
+use Rattle.serde_json.specs.Data.{Data}
+use Rattle.serde_json.specs.Events.{items_len}
+use Rattle.serde_json.specs.View.{items_of}
+use Rattle.problem_json.specs.GrammarResults.{held, add_each}
+use Rattle.problem_json.specs.GrammarValues.{member_in, list_in, list_of}
+use Rattle.problem_json.specs.GrammarRows.{with_one_hop, leads_on, path_of}
+use Rattle.problem_json.specs.Writing.{name_data, list_data}
+use Rattle.problem_json.specs.declared.fault.InputFault.TheVariants.{Bad}
+use Rattle.wan_model.proofs.Positions.{passes_nowhere}
+use Rattle.problem_json.proofs.Places.{found_nowhere}
+use Rattle.problem_json.proofs.Adding.{goes_on, held-true, add_each-below, map-below, items_len-items_of}
+use Rattle.problem_json.proofs.ReadValues.{list_in-list}
+use Rattle.problem_json.proofs.FoundRows.{link_found}
+use Rattle.problem_json.proofs.ReadNetwork.{name_is_found}
+
+-- a problem with the switches and the links of p, in which a path of p is looked up
+pub record HasNetwork (p q : Problem) : Type 0 where
+  pub switches : q.switches ≡ p.switches
+  pub links : q.links ≡ p.links
+
+module _ (p q : Problem) (net : IsNetwork p) (has : HasNetwork p q) (path along : List ℕ) (is : IsPath p path along) where
+  -- the link from the h-th switch of the path to the next is the h-th along it
+  pub link_is_found : (h : ℕ) → h < length along → find_link q (slice_index path h) (slice_index path (suc h)) ≡ Some (slice_index along h)
+  link_is_found h lt =
+      let l = slice_index along h in
+      let more : h + 1 ≡ suc h = omega arith in
+      let there : find_link p (link_at p l).from (link_at p l).to ≡ find_link p (slice_index path h) (slice_index path (suc h)) =
+      ap₂ (find_link p) (is.from h lt) (is.to h lt ∙ ap (slice_index path) more) in
+      ap (λ ls. find_link (record p { links = ls }) (slice_index path h) (slice_index path (suc h))) has.links
+      ∙ sym there ∙ link_found p l net.links (is.links h lt)
+
+  hop_is_new : (h : ℕ) → h < length path → list_any (λ s. s == slice_index path h) (take h path) ≡ false
+  hop_is_new h lt =
+      let len : length (take h path) ≡ h = length-take-le h path (omega arith) in
+      let is_next : ℕ → Bool = λ s. s == slice_index path h in
+      passes_nowhere is_next (take h path) (found_nowhere is_next (take h path) 0
+      (λ g before. ap is_next (get_or-take h path g 0 (omega arith))
+      ∙ false_from_ne_true _ (λ same. let one : g ≡ h = is.once g h (omega arith) lt (eqb-true _ _ same) in absurd (omega arith))))
+
+  hop_leads_on : (h : ℕ) → h < length path → leads_on q (take h path) (slice_index path h) ≡ true
+  hop_leads_on zero lt = refl
+  hop_leads_on (suc h) lt =
+      let len : length (take (suc h) path) ≡ suc h = length-take-le (suc h) path (omega arith) in
+      let at : length (take (suc h) path) - 1 ≡ h = omega arith in
+      let last : slice_index (take (suc h) path) (length (take (suc h) path) - 1) ≡ slice_index path h =
+      ap (slice_index (take (suc h) path)) at ∙ get_or-take (suc h) path h 0 (omega arith) in
+      or_right _ _ (ap is_some (ap (λ a. find_link q a (slice_index path (suc h))) last ∙ link_is_found h (omega (arith, is.between))))
+
+  one_hop_more : (h : ℕ) → h < length path → with_one_hop q (name_data p (slice_index path h)) (take h path) ≡ Ok (take (h + 1) path)
+  unfolding with_one_hop
+  one_hop_more h lt =
+      let next = slice_index path h in
+      goes_on _ next _ (name_is_found p net q next has.switches (is.switches h lt))
+      ∙ goes_on _ tt _ (held-true _ Bad (not_from_false _ (hop_is_new h lt)))
+      ∙ goes_on _ tt _ (held-true _ Bad (hop_leads_on h lt))
+      ∙ ap Ok (sym (take_more path h 0 lt))
+
+  pub path_is_read : (d : Data) → member_in (codes "path") d ≡ Ok (list_data (map (name_data p) path)) → path_of q d ≡ Ok path
+  unfolding path_of list_of
+  path_is_read d e =
+      let names = items_of (map (name_data p) path) in
+      let len : items_len names ≡ length path = items_len-items_of (map (name_data p) path) ∙ length-map path (name_data p) in
+      let few : length (map (name_data p) path) ≤ most_hops = omega (arith, is.most, length-map path (name_data p)) in
+      goes_on _ names _ (goes_on _ _ (list_in most_hops) e ∙ list_in-list most_hops (map (name_data p) path) few)
+      ∙ goes_on _ tt _ (held-true _ Bad (le-leb 2 (items_len names) (omega (arith, is.least))))
+      ∙ ap (λ ds. add_each (with_one_hop q) (items_of ds) []) (map-below (name_data p) path 0)
+      ∙ add_each-below (with_one_hop q) (λ k. name_data p (slice_index path k)) (λ k. take k path) (length path) one_hop_more
+      ∙ ap Ok (take_all (length path) path (omega arith))
+
+-- where each link of a path is found, the links along it are these
+along_found : (q : Problem) (path along : List ℕ) → length along + 1 ≡ length path
+    → ((h : ℕ) → h < length along → find_link q (slice_index path h) (slice_index path (suc h)) ≡ Some (slice_index along h)) → links_along q path ≡ along
+along_found q [] along between found = absurd (omega arith)
+along_found q (a ∷ []) [] between found = refl
+along_found q (a ∷ []) (l ∷ along) between found = absurd (omega arith)
+along_found q (a ∷ b ∷ path) [] between found = absurd (omega arith)
+along_found q (a ∷ b ∷ path) (l ∷ along) between found =
+    ap₂ (λ k ks. k ∷ ks) (ap (λ o. unwrap_or o 0) (found 0 (omega arith))) (along_found q (b ∷ path) along (omega arith) (λ h lt. found (suc h) (omega arith)))
+
+pub links_are_found : (p q : Problem) → IsNetwork p → HasNetwork p q → (path along : List ℕ) → IsPath p path along → links_along q path ≡ along
+links_are_found p q net has path along is = along_found q path along is.between (link_is_found p q net has path along is)

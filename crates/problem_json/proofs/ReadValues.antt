@@ -1,0 +1,31 @@
+-- The values of a row, read again.
+use Rattle.std.proofs.Common.{◌≡◌, ℕ, ◌≤◌, List, length, Option, Some, None, Ok, refl, ap, ◌∙◌, arith}
+use Rattle.std.proofs.lemmas.Bool.{le-leb}
+use Rattle.rollout_rules.specs.Network.{longest_name, largest_rate, IsRate}
+use Rattle.serde_json.specs.Data.{Data, string, array}
+use Rattle.serde_json.specs.Events.{items_len}
+use Rattle.serde_json.specs.View.{items_of}
+use Rattle.problem_json.specs.GrammarResults.{◌>>=◌, held}
+use Rattle.problem_json.specs.GrammarValues.{name_in, text_in, number_in, rate_in, list_in}
+use Rattle.problem_json.specs.Writing.{number_data, rate_data, list_data}
+use Rattle.problem_json.specs.declared.fault.InputFault.TheVariants.{Bad}
+use Rattle.problem_json.proofs.Adding.{goes_on, held-true, items_len-items_of}
+
+pub name_in-string : (name : List ℕ) → length name ≤ longest_name → name_in (string name) ≡ Ok name
+unfolding name_in text_in
+name_in-string name short = goes_on _ tt (λ _. Ok name) (held-true _ Bad (le-leb (length name) longest_name short))
+
+pub number_in-number : (most n : ℕ) → n ≤ most → number_in most (number_data n) ≡ Ok n
+unfolding number_in
+number_in-number most n within = goes_on _ tt (λ _. Ok n) (held-true _ Bad (le-leb n most within))
+
+pub rate_in-rate : (r : Option ℕ) → IsRate r → rate_in (rate_data r) ≡ Ok r
+unfolding rate_in
+rate_in-rate None within = refl
+rate_in-rate (Some n) within = goes_on _ n (λ m. Ok (Some m)) (number_in-number largest_rate n within)
+
+pub list_in-list : (most : ℕ) (ds : List Data) → length ds ≤ most → list_in most (list_data ds) ≡ Ok (items_of ds)
+unfolding list_in
+list_in-list most ds few =
+    let len : items_len (items_of ds) ≡ length ds = items_len-items_of ds in
+    goes_on _ tt (λ _. Ok (items_of ds)) (held-true _ Bad (le-leb (items_len (items_of ds)) most (omega arith)))

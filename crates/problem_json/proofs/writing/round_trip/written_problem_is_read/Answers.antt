@@ -1,0 +1,5 @@
+use Rattle.problem_json.proofs.ReadAgain.{problem_is_read}
+use Rattle.problem_json.proofs.writing.round_trip.written_problem_is_read.Goals as goal
+
+pub returns : goal.returns
+returns c = problem_is_read

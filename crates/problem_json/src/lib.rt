@@ -1,0 +1,14 @@
+//! Problems and plans as JSON (RFC 8259), read and written.
+//!
+//! The grammar stands in `specs/`, as functions on the data that a text is: [`read_problem`] answers
+//! the problem exactly where the grammar does, and else the grammar's fault. [`write_document`] gives
+//! the one canonical text, whose problem the grammar reads again ([`written_problem_is_read`]).
+#![tactic(auto)]
+
+mod fault;
+mod read;
+mod writing;
+
+pub use fault::InputFault;
+pub use read::read_problem;
+pub use writing::{write_document, written_problem_is_read};

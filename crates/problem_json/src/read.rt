@@ -1,0 +1,131 @@
+ghost use Rattle.std.specs.Prelude.{◌≡◌, ◌+◌, ◌≤◌, length, OnOk, codes};
+ghost use Rattle.serde_json.specs.View.{view, items_view};
+ghost use Rattle.rollout_rules.specs.Network.{most_switches, most_links, most_flows};
+ghost use Rattle.problem_json.specs.GrammarResults.{Reads, ReadsAs, Leaves, add_each};
+ghost use Rattle.problem_json.specs.GrammarRows.{with_one_switch, with_one_link, with_one_flow};
+ghost use Rattle.problem_json.specs.Grammar.{with_rows, data_in, problem_of, problem_in};
+
+mod flows;
+mod path;
+mod rows;
+#[cfg(test)]
+mod tests;
+mod values;
+
+use crate::fault::InputFault;
+use crate::read::flows::add_flow;
+use crate::read::rows::{add_link, add_switch};
+use crate::read::values::list_of;
+use serde_json::Value;
+use std::alloc::Global;
+use wan_model::{MOST_FLOWS, MOST_LINKS, MOST_SWITCHES, Problem};
+
+/// Reads a problem: an object of `switches`, `links` and `flows`, in the keys and limits of its grammar.
+///
+/// Unknown keys are passed over, and of equal keys the last counts (RFC 8259 leaves that open).
+///
+/// # Errors
+///
+/// [`InputFault::NotJson`] where the bytes aren't UTF-8 or aren't one JSON value, [`InputFault::Bad`]
+/// where that value is no problem, and [`InputFault::Memory`] where memory runs out.
+#[tactic(auto, using(crate::proofs::Steps::steps), unfolding(crate::specs::Grammar::problem_in))]
+pub fn read_problem(alloc: Global, bytes: &[u8]) -> Result<Problem, InputFault>
+    ensures { Reads result (problem_in bytes.now) }
+{
+    let value = read_value(alloc, bytes)?;
+    problem_of(alloc, &value)
+}
+
+#[tactic(auto, using(crate::proofs::Text::data_read, crate::proofs::Text::data_refused))]
+fn read_value(alloc: Global, bytes: &[u8]) -> Result<Value, InputFault>
+    ensures { ReadsAs view result (data_in bytes.now) }
+{
+    match Value::from_slice(alloc, bytes) {
+        Ok(value) => Ok(value),
+        Err(e) if e.is_memory() => Err(InputFault::Memory),
+        Err(_) => Err(InputFault::NotJson),
+    }
+}
+
+#[tactic(auto, using(crate::proofs::Steps::steps), unfolding(crate::specs::Grammar::problem_of))]
+fn problem_of(alloc: Global, value: &Value) -> Result<Problem, InputFault>
+    ensures { Reads result (problem_of (view value.now)) }
+{
+    let mut problem = Problem::new(alloc);
+    read_switches(&mut problem, value)?;
+    read_links(&mut problem, value)?;
+    read_flows(alloc, &mut problem, value)?;
+    Ok(problem)
+}
+
+#[tactic(auto, using(crate::proofs::Steps::steps), unfolding(crate::specs::Grammar::with_rows))]
+fn read_switches(problem: &mut Problem, value: &Value) -> Result<(), InputFault>
+    requires { length problem.old.switches ≡ 0 }
+    ensures rows { Leaves result problem.new
+        (with_rows (codes "switches") most_switches with_one_switch (view value.now) problem.old) }
+    ensures links { problem.new.links ≡ problem.old.links }
+    ensures flows { problem.new.flows ≡ problem.old.flows }
+{
+    let switches = list_of(value, "switches", MOST_SWITCHES)?;
+    add_switches(problem, switches)
+}
+
+#[tactic(auto, using(crate::proofs::Steps::steps))]
+fn add_switches(problem: &mut Problem, switches: &[Value]) -> Result<(), InputFault>
+    requires { length problem.old.switches + length switches.now ≤ most_switches }
+    ensures rows { Leaves result problem.new
+        (add_each with_one_switch (items_view switches.now) problem.old) }
+    ensures links { problem.new.links ≡ problem.old.links }
+    ensures flows { problem.new.flows ≡ problem.old.flows }
+{
+    for switch in switches {
+        add_switch(problem, switch)?;
+    }
+    Ok(())
+}
+
+#[tactic(auto, using(crate::proofs::Steps::steps), unfolding(crate::specs::Grammar::with_rows))]
+fn read_links(problem: &mut Problem, value: &Value) -> Result<(), InputFault>
+    requires { length problem.old.links ≡ 0 }
+    ensures rows { Leaves result problem.new
+        (with_rows (codes "links") most_links with_one_link (view value.now) problem.old) }
+    ensures flows { problem.new.flows ≡ problem.old.flows }
+{
+    let links = list_of(value, "links", MOST_LINKS)?;
+    add_links(problem, links)
+}
+
+#[tactic(auto, using(crate::proofs::Steps::steps))]
+fn add_links(problem: &mut Problem, links: &[Value]) -> Result<(), InputFault>
+    requires { length problem.old.links + length links.now ≤ most_links }
+    ensures rows { Leaves result problem.new
+        (add_each with_one_link (items_view links.now) problem.old) }
+    ensures flows { problem.new.flows ≡ problem.old.flows }
+{
+    for link in links {
+        add_link(problem, link)?;
+    }
+    Ok(())
+}
+
+#[tactic(auto, using(crate::proofs::Steps::steps), unfolding(crate::specs::Grammar::with_rows))]
+fn read_flows(alloc: Global, problem: &mut Problem, value: &Value) -> Result<(), InputFault>
+    requires { length problem.old.flows ≡ 0 }
+    ensures { Leaves result problem.new
+        (with_rows (codes "flows") most_flows with_one_flow (view value.now) problem.old) }
+{
+    let flows = list_of(value, "flows", MOST_FLOWS)?;
+    add_flows(alloc, problem, flows)
+}
+
+#[tactic(auto, using(crate::proofs::Steps::steps))]
+fn add_flows(alloc: Global, problem: &mut Problem, flows: &[Value]) -> Result<(), InputFault>
+    requires { length problem.old.flows + length flows.now ≤ most_flows }
+    ensures { Leaves result problem.new
+        (add_each with_one_flow (items_view flows.now) problem.old) }
+{
+    for flow in flows {
+        add_flow(alloc, problem, flow)?;
+    }
+    Ok(())
+}

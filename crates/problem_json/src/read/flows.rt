@@ -1,0 +1,98 @@
+ghost use Rattle.std.specs.Prelude.{◌≡◌, ◌+◌, ◌-◌, ◌<◌, ◌≤◌, ◌==◌, ◌&&◌, length, slice_index, OnOk};
+ghost use Rattle.serde_json.specs.View.{view, items_view};
+ghost use Rattle.rollout_rules.specs.Network.{most_flows, most_tunnels, most_tunnels_of_flow};
+ghost use Rattle.rollout_rules.specs.Building.{has_ends, last_flow};
+ghost use Rattle.problem_json.specs.GrammarResults.{Leaves, add_each};
+ghost use Rattle.problem_json.specs.GrammarRows.{with_one_flow, with_one_tunnel};
+ghost use Rattle.problem_json.specs.GrammarGrowth.{tunnels_of_last, HasMoreTunnels};
+
+use crate::fault::InputFault;
+use crate::read::path::path_of;
+use crate::read::values::{list_of, name_of, rate_of};
+use lists::Ids;
+use serde_json::Value;
+use std::alloc::Global;
+use wan_model::{MOST_TUNNELS, MOST_TUNNELS_OF_FLOW, Problem};
+
+/// Adds a flow with its tunnels.
+#[tactic(auto, using(crate::proofs::Steps::steps, crate::proofs::Growth::flow_starts, crate::proofs::Growth::flow_more), unfolding(crate::specs::GrammarRows::with_one_flow))]
+pub(super) fn add_flow(
+    alloc: Global,
+    problem: &mut Problem,
+    value: &Value,
+) -> Result<(), InputFault>
+    requires { length problem.old.flows < most_flows }
+    ensures row { Leaves result problem.new (with_one_flow (view value.now) problem.old) }
+    ensures flows { OnOk result (length problem.new.flows ≡ length problem.old.flows + 1) }
+{
+    let name = name_of(value)?;
+    if problem.find_flow(name).is_some() {
+        return Err(InputFault::Bad);
+    }
+    let tunnels = list_of(value, "tunnels", MOST_TUNNELS_OF_FLOW as usize)?;
+    if problem.tunnels().len() + tunnels.len() > MOST_TUNNELS {
+        return Err(InputFault::Bad);
+    }
+    problem.add_flow(name)?;
+    add_tunnels(alloc, problem, tunnels)
+}
+
+/// Adds tunnels to the last flow, in which there is room for them.
+#[tactic(auto, using(crate::proofs::Steps::steps, crate::proofs::Growth::grows_on))]
+fn add_tunnels(alloc: Global, problem: &mut Problem, tunnels: &[Value]) -> Result<(), InputFault>
+    requires some_flow { 0 < length problem.old.flows }
+    requires few { tunnels_of_last problem.old + length tunnels.now ≤ most_tunnels_of_flow }
+    requires room { length problem.old.tunnels + length tunnels.now ≤ most_tunnels }
+    ensures rows { Leaves result problem.new
+        (add_each with_one_tunnel (items_view tunnels.now) problem.old) }
+    ensures grown { OnOk result (HasMoreTunnels problem.old problem.new (length tunnels.now)) }
+{
+    for tunnel in tunnels {
+        add_tunnel(alloc, problem, tunnel)?;
+    }
+    Ok(())
+}
+
+/// Adds a tunnel to the last flow.
+#[tactic(auto, using(crate::proofs::Steps::steps, crate::proofs::Growth::tunnel_grows), unfolding(crate::specs::GrammarRows::with_one_tunnel))]
+fn add_tunnel(alloc: Global, problem: &mut Problem, value: &Value) -> Result<(), InputFault>
+    requires some_flow { 0 < length problem.old.flows }
+    requires few { tunnels_of_last problem.old < most_tunnels_of_flow }
+    requires room { length problem.old.tunnels < most_tunnels }
+    ensures row { Leaves result problem.new (with_one_tunnel (view value.now) problem.old) }
+    ensures grown { OnOk result (HasMoreTunnels problem.old problem.new 1) }
+{
+    let path = path_of(alloc, problem, value)?;
+    if !has_ends(problem, &path) {
+        return Err(InputFault::Bad);
+    }
+    let old = rate_of(value, "old")?;
+    let new = rate_of(value, "new")?;
+    problem.add_tunnel(path.as_slice(), old, new)?;
+    Ok(())
+}
+
+/// Whether a path has the ends of the last flow's first tunnel, where there is one.
+#[tactic(auto, using(crate::proofs::Growth::first_stands, crate::proofs::Growth::path_stands))]
+fn has_ends(problem: &Problem, path: &Ids) -> bool
+    requires some_flow { 0 < length problem.now.flows }
+    requires least { 2 ≤ length path.now }
+    ensures { result ≡ has_ends problem.now (last_flow problem.now) path.now }
+{
+    let flows = problem.flows();
+    let flow = &flows[flows.len() - 1];
+    if flow.tunnels == 0 {
+        return true;
+    }
+    let first = &problem.tunnels()[flow.first as usize];
+    have_same_ends(path.as_slice(), first.path.as_slice())
+}
+
+fn have_same_ends(path: &[u32], other: &[u32]) -> bool
+    requires path { 2 ≤ length path.now }
+    requires other { 2 ≤ length other.now }
+    ensures { result ≡ (slice_index path.now 0 == slice_index other.now 0)
+        && (slice_index path.now (length path.now - 1) == slice_index other.now (length other.now - 1)) }
+{
+    path[0] == other[0] && path[path.len() - 1] == other[other.len() - 1]
+}

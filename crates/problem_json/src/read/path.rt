@@ -1,0 +1,85 @@
+ghost use Rattle.std.specs.Prelude.{◌≡◌, ◌+◌, ◌<◌, ◌≤◌, ◌==◌, length, IfOk, OnOk};
+ghost use Rattle.std.specs.List.{list_any};
+ghost use Rattle.serde_json.specs.View.{view, items_view};
+ghost use Rattle.rollout_rules.specs.Network.{most_hops};
+ghost use Rattle.rollout_rules.specs.Building.{IsRoute};
+ghost use Rattle.problem_json.specs.GrammarResults.{Reads, Leaves, add_each};
+ghost use Rattle.problem_json.specs.GrammarRows.{with_one_hop, leads_on, path_of};
+
+use crate::fault::InputFault;
+use crate::read::rows::switch_named;
+use crate::read::values::list_of;
+use lists::Ids;
+use serde_json::Value;
+use std::alloc::Global;
+use wan_model::{MOST_HOPS, Problem};
+
+/// A path joins two switches or more.
+const LEAST_HOPS: usize = 2;
+
+/// The path of a tunnel: switches by their numbers, each joined to the next by a link.
+#[tactic(auto, using(crate::proofs::Steps::steps, crate::proofs::Routes::route_none), unfolding(crate::specs::GrammarRows::path_of))]
+pub(super) fn path_of(alloc: Global, problem: &Problem, value: &Value) -> Result<Ids, InputFault>
+    ensures path { Reads result (path_of problem.now (view value.now)) }
+    ensures route { IfOk result (λ path. IsRoute problem.now path) }
+    ensures least { IfOk result (λ path. 2 ≤ length path) }
+{
+    let names = list_of(value, "path", MOST_HOPS)?;
+    if names.len() < LEAST_HOPS {
+        return Err(InputFault::Bad);
+    }
+    let mut path = Ids::new(alloc);
+    add_hops(problem, names, &mut path)?;
+    Ok(path)
+}
+
+#[tactic(auto, using(crate::proofs::Steps::steps))]
+fn add_hops(problem: &Problem, names: &[Value], path: &mut Ids) -> Result<(), InputFault>
+    requires room { length path.old + length names.now ≤ most_hops }
+    requires route { IsRoute problem.now path.old }
+    ensures hops { Leaves result path.new
+        (add_each (with_one_hop problem.now) (items_view names.now) path.old) }
+    ensures route { OnOk result (IsRoute problem.now path.new) }
+    ensures longer { OnOk result (length path.new ≡ length path.old + length names.now) }
+{
+    for name in names {
+        add_hop(problem, name, path)?;
+    }
+    Ok(())
+}
+
+/// Adds a switch to a path.
+#[tactic(auto, using(crate::proofs::Steps::steps, crate::proofs::Routes::route_more), unfolding(crate::specs::GrammarRows::with_one_hop))]
+fn add_hop(problem: &Problem, value: &Value, path: &mut Ids) -> Result<(), InputFault>
+    requires room { length path.old < most_hops }
+    requires route { IsRoute problem.now path.old }
+    ensures hop { Leaves result path.new (with_one_hop problem.now (view value.now) path.old) }
+    ensures route { OnOk result (IsRoute problem.now path.new) }
+    ensures longer { OnOk result (length path.new ≡ length path.old + 1) }
+{
+    let next = switch_named(problem, value)?;
+    if passes(path, next) {
+        return Err(InputFault::Bad);
+    }
+    if !leads_on(problem, path, next) {
+        return Err(InputFault::Bad);
+    }
+    path.push(next)?;
+    Ok(())
+}
+
+fn passes(path: &Ids, switch: u32) -> bool
+    ensures { result ≡ list_any (λ s. s == switch) path.now }
+{
+    path.as_slice().contains(&switch)
+}
+
+/// Whether a path may go on to a switch.
+fn leads_on(problem: &Problem, path: &Ids, next: u32) -> bool
+    ensures { result ≡ leads_on problem.now path.now next }
+{
+    match path.as_slice().last() {
+        None => true,
+        Some(last) => problem.find_link(*last, next).is_some(),
+    }
+}
