@@ -1,0 +1,7 @@
+use Rattle.std.proofs.Common.{arith}
+use Rattle.plan_check.proofs.Shares.{load_grown}
+use Rattle.plan_check.proofs.loads.add_load.Goals as goal
+
+pub returns : goal.returns
+returns c =
+    load_grown c.args.problem.now c.args.plan.now c.args.s c.args.t _ _ _ _ c.links_of.ensures.network c.requires.tunnel c.links_of.ensures.list c.greater_rate.ensures (omega arith) c.add_along.ensures
