@@ -1,0 +1,65 @@
+-- What a run reads, writes and notes.
+use Rattle.std.specs.Prelude.{◌≡◌, ◌⊎◌, ◌==◌, ℕ, List, [], ◌∷◌, Option, Result, Ok, Err, IfSome, IsTrue}
+use Rattle.std.specs.List.{list_any}
+use Rattle.wan_edge.specs.Streams.{Appends, AppendsPart, IsAtEnd, Rose}
+use Rattle.wan_edge.specs.ReadAll.{GoesBeyond}
+use Rattle.swanroll_top.specs.Endings.{status_of, line_of}
+use Rattle.swanroll_top.specs.Input.{most_input, planned_text}
+use Rattle.swanroll_top.specs.declared.ending.Ending.{Ending}
+use Rattle.swanroll_top.specs.declared.ending.Ending.TheVariants.{Done, ReadFault, WriteFault, OutOfMemory}
+
+-- The bytes are the input: where the source tells its bytes they are all that was left at entry, and the source was read
+-- to its end, or above the limit of it.
+pub record IsInput (before now : Option (List ℕ)) (input : List ℕ) : Type 0 where
+  pub whole : IfSome before (λ left. left ≡ input)
+  pub read : IsAtEnd now ⊎ GoesBeyond most_input before now
+
+-- What a call answers is what the definition says; want of memory says nothing.
+abbrev pub Gives : {A : Type 0} → Result A Ending → Result A Ending → Type 0
+Gives (Ok a) answer = answer ≡ Ok a
+Gives (Err OutOfMemory) answer = Unit {0}
+Gives (Err e) answer = answer ≡ Err e
+
+-- The run ends as the answer to its input says: with the text written, or a part of it and a write fault, or with
+-- nothing written and the ending that the answer names.
+abbrev pub EndsWith : Result (List ℕ) Ending → Ending → Option (List ℕ) → Option (List ℕ) → Type 0
+EndsWith (Ok text) ending before now = ((ending ≡ Done) × Appends before text now) ⊎ ((ending ≡ WriteFault) × AppendsPart before text now)
+EndsWith (Err e) ending before now = (ending ≡ e) × (now ≡ before)
+
+-- the same, where memory may have run out: then nothing was written
+abbrev pub Follows : Result (List ℕ) Ending → Ending → Option (List ℕ) → Option (List ℕ) → Type 0
+Follows answer OutOfMemory before now = now ≡ before
+Follows answer ending before now = EndsWith answer ending before now
+
+-- the input of a run of `plan`, and how the run follows from it
+pub record PlansInput (left left_now : Option (List ℕ)) (ending : Ending) (out out_now : Option (List ℕ)) : Type 0 where
+  pub input : List ℕ
+  pub read : IsInput left left_now input
+  pub answer : EndsWith (planned_text input) ending out out_now
+
+-- what an ending of `plan` says: after a fault of the source, and for want of memory, that nothing was written
+abbrev pub Plans : Option (List ℕ) → Option (List ℕ) → Ending → Option (List ℕ) → Option (List ℕ) → Type 0
+Plans left left_now ReadFault out out_now = out_now ≡ out
+Plans left left_now OutOfMemory out out_now = out_now ≡ out
+Plans left left_now ending out out_now = PlansInput left left_now ending out out_now
+
+-- the line of an ending was written, or a part of it where the notes failed
+abbrev pub Notes : Ending → Option (List ℕ) → Option (List ℕ) → ℕ → ℕ → Type 0
+Notes ending before now faults faults_now = Appends before (line_of ending) now ⊎ (AppendsPart before (line_of ending) now × Rose faults faults_now)
+
+-- a status that `swanroll` may have
+abbrev pub IsStatus : ℕ → Type 0
+IsStatus status = IsTrue (list_any (λ s. s == status) (0 ∷ 2 ∷ 3 ∷ 4 ∷ 6 ∷ 7 ∷ 12 ∷ []))
+
+-- the notes have the line of an ending with this status
+pub record IsNoted (exit : ℕ) (before now : Option (List ℕ)) (faults faults_now : ℕ) : Type 0 where
+  pub ending : Ending
+  pub status : exit ≡ status_of ending
+  pub line : Notes ending before now faults faults_now
+
+-- The whole of a run of `plan` that read its input: the status, what was written and the line of the notes follow from it.
+pub record PlansAndNotes (left left_now out out_now notes notes_now : Option (List ℕ)) (faults faults_now status : ℕ) : Type 0 where
+  pub ending : Ending
+  pub is_status : status ≡ status_of ending
+  pub plans : PlansInput left left_now ending out out_now
+  pub line : Notes ending notes notes_now faults faults_now

@@ -1,0 +1,17 @@
+ghost use Rattle.std.specs.Prelude.{◌≡◌, Ok};
+ghost use Rattle.wan_edge.specs.Streams.{Rose};
+ghost use Rattle.swanroll_top.specs.Runs.{EndsWith};
+
+use crate::ending::Ending;
+use wan_edge::{Sink, write_all};
+
+/// Writes all of a text.
+pub fn write_text<K: Sink>(sink: &mut K, text: &str) -> Ending
+    ensures written { EndsWith (Ok text.now) result (K.written sink.old) (K.written sink.new) }
+    ensures cause { result ≡ Ending.WriteFault → Rose (K.faults sink.old) (K.faults sink.new) }
+{
+    match write_all(sink, text.as_bytes()) {
+        Ok(()) => Ending::Done,
+        Err(_) => Ending::WriteFault,
+    }
+}
