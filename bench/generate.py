@@ -1,0 +1,58 @@
+"""Writes a problem of a given size, that goes in one step, to standard output.
+
+    python3 bench/generate.py [--share N]
+
+The largest has every count at its limit: 1,024 switches, 2,048 links, 1,024 flows, 4,096 tunnels, 16 links a path, names of
+128 bytes. With --share N each count of rows is an N-th of that.
+"""
+
+import argparse
+import itertools
+import json
+import sys
+
+SWITCHES, LINKS_OF_A_PATH, TUNNELS_OF_A_FLOW, NAME = 1024, 16, 4, 128
+
+
+def name(kind, number):
+    return f"{kind}{number}-".ljust(NAME, "x")
+
+
+def paths(count, start, switches):
+    """So many paths of one pair of ends: eight steps to the next switch and eight to the one behind it, in other orders."""
+    half = LINKS_OF_A_PATH // 2
+    for places in itertools.islice(itertools.combinations(range(LINKS_OF_A_PATH), half), count):
+        at, path = start, [start]
+        for hop in range(LINKS_OF_A_PATH):
+            at = (at + (1 if hop in places else 2)) % switches
+            path.append(at)
+        yield path
+
+
+def problem(share):
+    switches = SWITCHES // share
+    tunnels = []
+    for flow in range(switches):
+        split = [(3, 1), (1, 3), (2, 0), (0, 2)]
+        tunnels.append([
+            {"path": [name("s", at) for at in path], "old": old, "new": new}
+            for path, (old, new) in zip(paths(TUNNELS_OF_A_FLOW, flow, switches), split)
+        ])
+    return {
+        "switches": [{"name": name("s", at), "table": 1000000} for at in range(switches)],
+        "links": [
+            {"from": name("s", at), "to": name("s", (at + step) % switches), "capacity": 1000000000000}
+            for at in range(switches) for step in (1, 2)
+        ],
+        "flows": [{"name": name("f", flow), "tunnels": tunnels[flow]} for flow in range(switches)],
+    }
+
+
+def main():
+    words = argparse.ArgumentParser(description=__doc__, formatter_class=argparse.RawDescriptionHelpFormatter)
+    words.add_argument("--share", type=int, default=1)
+    json.dump(problem(words.parse_args().share), sys.stdout)
+
+
+if __name__ == "__main__":
+    main()

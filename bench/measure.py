@@ -1,0 +1,66 @@
+"""Times `swanroll plan` on the largest problem and on a quarter of it, and shows the time that passes, the processor time and
+the peak memory.
+
+    python3 bench/measure.py [--check] [--runs N]
+
+With --check it ends with status 1 where the whole takes more than five times the processor time of the quarter: the work of
+reading, checking and writing grows with the input and no faster. Runs of both take turns, and the least time of each counts, since
+a busy machine makes single runs slow.
+"""
+
+import argparse
+import os
+import subprocess
+import sys
+import tempfile
+import time
+
+HERE = os.path.dirname(os.path.abspath(__file__))
+PROGRAM = os.path.join(HERE, "..", "crates", "swanroll", "out", "swanroll")
+MOST_TIMES = 5
+
+
+def run_once(path):
+    """The seconds that passed, the processor's seconds and the peak memory in megabytes of one run."""
+    with open(path, "rb") as source, open(os.devnull, "wb") as sink:
+        begun = time.perf_counter()
+        child = subprocess.Popen([PROGRAM, "plan"], stdin=source, stdout=sink)
+        _, status, used = os.wait4(child.pid, 0)
+        seconds = time.perf_counter() - begun
+    if status != 0:
+        sys.exit(f"measure: the program ended with {status} on {path}")
+    return seconds, used.ru_utime + used.ru_stime, used.ru_maxrss / 1024
+
+
+def generate(folder, share):
+    path = os.path.join(folder, f"problem-{share}.json")
+    with open(path, "wb") as file:
+        subprocess.run([sys.executable, "-B", os.path.join(HERE, "generate.py"), "--share", str(share)], stdout=file, check=True)
+    return path
+
+
+def main():
+    words = argparse.ArgumentParser(description=__doc__, formatter_class=argparse.RawDescriptionHelpFormatter)
+    words.add_argument("--check", action="store_true")
+    words.add_argument("--runs", type=int, default=15)
+    given = words.parse_args()
+    with tempfile.TemporaryDirectory() as folder:
+        inputs = {title: generate(folder, share) for title, share in (("a quarter", 4), ("the largest", 1))}
+        sizes = {title: os.path.getsize(path) / 1e6 for title, path in inputs.items()}
+        results = {title: [] for title in inputs}
+        for _ in range(given.runs):
+            for title, path in inputs.items():
+                results[title].append(run_once(path))
+    times = []
+    for title, runs in results.items():
+        passed, busy, memory = (min(run[0] for run in runs), min(run[1] for run in runs), max(run[2] for run in runs))
+        times.append(busy)
+        print(f"measure: {title}: {sizes[title]:.1f} MB of text, {passed:.3f} s, {busy:.3f} s of the processor, {memory:.0f} MB at the most")
+    growth = times[1] / times[0]
+    print(f"measure: the largest takes {growth:.1f} times the processor time of a quarter of it")
+    if given.check and growth > MOST_TIMES:
+        sys.exit(f"measure: that is more than {MOST_TIMES} times")
+
+
+if __name__ == "__main__":
+    main()
