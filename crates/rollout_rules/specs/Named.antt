@@ -195,3 +195,12 @@ crowd_plan = record {
 -- a plan without one of its stages
 abbrev pub without_stage : ℕ → Plan → Plan
 without_stage s plan = record plan { stages = take s plan.stages ++ drop (s + 1) plan.stages }
+
+-- a plan that carries 2 over table_network's third tunnel at stage 2 alone, and ends as it began
+abbrev pub stay_plan : Plan
+stay_plan = record {
+  scale = 1;
+  stages =
+      stage_with (4 ∷ 0 ∷ 0 ∷ []) (true ∷ false ∷ false ∷ []) ∷ stage_with (4 ∷ 0 ∷ 0 ∷ []) (true ∷ false ∷ true ∷ [])
+      ∷ stage_with (2 ∷ 0 ∷ 2 ∷ []) (true ∷ false ∷ true ∷ []) ∷ stage_with (4 ∷ 0 ∷ 0 ∷ []) (true ∷ false ∷ true ∷ []) ∷ [];
+}

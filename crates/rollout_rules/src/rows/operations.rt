@@ -6,7 +6,7 @@ ghost use Rattle.rollout_rules.specs.History.{places_of, stand};
 ghost use Rattle.rollout_rules.specs.Needs.{installed_since, idle_since, entries_past, needs_met_at, needs_met};
 ghost use Rattle.rollout_rules.specs.Room.{least_stage, room, fits_at, fits};
 ghost use Rattle.rollout_rules.specs.Building.{no_problem};
-ghost use Rattle.rollout_rules.specs.Named.{all_installed, late, table_network, three, replaced, late_plan, table_plan, three_plan, replaced_plan};
+ghost use Rattle.rollout_rules.specs.Named.{stay_plan, all_installed, late, table_network, three, replaced, late_plan, table_plan, three_plan, replaced_plan};
 ghost use Rattle.rollout_rules.specs.Rows.{begin_of, done_of};
 
 use crate::item::Item;
@@ -73,6 +73,12 @@ pub fn a_flow_needs_the_entries_that_carry_it()
     ensures without_z { entries_past table_network table_plan (places_of table_network (done_of 7 1 ∷ done_of 9 1 ∷ [])) 2 2 ≡ false }
     ensures without_b { entries_past table_network table_plan (places_of table_network (done_of 7 1 ∷ done_of 8 1 ∷ [])) 2 2 ≡ false }
     ensures with_all { needs_met table_network table_plan (places_of table_network (done_of 7 1 ∷ done_of 8 1 ∷ done_of 9 1 ∷ [])) (Item.Flow 0) ≡ true }
+{}
+
+/// Also those of a tunnel that carries it on the way alone.
+pub fn a_flow_needs_the_entries_of_a_stay_between()
+    ensures without { needs_met table_network stay_plan (places_of table_network []) (Item.Flow 0) ≡ false }
+    ensures with_all { needs_met table_network stay_plan (places_of table_network (done_of 7 1 ∷ done_of 8 1 ∷ done_of 9 1 ∷ [])) (Item.Flow 0) ≡ true }
 {}
 
 /// A flow under way has not left yet; a tunnel that was idle from the start has none to leave it.
