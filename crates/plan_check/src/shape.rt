@@ -4,11 +4,7 @@ ghost use Rattle.rollout_rules.specs.Sums.{all_below};
 ghost use Rattle.rollout_rules.specs.Valid as valid;
 ghost use Rattle.plan_check.specs.Parts as parts;
 
-use wan_model::{Plan, Problem};
-
-const LARGEST_SCALE: u32 = 65_536;
-
-const MOST_STAGES: usize = 256;
+use wan_model::{LARGEST_SCALE, MOST_STAGES, Plan, Problem};
 
 /// P0: whether the scale and the number of stages are within their limits, and each stage has a rate
 /// and a mark per tunnel.

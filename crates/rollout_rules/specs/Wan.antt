@@ -42,6 +42,11 @@ pub record Plan : Type 0 where
   pub scale : ℕ
   pub stages : List Stage
 
+-- a problem with a plan for it
+pub record Rollout : Type 0 where
+  pub problem : Problem
+  pub plan : Plan
+
 abbrev pub no_switch : Switch
 no_switch = record { name = []; table = 0 }
 

@@ -6,3 +6,4 @@ pub mod Routes
 pub mod Building
 pub mod BuildingTunnels
 pub mod Kept
+pub mod Counted

@@ -1,4 +1,4 @@
-//! How large a network may be. The definitions have the same numbers.
+//! How large a network and its plan may be. The definitions have the same numbers.
 
 pub const MOST_SWITCHES: usize = 1024;
 
@@ -23,3 +23,9 @@ pub const LARGEST_CAPACITY: u64 = 1_000_000_000_000;
 
 /// The entries of a forwarding table.
 pub const LARGEST_TABLE: u32 = 1_000_000;
+
+/// The stages of a plan.
+pub const MOST_STAGES: usize = 256;
+
+/// A plan's rates are in units of 1/scale.
+pub const LARGEST_SCALE: u32 = 65_536;
