@@ -1,5 +1,5 @@
 -- What goes in and out of an outside object. What an object tells is Some, and what it does not tell is None.
-use Rattle.std.specs.Prelude.{◌≡◌, ◌⊎◌, ℕ, ◌<◌, ◌≤◌, ◌-◌, ◌^◌, List, [], ◌++◌, length, take, Option, is_some, IfSome}
+use Rattle.std.specs.Prelude.{◌≡◌, ◌⊎◌, ℕ, ◌<◌, ◌≤◌, ◌-◌, ◌^◌, List, [], ◌++◌, length, take, Option, None, is_some, IfSome}
 use Rattle.std.specs.Option.{option_map}
 
 -- a count of failures has gone up, or stands at the last value of u64, where a program's counter stops
@@ -27,3 +27,20 @@ pub record AppendsPart (before : Option (List ℕ)) (bytes : List ℕ) (now : Op
   pub count : ℕ
   pub not_all : count < length bytes
   pub appended : Appends before (take count bytes) now
+
+-- what an object tells as a source
+pub record AsSource : Type 0 where
+  pub left : Option (List ℕ)
+  pub faults : ℕ
+
+-- what an object tells as a sink
+pub record AsSink : Type 0 where
+  pub written : Option (List ℕ)
+  pub faults : ℕ
+
+-- what an object tells that is no source, or no sink
+abbrev pub no_source : AsSource
+no_source = record { left = None; faults = 0 }
+
+abbrev pub no_sink : AsSink
+no_sink = record { written = None; faults = 0 }

@@ -8,10 +8,13 @@
 #![tactic(auto)]
 
 mod failing_turns;
+mod fleet;
+mod guest;
 mod memory_sink;
 mod memory_source;
 mod plain_sink;
 mod plain_source;
+mod port;
 mod reading;
 mod stream;
 #[cfg(test)]
@@ -19,10 +22,13 @@ mod tests;
 mod writing;
 
 pub use failing_turns::{FailingTurns, Turns};
+pub use fleet::Fleet;
+pub use guest::Guest;
 pub use memory_sink::MemorySink;
 pub use memory_source::MemorySource;
 pub use plain_sink::PlainSink;
 pub use plain_source::{Nums8, PlainSource};
+pub use port::Port;
 pub use reading::{ReadFault, read_all};
 pub use stream::{Failed, Sink, Source};
 pub use writing::write_all;

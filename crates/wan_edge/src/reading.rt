@@ -49,6 +49,7 @@ pub fn read_all<S: Source>(alloc: Global, source: &mut S, most: usize) -> Result
     ensures cause { IsErrOf result ReadFault.Failed → Rose (S.faults source.old) (S.faults source.new) }
     ensures count { S.faults source.old ≤ S.faults source.new }
     ensures told { KeepsTelling (S.left source.old) (S.left source.new) }
+    ensures apart { S.as_sink source.new ≡ S.as_sink source.old }
 {
     let mut buffer = vec![in alloc; 0; min(BUFFER, most + 1)]?;
     let mut bytes = Nums8::new(alloc);
@@ -75,6 +76,7 @@ fn read_more<S: Source>(
     ensures cause { IsErrOf result ReadFault.Failed → Rose (S.faults source.old) (S.faults source.new) }
     ensures count { S.faults source.old ≤ S.faults source.new }
     ensures told { KeepsTelling (S.left source.old) (S.left source.new) }
+    ensures apart { S.as_sink source.new ≡ S.as_sink source.old }
 {
     let n = source.read(buffer)?;
     bytes.extend_from_slice(&buffer[..n])?;

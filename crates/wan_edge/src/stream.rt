@@ -1,5 +1,5 @@
 ghost use Rattle.std.specs.Prelude.{◌≡◌, ℕ, ◌<◌, ◌≤◌, List, length, take, Option, IfOk, OnErr};
-ghost use Rattle.wan_edge.specs.Streams.{Appends, IsAtEnd, KeepsTelling, Rose, TakesFrom};
+ghost use Rattle.wan_edge.specs.Streams.{Appends, AsSink, AsSource, IsAtEnd, KeepsTelling, Rose, TakesFrom, no_sink, no_source};
 
 /// The one fault of an outside object.
 #[derive(Clone, Copy, Debug, PartialEq, Eq)]
@@ -13,6 +13,9 @@ pub trait Source {
     /// How often the object has failed.
     ghost faults: { Self → ℕ };
 
+    /// What the object tells as a sink, where it is one too.
+    ghost as_sink: { Self → AsSink } = { λ _. no_sink };
+
     /// Reads some of the next bytes into the front of `into` and says how many; 0 is the end. What
     /// stands in `into` behind them is not said.
     fn read(&mut self, into: &mut [u8]) -> Result<usize, Failed>
@@ -23,7 +26,8 @@ pub trait Source {
         ensures unread { OnErr result (left self.new ≡ left self.old) }
         ensures cause { OnErr result (Rose (faults self.old) (faults self.new)) }
         ensures count { faults self.old ≤ faults self.new }
-        ensures told { KeepsTelling (left self.old) (left self.new) };
+        ensures told { KeepsTelling (left self.old) (left self.new) }
+        ensures apart { as_sink self.new ≡ as_sink self.old };
 }
 
 /// An object that bytes are written to.
@@ -34,6 +38,9 @@ pub trait Sink {
     /// How often the object has failed.
     ghost faults: { Self → ℕ };
 
+    /// What the object tells as a source, where it is one too.
+    ghost as_source: { Self → AsSource } = { λ _. no_source };
+
     /// Takes some bytes from the front of `from` and says how many: at least one, where there is one.
     fn write(&mut self, from: &[u8]) -> Result<usize, Failed>
         ensures within { IfOk result (λ n. n ≤ length from.now) }
@@ -42,5 +49,6 @@ pub trait Sink {
         ensures nothing { OnErr result (written self.new ≡ written self.old) }
         ensures cause { OnErr result (Rose (faults self.old) (faults self.new)) }
         ensures count { faults self.old ≤ faults self.new }
-        ensures told { KeepsTelling (written self.old) (written self.new) };
+        ensures told { KeepsTelling (written self.old) (written self.new) }
+        ensures apart { as_source self.new ≡ as_source self.old };
 }

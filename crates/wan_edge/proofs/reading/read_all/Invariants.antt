@@ -7,6 +7,7 @@ invariant-loop-room g l = record {
   some : 0 < length l.buffer.items;
   counted : length l.bytes + l.room ≡ l.most + 1;
   taken : TakesFrom (g.S.Source.left l.fn.source) l.bytes (g.S.Source.left l.source);
+  apart : g.S.Source.as_sink l.source ≡ g.S.Source.as_sink l.fn.source;
   count : g.S.Source.faults l.fn.source ≤ g.S.Source.faults l.source;
 }
 

@@ -16,5 +16,6 @@ loop-done-preserved g c =
     record {
       within = further.0;
       appended = rw (← further.1) (Appends-chain _ _ _ _ _ c.loop-done.invariant.appended c.in_ok-done.ensures.appended);
+      apart = c.in_ok-done.ensures.apart ∙ c.loop-done.invariant.apart;
       count = omega arith;
     }

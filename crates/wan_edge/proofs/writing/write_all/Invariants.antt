@@ -1,4 +1,4 @@
-use Rattle.std.proofs.Common.{◌≤◌, ◌-◌, length, take}
+use Rattle.std.proofs.Common.{◌≡◌, ◌≤◌, ◌-◌, length, take}
 use Rattle.wan_edge.specs.Streams.{Appends}
 use Rattle.wan_edge.proofs.writing.write_all.Given as goal
 
@@ -6,6 +6,7 @@ abbrev pub invariant-loop-done : goal.invariant-loop-done
 invariant-loop-done g l = record {
   within : l.done ≤ length l.bytes;
   appended : Appends (g.K.Sink.written l.fn.sink) (take l.done l.bytes) (g.K.Sink.written l.sink);
+  apart : g.K.Sink.as_source l.sink ≡ g.K.Sink.as_source l.fn.sink;
   count : g.K.Sink.faults l.fn.sink ≤ g.K.Sink.faults l.sink;
 }
 

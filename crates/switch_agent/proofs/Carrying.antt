@@ -1,0 +1,45 @@
+-- What is held after an item's entry was set.
+use Rattle.std.proofs.Common.{◌≡◌, ℕ, ◌==◌, ◌||◌, Bool, true, false, cond, List, Option, Some, None, is_some, unwrap_or, nat_eq, refl, sym, ap, subst, ◌∙◌, inl, inr, eq-eqb}
+use Rattle.std.specs.Cmp.{nat_eq_equiv}
+use Rattle.std.specs.Map.{lookup}
+use Rattle.std.proofs.lemmas.Bool.{cases_eq, cond-true, cond-false, ne_eqb}
+use Rattle.rollout_rules.specs.Agent.{Held, held_after, is_next_command}
+use Rattle.wan_edge.specs.Frames.{Command}
+use Rattle.wan_edge.specs.Switches.{Holding, after_command}
+use Rattle.switch_agent.specs.Items.{Items, held_by, holding, last_command, seen}
+
+-- the agent rule, by the last command
+pub carried : (last : Option Command) (c : Command) → is_next_command (held_by last) c.number ≡ true → held_by (Some c) ≡ held_after (held_by last) c.number c.content
+carried last c next = sym (cond-true _ _ _ next)
+
+pub passed_over : (last : Option Command) (c : Command) → is_next_command (held_by last) c.number ≡ false → held_by last ≡ held_after (held_by last) c.number c.content
+passed_over last c other = sym (cond-false _ _ _ other)
+
+module _ (items new : Items) (item : ℕ) (now : Option Command) (updated : (q : ℕ) → lookup (λ key. q == key) new ≡ cond (item == q) (Some now) (lookup (λ key. q == key) items)) where
+  at_item : (q : ℕ) → q ≡ item → lookup (λ key. q == key) new ≡ Some now
+  at_item q e = updated q ∙ cond-true _ _ _ (eq-eqb item q (sym e))
+
+  elsewhere : (q : ℕ) → (q ≡ item → ⊥) → lookup (λ key. q == key) new ≡ lookup (λ key. q == key) items
+  elsewhere q other = updated q ∙ cond-false _ _ _ (ne_eqb item q (λ e. other (sym e)))
+
+  held_at : (c : Command) → c.item ≡ item → held_by now ≡ held_after (holding items item) c.number c.content → (q : ℕ) → holding new q ≡ after_command (holding items) c q
+  held_at c of_item rule q =
+      elim (cases_eq q item) [
+        | inl e ↦
+            ap (λ (found : Option (Option Command)). held_by (unwrap_or found None)) (at_item q e) ∙ rule
+            ∙ ap (λ (n : ℕ). held_after (holding items n) c.number c.content) (sym e)
+            ∙ sym (cond-true (q == c.item) (held_after (holding items q) c.number c.content) (holding items q) (eq-eqb q c.item (e ∙ sym of_item)))
+        | inr other ↦
+            ap (λ (found : Option (Option Command)). held_by (unwrap_or found None)) (elsewhere q other)
+            ∙ sym (cond-false (q == c.item) (held_after (holding items q) c.number c.content) (holding items q) (ne_eqb q c.item (λ e. other (e ∙ of_item))))
+      ]
+
+  pub holding_now : (c : Command) → c.item ≡ item → held_by now ≡ held_after (holding items item) c.number c.content → holding new ≡ after_command (holding items) c
+  holding_now c of_item rule i q = held_at c of_item rule q i
+
+  pub seen_now : (q : ℕ) → seen new q ≡ (q == item || seen items q)
+  seen_now q =
+      elim (cases_eq q item) [
+        | inl e ↦ ap is_some (at_item q e) ∙ ap (λ (b : Bool). b || seen items q) (sym (eq-eqb q item e))
+        | inr other ↦ ap is_some (elsewhere q other) ∙ ap (λ (b : Bool). b || seen items q) (sym (ne_eqb q item other))
+      ]

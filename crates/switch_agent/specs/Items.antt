@@ -1,0 +1,31 @@
+-- What an agent holds, item by item, in the order in which it saw them.
+use Rattle.std.specs.Prelude.{ℕ, ◌==◌, Bool, List, Option, Some, None, is_some, unwrap_or, if◌then◌else◌}
+use Rattle.std.specs.Map.{lookup}
+use Rattle.rollout_rules.specs.Agent.{Held, nothing_held}
+use Rattle.wan_edge.specs.Frames.{Command}
+use Rattle.wan_edge.specs.Switches.{Holding}
+
+-- each item that came, with the last command that was carried out
+abbrev pub Items : Type 0
+Items = List (ℕ × Option Command)
+
+-- what is held by the last command
+abbrev pub held_by : Option Command → Held
+held_by None = nothing_held
+held_by (Some c) = record { number = c.number; content = c.content }
+
+-- the last command of an item, where one was carried out
+abbrev pub last_command : Items → ℕ → Option Command
+last_command items item = unwrap_or (lookup (λ key. item == key) items) None
+
+-- what is held of each item
+abbrev pub holding : Items → Holding
+holding items = λ item. held_by (last_command items item)
+
+-- whether a command for the item came
+abbrev pub seen : Items → ℕ → Bool
+seen items item = is_some (lookup (λ key. item == key) items)
+
+-- the content of an item, where an operation of it is held
+abbrev pub content_of : Held → Option (List ℕ)
+content_of held = if held.number == 0 then None else Some held.content

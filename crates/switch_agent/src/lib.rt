@@ -1,0 +1,17 @@
+//! The agent of a switch: it carries out commands by the agent rule, and serves the controllers that
+//! come as guests.
+//!
+//! Contracts see an [`Agent`] as its items in the order in which it saw them, each with what is held
+//! of it. [`serve_bytes`] reads a guest to its end and answers each command: its contract says what was
+//! read, carried out and written in each case.
+#![tactic(auto)]
+
+mod agent;
+mod serve;
+mod serve_fault;
+#[cfg(test)]
+mod tests;
+
+pub use agent::Agent;
+pub use serve::serve_bytes;
+pub use serve_fault::{ServeFault, Served};

@@ -1,0 +1,153 @@
+ghost use Rattle.std.specs.Prelude.{◌≡◌, ◌<◌, ◌≤◌, ◌++◌, [], List, ℕ, length, take, None, Some, IfSome, IsTrue};
+ghost use Rattle.switch_agent.specs.Items.{Items};
+ghost use Rattle.switch_agent.specs.Serving.{CarriesOut, IsOwnFault, ServesGuest};
+ghost use Rattle.switch_agent.specs.declared.serve_fault.ServeFault.TheVariants as fault;
+ghost use Rattle.wan_edge.specs.Frames.{IsCommand, IsCutCommand, command_bytes};
+ghost use Rattle.wan_edge.specs.Streams.{KeepsTelling, Rose};
+
+use crate::{Agent, ServeFault, Served};
+use wan_edge::{Guest, write_all};
+use wire_frames::{Command, CommandReader, write_answer};
+
+/// How many bytes are read of one guest.
+const MOST: usize = 100_000_000;
+
+/// How many bytes one call reads at most.
+const BUFFER: usize = 4_096;
+
+/// Reads the guest to its end, and carries out and answers each command in order. A command that is cut
+/// off at the end is dropped.
+pub fn serve_bytes<G: Guest>(agent: &mut Agent, guest: &mut G) -> Served
+    ensures served { ServesGuest agent.old agent.new (G.left guest.old) (G.left guest.new) result (G.written guest.old) (G.written guest.new) }
+    ensures read_cause { result.fault ≡ Some fault.Read → Rose (G.Source.faults guest.old) (G.Source.faults guest.new) }
+    ensures write_cause { result.fault ≡ Some fault.Write → Rose (G.Sink.faults guest.old) (G.Sink.faults guest.new) }
+    ensures counts { (G.Source.faults guest.old ≤ G.Source.faults guest.new) × (G.Sink.faults guest.old ≤ G.Sink.faults guest.new) }
+    ensures told { KeepsTelling (G.left guest.old) (G.left guest.new) × KeepsTelling (G.written guest.old) (G.written guest.new) }
+{
+    let mut buffer = [0; BUFFER];
+    let mut reader = CommandReader::new();
+    let mut commands = 0;
+    let mut room = MOST;
+    while room > 0 {
+        let fits = room.min(BUFFER);
+        let n = match guest.read(&mut buffer[..fits]) {
+            Ok(0) => return Served {
+                commands,
+                fault: None,
+            },
+            Ok(n) => n,
+            Err(_) => return Served {
+                commands,
+                fault: Some(ServeFault::Read),
+            },
+        };
+        let served = serve_piece(agent, guest, &mut reader, &buffer[..n]);
+        commands += served.commands;
+        if let Some(fault) = served.fault {
+            let fault = Some(fault);
+            return Served { commands, fault };
+        }
+        room -= n;
+    }
+    Served {
+        commands,
+        fault: Some(ServeFault::Long),
+    }
+}
+
+// Carries out and answers the commands that end in the piece.
+fn serve_piece<G: Guest>(
+    agent: &mut Agent,
+    guest: &mut G,
+    reader: &mut CommandReader,
+    piece: &[u8],
+) -> Served
+    requires live { IsTrue reader.old.live }
+    requires cut { IsCutCommand reader.old.kept }
+    ensures carried { CarriesOut agent.old agent.new (reader.old.kept ++ piece.now) result (λ rest. rest ≡ reader.new.kept) (G.written guest.old) (G.written guest.new) }
+    ensures few { result.commands ≤ length piece.now }
+    ensures own { IfSome result.fault IsOwnFault }
+    ensures live { result.fault ≡ None → IsTrue reader.new.live }
+    ensures cut { result.fault ≡ None → IsCutCommand reader.new.kept }
+    ensures write_cause { result.fault ≡ Some fault.Write → Rose (G.Sink.faults guest.old) (G.Sink.faults guest.new) }
+    ensures counts { G.Sink.faults guest.old ≤ G.Sink.faults guest.new }
+    ensures told { KeepsTelling (G.written guest.old) (G.written guest.new) }
+    ensures unread { (G.left guest.new ≡ G.left guest.old) × (G.Source.faults guest.new ≡ G.Source.faults guest.old) }
+{
+    let mut commands = 0;
+    let mut rest = piece;
+    while !rest.is_empty() {
+        let (n, served) = serve_next(agent, guest, reader, rest);
+        commands += served.commands;
+        if let Some(fault) = served.fault {
+            let fault = Some(fault);
+            return Served { commands, fault };
+        }
+        rest = &rest[n..];
+    }
+    Served {
+        commands,
+        fault: None,
+    }
+}
+
+// Carries out and answers the first command that ends in the piece, and says how many bytes it took.
+fn serve_next<G: Guest>(
+    agent: &mut Agent,
+    guest: &mut G,
+    reader: &mut CommandReader,
+    piece: &[u8],
+) -> (usize, Served)
+    requires live { IsTrue reader.old.live }
+    requires some { 0 < length piece.now }
+    ensures taken { (0 < result.0) × (result.0 ≤ length piece.now) }
+    ensures carried { CarriesOut agent.old agent.new (reader.old.kept ++ take result.0 piece.now) result.1 (λ rest. rest ≡ reader.new.kept) (G.written guest.old) (G.written guest.new) }
+    ensures few { result.1.commands ≤ 1 }
+    ensures own { IfSome result.1.fault IsOwnFault }
+    ensures live { result.1.fault ≡ None → IsTrue reader.new.live }
+    ensures cut { result.1.fault ≡ None → IsCutCommand reader.new.kept }
+    ensures write_cause { result.1.fault ≡ Some fault.Write → Rose (G.Sink.faults guest.old) (G.Sink.faults guest.new) }
+    ensures counts { G.Sink.faults guest.old ≤ G.Sink.faults guest.new }
+    ensures told { KeepsTelling (G.written guest.old) (G.written guest.new) }
+    ensures unread { (G.left guest.new ≡ G.left guest.old) × (G.Source.faults guest.new ≡ G.Source.faults guest.old) }
+{
+    match reader.feed(piece) {
+        Ok((n, Some(command))) => (n, answer(agent, guest, &command)),
+        Ok((n, None)) => (
+            n,
+            Served {
+                commands: 0,
+                fault: None,
+            },
+        ),
+        Err(fault) => {
+            let fault = Some(ServeFault::Frame(fault));
+            (piece.len(), Served { commands: 0, fault })
+        }
+    }
+}
+
+// Carries out a command and answers it.
+fn answer<G: Guest>(agent: &mut Agent, guest: &mut G, command: &Command) -> Served
+    requires { IsCommand command.now }
+    ensures carried { CarriesOut agent.old agent.new (command_bytes command.now) result (λ rest. rest ≡ []) (G.written guest.old) (G.written guest.new) }
+    ensures few { result.commands ≤ 1 }
+    ensures own { IfSome result.fault IsOwnFault }
+    ensures write_cause { result.fault ≡ Some fault.Write → Rose (G.Sink.faults guest.old) (G.Sink.faults guest.new) }
+    ensures counts { G.Sink.faults guest.old ≤ G.Sink.faults guest.new }
+    ensures told { KeepsTelling (G.written guest.old) (G.written guest.new) }
+    ensures unread { (G.left guest.new ≡ G.left guest.old) × (G.Source.faults guest.new ≡ G.Source.faults guest.old) }
+{
+    let given = match agent.apply(command) {
+        Ok(answer) => write_answer(&answer),
+        Err(_) => {
+            let fault = Some(ServeFault::Memory);
+            return Served { commands: 0, fault };
+        }
+    };
+    let fault = match write_all(guest, &given) {
+        Ok(()) => None,
+        Err(_) => Some(ServeFault::Write),
+    };
+    Served { commands: 1, fault }
+}

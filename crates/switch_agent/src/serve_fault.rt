@@ -1,0 +1,24 @@
+use wire_frames::FrameFault;
+
+/// Why a guest was not served to its end.
+#[derive(Clone, Copy, Debug, PartialEq, Eq)]
+pub enum ServeFault {
+    /// Its bytes are no command, from this byte on.
+    Frame(FrameFault),
+    /// Reading failed.
+    Read,
+    /// Writing failed.
+    Write,
+    /// It has as many bytes as are read of one guest, or more.
+    Long,
+    /// No memory was found for an item.
+    Memory,
+}
+
+/// What came of a guest: how many commands were carried out, those that changed nothing among them, and
+/// the fault, where its end was not reached.
+#[derive(Clone, Copy, Debug, PartialEq, Eq)]
+pub struct Served {
+    pub commands: u64,
+    pub fault: Option<ServeFault>,
+}

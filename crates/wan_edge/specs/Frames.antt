@@ -1,0 +1,84 @@
+-- The bytes that pass between a controller and a switch: commands one way, answers the other. Numbers are big endian, and
+-- frames follow each other with nothing between them.
+use Rattle.std.specs.Prelude.{◌≡◌, ◌≢◌, ◌⊎◌, ℕ, ◌<◌, ◌≤◌, ◌^◌, List, ◌∷◌, ◌++◌, length, All}
+use Rattle.std.specs.List.{flat_map}
+use Rattle.std.specs.Int.{w32, w64, to_be_bytes}
+
+-- what a switch is told of an item: the number of an operation and the content that it brings, in units of 1/scale
+pub record Command : Type 0 where
+  pub item : ℕ
+  pub number : ℕ
+  pub scale : ℕ
+  pub content : List ℕ
+
+-- what a switch says of an item: the number that it holds
+pub record Answer : Type 0 where
+  pub item : ℕ
+  pub held : ℕ
+
+-- a command that has bytes: its numbers are within their widths, and it has 1 to 16 rates
+pub record IsCommand (c : Command) : Type 0 where
+  pub item : c.item < 2 ^ 32
+  pub number : c.number < 2 ^ 32
+  pub scale : c.scale < 2 ^ 32
+  pub some : 0 < length c.content
+  pub few : length c.content ≤ 16
+  pub rates : All (λ rate. rate < 2 ^ 64) c.content
+
+-- an answer that has bytes
+pub record IsAnswer (a : Answer) : Type 0 where
+  pub item : a.item < 2 ^ 32
+  pub held : a.held < 2 ^ 32
+
+-- the first byte of a command, and of an answer
+abbrev pub command_kind : ℕ
+command_kind = 0x43
+
+abbrev pub answer_kind : ℕ
+answer_kind = 0x41
+
+-- the kind, the item, the number and the scale of a command: its first 13 bytes
+unfoldable pub command_head : Command → List ℕ
+command_head c = command_kind ∷ (to_be_bytes w32 c.item ++ (to_be_bytes w32 c.number ++ to_be_bytes w32 c.scale))
+
+-- all its bytes: behind the head the count of its rates, and each rate
+unfoldable pub command_bytes : Command → List ℕ
+command_bytes c = command_head c ++ (length c.content ∷ flat_map (to_be_bytes w64) c.content)
+
+-- the kind, the item and the number held: nine bytes
+unfoldable pub answer_bytes : Answer → List ℕ
+answer_bytes a = answer_kind ∷ (to_be_bytes w32 a.item ++ to_be_bytes w32 a.held)
+
+-- the first bytes of a frame, which may be none, and not all of them
+pub record IsCut {X : Type 0} (bytes_of : X → List ℕ) (Fits : X → Type 0) (bytes : List ℕ) : Type 0 where
+  pub frame : X
+  pub fits : Fits frame
+  pub missing : List ℕ
+  pub some : 0 < length missing
+  pub begins : bytes_of frame ≡ bytes ++ missing
+
+abbrev pub IsCutCommand : List ℕ → Type 0
+IsCutCommand = IsCut command_bytes IsCommand
+
+abbrev pub IsCutAnswer : List ℕ → Type 0
+IsCutAnswer = IsCut answer_bytes IsAnswer
+
+-- in the place of a frame's kind stands another byte
+pub record HasOtherKind (kind : ℕ) (bytes : List ℕ) (byte : ℕ) : Type 0 where
+  pub other : byte ≢ kind
+  pub behind : List ℕ
+  pub parts : bytes ≡ byte ∷ behind
+
+-- behind what begins a command, in the place of the count of its rates, stands 0 or a number above 16
+pub record HasOtherCount (bytes : List ℕ) (byte : ℕ) : Type 0 where
+  pub head : List ℕ
+  pub begins : IsCutCommand head
+  pub long : length head ≡ 13
+  pub other : (byte ≡ 0) ⊎ (16 < byte)
+  pub behind : List ℕ
+  pub parts : bytes ≡ head ++ byte ∷ behind
+
+-- whole frames, and what has come of the next
+pub record Splits {X : Type 0} (bytes_of : X → List ℕ) (Fits : X → Type 0) (bytes : List ℕ) (frames : List X) (rest : List ℕ) : Type 0 where
+  pub fit : All Fits frames
+  pub parts : bytes ≡ flat_map bytes_of frames ++ rest

@@ -1,0 +1,5 @@
+pub mod Cuts
+pub mod Feeding
+pub mod Numbers
+pub mod OneSpelling
+pub mod Spelling

@@ -1,0 +1,142 @@
+ghost use Rattle.std.specs.Prelude.{◌≤◌, length};
+
+use crate::{
+    Answer, AnswerReader, Command, CommandReader, FrameFault, write_answer, write_command,
+};
+use std::test::Fail;
+use std::vec;
+
+const TWO_RATES: Command = Command {
+    item: 3,
+    number: 1,
+    scale: 2,
+    count: 2,
+    rates: [6, 6, 0, 0, 0, 0, 0, 0, 0, 0, 0, 0, 0, 0, 0, 0],
+};
+
+const SIXTEEN_RATES: Command = Command {
+    item: 4_294_967_295,
+    number: 65_537,
+    scale: 65_536,
+    count: 16,
+    rates: [
+        1,
+        2,
+        3,
+        4,
+        5,
+        6,
+        7,
+        8,
+        9,
+        10,
+        11,
+        12,
+        13,
+        14,
+        15,
+        65_536_000_000_000,
+    ],
+};
+
+// Adds the items of the commands that end in the piece.
+fn add_items(reader: &mut CommandReader, piece: &[u8], items: &mut Vec<u32>) -> Result<(), Fail> {
+    let mut rest = piece;
+    while reader.live() && !rest.is_empty() {
+        let (n, command) = reader.feed(rest)?;
+        if let Some(command) = command {
+            items.push(command.item)?;
+        }
+        rest = &rest[n..];
+    }
+    Ok(())
+}
+
+#[test]
+fn a_command_has_its_bytes(rt: HostRuntime) -> Result<(), Fail> {
+    let mut out = [255; 142];
+    let n = write_command(&TWO_RATES, &mut out);
+    assert_eq!(rt; n, 30);
+    let wanted = *b"C\0\0\0\x03\0\0\0\x01\0\0\0\x02\x02\0\0\0\0\0\0\0\x06\0\0\0\0\0\0\0\x06\xff";
+    assert!(rt; out.starts_with(&wanted));
+    Ok(())
+}
+
+#[test]
+fn an_answer_has_its_bytes(rt: HostRuntime) {
+    let answer = Answer { item: 3, held: 1 };
+    assert_eq!(rt; write_answer(&answer), *b"A\0\0\0\x03\0\0\0\x01");
+}
+
+// What a reader gives for the bytes in two pieces.
+fn in_two_pieces(bytes: &[u8], cut: usize) -> Result<[Option<Command>; 2], FrameFault>
+    requires { cut ≤ length bytes.now }
+{
+    let mut reader = CommandReader::new();
+    let (_, early) = reader.feed(&bytes[..cut])?;
+    let (_, late) = reader.feed(&bytes[cut..])?;
+    Ok([early, late])
+}
+
+#[test]
+fn a_command_may_be_cut_at_each_byte(rt: HostRuntime) {
+    for command in [TWO_RATES, SIXTEEN_RATES] {
+        let mut out = [0; 142];
+        let n = write_command(&command, &mut out);
+        let bytes = &out[..n];
+        for cut in 0..bytes.len() {
+            assert_eq!(rt; in_two_pieces(bytes, cut), Ok([None, Some(command)]));
+        }
+    }
+}
+
+#[test]
+fn an_answer_may_be_cut_at_each_byte(rt: HostRuntime) -> Result<(), Fail> {
+    let answer = Answer { item: 7, held: 9 };
+    let bytes = write_answer(&answer);
+    for cut in 0..9 {
+        let mut reader = AnswerReader::new();
+        assert_eq!(rt; reader.feed(&bytes[..cut])?, (cut, None));
+        assert_eq!(rt; reader.feed(&bytes[cut..])?, (9 - cut, Some(answer)));
+    }
+    Ok(())
+}
+
+#[test]
+fn a_fault_ends_a_reader(rt: HostRuntime) -> Result<(), Fail> {
+    let mut reader = CommandReader::new();
+    assert_eq!(rt; reader.feed(&[0x44]), Err(FrameFault::Kind(0x44)));
+    assert!(rt; !reader.live());
+    let mut out = [0; 142];
+    write_command(&TWO_RATES, &mut out);
+    for count in [0, 17] {
+        out[13] = count;
+        assert_eq!(rt;
+            CommandReader::new().feed(&out),
+            Err(FrameFault::Count(count))
+        );
+    }
+    assert_eq!(rt; AnswerReader::new().feed(&out), Err(FrameFault::Kind(0x43)));
+    Ok(())
+}
+
+#[test]
+fn a_stream_may_come_in_pieces_of_any_length(rt: HostRuntime) -> Result<(), Fail> {
+    let alloc = rt.alloc();
+    let mut stream = Vec::new(alloc);
+    for item in 0..500 {
+        let mut out = [0; 142];
+        let command = Command { item, ..TWO_RATES };
+        let n = write_command(&command, &mut out);
+        stream.extend_from_slice(out.get(..n).unwrap_or(&[]))?;
+    }
+    for length in 1..21 {
+        let mut reader = CommandReader::new();
+        let mut items = vec![in alloc]?;
+        for piece in stream.chunks(length) {
+            add_items(&mut reader, piece, &mut items)?;
+        }
+        assert!(rt; items.iter().copied().eq(0..500), "in pieces of {length}");
+    }
+    Ok(())
+}
