@@ -1,0 +1,15 @@
+pub mod Shapes
+pub mod Contents
+pub mod Elements
+pub mod Growing
+pub mod Agreement
+pub mod Needed
+pub mod Counted
+pub mod Touched
+pub mod Changed
+pub mod Begun
+pub mod Standings
+pub mod Flying
+pub mod Following
+pub mod HeldNumbers
+pub mod Schedules

@@ -1,0 +1,6 @@
+use Rattle.std.proofs.Common.{take}
+use Rattle.rollout_core.proofs.Schedules.{IsAfter}
+use Rattle.rollout_core.proofs.rollout.any_rollout.Given as goal
+
+abbrev pub invariant-loop-event : goal.invariant-loop-event
+invariant-loop-event l = IsAfter l.plan (take l.event-index l.event-items) l.world

@@ -1,0 +1,8 @@
+pub mod Progress
+pub mod Ahead
+pub mod Fits
+pub mod Index
+pub mod Stands
+pub mod Flights
+pub mod Worlds
+pub mod Drafts

@@ -1,0 +1,175 @@
+ghost use Rattle.std.specs.Prelude.{◌≡◌, ℕ, ◌<◌, ◌++◌, [], ◌∷◌, List, true, IfOk, OnOk, OnErr, IsTrue, length, slice_index_or};
+ghost use Rattle.rollout_rules.specs.Items.{item_count, item_at};
+ghost use Rattle.rollout_rules.specs.Operations.{operations};
+ghost use Rattle.rollout_rules.specs.History as counts;
+ghost use Rattle.rollout_rules.specs.Legal as legal;
+ghost use Rattle.rollout_rules.specs.World.{in_flight, no_op};
+ghost use Rattle.rollout_rules.specs.declared.op.Entry.{Entry};
+ghost use Rattle.rollout_core.specs.Progress.{AreCountsOf};
+ghost use Rattle.rollout_core.specs.Worlds.{GoesOn};
+
+use crate::flights::Flights;
+use crate::progress::Progress;
+use lists::Memory;
+use rollout_rules::{Entry, EntryList, Op};
+use std::alloc::Global;
+use std::marker::Model;
+use wan_model::CheckedPlan;
+
+/// The durable history of a rollout, which is legal, with how far each item has come and what is in flight.
+#[derive(Drop)]
+pub(crate) struct History<'p> {
+    plan: &'p CheckedPlan,
+    entries: EntryList,
+    progress: Progress,
+    flights: Flights,
+}
+
+impl<'p> Model for History<'p> {
+    ghost use Rattle.rollout_core.specs.Worlds.{Recorded, IsRecorded};
+
+    ghost Value = { Recorded };
+
+    ghost view = { λ h. record { rollout = h.plan.now; entries = h.entries } };
+
+    ghost invariant = { λ h. IsRecorded h.plan.now h.progress h.flights h.entries };
+}
+
+impl<'p> History<'p> {
+    /// The empty history.
+    pub(crate) fn new(alloc: Global, plan: &'p CheckedPlan) -> Result<History<'p>, Memory>
+        ensures { IfOk result (λ h. h ≡ record { rollout = plan.now; entries = [] }) }
+    {
+        let progress = Progress::new(alloc, plan)?;
+        let flights = Flights::new(alloc, progress.item_count())?;
+        Ok(History {
+            plan,
+            entries: EntryList::new(alloc),
+            progress,
+            flights,
+        })
+    }
+
+    pub(crate) fn plan(&self) -> &'p CheckedPlan
+        ensures { result.now ≡ self.now.rollout }
+    {
+        self.plan
+    }
+
+    /// How far each item has come, once more.
+    pub(crate) fn copied_progress(&self, alloc: Global) -> Result<Progress, Memory>
+        ensures rollout { IfOk result (λ progress. progress.rollout ≡ self.now.rollout) }
+        ensures counts { IfOk result (λ progress. AreCountsOf progress self.now.entries) }
+    {
+        self.progress.copied(alloc)
+    }
+
+    /// How many items there are.
+    pub(crate) fn items(&self) -> u32
+        ensures { result ≡ item_count self.now.rollout.problem }
+    {
+        self.progress.item_count()
+    }
+
+    pub(crate) fn entries(&self) -> &EntryList
+        ensures entries { result.now ≡ self.now.entries }
+        ensures legal { IsTrue (legal.is_legal self.now.rollout.problem self.now.rollout.plan self.now.entries) }
+    {
+        &self.entries
+    }
+
+    /// How many operations the item has.
+    pub(crate) fn operations(&self, item: u32) -> u32
+        requires { item < item_count self.now.rollout.problem }
+        ensures { result ≡ operations self.now.rollout.problem self.now.rollout.plan (item_at self.now.rollout.problem item) }
+    {
+        self.progress.operations(item)
+    }
+
+    /// How many operations of the item are settled.
+    pub(crate) fn settled(&self, item: u32) -> u32
+        requires { item < item_count self.now.rollout.problem }
+        ensures { result ≡ counts.settled self.now.entries item }
+    {
+        self.progress.settled(item)
+    }
+
+    /// How many operations of the item were begun.
+    pub(crate) fn begun(&self, item: u32) -> u32
+        requires { item < item_count self.now.rollout.problem }
+        ensures { result ≡ counts.begun self.now.entries item }
+    {
+        self.progress.begun(item)
+    }
+
+    /// How many operations are in flight.
+    pub(crate) fn flying_count(&self) -> u32
+        ensures { result ≡ length (in_flight self.now.rollout.problem self.now.entries) }
+    {
+        self.flights.count()
+    }
+
+    /// The n-th operation in flight, by item.
+    pub(crate) fn flying(&self, n: u32) -> Op
+        requires { n < length (in_flight self.now.rollout.problem self.now.entries) }
+        ensures operation { result ≡ slice_index_or (in_flight self.now.rollout.problem self.now.entries) n no_op }
+        ensures item { result.item < item_count self.now.rollout.problem }
+    {
+        let item = self.flights.item(n);
+        let number = self.begun(item);
+        Op { item, number }
+    }
+
+    pub(crate) fn may_begin(&self, ahead: &[Entry], op: Op) -> bool
+        requires { IsTrue (legal.may_follow self.now.rollout.problem self.now.rollout.plan self.now.entries ahead.now) }
+        ensures { result ≡ legal.may_begin self.now.rollout.problem self.now.rollout.plan (self.now.entries ++ ahead.now) op }
+    {
+        self.progress.may_begin(self.plan, ahead, op)
+    }
+
+    /// Whether a batch may follow the history, entry by entry.
+    pub(crate) fn may_follow(&self, batch: &[Entry]) -> bool
+        ensures { result ≡ legal.may_follow self.now.rollout.problem self.now.rollout.plan self.now.entries batch.now }
+    {
+        for n in 0..batch.len() {
+            if !self.may_add(&batch[..n], batch[n]) {
+                return false;
+            }
+        }
+        true
+    }
+
+    fn may_add(&self, ahead: &[Entry], entry: Entry) -> bool
+        requires { IsTrue (legal.may_follow self.now.rollout.problem self.now.rollout.plan self.now.entries ahead.now) }
+        ensures { result ≡ legal.may_add self.now.rollout.problem self.now.rollout.plan (self.now.entries ++ ahead.now) entry }
+    {
+        match entry {
+            Entry::Begin(op) => self.may_begin(ahead, op),
+            Entry::Done(op) => self.progress.may_end(ahead, op),
+        }
+    }
+
+    /// Adds a batch that may follow. Want of memory changes nothing.
+    pub(crate) fn append(&mut self, batch: &[Entry]) -> Result<(), Memory>
+        requires { IsTrue (legal.may_follow self.old.rollout.problem self.old.rollout.plan self.old.entries batch.now) }
+        ensures ok { OnOk result (self.new ≡ record self.old { entries = self.old.entries ++ batch.now }) }
+        ensures err { OnErr result (self.new ≡ self.old) }
+    {
+        self.entries.extend_from_slice(batch)?;
+        count(&mut self.progress, self.plan, batch);
+        self.flights.note(&self.progress);
+        Ok(())
+    }
+}
+
+/// Counts a batch that goes on from the history counted so far.
+fn count(progress: &mut Progress, plan: &CheckedPlan, batch: &[Entry])
+    requires own { plan.now ≡ progress.old.rollout }
+    requires legal { GoesOn progress.old batch.now }
+    ensures rollout { progress.new.rollout ≡ progress.old.rollout }
+    ensures counts { (h : List Entry) → AreCountsOf progress.old h → AreCountsOf progress.new (h ++ batch.now) }
+{
+    for entry in batch {
+        progress.add(plan, *entry);
+    }
+}

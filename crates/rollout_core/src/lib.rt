@@ -1,0 +1,30 @@
+//! The world in code: how far each item has come under a plan, and what each event does.
+//!
+//! [`World`] is the world of one rollout; contracts see it as the definition's world. [`any_rollout`]
+//! takes it through any schedule, and its contract says that every world on the way is safe. Below it
+//! what is begun and settled of each item is counted, and by the counts is answered what the definitions
+//! say of every history that has them, over an [`Index`] of the rollout made once, so that a test of
+//! room goes over what touches each link and table, and over nothing else.
+#![tactic(auto)]
+
+mod changes;
+mod checked;
+mod commands;
+mod draft;
+mod flights;
+mod history;
+mod index;
+mod progress;
+mod rollout;
+mod rows;
+mod stages;
+mod world;
+
+pub use changes::stand_after;
+pub use draft::Draft;
+pub use index::Index;
+pub use rollout::any_rollout;
+pub use rollout_rules::{Event, EventList};
+pub use rows::{links_of, path_of, tunnel_of, tunnels_of};
+pub use stages::{mark_at, rate_at};
+pub use world::World;

@@ -1,0 +1,51 @@
+ghost use Rattle.std.specs.Prelude.{◌≡◌, IfOk};
+ghost use Rattle.rollout_rules.specs.World.{first_world, after_events};
+ghost use Rattle.rollout_laws.specs.SafeWorlds.{IsSafeWorld, EveryWorldIsSafe};
+
+use crate::checked::checked_plan_is_valid;
+use crate::world::World;
+use lists::Memory;
+use rollout_rules::{EntryList, Event, EventList};
+use std::alloc::Global;
+use wan_model::CheckedPlan;
+
+/// The world that a schedule leads to: its events in order, those that aren't allowed passed over.
+///
+/// Whatever the events, every world on the way is safe.
+pub fn any_rollout<'p>(
+    alloc: Global,
+    plan: &'p CheckedPlan,
+    events: &EventList,
+) -> Result<World<'p>, Memory>
+    ensures rollout { IfOk result (λ w. w.rollout ≡ plan.now) }
+    ensures world { IfOk result (λ w. w.world ≡ after_events plan.now.problem plan.now.plan (first_world plan.now.problem) events.now) }
+    ensures safe { IfOk result (λ w. IsSafeWorld plan.now.problem plan.now.plan w.world) }
+    ensures every { IfOk result (λ w. EveryWorldIsSafe plan.now.problem plan.now.plan (first_world plan.now.problem) events.now) }
+{
+    checked_plan_is_valid(plan);
+    let mut world = World::new(alloc, plan)?;
+    for event in events.as_slice() {
+        if world.allows(event) {
+            world.step(copied(alloc, event)?)?;
+        }
+    }
+    Ok(world)
+}
+
+fn copied(alloc: Global, event: &Event) -> Result<Event, Memory>
+    ensures { IfOk result (λ copy. copy ≡ event.now) }
+{
+    Ok(match event {
+        Event::Write(batch) => {
+            let mut copy = EntryList::new(alloc);
+            copy.extend_from_slice(batch.as_slice())?;
+            Event::Write(copy)
+        }
+        Event::EndWrite => Event::EndWrite,
+        Event::Send(n) => Event::Send(*n),
+        Event::Deliver(n) => Event::Deliver(*n),
+        Event::Hand(n) => Event::Hand(*n),
+        Event::Crash(n) => Event::Crash(*n),
+        Event::Restart => Event::Restart,
+    })
+}
