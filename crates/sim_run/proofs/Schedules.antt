@@ -1,0 +1,76 @@
+-- A script's worlds are those of a schedule.
+use Rattle.std.proofs.Common.{◌≡◌, if◌then◌else◌, ℕ, zero, suc, ◌-◌, ◌<◌, inl, inr, List, [], ◌∷◌, true, refl, ap, sym, ◌∙◌, subst, arith, eq-eqb}
+use Rattle.std.proofs.lemmas.Bool.{cases_Bool, cases_lt}
+use Rattle.rollout_rules.specs.Sums.{sum_below}
+use Rattle.rollout_rules.specs.Wan.{Problem, Plan}
+use Rattle.rollout_rules.specs.Network.{IsNetwork}
+use Rattle.rollout_rules.specs.Items.{item_count, item_at}
+use Rattle.rollout_rules.specs.Operations.{operations}
+use Rattle.rollout_rules.specs.History.{settled}
+use Rattle.rollout_rules.specs.Legal.{is_legal, is_finished}
+use Rattle.rollout_rules.specs.Valid.{is_valid_plan}
+use Rattle.rollout_rules.specs.World.{first_world, after_events}
+use Rattle.rollout_rules.specs.declared.op.Entry.{Entry}
+use Rattle.rollout_rules.specs.declared.event.Act.{Act}
+use Rattle.rollout_rules.proofs.Below.{all_below-from}
+use Rattle.rollout_laws.specs.SafeWorlds.{NetworkAtTarget}
+use Rattle.rollout_laws.proofs.Histories.{is_counted}
+use Rattle.rollout_laws.proofs.SafeWorlds.{every_world_is_safe}
+use Rattle.rollout_laws.proofs.Targets.{every_network_at_target}
+use Rattle.rollout_laws.proofs.Worlds.{after_events-append, every_world_is_kept}
+use Rattle.sim_run.specs.Acts.{Rehearsal, first_rehearsal, can_happen, events_of, after_act, after_acts}
+use Rattle.sim_run.specs.Rehearsed.{schedule_of, world_after, IsSafeRehearsal}
+use Rattle.sim_run.specs.Script.{unsettled}
+use Rattle.sim_run.proofs.Fullness.{link-fits, table-fits}
+
+-- what is added up to 0 is 0
+sum-nothing : (n : ℕ) (f : ℕ → ℕ) → sum_below n f ≡ 0 → (k : ℕ) → k < n → f k ≡ 0
+sum-nothing zero f e k lt = absurd (omega arith)
+sum-nothing (suc n) f e k lt = elim (cases_lt k n) as (λ c. f k ≡ 0) [
+  | inl below ↦ sum-nothing n f (omega (arith, e)) k below
+  | inr at ↦ let here : k ≡ n = omega arith in rw here (omega (arith, e))
+]
+
+module _ (p : Problem) (plan : Plan) where
+  -- a history with nothing unsettled is finished
+  settled-finished : (h : List Entry) → is_legal p plan h ≡ true → unsettled p plan h ≡ 0 → is_finished p plan h ≡ true
+  settled-finished h legal none =
+      all_below-from (item_count p) _
+      (λ n lt.
+      let counted = is_counted p plan h legal n in
+      let left = sum-nothing (item_count p) (λ n. operations p plan (item_at p n) - settled h n) none n lt in
+      eq-eqb (settled h n) (operations p plan (item_at p n)) (omega (arith, counted.settled_begun, counted.exist, left)))
+
+  act-scheduled : (r : Rehearsal) (a : Act) → (after_act p plan r a).world ≡ after_events p plan r.world (if can_happen p r a then events_of p plan r a else [])
+  act-scheduled r a = elim (cases_Bool (can_happen p r a)) as (λ c. (after_act p plan r a).world ≡ after_events p plan r.world (if can_happen p r a then events_of p plan r a else [])) [
+    | inl can ↦ rw can refl
+    | inr cannot ↦ rw cannot refl
+  ]
+
+  acts-scheduled : (r : Rehearsal) (script : List Act) → (after_acts p plan r script).world ≡ after_events p plan r.world (schedule_of p plan r script)
+  acts-scheduled r [] = refl
+  acts-scheduled r (a ∷ rest) =
+      acts-scheduled (after_act p plan r a) rest
+      ∙ ap (λ w. after_events p plan w (schedule_of p plan (after_act p plan r a) rest)) (act-scheduled r a)
+      ∙ sym (after_events-append p plan r.world (if can_happen p r a then events_of p plan r a else []) (schedule_of p plan (after_act p plan r a) rest))
+
+  module _ (script : List Act) where
+    script-scheduled : world_after p plan script ≡ after_events p plan (first_world p) (schedule_of p plan (first_rehearsal p) script)
+    script-scheduled = acts-scheduled (first_rehearsal p) script
+
+    script-legal : is_legal p plan (world_after p plan script).durable ≡ true
+    script-legal = subst (λ w. is_legal p plan w.durable ≡ true) (sym script-scheduled) (every_world_is_kept p plan (schedule_of p plan (first_rehearsal p) script)).legal
+
+    script-finished : IsNetwork p → is_valid_plan p plan ≡ true → is_finished p plan (world_after p plan script).durable ≡ true → NetworkAtTarget p plan (world_after p plan script)
+    script-finished net valid =
+        subst (λ w. is_finished p plan w.durable ≡ true → NetworkAtTarget p plan w) (sym script-scheduled)
+        (every_network_at_target p plan (schedule_of p plan (first_rehearsal p) script) net valid)
+
+    pub rehearsal-is_safe : IsNetwork p → is_valid_plan p plan ≡ true → IsSafeRehearsal p plan script
+    rehearsal-is_safe net valid = record {
+      worlds = λ acts rest e. acts-scheduled (first_rehearsal p) acts;
+      safe = every_world_is_safe p plan (schedule_of p plan (first_rehearsal p) script) net valid;
+      links = link-fits p plan (world_after p plan script).durable net valid script-legal;
+      tables = table-fits p plan (world_after p plan script).durable net valid script-legal;
+      finished = λ none. script-finished net valid (settled-finished (world_after p plan script).durable script-legal none);
+    }

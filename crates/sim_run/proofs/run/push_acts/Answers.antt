@@ -1,0 +1,19 @@
+use Rattle.std.proofs.Common.{◌≡◌, get_or, rules}
+use Rattle.rollout_rules.specs.declared.event.Act.TheVariants as act
+use Rattle.sim_run.proofs.Going.{IsGoing, goes_on}
+use Rattle.sim_run.proofs.run.push_acts.Goals as goal
+
+pub loop-number-preserved : goal.loop-number-preserved
+loop-number-preserved c =
+    let k = c.loop-number.number in
+    let a = get_or c.args.script.now k act.Round in
+    let at : get_or c.args.script.now k a ≡ a = search rules in
+    let was : IsGoing c.args.rehearsal.now c.args.text.now c.args.script.now k c.loop-number.rehearsal c.loop-number.text = record {
+      idle = c.loop-number.invariant.idle;
+      rollout = c.loop-number.invariant.rollout;
+      state = c.loop-number.invariant.state;
+      text = c.loop-number.invariant.text;
+    } in
+    let on = goes_on c.args.rehearsal.now c.args.text.now c.args.script.now k c.loop-number.rehearsal c.loop-number.text was c.loop-number-test.true
+    a at c.in_ok-said.said c.in_ok-said.ensures.said c.act.new.self c.in_ok-said.ensures.state c.push_act_line.new.text c.in_ok-push_act_line.ensures in
+    record { idle = on.idle; rollout = on.rollout; state = on.state; text = on.text }
