@@ -1,0 +1,15 @@
+pub mod Arithmetic
+pub mod Calls
+pub mod Certificates
+pub mod Ends
+pub mod Exchanges
+pub mod Farkas
+pub mod First
+pub mod Formed
+pub mod Method
+pub mod Numbers
+pub mod Points
+pub mod Signs
+pub mod Sound
+pub mod Sums
+pub mod Values

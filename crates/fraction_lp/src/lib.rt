@@ -1,0 +1,23 @@
+//! Exact fractions, and linear programs solved over them to the last digit.
+#![tactic(auto)]
+
+mod answer;
+mod dictionary;
+mod divisor;
+mod fraction;
+mod line;
+mod rows;
+mod simplex;
+mod term;
+mod terms;
+mod unfinished;
+
+pub use answer::{FractionList, LpAnswer};
+pub use fraction::Fraction;
+pub use rows::Rows;
+pub use simplex::{MOST_EXCHANGES, solve};
+
+pub mod laws;
+#[cfg(test)]
+mod tests;
+pub mod worked;
