@@ -3,6 +3,7 @@ pub mod Found
 pub mod Routes
 pub mod Growth
 pub mod Text
+pub mod Events
 mod Ranges
 mod Plain
 mod Places

@@ -1,12 +1,12 @@
 -- A document has whole numbers alone, and its lists and objects do not nest deep.
-use Rattle.std.proofs.Common.{◌≡◌, ℕ, zero, suc, ◌+◌, ◌≤◌, List, [], ◌∷◌, ◌++◌, map, length, false, Option, Some, None, refl, arith}
+use Rattle.std.proofs.Common.{◌≡◌, ℕ, zero, suc, ◌≤◌, List, [], ◌∷◌, ◌++◌, map, length, false, Option, Some, None, refl, arith}
 use Rattle.std.proofs.lemmas.Bool.{or_from, or_parts}
 use Rattle.rollout_rules.specs.Sums.{list_below}
-use Rattle.rollout_rules.specs.Wan.{Link, Problem, Plan, Stage, switch_at, tunnel_at, flow_at, tunnel_of}
+use Rattle.rollout_rules.specs.Wan.{Problem, Plan, Stage, tunnel_at, flow_at, tunnel_of}
 use Rattle.serde_json.specs.Data.{Data, boolean, depth, items_depth}
 use Rattle.serde_json.specs.View.{items_of}
 use Rattle.serde_json.specs.Written.{has_float, items_have_float}
-use Rattle.problem_json.specs.Writing.{number_data, rate_data, list_data, name_data, switch_data, link_data, tunnel_data, flow_data, problem_data, stage_data, plan_data, document_data}
+use Rattle.problem_json.specs.Writing.{number_data, rate_data, name_data, switch_data, link_data, tunnel_data, flow_data, problem_data, stage_data, plan_data, document_data}
 
 -- a value without floats in which at most n lists and objects stand inside one another
 pub record IsPlain (n : ℕ) (d : Data) : Type 0 where

@@ -1,5 +1,5 @@
 -- Rows that begin behind 0.
-use Rattle.std.proofs.Common.{◌≡◌, ℕ, suc, ◌+◌, ◌-◌, ◌≤◌, List, [], ◌∷◌, ◌++◌, refl, arith}
+use Rattle.std.proofs.Common.{◌≡◌, ℕ, suc, ◌+◌, ◌-◌, ◌≤◌, [], ◌∷◌, ◌++◌, refl, arith}
 use Rattle.rollout_rules.specs.Sums.{list_below}
 
 -- a row that begins behind 0, with one element more

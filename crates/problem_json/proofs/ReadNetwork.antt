@@ -1,17 +1,16 @@
 -- The switches and the links of a network, read again one by one.
-use Rattle.std.proofs.Common.{◌≡◌, ℕ, ◌+◌, ◌<◌, [], ◌∷◌, ◌++◌, length, take, is_none, Option, Some, ok_or, Ok, refl, sym, ap, ◌∙◌, arith}
-use Rattle.std.proofs.lemmas.List.{take_more, take_all}
-use Rattle.rollout_rules.specs.Wan.{Problem, Switch, Link, switch_at, link_at, no_switch, no_link}
+use Rattle.std.proofs.Common.{◌≡◌, ℕ, ◌+◌, ◌<◌, [], length, take, is_none, Option, Some, ok_or, Ok, refl, sym, ap, ◌∙◌}
+use Rattle.std.proofs.lemmas.List.{take_more}
+use Rattle.rollout_rules.specs.Wan.{Problem, switch_at, link_at, no_switch, no_link}
 use Rattle.rollout_rules.specs.Network.{IsNetwork, largest_table, largest_capacity}
 use Rattle.rollout_rules.specs.Building.{find_switch, find_link}
-use Rattle.problem_json.specs.GrammarResults.{held}
 use Rattle.problem_json.specs.GrammarValues.{member_in, text_in, name_of, number_of}
 use Rattle.problem_json.specs.GrammarRows.{with_one_switch, with_one_link, switch_named, end_of}
 use Rattle.problem_json.specs.Writing.{switch_data, link_data, name_data}
 use Rattle.problem_json.specs.declared.fault.InputFault.TheVariants.{Bad}
 use Rattle.problem_json.proofs.Adding.{goes_on, held-true}
 use Rattle.problem_json.proofs.ReadValues.{name_in-string, number_in-number}
-use Rattle.problem_json.proofs.FoundRows.{switch_found, switch_is_new, link_found, link_is_new}
+use Rattle.problem_json.proofs.FoundRows.{switch_found, switch_is_new, link_is_new}
 
 -- the first k switches of a network
 abbrev pub switched : Problem → ℕ → Problem

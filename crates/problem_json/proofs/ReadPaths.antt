@@ -1,15 +1,15 @@
 -- The path of a tunnel, read again switch by switch, and the links along it.
-use Rattle.std.proofs.Common.{◌≡◌, ℕ, zero, suc, ◌+◌, ◌-◌, ◌<◌, ◌≤◌, Bool, true, false, ◌||◌, ◌==◌, not, List, [], ◌∷◌, ◌++◌, length, map, take, get_or, slice_index, is_some, Option, Some, unwrap_or, Result, Ok, codes, refl, sym, ap, ap₂, ◌∙◌, arith}
-use Rattle.std.proofs.lemmas.Bool.{or_left, or_right, not_from_false, false_from_ne_true, eqb-true, eq-eqb, le-leb}
+use Rattle.std.proofs.Common.{◌≡◌, ℕ, zero, suc, ◌+◌, ◌-◌, ◌<◌, ◌≤◌, Bool, true, false, ◌==◌, List, [], ◌∷◌, length, map, take, slice_index, is_some, Some, unwrap_or, Ok, codes, refl, sym, ap, ap₂, ◌∙◌, arith}
+use Rattle.std.proofs.lemmas.Bool.{or_right, not_from_false, false_from_ne_true, eqb-true, le-leb}
 use Rattle.std.proofs.lemmas.List.{take_more, take_all, get_or-take, length-take-le, length-map}
 use Rattle.std.specs.List.{list_any}
-use Rattle.rollout_rules.specs.Wan.{Problem, Tunnel, link_at}
+use Rattle.rollout_rules.specs.Wan.{Problem, link_at}
 use Rattle.rollout_rules.specs.Network.{IsNetwork, IsPath, most_hops}
 use Rattle.rollout_rules.specs.Building.{find_link, links_along}
 use Rattle.serde_json.specs.Data.{Data}
 use Rattle.serde_json.specs.Events.{items_len}
 use Rattle.serde_json.specs.View.{items_of}
-use Rattle.problem_json.specs.GrammarResults.{held, add_each}
+use Rattle.problem_json.specs.GrammarResults.{add_each}
 use Rattle.problem_json.specs.GrammarValues.{member_in, list_in, list_of}
 use Rattle.problem_json.specs.GrammarRows.{with_one_hop, leads_on, path_of}
 use Rattle.problem_json.specs.Writing.{name_data, list_data}

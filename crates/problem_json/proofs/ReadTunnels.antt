@@ -1,5 +1,5 @@
 -- The tunnels of a flow, read again one by one.
-use Rattle.std.proofs.Common.{◌≡◌, ℕ, zero, suc, ◌+◌, ◌-◌, ◌<◌, ◌≤◌, true, ◌==◌, List, [], ◌∷◌, ◌++◌, length, take, slice_index, slice_set, Ok, refl, sym, ap, ap₂, ◌∙◌, arith}
+use Rattle.std.proofs.Common.{◌≡◌, ℕ, zero, suc, ◌+◌, ◌-◌, ◌<◌, true, ◌==◌, List, [], ◌∷◌, ◌++◌, length, take, slice_index, slice_set, Ok, refl, sym, ap, ap₂, ◌∙◌, arith}
 use Rattle.std.proofs.lemmas.Bool.{or_left, or_right, and_from, eq-eqb}
 use Rattle.std.proofs.lemmas.List.{take_more, get_or-take, get_or_at, set_at, length-take-le, length_push}
 use Rattle.rollout_rules.specs.Wan.{Problem, Flow, Tunnel, no_flow, no_tunnel, flow_at, tunnel_at, tunnel_of, hops, switch_of}

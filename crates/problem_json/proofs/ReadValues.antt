@@ -1,11 +1,10 @@
 -- The values of a row, read again.
-use Rattle.std.proofs.Common.{◌≡◌, ℕ, ◌≤◌, List, length, Option, Some, None, Ok, refl, ap, ◌∙◌, arith}
+use Rattle.std.proofs.Common.{◌≡◌, ℕ, ◌≤◌, List, length, Option, Some, None, Ok, refl, arith}
 use Rattle.std.proofs.lemmas.Bool.{le-leb}
 use Rattle.rollout_rules.specs.Network.{longest_name, largest_rate, IsRate}
-use Rattle.serde_json.specs.Data.{Data, string, array}
+use Rattle.serde_json.specs.Data.{Data, string}
 use Rattle.serde_json.specs.Events.{items_len}
 use Rattle.serde_json.specs.View.{items_of}
-use Rattle.problem_json.specs.GrammarResults.{◌>>=◌, held}
 use Rattle.problem_json.specs.GrammarValues.{name_in, text_in, number_in, rate_in, list_in}
 use Rattle.problem_json.specs.Writing.{number_data, rate_data, list_data}
 use Rattle.problem_json.specs.declared.fault.InputFault.TheVariants.{Bad}

@@ -3,4 +3,7 @@ pub mod GrammarValues
 pub mod GrammarRows
 pub mod GrammarGrowth
 pub mod Grammar
+pub mod GrammarPlans
+pub mod GrammarScripts
+pub mod GrammarDocuments
 pub mod Writing

@@ -5,9 +5,12 @@ ghost use Rattle.problem_json.specs.GrammarResults.{Reads, ReadsAs, Leaves, add_
 ghost use Rattle.problem_json.specs.GrammarRows.{with_one_switch, with_one_link, with_one_flow};
 ghost use Rattle.problem_json.specs.Grammar.{with_rows, data_in, problem_of, problem_in};
 
+mod documents;
 mod flows;
 mod path;
+mod plans;
 mod rows;
+mod scripts;
 #[cfg(test)]
 mod tests;
 mod values;
@@ -16,6 +19,7 @@ use crate::fault::InputFault;
 use crate::read::flows::add_flow;
 use crate::read::rows::{add_link, add_switch};
 use crate::read::values::list_of;
+pub use documents::{Document, Scripted, read_document, read_script};
 use serde_json::Value;
 use std::alloc::Global;
 use wan_model::{MOST_FLOWS, MOST_LINKS, MOST_SWITCHES, Problem};

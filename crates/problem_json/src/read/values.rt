@@ -76,8 +76,9 @@ pub(super) fn rate_of(value: &Value, key: &str) -> Result<Option<u64>, InputFaul
     Ok(Some(whole(rate, LARGEST_RATE)?))
 }
 
+/// The whole number that a value is, which is at most so large.
 #[tactic(auto, using(crate::proofs::Steps::steps), unfolding(crate::specs::GrammarValues::number_in))]
-fn whole(value: &Value, most: u64) -> Result<u64, InputFault>
+pub(super) fn whole(value: &Value, most: u64) -> Result<u64, InputFault>
     ensures number { Reads result (number_in most (view value.now)) }
     ensures most { IfOk result (λ n. n ≤ most) }
 {

@@ -1,0 +1,9 @@
+use Rattle.std.proofs.Common.{◌≡◌, drop}
+use Rattle.serde_json.specs.View.{items_view}
+use Rattle.problem_json.specs.GrammarResults.{add_each}
+use Rattle.problem_json.specs.GrammarPlans.{with_one_mark}
+use Rattle.problem_json.proofs.read.plans.add_marks.Given as goal
+
+abbrev pub invariant-loop-element : goal.invariant-loop-element
+invariant-loop-element l =
+    add_each with_one_mark (items_view (drop l.element-index l.elements)) l.marks ≡ add_each with_one_mark (items_view l.elements) l.initial.marks
