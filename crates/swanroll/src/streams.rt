@@ -1,3 +1,5 @@
+ghost use Rattle.std.specs.Prelude.{◌≡◌};
+
 use std::io::{Read, Stderr, Stdin, Stdout, Write};
 use wan_edge::{Failed, Sink, Source};
 
@@ -9,7 +11,10 @@ pub struct InputStream {
 }
 
 impl InputStream {
-    pub fn new(stream: Stdin) -> Self {
+    /// Standard input, of which no call has failed.
+    pub fn new(stream: Stdin) -> Self
+        ensures { result.faults ≡ 0 }
+    {
         InputStream { stream, faults: 0 }
     }
 }
@@ -46,14 +51,20 @@ pub struct OutputStream {
 }
 
 impl OutputStream {
-    pub fn standard(stream: Stdout) -> Self {
+    /// Standard output, of which no call has failed.
+    pub fn standard(stream: Stdout) -> Self
+        ensures { result.faults ≡ 0 }
+    {
         OutputStream {
             output: Output::Standard(stream),
             faults: 0,
         }
     }
 
-    pub fn error(stream: Stderr) -> Self {
+    /// Standard error, of which no call has failed.
+    pub fn error(stream: Stderr) -> Self
+        ensures { result.faults ≡ 0 }
+    {
         OutputStream {
             output: Output::Error(stream),
             faults: 0,

@@ -1,66 +1,49 @@
--- What the answers of reading a source and of reading a problem say of the input.
-use Rattle.std.proofs.Common.{◌≡◌, ℕ, ◌+◌, ◌<◌, ◌≤◌, List, ◌++◌, length, Option, Some, None, Result, Ok, Err, refl, ap, sym, subst, ◌∙◌, inl, inr, arith, IfSome}
-use Rattle.std.specs.Option.{option_map}
+-- What reading a source to its end, or not, says of the input.
+use Rattle.std.proofs.Common.{◌≡◌, ℕ, ◌+◌, ◌<◌, ◌≤◌, List, ◌++◌, length, Option, Some, None, Result, Ok, Err, refl, ap, inl, inr, arith}
 use Rattle.std.proofs.lemmas.Bool.{lt-ltb, le-ltb}
 use Rattle.std.proofs.lemmas.List.{length-append}
-use Rattle.wan_edge.specs.Streams.{TakesFrom}
-use Rattle.wan_edge.specs.ReadAll.{ReadsToEnd, GoesBeyond, IsWhole}
+use Rattle.wan_edge.specs.ReadAll.{ReadsToEnd, GoesBeyond}
 use Rattle.wan_edge.specs.declared.reading.ReadFault.{ReadFault}
 use Rattle.wan_edge.specs.declared.reading.ReadFault.TheVariants as reading
-use Rattle.rollout_rules.specs.Wan.{Problem}
-use Rattle.problem_json.specs.Grammar.{problem_in}
-use Rattle.problem_json.specs.GrammarResults as grammar
-use Rattle.problem_json.specs.declared.fault.InputFault.{InputFault}
-use Rattle.problem_json.specs.declared.fault.InputFault.TheVariants as fault
-use Rattle.swanroll_top.specs.Endings.{ending_of, ending_of_reading}
-use Rattle.swanroll_top.specs.Input.{most_input, or_ending, problem_read}
-use Rattle.swanroll_top.specs.Runs.{IsInput}
-use Rattle.swanroll_top.specs.Reading.{Stands, Refuses}
-use Rattle.swanroll_top.specs.declared.ending.Ending.{Ending}
+use Rattle.swanroll_top.specs.Endings.{ending_of_reading}
+use Rattle.swanroll_top.specs.Answers.{most_input, answer_in, answer_to}
+use Rattle.swanroll_top.specs.Runs.{IsInput, FollowsInput}
+use Rattle.swanroll_top.specs.Reading.{IsShortInput, IsCut}
 use Rattle.swanroll_top.specs.declared.ending.Ending.TheVariants.{AboveLimit}
+use Rattle.swanroll_top.specs.declared.words.Command.{Command}
 
-long-refused : (input : List ℕ) → most_input < length input → problem_read input ≡ Err AboveLimit
-unfolding problem_read
-long-refused input long = rw (lt-ltb most_input (length input) long) refl
+pub long-refused : (command : Command) (input : List ℕ) → most_input < length input → answer_to command input ≡ Err AboveLimit
+unfolding answer_to
+long-refused command input long = rw (lt-ltb most_input (length input) long) refl
 
-short-read : (input : List ℕ) → length input ≤ most_input → problem_read input ≡ or_ending (problem_in input)
-unfolding problem_read
-short-read input short = rw (le-ltb most_input (length input) short) refl
+pub short-answered : (command : Command) (input : List ℕ) → length input ≤ most_input → answer_to command input ≡ answer_in command input
+unfolding answer_to
+short-answered command input short = rw (le-ltb most_input (length input) short) refl
 
--- where more than the limit was read, the input is longer
-beyond-stands : (before now : Option (List ℕ)) → GoesBeyond most_input before now → Stands before now (Err AboveLimit)
-beyond-stands None now g = record {
+-- a source that was read to its end
+pub read-short : (before now : Option (List ℕ)) (bytes : List ℕ) → ReadsToEnd most_input before (Ok bytes) now → IsShortInput before now bytes
+read-short before now bytes r = record { within = r.within; input = record { whole = r.all; read = inl r.at_end } }
+
+-- and one that wasn't
+pub read-cut : (before now : Option (List ℕ)) (e : ReadFault) → ReadsToEnd most_input before (Err e) now → IsCut before (ending_of_reading e) now
+read-cut before now reading.Failed r = tt
+read-cut before now reading.TooLong r = r
+read-cut before now reading.Memory r = tt
+
+-- where more than the limit was read, the answer to the input is that it is too long
+pub beyond-follows : (command : Command) (before now out : Option (List ℕ)) → GoesBeyond most_input before now → FollowsInput command before now AboveLimit out out
+beyond-follows command None now out g = record {
   input = g.bytes;
   read = record { whole = tt; read = inr g };
-  stands = long-refused g.bytes (omega (arith, g.beyond));
+  answer = rw (long-refused command g.bytes (omega (arith, g.beyond))) (refl, refl);
+  safe = λ e. cc;
 }
-beyond-stands (Some left) (Some rest) g =
+beyond-follows command (Some left) (Some rest) out g =
     let same : left ≡ g.bytes ++ rest = cc (g.taken) in
     record {
       input = left;
       read = record { whole = refl; read = inr g };
-      stands = long-refused left (omega (arith, g.beyond, ap length same, length-append g.bytes rest));
+      answer = rw (long-refused command left (omega (arith, g.beyond, ap length same, length-append g.bytes rest))) (refl, refl);
+      safe = λ e. cc;
     }
-beyond-stands (Some left) None g = absurd (cc (g.taken))
-
--- a source that wasn't read to its end
-pub cut-refuses : (before now : Option (List ℕ)) (e : ReadFault) → ReadsToEnd most_input before (Err e) now → Refuses before (ending_of_reading e) now
-cut-refuses before now reading.Failed r = tt
-cut-refuses before now reading.TooLong r = beyond-stands before now r
-cut-refuses before now reading.Memory r = tt
-
--- one that was, as its bytes are read
-pub read-stands : (before now : Option (List ℕ)) (bytes : List ℕ) (answer : Result Problem Ending) → ReadsToEnd most_input before (Ok bytes) now → or_ending (problem_in bytes) ≡ answer → Stands before now answer
-read-stands before now bytes answer r e = record {
-  input = bytes;
-  read = record { whole = r.all; read = inl r.at_end };
-  stands = short-read bytes r.within ∙ e;
-}
-
-pub problem-stands : (before now : Option (List ℕ)) (bytes : List ℕ) (p : Problem) → ReadsToEnd most_input before (Ok bytes) now → problem_in bytes ≡ Ok p → Stands before now (Ok p)
-problem-stands before now bytes p r e = read-stands before now bytes (Ok p) r (ap or_ending e)
-
-pub fault-refuses : (before now : Option (List ℕ)) (bytes : List ℕ) (e : InputFault) → ReadsToEnd most_input before (Ok bytes) now → grammar.Refuses e (problem_in bytes) → Refuses before (ending_of e) now
-fault-refuses before now bytes fault.NotJson r g = read-stands before now bytes _ r (ap or_ending g)
-fault-refuses before now bytes fault.Bad r g = read-stands before now bytes _ r (ap or_ending g)
-fault-refuses before now bytes fault.Memory r g = tt
+beyond-follows command (Some left) None out g = absurd (cc (g.taken))

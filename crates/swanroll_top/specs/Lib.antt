@@ -1,6 +1,7 @@
 pub mod Endings
 pub mod Planning
 pub mod Words
-pub mod Input
-pub mod Runs
+pub mod Answers
+pub mod Safety
 pub mod Reading
+pub mod Runs

@@ -1,12 +1,14 @@
 -- What a run reads, writes and notes.
-use Rattle.std.specs.Prelude.{◌≡◌, ◌⊎◌, ◌==◌, ℕ, List, [], ◌∷◌, Option, Result, Ok, Err, IfSome, IsTrue}
+use Rattle.std.specs.Prelude.{◌≡◌, ◌⊎◌, ◌==◌, ℕ, List, [], ◌∷◌, Option, Some, None, Result, Ok, Err, IfSome, IsTrue}
 use Rattle.std.specs.List.{list_any}
 use Rattle.wan_edge.specs.Streams.{Appends, AppendsPart, IsAtEnd, Rose}
 use Rattle.wan_edge.specs.ReadAll.{GoesBeyond}
 use Rattle.swanroll_top.specs.Endings.{status_of, line_of}
-use Rattle.swanroll_top.specs.Input.{most_input, planned_text}
+use Rattle.swanroll_top.specs.Answers.{most_input, answer_to}
+use Rattle.swanroll_top.specs.Safety.{DoesSafely}
 use Rattle.swanroll_top.specs.declared.ending.Ending.{Ending}
 use Rattle.swanroll_top.specs.declared.ending.Ending.TheVariants.{Done, ReadFault, WriteFault, OutOfMemory}
+use Rattle.swanroll_top.specs.declared.words.Command.{Command}
 
 -- The bytes are the input: where the source tells its bytes they are all that was left at entry, and the source was read
 -- to its end, or above the limit of it.
@@ -31,17 +33,18 @@ abbrev pub Follows : Result (List ℕ) Ending → Ending → Option (List ℕ) �
 Follows answer OutOfMemory before now = now ≡ before
 Follows answer ending before now = EndsWith answer ending before now
 
--- the input of a run of `plan`, and how the run follows from it
-pub record PlansInput (left left_now : Option (List ℕ)) (ending : Ending) (out out_now : Option (List ℕ)) : Type 0 where
+-- the input of a command's run, and how the run follows from it; where the text was written, its rollout is safe
+pub record FollowsInput (command : Command) (left left_now : Option (List ℕ)) (ending : Ending) (out out_now : Option (List ℕ)) : Type 0 where
   pub input : List ℕ
   pub read : IsInput left left_now input
-  pub answer : EndsWith (planned_text input) ending out out_now
+  pub answer : EndsWith (answer_to command input) ending out out_now
+  pub safe : ending ≡ Done → DoesSafely command input
 
--- what an ending of `plan` says: after a fault of the source, and for want of memory, that nothing was written
-abbrev pub Plans : Option (List ℕ) → Option (List ℕ) → Ending → Option (List ℕ) → Option (List ℕ) → Type 0
-Plans left left_now ReadFault out out_now = out_now ≡ out
-Plans left left_now OutOfMemory out out_now = out_now ≡ out
-Plans left left_now ending out out_now = PlansInput left left_now ending out out_now
+-- what an ending of a run says: after a fault of the source, and for want of memory, that nothing was written
+abbrev pub Runs : Command → Option (List ℕ) → Option (List ℕ) → Ending → Option (List ℕ) → Option (List ℕ) → Type 0
+Runs command left left_now ReadFault out out_now = out_now ≡ out
+Runs command left left_now OutOfMemory out out_now = out_now ≡ out
+Runs command left left_now ending out out_now = FollowsInput command left left_now ending out out_now
 
 -- the line of an ending was written, or a part of it where the notes failed
 abbrev pub Notes : Ending → Option (List ℕ) → Option (List ℕ) → ℕ → ℕ → Type 0
@@ -57,9 +60,14 @@ pub record IsNoted (exit : ℕ) (before now : Option (List ℕ)) (faults faults_
   pub status : exit ≡ status_of ending
   pub line : Notes ending before now faults faults_now
 
--- The whole of a run of `plan` that read its input: the status, what was written and the line of the notes follow from it.
-pub record PlansAndNotes (left left_now out out_now notes notes_now : Option (List ℕ)) (faults faults_now status : ℕ) : Type 0 where
+-- The whole of a run that read its input: the status, what was written and the line of the notes follow from it.
+pub record RunsAndNotes (command : Command) (left left_now out out_now notes notes_now : Option (List ℕ)) (faults faults_now status : ℕ) : Type 0 where
   pub ending : Ending
   pub is_status : status ≡ status_of ending
-  pub plans : PlansInput left left_now ending out out_now
+  pub follows : FollowsInput command left left_now ending out out_now
   pub line : Notes ending notes notes_now faults faults_now
+
+-- the same of whichever command the words ask for
+abbrev pub DoesCommand : Option Command → (left left_now out out_now notes notes_now : Option (List ℕ)) → (faults faults_now status : ℕ) → Type 0
+DoesCommand None left left_now out out_now notes notes_now faults faults_now status = ⊥
+DoesCommand (Some command) left left_now out out_now notes notes_now faults faults_now status = RunsAndNotes command left left_now out out_now notes notes_now faults faults_now status

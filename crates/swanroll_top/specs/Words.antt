@@ -3,12 +3,15 @@ use Rattle.std.specs.Prelude.{ℕ, List, [], ◌∷◌, map, String, string_byte
 use Rattle.std.specs.declared.alloc.Global.{Global}
 use Rattle.rollout_rules.specs.Sums.{same_numbers}
 use Rattle.swanroll_top.specs.declared.words.Command.{Command}
-use Rattle.swanroll_top.specs.declared.words.Command.TheVariants.{Plan}
+use Rattle.swanroll_top.specs.declared.words.Command.TheVariants.{Plan, Sim}
 
--- the command that the words ask for: `plan`, alone
+abbrev pub command_named : List ℕ → Option Command
+command_named word = if same_numbers word (codes "plan") then Some Plan else (if same_numbers word (codes "sim") then Some Sim else None)
+
+-- the command that the words ask for: its name, alone
 abbrev pub command_in : List (List ℕ) → Option Command
 command_in [] = None
-command_in (word ∷ []) = if same_numbers word (codes "plan") then Some Plan else None
+command_in (word ∷ []) = command_named word
 command_in (word ∷ more ∷ words) = None
 
 abbrev pub command_of : List (String Global) → Option Command

@@ -13,7 +13,10 @@ pub enum Ending {
     /// The input has more bytes than the limit.
     AboveLimit,
     NotJson,
+    /// The input is JSON, and not what the command reads.
     NotAProblem,
+    /// The plan of a document isn't valid.
+    NotValid,
     /// No plan of one step can be had.
     NoPlan,
     ReadFault,
@@ -31,7 +34,7 @@ impl Ending {
         match self {
             Ending::Done => 0,
             Ending::Usage => 2,
-            Ending::AboveLimit | Ending::NotJson | Ending::NotAProblem => 3,
+            Ending::AboveLimit | Ending::NotJson | Ending::NotAProblem | Ending::NotValid => 3,
             Ending::NoPlan => 4,
             Ending::ReadFault => 6,
             Ending::WriteFault => 7,
@@ -49,6 +52,7 @@ impl Ending {
             Ending::AboveLimit => "input: above 16777216 bytes\n",
             Ending::NotJson => "input: not JSON\n",
             Ending::NotAProblem => "input: not a problem\n",
+            Ending::NotValid => "input: plan: not valid\n",
             Ending::NoPlan => "no plan: not built yet\n",
             Ending::ReadFault => "read fault\n",
             Ending::WriteFault => "write fault\n",

@@ -11,6 +11,8 @@ mod notes;
 mod output;
 mod plan;
 mod planning;
+mod run;
+mod sim;
 #[cfg(test)]
 mod tests;
 mod top;

@@ -47,18 +47,17 @@ fn rate_of(tunnel: &Tunnel, side: Side) -> Option<u64>
 }
 
 /// Whether every tunnel has both rates.
-pub fn has_every_rate(problem: &Problem) -> bool
-    ensures { result ≡ has_every_rate problem.now }
+pub fn has_every_rate(tunnels: &[Tunnel]) -> bool
+    ensures { result ≡ has_every_rate tunnels.now }
 {
-    problem
-        .tunnels()
+    tunnels
         .iter()
         .all(|tunnel| tunnel.old.is_some() && tunnel.new.is_some())
 }
 
 /// Whether the old and the new split are the same.
-pub fn is_still(problem: &Problem) -> bool
-    ensures { result ≡ is_still problem.now }
+pub fn is_still(tunnels: &[Tunnel]) -> bool
+    ensures { result ≡ is_still tunnels.now }
 {
-    problem.tunnels().iter().all(|tunnel| tunnel.old.unwrap_or(0) == tunnel.new.unwrap_or(0))
+    tunnels.iter().all(|tunnel| tunnel.old.unwrap_or(0) == tunnel.new.unwrap_or(0))
 }

@@ -1,11 +1,13 @@
 use crate::swanroll;
 use plan_check::check_plan;
-use problem_json::read_problem;
+use problem_json::{Document, read_document, read_problem};
+use rollout_core::{Event, EventList, any_rollout};
+use rollout_rules::{Entry, EntryList, Op};
 use std::alloc::Global;
 use std::test::Fail;
 use std::vec;
 use wan_edge::{MemorySink, MemorySource, Nums8, Turns};
-use wan_model::{Marks, Nums, Plan, Stage};
+use wan_model::{CheckedPlan, Item, Marks, Nums, Plan, Stage, home_of, item_at, item_count};
 
 const ONE: &str =
     "{\"switches\":[{\"name\":\"A\",\"table\":8},{\"name\":\"B\",\"table\":8},{\"name\":\"C\",\"table\":8}],\"links\":[{\"from\":\"A\",\"to\":\"B\",\"capacity\":10},{\"from\":\"A\",\"to\":\"C\",\"capacity\":10},{\"from\":\"C\",\"to\":\"B\",\"capacity\":10}],\"flows\":[{\"name\":\"f\",\"tunnels\":[{\"path\":[\"A\",\"B\"],\"old\":4,\"new\":1},{\"path\":[\"A\",\"C\",\"B\"],\"old\":0,\"new\":3}]}]}";
@@ -14,6 +16,14 @@ const ONE_PLANNED: &str =
     "{\"plan\":{\"scale\":1,\"stages\":[{\"installed\":[true,true],\"rates\":[4,0]},{\"installed\":[true,true],\"rates\":[1,3]}]},\"problem\":{\"flows\":[{\"name\":\"f\",\"tunnels\":[{\"new\":1,\"old\":4,\"path\":[\"A\",\"B\"]},{\"new\":3,\"old\":0,\"path\":[\"A\",\"C\",\"B\"]}]}],\"links\":[{\"capacity\":10,\"from\":\"A\",\"to\":\"B\"},{\"capacity\":10,\"from\":\"A\",\"to\":\"C\"},{\"capacity\":10,\"from\":\"C\",\"to\":\"B\"}],\"switches\":[{\"name\":\"A\",\"table\":8},{\"name\":\"B\",\"table\":8},{\"name\":\"C\",\"table\":8}]}}\n";
 
 const USAGE: &str = "usage: swanroll COMMAND [--NAME VALUE]\n";
+
+/// The document of one flow that moves in one step, with a script: a round whose batch is kept as the
+/// controller stops, a restart, and every command sent and answered.
+const REHEARSED: &str =
+    r#"{"plan":{"scale":1,"stages":[{"installed":[true,true],"rates":[4,0]},{"installed":[true,true],"rates":[1,3]}]},"problem":{"flows":[{"name":"f","tunnels":[{"new":1,"old":4,"path":["A","B"]},{"new":3,"old":0,"path":["A","C","B"]}]}],"links":[{"capacity":10,"from":"A","to":"B"},{"capacity":10,"from":"A","to":"C"},{"capacity":10,"from":"C","to":"B"}],"switches":[{"name":"A","table":8},{"name":"B","table":8},{"name":"C","table":8}]},"script":[["crash","kept"],["start"],["round"],["all"],["round"]]}"#;
+
+const REHEARSAL: &str =
+    "0 crash kept\n1 start: entries 1\n2 round: dones 0, begins 0\n3 all: 1\n4 round: dones 1, begins 0\npeak \"A\">\"B\" 4 of 10\npeak \"A\">\"C\" 3 of 10\npeak \"C\">\"B\" 3 of 10\npeak table \"A\" 2 of 8\npeak table \"B\" 2 of 8\npeak table \"C\" 1 of 8\nfinished\n";
 
 /// The longest input that is read.
 const LONGEST: usize = 16_777_216;
@@ -109,7 +119,7 @@ fn a_swap_of_half_the_capacity_is_planned_and_one_of_more_is_not(
 
 #[test]
 fn words_that_are_no_command_line_read_nothing(rt: HostRuntime) -> Result<(), Fail> {
-    let lines: [&[&str]; 7] = [
+    let lines: [&[&str]; 9] = [
         &["plan", "--k", "3"],
         &[],
         &["Plan"],
@@ -117,6 +127,8 @@ fn words_that_are_no_command_line_read_nothing(rt: HostRuntime) -> Result<(), Fa
         &["check"],
         &["--help"],
         &["plan", "plan"],
+        &["sim", "--policy", "order"],
+        &["sim", ""],
     ];
     for words in lines {
         let mut run = Run::over(rt.alloc(), ONE.as_bytes())?;
@@ -165,6 +177,85 @@ fn problems_that_do_not_go_in_one_step_have_no_plan(rt: HostRuntime) -> Result<(
         assert_eq!(rt; run.notes.written(), b"no plan: not built yet\n".as_slice());
         assert_eq!(rt; run.sink.written().len(), 0);
     }
+    Ok(())
+}
+
+#[test]
+fn a_script_with_a_crash_is_rehearsed(rt: HostRuntime) -> Result<(), Fail> {
+    let mut run = Run::over(rt.alloc(), REHEARSED.as_bytes())?;
+    assert_eq!(rt; run.of(&["sim"])?, 0);
+    assert_eq!(rt; run.sink.written(), REHEARSAL.as_bytes());
+    assert_eq!(rt; run.notes.written().len(), 0);
+    Ok(())
+}
+
+#[test]
+fn a_plan_that_is_not_valid_is_not_rehearsed(rt: HostRuntime) -> Result<(), Fail> {
+    let input =
+        r#"{"problem":{"switches":[],"links":[],"flows":[]},"plan":{"scale":0,"stages":[]},"script":[]}"#;
+    let mut run = Run::over(rt.alloc(), input.as_bytes())?;
+    assert_eq!(rt; run.of(&["sim"])?, 3);
+    assert_eq!(rt; run.notes.written(), b"input: plan: not valid\n".as_slice());
+    assert_eq!(rt; run.sink.written().len(), 0);
+    Ok(())
+}
+
+#[test]
+fn items_are_the_flows_and_then_the_entries_of_each_tunnel(rt: HostRuntime) -> Result<(), Fail> {
+    let problem = read_problem(rt.alloc(), ONE.as_bytes())?;
+    let count = item_count(&problem);
+    assert!(rt; count == 6);
+    assert_eq!(rt; item_at(&problem, 0), Item::Flow(0));
+    assert_eq!(rt; item_at(&problem, 5), Item::Entry { tunnel: 1, hop: 2 });
+    assert_eq!(rt; home_of(&problem, 5), Some(1));
+    Ok(())
+}
+
+// The event that a batch of one entry begins to be written.
+fn write_of(alloc: Global, entry: Entry) -> Result<Event, Fail> {
+    let mut batch = EntryList::new(alloc);
+    batch.push(entry)?;
+    Ok(Event::Write(batch))
+}
+
+// A crash inside a write, of which the one entry is durable, and a restart.
+fn push_crash(alloc: Global, events: &mut EventList, entry: Entry) -> Result<(), Fail> {
+    events.push(write_of(alloc, entry)?)?;
+    events.push(Event::Crash(1))?;
+    events.push(Event::Restart)?;
+    Ok(())
+}
+
+fn push_exchange(events: &mut EventList) -> Result<(), Fail> {
+    events.push(Event::Send(0))?;
+    events.push(Event::Deliver(0))?;
+    events.push(Event::Hand(0))?;
+    Ok(())
+}
+
+// The schedule leads to a world in which the operation is settled and held.
+fn leads_to_the_end(alloc: Global, plan: &CheckedPlan, op: Op) -> Result<bool, Fail> {
+    let mut events = EventList::new(alloc);
+    push_crash(alloc, &mut events, Entry::Begin(op))?;
+    push_exchange(&mut events)?;
+    events.push(write_of(alloc, Entry::Done(op))?)?;
+    events.push(Event::EndWrite)?;
+    let world = any_rollout(alloc, plan, &events)?;
+    let durable = world.durable().as_slice();
+    Ok(
+        durable == [Entry::Begin(op), Entry::Done(op)].as_slice()
+            && world.items() > 0
+            && world.held(0) == 1,
+    )
+}
+
+#[test]
+fn a_schedule_with_a_crash_inside_a_write_leads_to_the_end(rt: HostRuntime) -> Result<(), Fail> {
+    let Document { problem, plan } = read_document(rt.alloc(), ONE_PLANNED.as_bytes())?;
+    let valid = check_plan(rt.alloc(), &problem, &plan)?;
+    assert!(rt; valid);
+    let plan = CheckedPlan::seal(problem, plan);
+    assert!(rt; leads_to_the_end(rt.alloc(), &plan, Op { item: 0, number: 1 })?);
     Ok(())
 }
 

@@ -1,12 +1,12 @@
 ghost use Rattle.std.specs.Prelude.{◌≡◌, ◌≢◌, ◌↔◌, None};
 ghost use Rattle.wan_edge.specs.Streams.{Rose};
 ghost use Rattle.swanroll_top.specs.Words.{command_of};
-ghost use Rattle.swanroll_top.specs.Runs.{IsNoted, IsStatus, PlansAndNotes};
+ghost use Rattle.swanroll_top.specs.Runs.{DoesCommand, IsNoted, IsStatus};
 
 use crate::ending::Ending;
 use crate::notes::note;
-use crate::plan::plan;
-use crate::words::{Command, command_of};
+use crate::run::run;
+use crate::words::command_of;
 use std::alloc::Global;
 use wan_edge::{Sink, Source};
 
@@ -16,8 +16,8 @@ use wan_edge::{Sink, Source};
 /// |---|---|
 /// | 0 | the text was written |
 /// | 2 | the words aren't a command line |
-/// | 3 | the input is above its limit, isn't JSON, or isn't a problem |
-/// | 4 | the problem doesn't go in one step |
+/// | 3 | the input is above its limit, isn't JSON, isn't what the command reads, or its plan isn't valid |
+/// | 4 | `plan`: the problem doesn't go in one step |
 /// | 6 | the source failed |
 /// | 7 | the sink failed |
 /// | 12 | memory ran out |
@@ -39,8 +39,8 @@ pub fn swanroll<S: Source, K: Sink>(
     ensures write_fault { result ≡ 7 → Rose (K.faults sink.old) (K.faults sink.new) }
 
     // Otherwise all follows from the bytes read.
-    ensures plans { result ≢ 2 → result ≢ 6 → result ≢ 12
-        → PlansAndNotes (S.left source.old) (S.left source.new) (K.written sink.old) (K.written sink.new)
+    ensures does { result ≢ 2 → result ≢ 6 → result ≢ 12
+        → DoesCommand (command_of words.now) (S.left source.old) (S.left source.new) (K.written sink.old) (K.written sink.new)
         (K.written notes.old) (K.written notes.new) (K.faults notes.old) (K.faults notes.new) result }
     ensures silent { result ≢ 0 → result ≢ 7 → K.written sink.new ≡ K.written sink.old }
 
@@ -49,7 +49,7 @@ pub fn swanroll<S: Source, K: Sink>(
     ensures quiet { result ≡ 0 → notes.new ≡ notes.old }
 {
     let ending = match command_of(words) {
-        Some(Command::Plan) => plan(alloc, source, sink),
+        Some(command) => run(alloc, command, source, sink),
         None => Ending::Usage,
     };
     if ending != Ending::Done {

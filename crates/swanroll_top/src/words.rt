@@ -1,10 +1,11 @@
 ghost use Rattle.std.specs.Prelude.{◌≡◌};
-ghost use Rattle.swanroll_top.specs.Words.{command_of};
+ghost use Rattle.swanroll_top.specs.Words.{command_of, command_named};
 
 /// What a command line asks for.
 #[derive(Clone, Copy, Debug, PartialEq, Eq)]
 pub enum Command {
     Plan,
+    Sim,
 }
 
 /// The command that the words ask for, if they are a command line. The program's own name isn't among
@@ -13,7 +14,19 @@ pub fn command_of(words: &[String]) -> Option<Command>
     ensures { result ≡ command_of words.now }
 {
     match words {
-        [word] if word.as_str() == "plan" => Some(Command::Plan),
+        [word] => command_named(word.as_str()),
         _ => None,
     }
+}
+
+fn command_named(word: &str) -> Option<Command>
+    ensures { result ≡ command_named word.now }
+{
+    if word == "plan" {
+        return Some(Command::Plan);
+    }
+    if word == "sim" {
+        return Some(Command::Sim);
+    }
+    None
 }

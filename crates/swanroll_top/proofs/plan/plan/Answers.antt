@@ -1,15 +1,13 @@
 use Rattle.std.proofs.Common.{◌≡◌}
-use Rattle.swanroll_top.proofs.Outcomes.{stands-plans, refuses-plans, no-read-fault, no-usage}
+use Rattle.std.proofs.lemmas.Result.{err_from_is_err_and}
+use Rattle.swanroll_top.proofs.Outcomes.{plan-refuses, plan-answers, read-plans-safely}
 use Rattle.swanroll_top.proofs.plan.plan.Goals as goal
 
-pub returns-in-Ok-clause-plans : goal.returns-in-Ok-clause-plans
-returns-in-Ok-clause-plans g c = stands-plans _ _ _ _ _ _ c.in-Ok.ensures.read c.write_planned.ensures.follows
+pub returns-in_err-problem-clause-gives : goal.returns-in_err-problem-clause-gives
+returns-in_err-problem-clause-gives c = let p = err_from_is_err_and c.from_residual.result c.from_residual.ensures.1 in rw (p.1, p.2) (plan-refuses _ _ c.in_err-problem.ensures)
 
-pub returns-in-Ok-clause-read_fault : goal.returns-in-Ok-clause-read_fault
-returns-in-Ok-clause-read_fault g c = λ e. absurd (no-read-fault _ _ _ (rw e at c.write_planned.ensures.follows))
+pub returns-clause-gives : goal.returns-clause-gives
+returns-clause-gives c = rw (plan-answers _ _ c.in_ok-problem.ensures) c.planned.ensures.gives
 
-pub returns-in-Ok-clause-ran : goal.returns-in-Ok-clause-ran
-returns-in-Ok-clause-ran g c = λ e. no-usage _ _ _ (rw e at c.write_planned.ensures.follows)
-
-pub returns-in-Err-clause-plans : goal.returns-in-Err-clause-plans
-returns-in-Err-clause-plans g c = refuses-plans _ _ _ _ c.in-Err.ensures.read
+pub returns-clause-safe : goal.returns-clause-safe
+returns-clause-safe c = read-plans-safely _ _ c.planned.result c.in_ok-problem.ensures c.planned.ensures.safe
