@@ -20,11 +20,11 @@ PROGRAM = os.path.join(HERE, "..", "crates", "swanroll", "out", "swanroll")
 MOST_TIMES = 5
 
 
-def run_once(path):
+def run_once(command, path):
     """The seconds that passed, the processor's seconds and the peak memory in megabytes of one run."""
     with open(path, "rb") as source, open(os.devnull, "wb") as sink:
         begun = time.perf_counter()
-        child = subprocess.Popen([PROGRAM, "plan"], stdin=source, stdout=sink)
+        child = subprocess.Popen([PROGRAM, command], stdin=source, stdout=sink)
         _, status, used = os.wait4(child.pid, 0)
         seconds = time.perf_counter() - begun
     if status != 0:
@@ -50,7 +50,7 @@ def main():
         results = {title: [] for title in inputs}
         for _ in range(given.runs):
             for title, path in inputs.items():
-                results[title].append(run_once(path))
+                results[title].append(run_once("plan", path))
     times = []
     for title, runs in results.items():
         passed, busy, memory = (min(run[0] for run in runs), min(run[1] for run in runs), max(run[2] for run in runs))

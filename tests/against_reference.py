@@ -10,8 +10,8 @@ import os
 import sys
 import tempfile
 
-KINDS = ("plan", "bad", "words")
-STAGE = "a1"
+KINDS = ("plan", "sim", "bad", "words")
+STAGE = "a2"
 
 
 def spoil_without_names(gen):
@@ -31,6 +31,8 @@ def main():
     reference, program = os.path.abspath(sys.argv[1]), os.path.abspath(sys.argv[2])
     count = sys.argv[3] if len(sys.argv) > 3 else "1000"
     sys.dont_write_bytecode = True
+    # The program rehearses every plan and every event, those that the reference would keep for later commands too.
+    os.environ["ORACLE_WHOLE_WORLD"] = "1"
     sys.path.insert(0, reference)
     import diff
     import gen

@@ -1,0 +1,38 @@
+"""Times `swanroll sim` against the number of events and against the number of flows, and shows the processor time and the peak
+memory of each run.
+
+    python3 bench/rehearse.py [--runs N]
+"""
+
+import argparse
+import os
+import subprocess
+import sys
+import tempfile
+
+from measure import HERE, run_once
+
+CASES = [(20, 2500), (20, 5000), (20, 10000), (20, 20000), (40, 10000), (80, 10000), (160, 10000)]
+
+
+def generate(folder, flows, events):
+    path = os.path.join(folder, f"{flows}-{events}.json")
+    with open(path, "wb") as file:
+        subprocess.run([sys.executable, "-B", os.path.join(HERE, "rehearsal.py"), "--flows", str(flows), "--events", str(events)], stdout=file, check=True)
+    return path
+
+
+def main():
+    words = argparse.ArgumentParser(description=__doc__, formatter_class=argparse.RawDescriptionHelpFormatter)
+    words.add_argument("--runs", type=int, default=5)
+    given = words.parse_args()
+    with tempfile.TemporaryDirectory() as folder:
+        for flows, events in CASES:
+            path = generate(folder, flows, events)
+            runs = [run_once("sim", path) for _ in range(given.runs)]
+            busy, memory = min(run[1] for run in runs), max(run[2] for run in runs)
+            print(f"rehearse: {flows} flows, {events} events: {busy:.3f} s of the processor, {memory:.0f} MB at the most")
+
+
+if __name__ == "__main__":
+    main()
