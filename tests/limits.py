@@ -8,6 +8,8 @@ import json
 import subprocess
 import sys
 
+from outcomes import report
+
 PLANNED, REFUSED, NOT_JSON, NO_PLAN, ABOVE = "planned", "not a problem", "not JSON", "no plan", "above"
 ENDINGS = {
     PLANNED: (0, b""),
@@ -120,19 +122,13 @@ def cases():
         yield f"{count} links", problem(switches, links), ending
 
 
-def main():
-    program = sys.argv[1]
-    count = failed = 0
+def outcomes(program):
     for name, text, ending in cases():
         data = text if isinstance(text, bytes) else text.encode()
         done = subprocess.run([program, "plan"], input=data, capture_output=True)
-        count += 1
-        if (done.returncode, done.stderr) != ENDINGS[ending] or bool(done.stdout) != (ending == PLANNED):
-            failed += 1
-            print(f"limits: {name}: wanted {ending}, found {done.returncode} {done.stderr!r}")
-    print(f"limits: {count} inputs, {failed} failed")
-    sys.exit(1 if failed else 0)
+        met = (done.returncode, done.stderr) == ENDINGS[ending] and bool(done.stdout) == (ending == PLANNED)
+        yield name, None if met else f"wanted {ending}, found {done.returncode} {done.stderr!r}"
 
 
 if __name__ == "__main__":
-    main()
+    report("limits", "inputs", outcomes(sys.argv[1]))
