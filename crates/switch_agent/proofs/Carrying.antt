@@ -1,12 +1,11 @@
 -- What is held after an item's entry was set.
-use Rattle.std.proofs.Common.{◌≡◌, ℕ, ◌==◌, ◌||◌, Bool, true, false, cond, List, Option, Some, None, is_some, unwrap_or, nat_eq, refl, sym, ap, subst, ◌∙◌, inl, inr, eq-eqb}
-use Rattle.std.specs.Cmp.{nat_eq_equiv}
+use Rattle.std.proofs.Common.{◌≡◌, ℕ, ◌==◌, ◌||◌, Bool, true, false, cond, Option, Some, None, is_some, unwrap_or, sym, ap, ◌∙◌, inl, inr, eq-eqb}
 use Rattle.std.specs.Map.{lookup}
 use Rattle.std.proofs.lemmas.Bool.{cases_eq, cond-true, cond-false, ne_eqb}
-use Rattle.rollout_rules.specs.Agent.{Held, held_after, is_next_command}
+use Rattle.rollout_rules.specs.Agent.{held_after, is_next_command}
 use Rattle.wan_edge.specs.Frames.{Command}
-use Rattle.wan_edge.specs.Switches.{Holding, after_command}
-use Rattle.switch_agent.specs.Items.{Items, held_by, holding, last_command, seen}
+use Rattle.wan_edge.specs.Switches.{after_command}
+use Rattle.switch_agent.specs.Items.{Items, held_by, holding, seen}
 
 -- the agent rule, by the last command
 pub carried : (last : Option Command) (c : Command) → is_next_command (held_by last) c.number ≡ true → held_by (Some c) ≡ held_after (held_by last) c.number c.content

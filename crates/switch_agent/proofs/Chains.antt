@@ -1,11 +1,11 @@
 -- What a chain of servings comes to.
-use Rattle.std.proofs.Common.{◌≡◌, ℕ, zero, suc, ◌+◌, ◌-◌, ◌<◌, ◌≤◌, List, [], ◌∷◌, ◌++◌, length, take, drop, get_or, Option, Some, None, refl, sym, ap, ap₂, subst, ◌∙◌, append_assoc, arith, length-append, length-drop}
+use Rattle.std.proofs.Common.{◌≡◌, ℕ, zero, suc, ◌+◌, ◌-◌, ◌≤◌, List, [], ◌∷◌, ◌++◌, length, take, drop, Option, Some, None, refl, sym, ap, ap₂, subst, ◌∙◌, append_assoc, arith, length-append, length-drop}
 use Rattle.std.proofs.Math.Seq.{take-add, take-append-add}
 use Rattle.std.proofs.lemmas.List.{append-nil, drop-drop, take_rest, take-append-drop}
 use Rattle.std.proofs.lemmas.List.Elements.{All-append}
 use Rattle.std.proofs.lemmas.Grind.{flat_map-append}
 use Rattle.std.specs.List.{All, flat_map}
-use Rattle.wan_edge.specs.Frames.{Answer, Command, HasOtherCount, HasOtherKind, IsCommand, IsCutCommand, Splits, answer_bytes, command_bytes}
+use Rattle.wan_edge.specs.Frames.{Answer, Command, IsCommand, Splits, answer_bytes, command_bytes}
 use Rattle.wan_edge.specs.Streams.{Appends, AppendsPart}
 use Rattle.wan_edge.specs.Switches.{Holding, after_command, after_commands, answer_to, answers_to}
 use Rattle.wan_edge.proofs.Chains.{Appends-chain}
@@ -13,7 +13,7 @@ use Rattle.wire_frames.specs.Reading.{IsCommandFault}
 use Rattle.wire_frames.specs.declared.fault.FrameFault.{FrameFault}
 use Rattle.wire_frames.specs.declared.fault.FrameFault.TheVariants.{Count, Kind}
 use Rattle.switch_agent.specs.Items.{Items, holding}
-use Rattle.switch_agent.specs.Serving.{CarriesOut, Ends, IsOwnFault, WantsRoom, answered}
+use Rattle.switch_agent.specs.Serving.{CarriesOut, Ends, IsOwnFault, answered}
 use Rattle.switch_agent.specs.declared.serve_fault.ServeFault.{ServeFault}
 use Rattle.switch_agent.specs.declared.serve_fault.ServeFault.TheVariants.{Frame, Long, Memory, Read, Write}
 use Rattle.switch_agent.specs.declared.serve_fault.Served.{Served}

@@ -1,5 +1,5 @@
 -- What the serving of a guest comes to.
-use Rattle.std.specs.Prelude.{◌≡◌, ℕ, ◌<◌, ◌≤◌, ◌++◌, List, length, Bool, false, Option, Some, None}
+use Rattle.std.specs.Prelude.{◌≡◌, ℕ, ◌<◌, ◌≤◌, ◌++◌, List, length, false, Option, Some, None}
 use Rattle.std.specs.List.{flat_map}
 use Rattle.wan_edge.specs.Frames.{Command, IsCommand, IsCutCommand, Splits, answer_bytes, command_bytes}
 use Rattle.wan_edge.specs.Streams.{Appends, AppendsPart, IsAtEnd, TakesFrom}

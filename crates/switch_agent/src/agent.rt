@@ -1,4 +1,4 @@
-ghost use Rattle.std.specs.Prelude.{◌≡◌, ◌||◌, ◌==◌, [], ℕ, true, false, option_map, IfOk, IsTrue, OnErr, OnOk};
+ghost use Rattle.std.specs.Prelude.{◌≡◌, ◌||◌, ◌==◌, [], ℕ, false, option_map, IfOk, OnErr, OnOk};
 ghost use Rattle.rollout_rules.specs.Agent.{is_next_command};
 ghost use Rattle.switch_agent.specs.Items.{content_of, held_by, holding, last_command, seen};
 ghost use Rattle.wan_edge.specs.Switches.{after_command, answer_to};

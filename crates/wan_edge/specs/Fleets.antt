@@ -1,5 +1,5 @@
 -- Ports by the number of their switch, and guests in a row: what a fleet gives, and takes back.
-use Rattle.std.specs.Prelude.{◌≡◌, ℕ, ◌==◌, List, [], ◌∷◌, Bool, Option, Some, None, if◌then◌else◌}
+use Rattle.std.specs.Prelude.{◌≡◌, ℕ, ◌==◌, List, ◌∷◌, Bool, Option, Some, None, if◌then◌else◌}
 
 -- what stands at each number, the one at this number taken away
 abbrev pub without : {X : Type 0} → (ℕ → Option X) → ℕ → ℕ → Option X

@@ -78,7 +78,7 @@ pub record HasOtherCount (bytes : List ℕ) (byte : ℕ) : Type 0 where
   pub behind : List ℕ
   pub parts : bytes ≡ head ++ byte ∷ behind
 
--- whole frames, and what has come of the next
+-- whole frames at the front, and what stands behind them
 pub record Splits {X : Type 0} (bytes_of : X → List ℕ) (Fits : X → Type 0) (bytes : List ℕ) (frames : List X) (rest : List ℕ) : Type 0 where
   pub fit : All Fits frames
   pub parts : bytes ≡ flat_map bytes_of frames ++ rest

@@ -1,4 +1,4 @@
-ghost use Rattle.std.specs.Prelude.{◌≡◌, ℕ, ◌<◌, ◌≤◌, ◌^◌, length, IsErrOf};
+ghost use Rattle.std.specs.Prelude.{◌≡◌, ◌<◌, ◌≤◌, ◌^◌, length, IsErrOf};
 ghost use Rattle.wan_edge.specs.Streams.{KeepsTelling, Rose};
 ghost use Rattle.wan_edge.specs.ReadAll.{ReadsMore, ReadsToEnd};
 

@@ -8,7 +8,7 @@ use std::marker::Model;
 pub(crate) const ANSWER: u8 = 0x41;
 
 /// How many bytes an answer has.
-pub(crate) const ANSWER_LEN: usize = 9;
+pub const ANSWER_LEN: usize = 9;
 
 /// What a switch says of an item: the number of the operation that it holds, 0 where it holds none.
 #[derive(Clone, Copy, Debug, PartialEq, Eq)]

@@ -12,7 +12,7 @@ pub(crate) const COMMAND: u8 = 0x43;
 pub(crate) const HEAD_LEN: usize = 14;
 
 /// How many bytes a command has at most.
-pub(crate) const COMMAND_LEN: usize = 142;
+pub const COMMAND_LEN: usize = 142;
 
 /// What a switch is told of an item: an operation's number and the content that it brings. The content
 /// is the first `count` rates, 1 to 16 of them, in units of 1/scale; the others are 0.

@@ -16,9 +16,9 @@ mod laws;
 #[cfg(test)]
 mod tests;
 
-pub use answer::{Answer, write_answer};
+pub use answer::{ANSWER_LEN, Answer, write_answer};
 pub use answer_reader::AnswerReader;
-pub use command::{Command, write_command};
+pub use command::{COMMAND_LEN, Command, write_command};
 pub use command_reader::CommandReader;
 pub use fault::FrameFault;
 pub use laws::{a_command_has_one_spelling, an_answer_has_one_spelling};

@@ -1,10 +1,10 @@
 ghost use Rattle.std.specs.Prelude.{◌≤◌, length};
 
 use crate::{
-    Answer, AnswerReader, Command, CommandReader, FrameFault, write_answer, write_command,
+    ANSWER_LEN, Answer, AnswerReader, COMMAND_LEN, Command, CommandReader, FrameFault,
+    write_answer, write_command,
 };
 use std::test::Fail;
-use std::vec;
 
 const TWO_RATES: Command = Command {
     item: 3,
@@ -12,6 +12,31 @@ const TWO_RATES: Command = Command {
     scale: 2,
     count: 2,
     rates: [6, 6, 0, 0, 0, 0, 0, 0, 0, 0, 0, 0, 0, 0, 0, 0],
+};
+
+const ONE_RATE: Command = Command {
+    item: 1,
+    number: 4_294_967_295,
+    scale: 1,
+    count: 1,
+    rates: [
+        18_446_744_073_709_551_615,
+        0,
+        0,
+        0,
+        0,
+        0,
+        0,
+        0,
+        0,
+        0,
+        0,
+        0,
+        0,
+        0,
+        0,
+        0,
+    ],
 };
 
 const SIXTEEN_RATES: Command = Command {
@@ -39,22 +64,61 @@ const SIXTEEN_RATES: Command = Command {
     ],
 };
 
-// Adds the items of the commands that end in the piece.
-fn add_items(reader: &mut CommandReader, piece: &[u8], items: &mut Vec<u32>) -> Result<(), Fail> {
+// The command that stands at this place of a long stream: of 1, 2 and 16 rates in turn.
+fn numbered(place: u32) -> Command {
+    let like = match place % 3 {
+        0 => ONE_RATE,
+        1 => TWO_RATES,
+        _ => SIXTEEN_RATES,
+    };
+    Command {
+        item: place,
+        ..like
+    }
+}
+
+// Reads the commands that end in the piece, of which each is to be the one at its place, and gives the
+// place of the next.
+fn read_commands(reader: &mut CommandReader, piece: &[u8], place: u32) -> Result<u32, Fail> {
+    let mut next = place;
     let mut rest = piece;
     while reader.live() && !rest.is_empty() {
         let (n, command) = reader.feed(rest)?;
         if let Some(command) = command {
-            items.push(command.item)?;
+            ensure(command == numbered(next))?;
+            next = next.saturating_add(1);
         }
         rest = &rest[n..];
     }
-    Ok(())
+    Ok(next)
+}
+
+// The same of answers, of which each says its place of both its item and what is held.
+fn read_answers(reader: &mut AnswerReader, piece: &[u8], place: u32) -> Result<u32, Fail> {
+    let mut next = place;
+    let mut rest = piece;
+    while reader.live() && !rest.is_empty() {
+        let (n, answer) = reader.feed(rest)?;
+        if let Some(answer) = answer {
+            ensure(answer.item == next && answer.held == next)?;
+            next = next.saturating_add(1);
+        }
+        rest = &rest[n..];
+    }
+    Ok(next)
+}
+
+fn ensure(holds: bool) -> Result<(), Fail> {
+    if holds {
+        Ok(())
+    } else {
+        Err(Fail::new("another frame than was written"))
+    }
 }
 
 #[test]
 fn a_command_has_its_bytes(rt: HostRuntime) -> Result<(), Fail> {
-    let mut out = [255; 142];
+    let mut out = [255; COMMAND_LEN];
     let n = write_command(&TWO_RATES, &mut out);
     assert_eq!(rt; n, 30);
     let wanted = *b"C\0\0\0\x03\0\0\0\x01\0\0\0\x02\x02\0\0\0\0\0\0\0\x06\0\0\0\0\0\0\0\x06\xff";
@@ -80,8 +144,8 @@ fn in_two_pieces(bytes: &[u8], cut: usize) -> Result<[Option<Command>; 2], Frame
 
 #[test]
 fn a_command_may_be_cut_at_each_byte(rt: HostRuntime) {
-    for command in [TWO_RATES, SIXTEEN_RATES] {
-        let mut out = [0; 142];
+    for command in [ONE_RATE, TWO_RATES, SIXTEEN_RATES] {
+        let mut out = [0; COMMAND_LEN];
         let n = write_command(&command, &mut out);
         let bytes = &out[..n];
         for cut in 0..bytes.len() {
@@ -94,10 +158,13 @@ fn a_command_may_be_cut_at_each_byte(rt: HostRuntime) {
 fn an_answer_may_be_cut_at_each_byte(rt: HostRuntime) -> Result<(), Fail> {
     let answer = Answer { item: 7, held: 9 };
     let bytes = write_answer(&answer);
-    for cut in 0..9 {
+    for cut in 0..ANSWER_LEN {
         let mut reader = AnswerReader::new();
         assert_eq!(rt; reader.feed(&bytes[..cut])?, (cut, None));
-        assert_eq!(rt; reader.feed(&bytes[cut..])?, (9 - cut, Some(answer)));
+        assert_eq!(rt;
+            reader.feed(&bytes[cut..])?,
+            (ANSWER_LEN - cut, Some(answer))
+        );
     }
     Ok(())
 }
@@ -107,7 +174,7 @@ fn a_fault_ends_a_reader(rt: HostRuntime) -> Result<(), Fail> {
     let mut reader = CommandReader::new();
     assert_eq!(rt; reader.feed(&[0x44]), Err(FrameFault::Kind(0x44)));
     assert!(rt; !reader.live());
-    let mut out = [0; 142];
+    let mut out = [0; COMMAND_LEN];
     write_command(&TWO_RATES, &mut out);
     for count in [0, 17] {
         out[13] = count;
@@ -121,22 +188,41 @@ fn a_fault_ends_a_reader(rt: HostRuntime) -> Result<(), Fail> {
 }
 
 #[test]
-fn a_stream_may_come_in_pieces_of_any_length(rt: HostRuntime) -> Result<(), Fail> {
-    let alloc = rt.alloc();
-    let mut stream = Vec::new(alloc);
-    for item in 0..500 {
-        let mut out = [0; 142];
-        let command = Command { item, ..TWO_RATES };
-        let n = write_command(&command, &mut out);
+fn ten_thousand_commands_may_come_in_pieces_of_any_length(rt: HostRuntime) -> Result<(), Fail> {
+    let mut stream = Vec::new(rt.alloc());
+    for place in 0..10_000 {
+        let mut out = [0; COMMAND_LEN];
+        let n = write_command(&numbered(place), &mut out);
         stream.extend_from_slice(out.get(..n).unwrap_or(&[]))?;
     }
     for length in 1..21 {
         let mut reader = CommandReader::new();
-        let mut items = vec![in alloc]?;
+        let mut next = 0;
         for piece in stream.chunks(length) {
-            add_items(&mut reader, piece, &mut items)?;
+            next = read_commands(&mut reader, piece, next)?;
         }
-        assert!(rt; items.iter().copied().eq(0..500), "in pieces of {length}");
+        assert_eq!(rt; next, 10_000, "in pieces of {length}");
+    }
+    Ok(())
+}
+
+#[test]
+fn ten_thousand_answers_may_come_in_pieces_of_any_length(rt: HostRuntime) -> Result<(), Fail> {
+    let mut stream = Vec::new(rt.alloc());
+    for place in 0..10_000 {
+        let answer = Answer {
+            item: place,
+            held: place,
+        };
+        stream.extend_from_slice(&write_answer(&answer))?;
+    }
+    for length in 1..21 {
+        let mut reader = AnswerReader::new();
+        let mut next = 0;
+        for piece in stream.chunks(length) {
+            next = read_answers(&mut reader, piece, next)?;
+        }
+        assert_eq!(rt; next, 10_000, "in pieces of {length}");
     }
     Ok(())
 }

@@ -1,4 +1,4 @@
-use Rattle.std.proofs.Common.{◌≡◌, ◌-◌, ◌≤◌, ◌++◌, List, ℕ, length, take, drop, None}
+use Rattle.std.proofs.Common.{◌≡◌, ◌-◌, ◌≤◌, ◌++◌, length, take, drop, None}
 use Rattle.std.specs.Prelude.{IsTrue}
 use Rattle.wan_edge.specs.Frames.{IsCutCommand}
 use Rattle.wan_edge.specs.Streams.{KeepsTelling}

@@ -1,5 +1,5 @@
 use Rattle.std.proofs.Common.{length}
-use Rattle.wire_frames.proofs.tests.add_items.Given as goal
+use Rattle.wire_frames.proofs.tests.read_commands.Given as goal
 
 abbrev pub decreases-loop-rest : goal.decreases-loop-rest
 decreases-loop-rest l = length l.rest
