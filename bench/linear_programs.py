@@ -13,15 +13,13 @@ import fractions
 import os
 import random
 import re
-import resource
 import shutil
 import subprocess
 import sys
 import tempfile
-import time
 
-HERE = os.path.dirname(os.path.abspath(__file__))
-PROGRAM = os.path.join(HERE, "..", "crates", "measure", "out", "measure")
+from runs import PROGRAM, printed, used_by
+
 CELLS = (100, 1000, 5000, 10000)
 ENDS = ("point", "infeasible", "overflow")
 MOST_EXCHANGES = 1000
@@ -35,9 +33,12 @@ def text_of(program):
     return "\n".join(lines) + "\n"
 
 
+def command_line(times):
+    return [PROGRAM, "linear", str(times)]
+
+
 def end_of(program, times=1):
-    ran = subprocess.run([PROGRAM, str(times)], input=text_of(program), capture_output=True, text=True, check=True)
-    return ran.stdout.split()
+    return printed(command_line(times), input=text_of(program)).split()
 
 
 # ---- the planner's programs
@@ -125,19 +126,12 @@ def exchanges(program):
 
 # ---- times
 
-def used_by(words, **given):
-    before = resource.getrusage(resource.RUSAGE_CHILDREN)
-    subprocess.run(words, check=True, capture_output=True, **given)
-    after = resource.getrusage(resource.RUSAGE_CHILDREN)
-    return after.ru_utime + after.ru_stime - before.ru_utime - before.ru_stime
-
-
 def own_seconds(program):
     """The processor's seconds of one solution."""
     text, times = text_of(program).encode(), 2
-    once = min(used_by([PROGRAM, "1"], input=text) for _ in range(3))
+    once = min(used_by(command_line(1), input=text) for _ in range(3))
     while True:
-        taken = min(used_by([PROGRAM, str(times)], input=text) for _ in range(3)) - once
+        taken = min(used_by(command_line(times), input=text) for _ in range(3)) - once
         if taken > 0.3 or times > 100000:
             return taken / (times - 1)
         times *= 4

@@ -127,6 +127,7 @@ impl<V: Counted> TurnLock<V> {
         }
         shared.fetch_add::<Count<V>>(&mut place, ENTRIES, seen - taken);
         shared.fetch_add::<PassTurn>(&mut place, TURN, 1);
+        // One wake alone could reach a pass whose turn it isn't.
         shared.wake_all(TURN);
         Pass {
             place,

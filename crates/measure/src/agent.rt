@@ -1,0 +1,38 @@
+//! The serving of one guest, whose bytes are standard input.
+use crate::visitor::Visitor;
+use anyhow::Result;
+use std::io::Read;
+use switch_agent::{Agent, ServeFault, serve_bytes};
+use wan_edge::Nums8;
+use wire_frames::FrameFault;
+
+/// Prints the answers' bytes, how many commands were carried out, and why it ended.
+pub(crate) fn measure(rt: &HostRuntime) -> Result<()> {
+    let alloc = rt.alloc();
+    let mut guest = Visitor::new(alloc, all_bytes(rt)?);
+    let served = serve_bytes(&mut Agent::new(alloc), &mut guest);
+    let answers = hex::encode(alloc, guest.heard())?;
+    println!(rt; "{answers}")?;
+    println!(rt; "commands {}", served.commands)?;
+    print(rt, served.fault)
+}
+
+fn all_bytes(rt: &HostRuntime) -> Result<Nums8> {
+    let mut given = Vec::new(rt.alloc());
+    rt.stdin().read_to_end(&mut given)?;
+    let mut bytes = Nums8::new(rt.alloc());
+    bytes.extend_from_slice(&given)?;
+    Ok(bytes)
+}
+
+fn print(rt: &HostRuntime, fault: Option<ServeFault>) -> Result<()> {
+    Ok(match fault {
+        None => println!(rt; "none"),
+        Some(ServeFault::Frame(FrameFault::Kind(byte))) => println!(rt; "frame kind {byte}"),
+        Some(ServeFault::Frame(FrameFault::Count(byte))) => println!(rt; "frame count {byte}"),
+        Some(ServeFault::Read) => println!(rt; "read"),
+        Some(ServeFault::Write) => println!(rt; "write"),
+        Some(ServeFault::Long) => println!(rt; "long"),
+        Some(ServeFault::Memory) => println!(rt; "memory"),
+    }?)
+}

@@ -1,0 +1,47 @@
+use crate::frames::Load;
+use crate::turns::Crowd;
+use anyhow::{Context, Result, bail};
+
+const SUBJECTS: &str =
+    "linear [TIMES], frames ITEMS COMMANDS PIECE TIMES, agent, or turns THREADS TURNS lock|mutex";
+
+/// What is measured.
+#[derive(Drop)]
+pub(crate) enum Subject {
+    /// So many solutions of the linear program on standard input.
+    Linear { times: u32 },
+    /// Commands over bytes in memory.
+    Frames(Load),
+    /// The serving of the guest whose bytes are standard input.
+    Agent,
+    /// Turns of threads at one value.
+    Turns(Crowd),
+}
+
+/// The subject that the words name. The program's own name isn't among them.
+pub(crate) fn of(words: &[String]) -> Result<Subject> {
+    let (name, given) = words.split_first().context(SUBJECTS)?;
+    match (name.as_str(), given) {
+        ("linear", []) => Ok(Subject::Linear { times: 1 }),
+        ("linear", [times]) => Ok(Subject::Linear {
+            times: number(times)?,
+        }),
+        ("frames", [items, commands, piece, times]) => Ok(Subject::Frames(Load::new(
+            number(items)?,
+            number(commands)?,
+            number(piece)?,
+            number(times)?,
+        )?)),
+        ("agent", []) => Ok(Subject::Agent),
+        ("turns", [threads, turns, guard]) => Ok(Subject::Turns(Crowd::new(
+            number(threads)?,
+            number(turns)?,
+            guard.as_str(),
+        )?)),
+        _ => bail!(SUBJECTS),
+    }
+}
+
+fn number(word: &str) -> Result<u32> {
+    word.parse::<u32>().context("a whole number")
+}
