@@ -1,0 +1,11 @@
+pub mod AlienAnswers
+pub mod Answering
+pub mod Counted
+pub mod Keeping
+pub mod Ordered
+pub mod Readings
+pub mod Rows
+pub mod Sending
+pub mod Silent
+pub mod Taking
+pub mod Traffics

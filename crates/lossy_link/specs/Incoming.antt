@@ -1,0 +1,60 @@
+-- The bytes offered to a port, and the whole commands in them.
+use Rattle.std.specs.Prelude.{◌≡◌, ℕ, ◌<◌, Bool, true, false, List, [], ◌∷◌, ◌++◌, length, Option, Some, None}
+use Rattle.wan_edge.specs.Frames.{Command, IsCommand, IsCutCommand, Splits, command_bytes}
+use Rattle.wan_edge.specs.Ports.{BeginsNoCommand}
+use Rattle.wire_frames.specs.Reading.{IsCommandFault, Reader}
+use Rattle.wire_frames.specs.declared.fault.FrameFault.{FrameFault}
+
+-- the bytes that were taken for commands, and those still to be taken
+pub record Stream : Type 0 where
+  pub taken : List ℕ
+  pub pending : List ℕ
+
+abbrev pub offered_of : Stream → List ℕ
+offered_of s = s.taken ++ s.pending
+
+-- the whole commands at the front of these bytes are these, and no further one
+pub record HasCommands (bytes : List ℕ) (commands : List Command) : Type 0 where
+  pub rest : List ℕ
+  pub whole : Splits command_bytes IsCommand bytes commands rest
+  pub no_more : BeginsNoCommand rest
+
+-- behind these commands further ones were taken
+pub record TakesBehind (earlier : List Command) (taken_now : List ℕ) : Type 0 where
+  pub commands : List Command
+  pub has : HasCommands taken_now (earlier ++ commands)
+
+-- what was taken has whole commands, and as long as there is memory, it is all that was offered
+pub record IsTaken (stream : Stream) (down : Bool) : Type 0 where
+  pub commands : List Command
+  pub has : HasCommands stream.taken commands
+  pub all : down ≡ false → stream.pending ≡ []
+
+-- the next whole command was taken
+pub record GivesNext (before now : Stream) (c : Command) : Type 0 where
+  pub fits : IsCommand c
+  pub fewer : length now.pending < length before.pending
+  pub same : offered_of now ≡ offered_of before
+  pub next : (commands : List Command) → HasCommands before.taken commands → HasCommands now.taken (commands ++ c ∷ [])
+
+-- there is no further whole command, and all bytes were taken
+pub record IsReadOut (before now : Stream) : Type 0 where
+  pub all : now ≡ record { taken = offered_of before; pending = [] }
+  pub none : (commands : List Command) → HasCommands before.taken commands → HasCommands now.taken commands
+
+-- Behind the whole commands stands what the reader keeps, or what no command begins with.
+abbrev pub GoesOnAs : Bool → List ℕ → List ℕ → Type 0
+GoesOnAs true kept rest = (rest ≡ kept) × IsCutCommand kept
+GoesOnAs false kept rest = (fault : FrameFault) × IsCommandFault rest fault
+
+-- What the reader makes of more bytes, behind what it goes on with: with them that is a command, or it goes on with both.
+abbrev pub Advances : List ℕ → List ℕ → Option Command → Reader → Type 0
+Advances rest bytes (Some c) reader = (command_bytes c ≡ rest ++ bytes) × IsCommand c × GoesOnAs reader.live reader.kept []
+Advances rest bytes None reader = GoesOnAs reader.live reader.kept (rest ++ bytes)
+
+-- the reader goes on behind the whole commands in the bytes taken
+pub record IsReading (taken : List ℕ) (reader : Reader) : Type 0 where
+  pub commands : List Command
+  pub rest : List ℕ
+  pub whole : Splits command_bytes IsCommand taken commands rest
+  pub goes_on : GoesOnAs reader.live reader.kept rest

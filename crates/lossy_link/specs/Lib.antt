@@ -1,0 +1,12 @@
+pub mod Aliens
+pub mod Berths
+pub mod Counting
+pub mod Faithful
+pub mod FleetState
+pub mod Guests
+pub mod Incoming
+pub mod Scripted
+pub mod Silent
+pub mod Traffic
+pub mod WayBack
+pub mod Worked

@@ -1,0 +1,20 @@
+-- The small cases of the worked rows.
+use Rattle.std.specs.Prelude.{[], ◌∷◌}
+use Rattle.wan_edge.specs.Frames.{Answer, Command}
+use Rattle.lossy_link.specs.declared.fate.Fate.{Fate}
+
+-- operation 1 of item 3, which brings two rates
+abbrev pub first : Command
+first = record { item = 3; number = 1; scale = 2; content = 6 ∷ 6 ∷ [] }
+
+-- that item 3 holds operation 1
+abbrev pub first_held : Answer
+first_held = record { item = 3; held = 1 }
+
+-- a command is lost
+abbrev pub lost : Fate
+lost = record { times = 0; answers = 1; late = 0 }
+
+-- a command comes twice, and its answer twice, a hear late
+abbrev pub twice_late : Fate
+twice_late = record { times = 2; answers = 2; late = 1 }

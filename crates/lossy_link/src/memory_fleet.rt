@@ -1,0 +1,168 @@
+ghost use Rattle.std.specs.Prelude.{◌≡◌, ◌<◌, [], ◌∷◌, ◌++◌, true, false, None, Some, is_err, is_ok, is_some, IfOk, OnErr, OnOk};
+ghost use Rattle.lossy_link.specs.Berths.{kept_at, lent_at, waiting_at};
+ghost use Rattle.lossy_link.specs.FleetState.{after_guest, after_visit, first_guest};
+ghost use Rattle.wan_edge.specs.FailingTurns.{one_more};
+ghost use Rattle.wan_edge.specs.Fleets.{marked, with_one, without};
+
+mod berth;
+mod berths;
+mod guest_row;
+
+use crate::MemoryGuest;
+use berths::Berths;
+use guest_row::GuestRow;
+use lists::Memory;
+use std::alloc::Global;
+use std::marker::Model;
+use wan_edge::{Failed, Fleet, Port};
+
+/// Ports that wait for their switches and guests that come in order, all of them told.
+///
+/// Memory is taken where a port or a guest is put, and nowhere else.
+#[derive(Debug, Drop)]
+pub struct MemoryFleet<P> {
+    berths: Berths<P>,
+    guests: GuestRow,
+    guests_fail: bool,
+    faults: u64,
+}
+
+impl<P> Model for MemoryFleet<P> {
+    ghost use Rattle.lossy_link.specs.FleetState.{FleetState};
+
+    ghost Value = { FleetState P };
+
+    ghost view = { λ f. record { places = f.berths; guests = f.guests; guests_fail = f.guests_fail; faults = f.faults } };
+}
+
+impl<P> MemoryFleet<P> {
+    pub fn new(alloc: Global) -> Self
+        ensures { result ≡ record { places = []; guests = record { coming = []; served = []; visiting = 0 }; guests_fail = false; faults = 0 } }
+    {
+        MemoryFleet {
+            berths: Berths::new(alloc),
+            guests: GuestRow::new(alloc),
+            guests_fail: false,
+            faults: 0,
+        }
+    }
+
+    /// Lets this port wait for the switch. One that waited, perhaps since it was given back, is dropped;
+    /// one that is lent can still be given back. Want of memory changes nothing but drops this port.
+    pub fn put(&mut self, switch: u32, port: P) -> Result<(), Memory>
+    where
+        P: Drop,
+        ensures waiting { OnOk result (waiting_at self.new.places ≡ with_one (waiting_at self.old.places) switch port) }
+        ensures kept { OnOk result (kept_at self.new.places ≡ without (kept_at self.old.places) switch) }
+        ensures lent { OnOk result (lent_at self.new.places ≡ lent_at self.old.places) }
+        ensures others { self.new ≡ record self.old { places = self.new.places } }
+        ensures err { OnErr result (self.new ≡ self.old) }
+        ensures memory { OnErr result ((waiting_at self.old.places switch ≡ None) × (lent_at self.old.places switch ≡ false)) }
+    {
+        self.berths.put(switch, port)
+    }
+
+    /// Drops the port that waits for the switch, so that `port` fails from then on: until one is put, or
+    /// the one that is lent is given back, for a port that was given back waits again.
+    pub fn fail_at(&mut self, switch: u32)
+    where
+        P: Drop,
+        ensures waiting { waiting_at self.new.places ≡ without (waiting_at self.old.places) switch }
+        ensures kept { kept_at self.new.places ≡ without (kept_at self.old.places) switch }
+        ensures lent { lent_at self.new.places ≡ lent_at self.old.places }
+        ensures others { self.new ≡ record self.old { places = self.new.places } }
+    {
+        self.berths.clear(switch);
+    }
+
+    /// Adds a guest to those that come. Want of memory changes nothing but drops the guest.
+    pub fn put_guest(&mut self, guest: MemoryGuest) -> Result<(), Memory>
+        ensures ok { OnOk result (self.new ≡ record self.old { guests = record self.old.guests { coming = self.old.guests.coming ++ guest ∷ [] } }) }
+        ensures err { OnErr result (self.new ≡ self.old) }
+    {
+        self.guests.put(guest)
+    }
+
+    /// Lets each later call of `guest` fail. The guests stay.
+    pub fn fail_guests(&mut self)
+        ensures { self.new ≡ record self.old { guests_fail = true } }
+    {
+        self.guests_fail = true;
+    }
+
+    // Counts a failure, up to the last value of u64, and gives it.
+    fn fail(&mut self) -> Failed
+        ensures { self.new ≡ record self.old { faults = one_more self.old.faults } }
+    {
+        self.faults = self.faults.saturating_add(1);
+        Failed
+    }
+}
+
+impl<P: Port + Drop> Fleet for MemoryFleet<P> {
+    type Port = P;
+
+    type Guest = MemoryGuest;
+
+    ghost waiting = { λ f. Some (waiting_at f.places) };
+
+    ghost coming = { λ f. Some f.guests.coming };
+
+    ghost kept = { λ f. kept_at f.places };
+
+    ghost served = { λ f. f.guests.served };
+
+    ghost lent = { λ f. lent_at f.places };
+
+    ghost visiting = { λ f. f.guests.visiting };
+
+    ghost faults = { λ f. f.faults };
+
+    /// Gives the port that waits for the switch, or fails exactly where none does.
+    fn port(&mut self, switch: u32, _name: &str) -> Result<P, Failed>
+        ensures waits { is_ok result ≡ is_some (waiting_at self.old.places switch) }
+        ensures given { IfOk result (λ port. waiting_at self.old.places switch ≡ Some port) }
+        ensures waiting { OnOk result (waiting_at self.new.places ≡ without (waiting_at self.old.places) switch) }
+        ensures kept { OnOk result (kept_at self.new.places ≡ without (kept_at self.old.places) switch) }
+        ensures lent { OnOk result (lent_at self.new.places ≡ marked (lent_at self.old.places) switch true) }
+        ensures others { OnOk result (self.new ≡ record self.old { places = self.new.places }) }
+        ensures failed { OnErr result (self.new ≡ record self.old { faults = one_more self.old.faults }) }
+    {
+        match self.berths.lend(switch) {
+            Some(port) => Ok(port),
+            None => Err(self.fail()),
+        }
+    }
+
+    /// Takes the port back, which then waits again. One that was put meanwhile is dropped.
+    fn keep(&mut self, switch: u32, port: P)
+        requires { lent_at self.old.places switch ≡ true }
+        ensures waiting { waiting_at self.new.places ≡ with_one (waiting_at self.old.places) switch port }
+        ensures kept { kept_at self.new.places ≡ with_one (kept_at self.old.places) switch port }
+        ensures lent { lent_at self.new.places ≡ marked (lent_at self.old.places) switch false }
+        ensures others { self.new ≡ record self.old { places = self.new.places } }
+    {
+        self.berths.keep(switch, port);
+    }
+
+    /// Gives the next guest, or says that no more will come. It fails exactly after `fail_guests`.
+    fn guest(&mut self) -> Result<Option<MemoryGuest>, Failed>
+        ensures fails { is_err result ≡ self.old.guests_fail }
+        ensures given { IfOk result (λ found. found ≡ first_guest self.old.guests.coming) }
+        ensures ok { OnOk result (self.new ≡ record self.old { guests = after_guest self.old.guests }) }
+        ensures failed { OnErr result (self.new ≡ record self.old { faults = one_more self.old.faults }) }
+    {
+        if self.guests_fail {
+            return Err(self.fail());
+        }
+        Ok(self.guests.next())
+    }
+
+    /// Takes a guest back.
+    fn keep_guest(&mut self, guest: MemoryGuest)
+        requires { 0 < self.old.guests.visiting }
+        ensures { self.new ≡ record self.old { guests = after_visit self.old.guests guest } }
+    {
+        self.guests.keep(guest);
+    }
+}
