@@ -17,7 +17,7 @@ all_below-same : (n : ℕ) (f g : ℕ → Bool) → ((k : ℕ) → k < n → f k
 all_below-same zero f g e = refl
 all_below-same (suc n) f g e = ap₂ (λ a b. a && b) (all_below-same n f g (λ k lt. e k (omega arith))) (e n (omega arith))
 
-least_below-same : (n top : ℕ) (f g : ℕ → ℕ) → ((k : ℕ) → k < n → f k ≡ g k) → least_below n top f ≡ least_below n top g
+pub least_below-same : (n top : ℕ) (f g : ℕ → ℕ) → ((k : ℕ) → k < n → f k ≡ g k) → least_below n top f ≡ least_below n top g
 least_below-same zero top f g e = refl
 least_below-same (suc n) top f g e = ap₂ min (least_below-same n top f g (λ k lt. e k (omega arith))) (e n (omega arith))
 

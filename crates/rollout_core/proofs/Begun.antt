@@ -1,25 +1,24 @@
 -- Whether every room fits once an operation has begun, by what the item's Begin changes alone.
-use Rattle.std.proofs.Common.{◌≡◌, ℕ, ◌+◌, ◌<◌, ◌≤◌, ◌⊎◌, true, ◌||◌, ◌==◌, if◌then◌else◌, List, [], ◌∷◌, ◌++◌, inl, inr, sym, refl, ap, ap₂, ◌∙◌, subst, arith, ne_eqb, nat_lt}
+use Rattle.std.proofs.Common.{◌≡◌, ℕ, ◌+◌, ◌<◌, ◌⊎◌, true, ◌||◌, ◌==◌, if◌then◌else◌, List, ◌++◌, inl, inr, sym, ap, ap₂, ◌∙◌, subst, arith, ne_eqb, nat_lt}
 use Rattle.std.proofs.lemmas.Bool.{cases_eq}
 use Rattle.rollout_rules.specs.Sums.{all_below}
-use Rattle.rollout_rules.specs.Wan.{Problem, Plan, Rollout}
+use Rattle.rollout_rules.specs.Wan.{Rollout}
 use Rattle.rollout_rules.specs.Network.{IsNetwork}
 use Rattle.rollout_rules.specs.Items.{is_item, item_count, item_at, number_of}
 use Rattle.rollout_rules.specs.Operations.{stand_after}
-use Rattle.rollout_rules.specs.History.{Places, places_of, flies, stand}
-use Rattle.rollout_rules.specs.Room.{least_stage, fits}
-use Rattle.rollout_rules.specs.Legal.{may_follow, is_legal}
+use Rattle.rollout_rules.specs.History.{places_of, flies}
+use Rattle.rollout_rules.specs.Room.{fits}
 use Rattle.rollout_rules.specs.Valid.{is_valid_plan}
 use Rattle.rollout_rules.specs.declared.item.Item.{Item}
 use Rattle.rollout_rules.specs.declared.op.Op.{Op}
 use Rattle.rollout_rules.specs.declared.op.Entry.{Entry}
 use Rattle.rollout_rules.proofs.Numbers.{number_of-below, item_at-number_of, is_item-item_at, number_of-item_at}
-use Rattle.rollout_laws.proofs.Histories.{begun-append, settled-append, is_legal-append}
+use Rattle.rollout_laws.proofs.Histories.{is_legal-append}
 use Rattle.rollout_laws.proofs.Moves.{legal-good}
 use Rattle.rollout_laws.proofs.Validity.{plan-is_valid}
 use Rattle.rollout_core.specs.Progress.{Counts, AreCountsOf}
 use Rattle.rollout_core.specs.Worlds.{GoesOn}
-use Rattle.rollout_core.specs.Ahead.{settled_with, begun_with, flies_begun, stand_with, places_begun}
+use Rattle.rollout_core.specs.Ahead.{settled_with, flies_begun, stand_with, places_begun}
 use Rattle.rollout_core.specs.Fits.{least_stand, touched_hold, item_fits}
 use Rattle.rollout_core.proofs.Counted.{settled-ahead, begun-ahead}
 use Rattle.rollout_core.proofs.Touched.{least-numbers}

@@ -1,9 +1,9 @@
 -- What one item's Begin changes of the rooms: those of what it takes, at the stages before where it stands.
-use Rattle.std.proofs.Common.{◌≡◌, ℕ, zero, suc, ◌+◌, ◌<◌, ◌≤◌, ◌⊎◌, Bool, true, false, not, ◌&&◌, ◌||◌, if◌then◌else◌, List, [], ◌∷◌, length, slice_index, inl, inr, sym, refl, ap, ap₂, ◌∙◌, subst, arith, le_trans, le_of_eq, le-leb, leb-true, lt-ltb, ltb-true, eqb-true, nat_le, nat_lt, ◌==◌}
+use Rattle.std.proofs.Common.{◌≡◌, ℕ, suc, ◌<◌, ◌≤◌, ◌⊎◌, Bool, true, false, not, ◌&&◌, ◌||◌, if◌then◌else◌, List, [], ◌∷◌, length, slice_index, inl, inr, sym, refl, ap, ap₂, ◌∙◌, subst, arith, le_trans, le_of_eq, le-leb, leb-true, lt-ltb, ltb-true, eqb-true, nat_le, nat_lt, ◌==◌}
 use Rattle.std.proofs.lemmas.Bool.{cases_Bool, cases_lt, or_cases, or_left, or_right, not-true, not-false}
 use Rattle.std.specs.List.{list_any}
-use Rattle.rollout_rules.specs.Sums.{sum_below, all_below}
-use Rattle.rollout_rules.specs.Wan.{Problem, Plan, flow_at, tunnel_at, tunnel_of, switch_of, crosses, rate_at, mark_at, last_stage}
+use Rattle.rollout_rules.specs.Sums.{all_below}
+use Rattle.rollout_rules.specs.Wan.{Problem, Plan, flow_at, tunnel_at, tunnel_of, switch_of, crosses, rate_at, mark_at}
 use Rattle.rollout_rules.specs.Network.{IsNetwork}
 use Rattle.rollout_rules.specs.Items.{Resource, the_link, the_table, is_item, is_resource, capacity_of, takes, use_at, greater_rate, either_mark, step_maximum}
 use Rattle.rollout_rules.specs.Operations.{stand_after}

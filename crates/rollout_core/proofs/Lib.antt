@@ -9,6 +9,7 @@ pub mod Touched
 pub mod Changed
 pub mod Begun
 pub mod Standings
+pub mod Stood
 pub mod Flying
 pub mod Following
 pub mod HeldNumbers

@@ -97,7 +97,7 @@ finished-counts c h so = same (item_count c.rollout.problem) (λ n lt. so.settle
     same (suc m) each = ap₂ (λ a b. a && b) (same m (λ n lt. each n (omega arith))) (ap (λ x. x == operations c.rollout.problem c.rollout.plan (item_at c.rollout.problem m)) (each m (omega arith)))
 
 -- a count that has grown by one, at one item
-set-at : (xs : List ℕ) (i x n : ℕ) → i < length xs → x ≡ slice_index xs i + 1 → slice_index (set xs i x) n ≡ slice_index xs n + one_if (i == n)
+pub set-at : (xs : List ℕ) (i x n : ℕ) → i < length xs → x ≡ slice_index xs i + 1 → slice_index (set xs i x) n ≡ slice_index xs n + one_if (i == n)
 set-at xs i x n inside is = elim (cases_eq i n) as (λ _. slice_index (set xs i x) n ≡ slice_index xs n + one_if (i == n)) [
   | inl same ↦ subst (λ m. slice_index (set xs i x) m ≡ slice_index xs m + one_if (i == m)) same (get_or-set_same xs i x 0 inside ∙ is ∙ ap (λ b. slice_index xs i + one_if b) (sym (eq-eqb i i refl)))
   | inr other ↦ get_or-set_other xs i n x 0 (λ q. other (sym q)) ∙ omega (arith, ap one_if (ne_eqb i n other))

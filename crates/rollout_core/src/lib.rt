@@ -3,8 +3,9 @@
 //! [`World`] is the world of one rollout; contracts see it as the definition's world. [`any_rollout`]
 //! takes it through any schedule, and its contract says that every world on the way is safe. Below it
 //! what is begun and settled of each item is counted, and by the counts is answered what the definitions
-//! say of every history that has them, over an [`Index`] of the rollout made once, so that a test of
-//! room goes over what touches each link and table, and over nothing else.
+//! say of every history that has them, over an [`Index`] of the rollout made once. A Begin changes the
+//! room of what its item takes alone, at the stages before where the item stands, so a test of room goes
+//! over that and over nothing else. A [`Draft`] makes a batch entry by entry behind what is durable.
 #![tactic(auto)]
 
 mod changes;
@@ -18,6 +19,7 @@ mod progress;
 mod rollout;
 mod rows;
 mod stages;
+mod stands;
 mod world;
 
 pub use changes::stand_after;

@@ -19,6 +19,8 @@ use crate::index::Index;
 use crate::progress::ahead::{flies, settled};
 use crate::progress::needs::needs_met;
 use crate::progress::room::fits;
+use crate::stages::last_stage;
+use crate::stands::{Stands, copied};
 use lists::Memory;
 use rollout_rules::{Entry, Op};
 use std::alloc::Global;
@@ -34,7 +36,7 @@ pub struct Progress {
     index: Arc<Index, Global>,
     settled: Vec<u32>,
     begun: Vec<u32>,
-    stands: Vec<u32>,
+    stands: Stands,
 }
 
 impl Model for Progress {
@@ -46,7 +48,7 @@ impl Model for Progress {
 
     ghost view = { λ c. record { rollout = arc_value c.index; settled = c.settled.items; begun = c.begun.items } };
 
-    ghost invariant = { λ c. IsProgress (arc_value c.index) c.settled.items c.begun.items c.stands.items };
+    ghost invariant = { λ c. IsProgress (arc_value c.index) c.settled.items c.begun.items c.stands };
 }
 
 impl Progress {
@@ -58,7 +60,8 @@ impl Progress {
         let index = Index::new(alloc, plan)?;
         let settled = vec![in alloc; 0u32; index.item_count() as usize]?;
         let begun = vec![in alloc; 0u32; index.item_count() as usize]?;
-        let stands = first_stands(alloc, plan, &index)?;
+        let stages = first_stands(alloc, plan, &index)?;
+        let stands = Stands::new(alloc, last_stage(plan) as u32, stages)?;
         Ok(Progress {
             index: Arc::new(alloc, index)?,
             settled,
@@ -75,7 +78,7 @@ impl Progress {
             index: Arc::try_clone(&self.index)?,
             settled: copied(alloc, &self.settled)?,
             begun: copied(alloc, &self.begun)?,
-            stands: copied(alloc, &self.stands)?,
+            stands: self.stands.copied(alloc)?,
         })
     }
 
@@ -169,23 +172,12 @@ impl Progress {
             Entry::Done(op) => {
                 let item = op.item as usize;
                 let settled = self.settled[item] + 1;
-                self.stands[item] = stand_after(
-                    plan,
-                    self.lookup().item(op.item),
-                    u64::from(settled),
-                );
+                let stage = stand_after(plan, self.lookup().item(op.item), u64::from(settled));
+                self.stands.set(op.item, stage);
                 self.settled[item] = settled;
             }
         }
     }
-}
-
-fn copied(alloc: Global, row: &[u32]) -> Result<Vec<u32>, Memory>
-    ensures { IfOk result (λ copy. copy.items ≡ row.now) }
-{
-    let mut copy = Vec::new(alloc);
-    copy.extend_from_slice(row)?;
-    Ok(copy)
 }
 
 fn first_stands(alloc: Global, plan: &CheckedPlan, index: &Index) -> Result<Vec<u32>, Memory>

@@ -18,7 +18,7 @@ pub(crate) fn stand(progress: &Progress, plan: &CheckedPlan, ahead: &[Entry], it
 {
     let dones = dones(ahead, item);
     if dones == 0 {
-        return progress.stands[item as usize] as usize;
+        return progress.stands.stage(item) as usize;
     }
     let settled = u64::from(progress.settled[item as usize]) + dones;
     stand_after(plan, progress.lookup().item(item), settled) as usize

@@ -57,6 +57,9 @@ fn least_stage(progress: &Progress, plan: &CheckedPlan, ahead: &[Entry]) -> usiz
     requires own { plan.now ≡ progress.now.rollout }
     ensures { result ≡ parts.least_stand plan.now progress.now ahead.now }
 {
+    if ahead.is_empty() {
+        return progress.stands.least() as usize;
+    }
     let mut least = last_stage(plan);
     for item in 0..progress.lookup().item_count() {
         least = least.min(stand(progress, plan, ahead, item));

@@ -1,4 +1,4 @@
-use Rattle.std.proofs.Common.{◌≡◌, ◌<◌, ◌≤◌, ◌++◌, List, [], ◌∷◌, length, get_or, true, refl, sym, ap, ◌∙◌, subst, arith, append_assoc, take}
+use Rattle.std.proofs.Common.{◌≡◌, ◌<◌, ◌≤◌, ◌++◌, [], ◌∷◌, length, get_or, true, sym, ap, ◌∙◌, subst, arith, append_assoc, take}
 use Rattle.std.proofs.lemmas.List.{take_more, take_all}
 use Rattle.rollout_rules.specs.Legal.{is_legal}
 use Rattle.rollout_rules.specs.declared.op.Entry.{Entry}

@@ -1,6 +1,5 @@
-use Rattle.std.proofs.Common.{◌≡◌, ◌++◌, ◌∷◌, ◌∙◌, [], true, refl, sym, ap, subst, append_assoc}
+use Rattle.std.proofs.Common.{◌≡◌, ◌++◌, ◌∷◌, ◌∙◌, [], true, sym, subst, append_assoc}
 use Rattle.rollout_rules.specs.Legal.{may_add, may_follow, is_legal}
-use Rattle.rollout_laws.proofs.Histories.{is_legal-append}
 use Rattle.rollout_core.specs.Progress.{AreCountsOf}
 use Rattle.rollout_core.proofs.Following.{may_follow-one, counted_next, drafted_next}
 use Rattle.rollout_core.proofs.draft.Draft.add.Goals as goal

@@ -1,4 +1,4 @@
-use Rattle.std.proofs.Common.{◌≡◌, ◌++◌, ◌∙◌, [], true, refl, sym, ap, subst, append-nil}
+use Rattle.std.proofs.Common.{◌≡◌, ◌++◌, ◌∙◌, true, refl, sym, ap, subst, append-nil}
 use Rattle.rollout_rules.specs.Legal.{may_begin, is_legal}
 use Rattle.rollout_laws.proofs.Histories.{is_legal-append}
 use Rattle.rollout_core.proofs.draft.Draft.may_begin.Goals as goal

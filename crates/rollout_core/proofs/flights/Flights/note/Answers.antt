@@ -1,4 +1,4 @@
-use Rattle.std.proofs.Common.{◌≡◌, ◌∙◌, [], ◌∷◌, ◌++◌, length, sym, ap, arith}
+use Rattle.std.proofs.Common.{◌∙◌, [], ◌∷◌, ◌++◌, length, sym, ap, arith}
 use Rattle.rollout_core.specs.Flights.{flies_by}
 use Rattle.rollout_core.proofs.Flying.{passing-few, passing-more, passing-kept}
 use Rattle.rollout_core.proofs.flights.Flights.note.Goals as goal

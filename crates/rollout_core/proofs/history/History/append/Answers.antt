@@ -1,4 +1,4 @@
-use Rattle.std.proofs.Common.{◌≡◌, ◌++◌, true, sym, ap, ap₂, ◌∙◌, subst}
+use Rattle.std.proofs.Common.{◌≡◌, ◌++◌, true, sym, ap₂, ◌∙◌, subst}
 use Rattle.rollout_rules.specs.Items.{item_count}
 use Rattle.rollout_rules.specs.History.{flies}
 use Rattle.rollout_rules.specs.Legal.{may_follow, is_legal}

@@ -1,4 +1,4 @@
-use Rattle.std.proofs.Common.{◌≡◌, ◌<◌, ◌∙◌, length, slice_index_or, sym, ap, subst}
+use Rattle.std.proofs.Common.{◌<◌, ◌∙◌, length, slice_index_or, sym, ap, subst}
 use Rattle.rollout_rules.specs.Items.{item_count}
 use Rattle.rollout_rules.specs.History.{begun}
 use Rattle.rollout_rules.specs.World.{in_flight, no_op}

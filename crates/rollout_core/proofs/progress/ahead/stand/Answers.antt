@@ -1,9 +1,8 @@
-use Rattle.std.proofs.Common.{◌≡◌, ◌<◌, ◌≤◌, length, refl, slice_index, sym, ap, ◌∙◌, subst, arith}
+use Rattle.std.proofs.Common.{◌≡◌, ◌<◌, ◌≤◌, slice_index, sym, ap, ◌∙◌, subst, arith}
 use Rattle.std.specs.Arc.{arc_value}
 use Rattle.rollout_rules.specs.Wan.{Rollout, last_stage}
 use Rattle.rollout_rules.specs.Items.{item_count, item_at}
 use Rattle.rollout_laws.proofs.Standing.{stand-most}
-use Rattle.rollout_core.proofs.Elements.{read_from}
 use Rattle.rollout_core.proofs.Standings.{is_item-read}
 use Rattle.rollout_core.proofs.progress.ahead.stand.Goals as goal
 
@@ -13,10 +12,7 @@ returns-then-dones-eq0-clause-within c =
     let same : c.args.plan.now ≡ r = c.requires.own ∙ sym (ap (λ v. v.rollout) c.progress.view_is) in
     let lt = subst (λ (q : Rollout). c.args.item < item_count q.problem) same c.requires.item in
     let most = stand-most r.problem r.plan (item_at r.problem c.args.item) (slice_index c.progress.inside.settled.items c.args.item) in
-    let stands = c.progress.inside.stands.items in
-    let inside : c.args.item < length stands = omega (arith, lt, c.progress.invariant.stands.count) in
-    let read = read_from stands stands c.args.item c.index.result.now 0 refl inside c.index.ensures in
-    omega (arith, read, c.progress.invariant.stands.each c.args.item lt, most, ap (λ (q : Rollout). last_stage q.plan) same)
+    omega (arith, c.stage.ensures, c.progress.invariant.stands.each c.args.item lt, most, ap (λ (q : Rollout). last_stage q.plan) same)
 
 pub stand_after-requires : goal.stand_after-requires
 stand_after-requires c =

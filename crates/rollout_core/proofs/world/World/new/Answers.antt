@@ -1,4 +1,3 @@
-use Rattle.std.proofs.Common.{◌≡◌, sym, ◌∙◌}
 use Rattle.rollout_core.proofs.HeldNumbers.{first_standing}
 use Rattle.rollout_core.proofs.world.World.new.Goals as goal
 
