@@ -126,9 +126,12 @@ impl<V: Counted> TurnLock<V> {
             Some(_other) => unreachable!(),
         }
         shared.fetch_add::<Count<V>>(&mut place, ENTRIES, seen - taken);
-        shared.fetch_add::<PassTurn>(&mut place, TURN, 1);
-        // One wake alone could reach a pass whose turn it isn't.
-        shared.wake_all(TURN);
+        let turn = shared.fetch_add::<PassTurn>(&mut place, TURN, 1);
+        // Who draws a ticket after this look finds the new turn, so only one drawn before may be asleep. One
+        // wake alone could reach a pass whose turn it isn't.
+        if shared.peek(NEXT) != turn.wrapping_add(1) {
+            shared.wake_all(TURN);
+        }
         Pass {
             place,
             seat,

@@ -8,7 +8,7 @@ fetch_add-requires g c = let held = c.args.held in let grip = held.grip in
     let is = c.exchange.ensures.3 ∙ ap (λ cs. (grip.place.me.0, (0, Some held.value) ∷ rest cs)) grip.emptied in
     (search rules, search rules, counts_held _ _ _ _ _ _ held.value _ _ is grip.turning c.requires.history c.count-seen.ensures grip.taken_is (search rules))
 
-pub fetch_add-requires-2 : goal.fetch_add-requires-2
-fetch_add-requires-2 g c = let held = c.args.held in let grip = held.grip in
+pub fetch_add-turn-requires : goal.fetch_add-turn-requires
+fetch_add-turn-requires g c = let held = c.args.held in let grip = held.grip in
     let is = c.exchange.ensures.3 ∙ ap (λ cs. (grip.place.me.0, (0, Some held.value) ∷ rest cs)) grip.emptied in
     (search rules, search rules, passes_held _ _ _ _ _ _ _ held.value (search rules) is c.fetch_add.ensures.2 grip.turning)
