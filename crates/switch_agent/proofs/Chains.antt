@@ -1,5 +1,5 @@
 -- What a chain of servings comes to.
-use Rattle.std.proofs.Common.{◌≡◌, ℕ, zero, suc, ◌+◌, ◌-◌, ◌≤◌, List, [], ◌∷◌, ◌++◌, length, take, drop, Option, Some, None, refl, sym, ap, ap₂, subst, ◌∙◌, append_assoc, arith, length-append, length-drop}
+use Rattle.std.proofs.Common.{◌≡◌, ℕ, zero, suc, ◌+◌, ◌-◌, ◌≤◌, List, [], ◌∷◌, ◌++◌, length, take, drop, Option, Some, None, refl, sym, ap, ap₂, subst, ◌∙◌, append_assoc, arith, length-append, length-drop, ◌==◌, ◌||◌, Bool, true, false}
 use Rattle.std.proofs.Math.Seq.{take-add, take-append-add}
 use Rattle.std.proofs.lemmas.List.{append-nil, drop-drop, take_rest, take-append-drop}
 use Rattle.std.proofs.lemmas.List.Elements.{All-append}
@@ -12,8 +12,8 @@ use Rattle.wan_edge.proofs.Chains.{Appends-chain}
 use Rattle.wire_frames.specs.Reading.{IsCommandFault}
 use Rattle.wire_frames.specs.declared.fault.FrameFault.{FrameFault}
 use Rattle.wire_frames.specs.declared.fault.FrameFault.TheVariants.{Count, Kind}
-use Rattle.switch_agent.specs.Items.{Items, holding}
-use Rattle.switch_agent.specs.Serving.{CarriesOut, Ends, IsOwnFault, answered}
+use Rattle.switch_agent.specs.Items.{Items, holding, seen}
+use Rattle.switch_agent.specs.Serving.{CarriesOut, Ends, IsOwnFault, answered, asked}
 use Rattle.switch_agent.specs.declared.serve_fault.ServeFault.{ServeFault}
 use Rattle.switch_agent.specs.declared.serve_fault.ServeFault.TheVariants.{Frame, Long, Memory, Read, Write}
 use Rattle.switch_agent.specs.declared.serve_fault.Served.{Served}
@@ -51,6 +51,23 @@ ends_after (Some Memory) GoesOn items rest a b c xs ys first second = (second.0,
 served : ℕ → Option ServeFault → Served
 served commands fault = record { commands = commands; fault = fault }
 
+or_false : (p a : Bool) → (p || a) ≡ ((p || false) || a)
+or_false true a = refl
+or_false false a = refl
+
+or_assoc : (p x a : Bool) → ((p || x) || a) ≡ (p || (x || a))
+or_assoc true x a = refl
+or_assoc false x a = refl
+
+or_swapped : (p x y a : Bool) → (y || ((p || x) || a)) ≡ (p || (y || (x || a)))
+or_swapped true x true a = refl
+or_swapped true x false a = refl
+or_swapped false x y a = refl
+
+asked-append : (xs ys : List Command) (item : ℕ) (a : Bool) → (asked ys item || (asked xs item || a)) ≡ (asked (xs ++ ys) item || a)
+asked-append [] ys item a = refl
+asked-append (x ∷ xs) ys item a = or_swapped (item == x.item) (asked xs item) (asked ys item) a ∙ ap (λ (b : Bool). item == x.item || b) (asked-append xs ys item a) ∙ sym (or_assoc (item == x.item) (asked (xs ++ ys) item) a)
+
 -- a serving that ended without a fault, and one that goes on from what it kept
 pub carry_on : (a b c : Items) (bytes kept more : List ℕ) (m n : ℕ) (fault : Option ServeFault) (GoesOn : List ℕ → Type 0) (w1 w2 w3 : Option (List ℕ))
     → CarriesOut a b bytes (record { commands = m; fault = None }) (λ rest. rest ≡ kept) w1 w2 → CarriesOut b c (kept ++ more) (record { commands = n; fault = fault }) GoesOn w2 w3
@@ -72,6 +89,7 @@ carry_on a b c bytes kept more m n fault GoesOn w1 w2 w3 first second =
       };
       counted = ap₂ (λ (x y : ℕ). x + y) first.counted second.counted ∙ sym (length-append first.commands second.commands);
       holds = second.holds ∙ ap (λ (h : Holding). after_commands h second.commands) held ∙ sym (after_commands-append (holding a) first.commands second.commands);
+      items_seen = λ item. second.items_seen item ∙ ap (λ (b : Bool). asked second.commands item || b) (first.items_seen item) ∙ asked-append first.commands second.commands item (seen a item);
       ends = subst (λ (answers : List ℕ). Ends fault GoesOn c second.rest w1 answers w3) (sym all)
           (ends_after fault GoesOn c second.rest w1 w2 w3 (answered (holding a) first.commands) (answered (holding b) second.commands) first.ends.1 second.ends);
     }
@@ -115,6 +133,7 @@ carried_with_more a b bytes more n fault P Q w w' own carried = record {
   };
   counted = carried.counted;
   holds = carried.holds;
+  items_seen = carried.items_seen;
   ends = ends_with_more fault P Q b carried.rest more w w' (answered (holding a) carried.commands) own carried.ends;
 }
 
@@ -126,26 +145,28 @@ one_command : (c : Command) → IsCommand c → Splits command_bytes IsCommand (
 one_command c fits = record { fit = one c fits; parts = sym (append-nil (flat_map command_bytes (c ∷ [])) ∙ append-nil (command_bytes c)) }
 
 -- a command that was carried out and answered
-pub carried_one : (a b : Items) (c : Command) (answer : Answer) (bytes : List ℕ) (w w' : Option (List ℕ)) → IsCommand c → holding b ≡ after_command (holding a) c → answer ≡ answer_to (holding a) c → bytes ≡ answer_bytes answer → Appends w bytes w'
+pub carried_one : (a b : Items) (c : Command) (answer : Answer) (bytes : List ℕ) (w w' : Option (List ℕ)) → IsCommand c → holding b ≡ after_command (holding a) c → ((item : ℕ) → seen b item ≡ (item == c.item || seen a item)) → answer ≡ answer_to (holding a) c → bytes ≡ answer_bytes answer → Appends w bytes w'
     → CarriesOut a b (command_bytes c) (record { commands = 1; fault = None }) (λ rest. rest ≡ []) w w'
-carried_one a b c answer bytes w w' fits holds answer_is bytes_are appended = record {
+carried_one a b c answer bytes w w' fits holds items_seen answer_is bytes_are appended = record {
   commands = c ∷ [];
   rest = [];
   whole = one_command c fits;
   counted = refl;
   holds = holds;
+  items_seen = λ item. items_seen item ∙ or_false (item == c.item) (seen a item);
   ends = (refl, subst (λ (xs : List ℕ). Appends w xs w') (bytes_are ∙ ap answer_bytes answer_is ∙ sym (append-nil (answer_bytes (answer_to (holding a) c)))) appended);
 }
 
 -- a command that was carried out, its answer written in part
-pub carried_in_part : (a b : Items) (c : Command) (answer : Answer) (bytes : List ℕ) (w w' : Option (List ℕ)) → IsCommand c → holding b ≡ after_command (holding a) c → answer ≡ answer_to (holding a) c → bytes ≡ answer_bytes answer → AppendsPart w bytes w'
+pub carried_in_part : (a b : Items) (c : Command) (answer : Answer) (bytes : List ℕ) (w w' : Option (List ℕ)) → IsCommand c → holding b ≡ after_command (holding a) c → ((item : ℕ) → seen b item ≡ (item == c.item || seen a item)) → answer ≡ answer_to (holding a) c → bytes ≡ answer_bytes answer → AppendsPart w bytes w'
     → CarriesOut a b (command_bytes c) (record { commands = 1; fault = Some Write }) (λ rest. rest ≡ []) w w'
-carried_in_part a b c answer bytes w w' fits holds answer_is bytes_are appended = record {
+carried_in_part a b c answer bytes w w' fits holds items_seen answer_is bytes_are appended = record {
   commands = c ∷ [];
   rest = [];
   whole = one_command c fits;
   counted = refl;
   holds = holds;
+  items_seen = λ item. items_seen item ∙ or_false (item == c.item) (seen a item);
   ends = subst (λ (xs : List ℕ). AppendsPart w xs w') (bytes_are ∙ ap answer_bytes answer_is ∙ sym (append-nil (answer_bytes (answer_to (holding a) c)))) appended;
 }
 

@@ -1,11 +1,13 @@
 -- A guest served so far, between two reads.
-use Rattle.std.proofs.Common.{◌≡◌, ℕ, ◌+◌, ◌-◌, ◌≤◌, List, [], ◌++◌, length, Option, Some, None, refl, sym, ap, subst, arith, length-append}
-use Rattle.std.proofs.lemmas.List.{append-nil}
+use Rattle.std.proofs.Common.{◌≡◌, ℕ, ◌+◌, ◌-◌, ◌≤◌, List, [], ◌++◌, length, Option, Some, None, refl, sym, ap, subst, arith, length-append, take, Ok, ◌∙◌}
+use Rattle.std.proofs.lemmas.List.{append-nil, take_all}
 use Rattle.std.proofs.lemmas.List.Elements.{All-nil}
-use Rattle.wan_edge.specs.Frames.{IsCommand, IsCutCommand}
+use Rattle.wan_edge.specs.Frames.{Command, IsCommand, IsCutCommand, command_bytes}
 use Rattle.wan_edge.specs.Streams.{Appends, TakesFrom}
+use Rattle.wire_frames.specs.Reading.{GoesOn, IsCommandFault, Reader, Reads}
+use Rattle.wire_frames.specs.declared.fault.FrameFault.{FrameFault}
 use Rattle.switch_agent.specs.Items.{Items}
-use Rattle.switch_agent.specs.Serving.{CarriesOut, IsOwnFault, ReadsSo, ServesGuest, most}
+use Rattle.switch_agent.specs.Serving.{CarriesOut, Ends, IsOwnFault, ReadsSo, ServesGuest, most}
 use Rattle.switch_agent.specs.declared.serve_fault.ServeFault.{ServeFault}
 use Rattle.switch_agent.specs.declared.serve_fault.ServeFault.TheVariants.{Frame, Long, Memory, Read, Write}
 use Rattle.wan_edge.proofs.Chains.{TakesFrom-chain}
@@ -41,6 +43,7 @@ nothing_served items left written kept empty = record {
     whole = record { fit = All-nil IsCommand; parts = refl };
     counted = refl;
     holds = refl;
+    items_seen = λ item. refl;
     ends = (sym empty, appends_nothing written);
   };
 }
@@ -78,3 +81,20 @@ module _ (before a b : Items) (left left1 left2 : Option (List ℕ)) (kept kept_
         so_many = within_most fault (length (so_far.bytes ++ piece)) left2 own (omega (arith, more_bytes));
         carried = subst (λ (bytes : List ℕ). CarriesOut before b bytes (record { commands = m + count; fault = Some fault }) IsCutCommand w w2) (append-nil (so_far.bytes ++ piece)) all;
       }
+
+-- no command was carried out
+nothing_carried : (items : Items) (bytes : List ℕ) (fault : Option ServeFault) (GoesOn : List ℕ → Type 0) (written : Option (List ℕ)) → Ends fault GoesOn items bytes written [] written → CarriesOut items items bytes (record { commands = 0; fault = fault }) GoesOn written written
+nothing_carried items bytes fault GoesOn written ends = record { commands = []; rest = bytes; whole = record { fit = All-nil IsCommand; parts = refl }; counted = refl; holds = refl; items_seen = λ item. refl; ends = ends }
+
+-- all of the piece was taken, and it ends no command
+pub none_carried : (items : Items) (kept piece : List ℕ) (n : ℕ) (found : Option Command) (now : Reader) (written : Option (List ℕ)) → found ≡ None → Reads command_bytes IsCommand IsCommandFault kept piece (Ok (n, found)) now
+    → CarriesOut items items (kept ++ take n piece) (record { commands = 0; fault = None }) (λ rest. rest ≡ now.kept) written written
+none_carried items kept piece n found now written is read =
+    let on : GoesOn command_bytes IsCommand IsCommandFault kept piece n now = subst (λ (f : Option Command). Reads command_bytes IsCommand IsCommandFault kept piece (Ok (n, f)) now) is read in
+    nothing_carried items (kept ++ take n piece) None (λ rest. rest ≡ now.kept) written (ap (λ (xs : List ℕ). kept ++ xs) (take_all n piece (omega (arith, on.all))) ∙ sym (ap (λ (r : Reader). r.kept) on.now_longer), appends_nothing written)
+
+-- at a byte of the piece stands a fault
+pub fault_carried : (items : Items) (kept piece : List ℕ) (fault : FrameFault) (P : List ℕ → Type 0) (written : Option (List ℕ)) → IsCommandFault (kept ++ piece) fault
+    → CarriesOut items items (kept ++ take (length piece) piece) (record { commands = 0; fault = Some (Frame fault) }) P written written
+fault_carried items kept piece fault P written at_byte =
+    nothing_carried items (kept ++ take (length piece) piece) (Some (Frame fault)) P written (subst (λ (xs : List ℕ). IsCommandFault (kept ++ xs) fault) (sym (take_all (length piece) piece (omega arith))) at_byte, appends_nothing written)

@@ -1,5 +1,5 @@
 -- What the serving of a guest comes to.
-use Rattle.std.specs.Prelude.{◌≡◌, ℕ, ◌<◌, ◌≤◌, ◌++◌, List, length, false, Option, Some, None}
+use Rattle.std.specs.Prelude.{◌≡◌, ℕ, ◌<◌, ◌≤◌, ◌++◌, List, length, false, Option, Some, None, ◌==◌, ◌||◌, Bool, [], ◌∷◌}
 use Rattle.std.specs.List.{flat_map}
 use Rattle.wan_edge.specs.Frames.{Command, IsCommand, IsCutCommand, Splits, answer_bytes, command_bytes}
 use Rattle.wan_edge.specs.Streams.{Appends, AppendsPart, IsAtEnd, TakesFrom}
@@ -36,13 +36,20 @@ Ends (Some Write) GoesOn items rest before answers now = AppendsPart before answ
 Ends (Some Long) GoesOn items rest before answers now = GoesOn rest × Appends before answers now
 Ends (Some Memory) GoesOn items rest before answers now = WantsRoom items rest × Appends before answers now
 
--- From the front of these bytes commands were carried out in order, as many as counted, and answered.
+-- whether one of the commands is for the item
+abbrev pub asked : List Command → ℕ → Bool
+asked [] item = false
+asked (c ∷ cs) item = item == c.item || asked cs item
+
+-- From the front of these bytes commands were carried out in order, as many as counted, and answered. The items of these commands are seen now, and those
+-- that were seen before.
 pub record CarriesOut (before now : Items) (bytes : List ℕ) (served : Served) (GoesOn : List ℕ → Type 0) (written written_now : Option (List ℕ)) : Type 0 where
   pub commands : List Command
   pub rest : List ℕ
   pub whole : Splits command_bytes IsCommand bytes commands rest
   pub counted : served.commands ≡ length commands
   pub holds : holding now ≡ after_commands (holding before) commands
+  pub items_seen : (item : ℕ) → seen now item ≡ (asked commands item || seen before item)
   pub ends : Ends served.fault GoesOn now rest written (answered (holding before) commands) written_now
 
 -- a fault of the guest's bytes, of writing or of memory
