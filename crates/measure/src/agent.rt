@@ -1,17 +1,19 @@
 //! The serving of one guest, whose bytes are standard input.
-use crate::visitor::Visitor;
 use anyhow::Result;
+use lossy_link::MemoryGuest;
 use std::io::Read;
 use switch_agent::{Agent, ServeFault, serve_bytes};
-use wan_edge::Nums8;
+use wan_edge::{MemorySink, MemorySource, Nums8, Turns};
 use wire_frames::FrameFault;
 
 /// Prints the answers' bytes, how many commands were carried out, and why it ended.
 pub(crate) fn measure(rt: &HostRuntime) -> Result<()> {
     let alloc = rt.alloc();
-    let mut guest = Visitor::new(alloc, all_bytes(rt)?);
+    let source = MemorySource::new(all_bytes(rt)?, Turns::new(alloc));
+    let sink = MemorySink::new(alloc, Turns::new(alloc));
+    let mut guest = MemoryGuest::new(source, sink);
     let served = serve_bytes(&mut Agent::new(alloc), &mut guest);
-    let answers = hex::encode(alloc, guest.heard())?;
+    let answers = hex::encode(alloc, guest.written())?;
     println!(rt; "{answers}")?;
     println!(rt; "commands {}", served.commands)?;
     print(rt, served.fault)

@@ -16,7 +16,6 @@ mod mutex_turns;
 mod program;
 mod subject;
 mod turns;
-mod visitor;
 
 fn main(rt: HostRuntime) -> Result<()> {
     let words = env::args(&rt)?.skip(1).collect::<Vec<String>>(rt.alloc())?;
