@@ -1,7 +1,7 @@
 -- What a rollout changes (items), what it takes (resources), and how much of it.
 use Rattle.std.specs.Prelude.{ℕ, ◌+◌, ◌-◌, ◌*◌, min, max, Bool, ◌&&◌, ◌||◌, List, [], ◌∷◌, length, Option, Some, None, if◌then◌else◌, nat_lt, ◌==◌}
 use Rattle.rollout_rules.specs.Sums.{sum_below, all_below, least_below, list_below}
-use Rattle.rollout_rules.specs.Wan.{Problem, Plan, Tunnel, flow_at, link_at, switch_at, tunnel_of, hops, switch_of, crosses, rate_at, mark_at, next_stage}
+use Rattle.rollout_rules.specs.Wan.{Problem, Plan, Tunnel, flow_at, link_at, switch_at, tunnel_of, hops, switch_of, width_of, crosses, rate_at, mark_at, next_stage}
 use Rattle.rollout_rules.specs.declared.item.Item.{Item}
 use Rattle.rollout_rules.specs.declared.item.Item.TheVariants as item
 
@@ -41,6 +41,10 @@ least_items p top f =
     min (least_below (length p.flows) top (λ n. f (item.Flow n)))
     (least_below (length p.tunnels) top (λ t. least_below (hops p t) top (λ h. f (item.Entry t h))))
 
+-- whether the test holds of each item
+abbrev pub all_items : Problem → (Item → Bool) → Bool
+all_items p test = all_below (item_count p) (λ n. test (item_at p n))
+
 -- over all resources
 abbrev pub is_resource : Problem → Resource → Bool
 is_resource p (the_link l) = nat_lt l (length p.links)
@@ -60,12 +64,12 @@ home_of p (item.Flow f) = if (flow_at p f).tunnels == 0 then None else Some (swi
 home_of p (item.Entry t h) = Some (switch_of p t h)
 
 -- What an item takes of a resource where tunnels carry these rates and these entries are there: a flow takes
--- the rates of its tunnels that cross the link, and an entry takes one place in its switch's table.
+-- the rates of its tunnels that cross the link, and an entry takes its tunnel's width in its switch's table.
 abbrev pub takes : Problem → (ℕ → ℕ) → (ℕ → ℕ → Bool) → Item → Resource → ℕ
 takes p rate there (item.Flow f) (the_link l) = sum_below (flow_at p f).tunnels (λ j. if crosses p (tunnel_of p f j) l then rate (tunnel_of p f j) else 0)
 takes p rate there (item.Flow f) (the_table w) = 0
 takes p rate there (item.Entry t h) (the_link l) = 0
-takes p rate there (item.Entry t h) (the_table w) = if (switch_of p t h == w) && there t h then 1 else 0
+takes p rate there (item.Entry t h) (the_table w) = if (switch_of p t h == w) && there t h then width_of p t else 0
 
 -- the content of an item at a stage: the rates of a flow's tunnels, or 1 where an entry is there and 0 where not
 abbrev pub content : Problem → Plan → Item → ℕ → List ℕ
@@ -93,6 +97,6 @@ step_maximum p plan s = takes p (greater_rate plan s) (λ t h. either_mark plan 
 abbrev pub load : Problem → (ℕ → ℕ) → ℕ → ℕ
 load p rate l = sum_below (length p.tunnels) (λ t. if crosses p t l then rate t else 0)
 
--- How many entries stand in a switch's table.
+-- How much of a switch's table is taken: the sum of the widths of the entries that are there.
 abbrev pub entries_at : Problem → (ℕ → ℕ → Bool) → ℕ → ℕ
-entries_at p there w = sum_below (length p.tunnels) (λ t. sum_below (hops p t) (λ h. if (switch_of p t h == w) && there t h then 1 else 0))
+entries_at p there w = sum_below (length p.tunnels) (λ t. sum_below (hops p t) (λ h. if (switch_of p t h == w) && there t h then width_of p t else 0))

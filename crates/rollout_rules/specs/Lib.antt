@@ -16,4 +16,4 @@ pub mod Release
 pub mod World
 pub mod Slack
 pub mod Named
-pub mod Rows
+pub mod Worked

@@ -1,4 +1,4 @@
--- Small networks with names, and plans on them, for the worked rows.
+-- Small networks with names, and plans on them, for the worked examples.
 use Rattle.std.specs.Prelude.{ℕ, ◌+◌, Bool, true, false, List, [], ◌∷◌, ◌++◌, take, drop, Option, Some, None, codes, map, replicate}
 use Rattle.rollout_rules.specs.Wan.{Switch, Link, Flow, Tunnel, Problem, Stage, Plan}
 
@@ -11,9 +11,12 @@ link_from from to capacity = record { from = from; to = to; capacity = capacity 
 abbrev pub flow_named : List ℕ → ℕ → ℕ → Flow
 flow_named name first tunnels = record { name = name; first = first; tunnels = tunnels }
 
--- a tunnel of a flow along switches and links, with its old and its new rate
+-- a tunnel of a flow along switches and links, with its old and its new rate, and the same with a width
 abbrev pub tunnel_along : ℕ → List ℕ → List ℕ → Option ℕ → Option ℕ → Tunnel
-tunnel_along flow path links old new = record { flow = flow; path = path; links = links; old = old; new = new }
+tunnel_along flow path links old new = record { flow = flow; path = path; links = links; width = 1; old = old; new = new }
+
+abbrev pub of_width : ℕ → Tunnel → Tunnel
+of_width width t = record t { width = width }
 
 abbrev pub stage_with : List ℕ → List Bool → Stage
 stage_with rates installed = record { rates = rates; installed = installed }
@@ -25,6 +28,7 @@ all_installed n scale rows = record { scale = scale; stages = map (λ rates. sta
 -- a flow that leaves A B in part, for A C B
 abbrev pub one : Problem
 one = record {
+  format = 1;
   switches = switch_named (codes "A") 8 ∷ switch_named (codes "B") 8 ∷ switch_named (codes "C") 8 ∷ [];
   links = link_from 0 1 10 ∷ link_from 0 2 10 ∷ link_from 2 1 10 ∷ [];
   flows = flow_named (codes "f") 0 2 ∷ [];
@@ -34,6 +38,7 @@ one = record {
 -- two flows of rate r that change places over links of capacity c
 abbrev pub swap : ℕ → ℕ → Problem
 swap c r = record {
+  format = 1;
   switches = switch_named (codes "A") 8 ∷ switch_named (codes "X") 8 ∷ switch_named (codes "Y") 8 ∷ switch_named (codes "B") 8 ∷ [];
   links = link_from 0 1 c ∷ link_from 1 3 c ∷ link_from 0 2 c ∷ link_from 2 3 c ∷ [];
   flows = flow_named (codes "f") 0 2 ∷ flow_named (codes "g") 2 2 ∷ [];
@@ -46,6 +51,7 @@ swap c r = record {
 -- two flows on one full link, of which one goes and one comes
 abbrev pub pause : Problem
 pause = record {
+  format = 1;
   switches = switch_named (codes "A") 8 ∷ switch_named (codes "B") 8 ∷ [];
   links = link_from 0 1 2 ∷ [];
   flows = flow_named (codes "f") 0 1 ∷ flow_named (codes "g") 1 1 ∷ [];
@@ -55,6 +61,7 @@ pause = record {
 -- two flows on full links that change places by way of a third path
 abbrev pub three : Problem
 three = record {
+  format = 1;
   switches = switch_named (codes "A") 8 ∷ switch_named (codes "X") 8 ∷ switch_named (codes "Y") 8 ∷ switch_named (codes "Z") 8 ∷ switch_named (codes "B") 8 ∷ [];
   links = link_from 0 1 2 ∷ link_from 1 4 2 ∷ link_from 0 2 2 ∷ link_from 2 4 2 ∷ link_from 0 3 2 ∷ link_from 3 4 2 ∷ [];
   flows = flow_named (codes "f") 0 3 ∷ flow_named (codes "g") 3 3 ∷ [];
@@ -69,6 +76,7 @@ three = record {
 -- a flow whose new tunnel has room in the tables of A and B once an idle one, of this old rate, has left them
 abbrev pub table_with : ℕ → Problem
 table_with idle = record {
+  format = 1;
   switches = switch_named (codes "A") 2 ∷ switch_named (codes "B") 2 ∷ switch_named (codes "X") 8 ∷ switch_named (codes "Y") 8 ∷ switch_named (codes "Z") 8 ∷ [];
   links = link_from 0 2 10 ∷ link_from 2 1 10 ∷ link_from 0 3 10 ∷ link_from 3 1 10 ∷ link_from 0 4 10 ∷ link_from 4 1 10 ∷ [];
   flows = flow_named (codes "f") 0 3 ∷ [];
@@ -80,9 +88,25 @@ table_with idle = record {
 abbrev pub table_network : Problem
 table_network = table_with 0
 
+-- the same in format 2, where A and B hold 5 entries, the first two tunnels take 2 and 1, and the third one so many
+abbrev pub wide_with : ℕ → Problem
+wide_with third = record {
+  format = 2;
+  switches = switch_named (codes "A") 5 ∷ switch_named (codes "B") 5 ∷ switch_named (codes "X") 8 ∷ switch_named (codes "Y") 8 ∷ switch_named (codes "Z") 8 ∷ [];
+  links = table_network.links;
+  flows = table_network.flows;
+  tunnels = of_width 2 (tunnel_along 0 (0 ∷ 2 ∷ 1 ∷ []) (0 ∷ 1 ∷ []) (Some 4) (Some 2))
+      ∷ of_width 1 (tunnel_along 0 (0 ∷ 3 ∷ 1 ∷ []) (2 ∷ 3 ∷ []) (Some 0) None)
+      ∷ of_width third (tunnel_along 0 (0 ∷ 4 ∷ 1 ∷ []) (4 ∷ 5 ∷ []) None (Some 2)) ∷ [];
+}
+
+abbrev pub wide_network : Problem
+wide_network = wide_with 3
+
 -- two flows that change places, and a third one beside them with links of its own
 abbrev pub ahead : Problem
 ahead = record {
+  format = 1;
   switches = (swap 9 6).switches ++ switch_named (codes "C") 8 ∷ switch_named (codes "U") 8 ∷ switch_named (codes "V") 8 ∷ switch_named (codes "D") 8 ∷ [];
   links = (swap 9 6).links ++ link_from 4 5 9 ∷ link_from 5 7 9 ∷ link_from 4 6 9 ∷ link_from 6 7 9 ∷ [];
   flows = (swap 9 6).flows ++ flow_named (codes "h") 4 2 ∷ [];
@@ -94,6 +118,7 @@ ahead = record {
 -- a flow that takes the link L for a while, and a second one that moves there late
 abbrev pub late : Problem
 late = record {
+  format = 1;
   switches = switch_named (codes "A") 8 ∷ switch_named (codes "B") 8 ∷ switch_named (codes "P") 8
       ∷ switch_named (codes "L") 8 ∷ switch_named (codes "M") 8 ∷ switch_named (codes "N") 8 ∷ [];
   links = link_from 0 2 2 ∷ link_from 2 1 2 ∷ link_from 0 3 2 ∷ link_from 3 1 2
@@ -109,6 +134,7 @@ late = record {
 -- a flow that moves from its first tunnel to the second, both over the link A B
 abbrev pub branch : Problem
 branch = record {
+  format = 1;
   switches = switch_named (codes "A") 8 ∷ switch_named (codes "B") 8 ∷ switch_named (codes "C") 8 ∷ switch_named (codes "D") 8 ∷ [];
   links = link_from 0 1 8 ∷ link_from 1 2 8 ∷ link_from 1 3 8 ∷ link_from 3 2 8 ∷ [];
   flows = flow_named (codes "f") 0 2 ∷ [];
@@ -118,6 +144,7 @@ branch = record {
 -- a flow whose only tunnel is replaced by another one
 abbrev pub replaced : Problem
 replaced = record {
+  format = 1;
   switches = one.switches;
   links = one.links;
   flows = one.flows;
@@ -127,6 +154,7 @@ replaced = record {
 -- a flow whose two new tunnels find one free place in the tables of A and B
 abbrev pub crowd : Problem
 crowd = record {
+  format = 1;
   switches = switch_named (codes "A") 3 ∷ switch_named (codes "B") 3 ∷ [];
   links = link_from 0 1 10 ∷ [];
   flows = flow_named (codes "f") 0 4 ∷ [];
@@ -137,6 +165,7 @@ crowd = record {
 -- a flow on one link of capacity 2, with these rates
 abbrev pub pipe : ℕ → ℕ → Problem
 pipe old new = record {
+  format = 1;
   switches = pause.switches;
   links = pause.links;
   flows = flow_named (codes "f") 0 1 ∷ [];

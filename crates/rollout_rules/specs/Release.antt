@@ -1,11 +1,11 @@
--- Which operations a round begins, for any rank of a policy.
+-- Which operations a round begins, for any policy.
 use Rattle.std.specs.Prelude.{ℕ, zero, suc, ◌+◌, ◌-◌, max, Bool, not, ◌&&◌, ◌||◌, List, [], ◌∷◌, ◌++◌, map, ◌==◌, nat_le, nat_lt, if◌then◌else◌}
 use Rattle.std.specs.List.{filter, list_any}
 use Rattle.rollout_rules.specs.Sums.{list_below}
 use Rattle.rollout_rules.specs.Wan.{Problem, Plan, flow_at, tunnel_at, tunnel_of, hops, rate_at, mark_at, last_stage}
 use Rattle.rollout_rules.specs.Items.{item_count, item_at}
 use Rattle.rollout_rules.specs.Operations.{operations, changes_behind}
-use Rattle.rollout_rules.specs.History.{begun, settled, flies, places_of, stand}
+use Rattle.rollout_rules.specs.History.{History, with_entries, begun, settled, flies, places_of, stand}
 use Rattle.rollout_rules.specs.Needs.{installed_since, idle_since}
 use Rattle.rollout_rules.specs.Legal.{may_begin}
 use Rattle.rollout_rules.specs.declared.item.Item.{Item}
@@ -47,10 +47,10 @@ abbrev pub chain : Problem → Plan → Item → ℕ → ℕ
 chain p plan i s = chain_within (last_stage plan) p plan i s
 
 -- the next operation of an item, and what a policy sees of it
-abbrev pub next_op : List Entry → ℕ → Op
+abbrev pub next_op : History → ℕ → Op
 next_op h n = record { item = n; number = settled h n + 1 }
 
-abbrev pub view_of : Problem → Plan → List Entry → ℕ → OpView
+abbrev pub view_of : Problem → Plan → History → ℕ → OpView
 view_of p plan h n = record {
   item = n;
   number = settled h n + 1;
@@ -60,7 +60,7 @@ view_of p plan h n = record {
 }
 
 -- the items that have an operation left and none in flight, in order
-abbrev pub waiting : Problem → Plan → List Entry → List ℕ
+abbrev pub waiting : Problem → Plan → History → List ℕ
 waiting p plan h = filter (λ n. not (flies h n) && nat_lt (settled h n) (operations p plan (item_at p n))) (list_below (item_count p) (λ n. n))
 
 -- in order of the rank, lower first, and then of the item
@@ -73,26 +73,37 @@ in_order_of rank [] = []
 in_order_of rank (n ∷ ns) = insert_by rank n (in_order_of rank ns)
 
 -- the entries got by going once through items and beginning each next operation that may begin
-abbrev pub begin_each : Problem → Plan → List Entry → List ℕ → List Entry
+abbrev pub begin_each : Problem → Plan → History → List ℕ → List Entry
 begin_each p plan h [] = []
 begin_each p plan h (n ∷ ns) =
     if may_begin p plan h (next_op h n)
-    then Begin (next_op h n) ∷ begin_each p plan (h ++ Begin (next_op h n) ∷ []) ns
+    then Begin (next_op h n) ∷ begin_each p plan (with_entries h (Begin (next_op h n) ∷ [])) ns
     else begin_each p plan h ns
 
--- The release after a history: each waiting item's next operation in order of rank, begun where its needs are met and
--- the list stays legal with those begun before it.
-abbrev pub release : Problem → Plan → (OpView → ℕ) → List Entry → List Entry
-release p plan rank h = begin_each p plan h (in_order_of (λ n. rank (view_of p plan h n)) (waiting p plan h))
+-- A policy answers a rank for what it sees of an operation, or this number to hold the operation back.
+abbrev pub held_back : ℕ
+held_back = 4294967296
+
+abbrev pub is_held_back : (OpView → ℕ) → OpView → Bool
+is_held_back policy view = policy view == held_back
+
+-- the waiting items whose next operation the policy doesn't hold back
+abbrev pub released : Problem → Plan → (OpView → ℕ) → History → List ℕ
+released p plan policy h = filter (λ n. not (is_held_back policy (view_of p plan h n))) (waiting p plan h)
+
+-- The release after a history: the next operation of each waiting item that isn't held back, in order of rank, begun
+-- where its needs are met and the history stays legal with those begun before it.
+abbrev pub release : Problem → Plan → (OpView → ℕ) → History → List Entry
+release p plan policy h = begin_each p plan h (in_order_of (λ n. policy (view_of p plan h n)) (released p plan policy h))
 
 -- whether an answer covers the operation in flight of an item
-abbrev pub is_covered : List Entry → List Op → ℕ → Bool
+abbrev pub is_covered : History → List Op → ℕ → Bool
 is_covered h answers n = flies h n && list_any (λ a. (a.item == n) && nat_le (begun h n) a.number) answers
 
 -- a Done for each operation in flight that an answer covers, by item
-abbrev pub dones : Problem → List Entry → List Op → List Entry
+abbrev pub dones : Problem → History → List Op → List Entry
 dones p h answers = map (λ n. Done (next_op h n)) (filter (is_covered h answers) (list_below (item_count p) (λ n. n)))
 
 -- the batch of a round: these, and then the release of the history so far
-abbrev pub batch : Problem → Plan → (OpView → ℕ) → List Entry → List Op → List Entry
-batch p plan rank h answers = dones p h answers ++ release p plan rank (h ++ dones p h answers)
+abbrev pub batch : Problem → Plan → (OpView → ℕ) → History → List Op → List Entry
+batch p plan policy h answers = dones p h answers ++ release p plan policy (with_entries h (dones p h answers))

@@ -1,14 +1,9 @@
 -- Which plans are valid. The clauses have the names that the program prints, P0 to P5.
 use Rattle.std.specs.Prelude.{ℕ, ◌-◌, ◌*◌, min, max, Bool, not, ◌&&◌, ◌||◌, length, is_some, nat_le, ◌==◌, if◌then◌else◌}
+use Rattle.rollout_rules.specs.declared.limits.TheConstants.{MOST_STAGES, LARGEST_SCALE}
 use Rattle.rollout_rules.specs.Sums.{sum_below, all_below}
 use Rattle.rollout_rules.specs.Wan.{Problem, Plan, tunnel_at, flow_at, tunnel_of, old_rate, new_rate, stage_at, rate_at, mark_at, last_stage, next_stage}
 use Rattle.rollout_rules.specs.Items.{Resource, sum_items, all_resources, capacity_of, step_maximum}
-
-abbrev pub largest_scale : ℕ
-largest_scale = 65536
-
-abbrev pub most_stages : ℕ
-most_stages = 256
 
 -- whether two marks are the same
 abbrev pub same_mark : Bool → Bool → Bool
@@ -17,8 +12,8 @@ same_mark a b = if a then b else not b
 -- P0: the scale and the number of stages are within their limits, and each stage has a rate and a mark per tunnel
 abbrev pub has_shape : Problem → Plan → Bool
 has_shape p plan =
-    nat_le 1 plan.scale && nat_le plan.scale largest_scale
-    && nat_le 1 (length plan.stages) && nat_le (length plan.stages) most_stages
+    nat_le 1 plan.scale && nat_le plan.scale LARGEST_SCALE
+    && nat_le 1 (length plan.stages) && nat_le (length plan.stages) MOST_STAGES
     && all_below (length plan.stages) (λ s.
     (length (stage_at plan s).rates == length p.tunnels) && (length (stage_at plan s).installed == length p.tunnels))
 

@@ -19,15 +19,19 @@ pub record Flow : Type 0 where
   pub first : ℕ
   pub tunnels : ℕ
 
--- a tunnel: the switches on its path, the links between them, and its old and new rate, where it is installed
+-- a tunnel: the switches on its path, the links between them, how many entries it takes in the table of each of these
+-- switches, and its old and new rate, where it is installed
 pub record Tunnel : Type 0 where
   pub flow : ℕ
   pub path : List ℕ
   pub links : List ℕ
+  pub width : ℕ
   pub old : Option ℕ
   pub new : Option ℕ
 
+-- In format 1 every tunnel has the width 1; in format 2 each one has a width of its own.
 pub record Problem : Type 0 where
+  pub format : ℕ
   pub switches : List Switch
   pub links : List Link
   pub flows : List Flow
@@ -57,7 +61,7 @@ abbrev pub no_flow : Flow
 no_flow = record { name = []; first = 0; tunnels = 0 }
 
 abbrev pub no_tunnel : Tunnel
-no_tunnel = record { flow = 0; path = []; links = []; old = None; new = None }
+no_tunnel = record { flow = 0; path = []; links = []; width = 1; old = None; new = None }
 
 abbrev pub no_stage : Stage
 no_stage = record { rates = []; installed = [] }
@@ -92,6 +96,10 @@ hops p t = length (tunnel_at p t).path
 
 abbrev pub switch_of : Problem → ℕ → ℕ → ℕ
 switch_of p t h = slice_index (tunnel_at p t).path h
+
+-- how many entries tunnel t takes in each table on its path
+abbrev pub width_of : Problem → ℕ → ℕ
+width_of p t = (tunnel_at p t).width
 
 -- whether link l is on the path of tunnel t
 abbrev pub crosses : Problem → ℕ → ℕ → Bool

@@ -14,6 +14,12 @@ pub enum Event {
     Deliver(u32),
     /// The n-th answer given reaches the controller.
     Hand(u32),
+    /// A late command of an earlier migration reaches the item's switch, whose answer is given.
+    Old {
+        item: u32,
+        migration: u32,
+        number: u32,
+    },
     /// The controller stops, and of the batch being written the first n entries are durable.
     Crash(u32),
     /// The controller starts again.

@@ -4,7 +4,7 @@ ghost use Rattle.rollout_rules.specs.Plans.{direct_plan};
 ghost use Rattle.rollout_rules.specs.Valid.{has_shape, same_mark, flow_total, is_valid_plan};
 ghost use Rattle.rollout_rules.specs.Building.{no_problem};
 ghost use Rattle.rollout_rules.specs.Named.{stage_with, all_installed, one, swap, pause, three, table_network, ahead, late, replaced, branch, crowd, pipe, one_plan, halfway_plan, pause_plan, three_plan, table_plan, ahead_plan, late_plan, replaced_plan, crowd_plan, without_stage};
-ghost use Rattle.rollout_rules.specs.Rows.{broken_clauses};
+ghost use Rattle.rollout_rules.specs.Worked.{broken_clauses};
 
 /// There is room on all links for both splits at once.
 pub fn one_goes_in_a_direct_step()

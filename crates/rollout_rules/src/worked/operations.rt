@@ -7,7 +7,7 @@ ghost use Rattle.rollout_rules.specs.Needs.{installed_since, idle_since, entries
 ghost use Rattle.rollout_rules.specs.Room.{least_stage, room, fits_at, fits};
 ghost use Rattle.rollout_rules.specs.Building.{no_problem};
 ghost use Rattle.rollout_rules.specs.Named.{stay_plan, all_installed, late, table_network, three, replaced, late_plan, table_plan, three_plan, replaced_plan};
-ghost use Rattle.rollout_rules.specs.Rows.{begin_of, done_of};
+ghost use Rattle.rollout_rules.specs.Worked.{fresh, begin_of, done_of};
 
 use crate::item::Item;
 
@@ -67,60 +67,60 @@ pub fn runs_of_stages_begin_where_the_tunnel_changed()
 
 /// The flow's operation needs the entries at A, Z and B, and none of them alone will do.
 pub fn a_flow_needs_the_entries_that_carry_it()
-    ensures at_first { needs_met table_network table_plan (places_of table_network []) (Item.Flow 0) ≡ false }
-    ensures begun_alone { needs_met table_network table_plan (places_of table_network (begin_of 7 1 ∷ begin_of 8 1 ∷ begin_of 9 1 ∷ [])) (Item.Flow 0) ≡ false }
-    ensures without_a { entries_past table_network table_plan (places_of table_network (done_of 8 1 ∷ done_of 9 1 ∷ [])) 2 2 ≡ false }
-    ensures without_z { entries_past table_network table_plan (places_of table_network (done_of 7 1 ∷ done_of 9 1 ∷ [])) 2 2 ≡ false }
-    ensures without_b { entries_past table_network table_plan (places_of table_network (done_of 7 1 ∷ done_of 8 1 ∷ [])) 2 2 ≡ false }
-    ensures with_all { needs_met table_network table_plan (places_of table_network (done_of 7 1 ∷ done_of 8 1 ∷ done_of 9 1 ∷ [])) (Item.Flow 0) ≡ true }
+    ensures at_first { needs_met table_network table_plan (places_of table_network (fresh [])) (Item.Flow 0) ≡ false }
+    ensures begun_alone { needs_met table_network table_plan (places_of table_network (fresh (begin_of 7 1 ∷ begin_of 8 1 ∷ begin_of 9 1 ∷ []))) (Item.Flow 0) ≡ false }
+    ensures without_a { entries_past table_network table_plan (places_of table_network (fresh (done_of 8 1 ∷ done_of 9 1 ∷ []))) 2 2 ≡ false }
+    ensures without_z { entries_past table_network table_plan (places_of table_network (fresh (done_of 7 1 ∷ done_of 9 1 ∷ []))) 2 2 ≡ false }
+    ensures without_b { entries_past table_network table_plan (places_of table_network (fresh (done_of 7 1 ∷ done_of 8 1 ∷ []))) 2 2 ≡ false }
+    ensures with_all { needs_met table_network table_plan (places_of table_network (fresh (done_of 7 1 ∷ done_of 8 1 ∷ done_of 9 1 ∷ []))) (Item.Flow 0) ≡ true }
 {}
 
 /// Also those of a tunnel that carries it on the way alone.
 pub fn a_flow_needs_the_entries_of_a_stay_between()
-    ensures without { needs_met table_network stay_plan (places_of table_network []) (Item.Flow 0) ≡ false }
-    ensures with_all { needs_met table_network stay_plan (places_of table_network (done_of 7 1 ∷ done_of 8 1 ∷ done_of 9 1 ∷ [])) (Item.Flow 0) ≡ true }
+    ensures without { needs_met table_network stay_plan (places_of table_network (fresh [])) (Item.Flow 0) ≡ false }
+    ensures with_all { needs_met table_network stay_plan (places_of table_network (fresh (done_of 7 1 ∷ done_of 8 1 ∷ done_of 9 1 ∷ []))) (Item.Flow 0) ≡ true }
 {}
 
 /// A flow under way has not left yet; a tunnel that was idle from the start has none to leave it.
 pub fn a_removal_needs_that_its_flow_has_left()
-    ensures at_first { needs_met replaced replaced_plan (places_of replaced []) (Item.Entry 0 0) ≡ false }
-    ensures under_way { needs_met replaced replaced_plan (places_of replaced (begin_of 0 1 ∷ [])) (Item.Entry 0 0) ≡ false }
-    ensures once_left { needs_met replaced replaced_plan (places_of replaced (begin_of 0 1 ∷ done_of 0 1 ∷ [])) (Item.Entry 0 0) ≡ true }
-    ensures idle { needs_met table_network table_plan (places_of table_network []) (Item.Entry 1 0) ≡ true }
+    ensures at_first { needs_met replaced replaced_plan (places_of replaced (fresh [])) (Item.Entry 0 0) ≡ false }
+    ensures under_way { needs_met replaced replaced_plan (places_of replaced (fresh (begin_of 0 1 ∷ []))) (Item.Entry 0 0) ≡ false }
+    ensures once_left { needs_met replaced replaced_plan (places_of replaced (fresh (begin_of 0 1 ∷ done_of 0 1 ∷ []))) (Item.Entry 0 0) ≡ true }
+    ensures idle { needs_met table_network table_plan (places_of table_network (fresh [])) (Item.Entry 1 0) ≡ true }
 {}
 
 /// Wherever its flow stands.
 pub fn an_installation_needs_nothing()
-    ensures table { needs_met table_network table_plan (places_of table_network []) (Item.Entry 2 0) ≡ true }
-    ensures replaced { needs_met replaced replaced_plan (places_of replaced []) (Item.Entry 1 1) ≡ true }
+    ensures table { needs_met table_network table_plan (places_of table_network (fresh [])) (Item.Entry 2 0) ≡ true }
+    ensures replaced { needs_met replaced replaced_plan (places_of replaced (fresh [])) (Item.Entry 1 1) ≡ true }
 {}
 
 /// The least stage at which an item stands is where room begins; without items it is the last stage.
 pub fn room_begins_where_the_last_item_stands()
-    ensures at_first { least_stage table_network table_plan (places_of table_network []) ≡ 0 }
-    ensures later { least_stage table_network table_plan (places_of table_network (done_of 4 1 ∷ done_of 5 1 ∷ done_of 6 1 ∷ [])) ≡ 1 }
-    ensures no_items { least_stage no_problem (all_installed 0 1 ([] ∷ [])) (places_of no_problem []) ≡ 0 }
-    ensures no_items_nor_room { least_stage no_problem (all_installed 0 1 ([] ∷ [] ∷ [])) (places_of no_problem []) ≡ 1 }
-    ensures no_stages_to_fit { fits no_problem (all_installed 0 1 ([] ∷ [])) (places_of no_problem []) ≡ true }
+    ensures at_first { least_stage table_network table_plan (places_of table_network (fresh [])) ≡ 0 }
+    ensures later { least_stage table_network table_plan (places_of table_network (fresh (done_of 4 1 ∷ done_of 5 1 ∷ done_of 6 1 ∷ []))) ≡ 1 }
+    ensures no_items { least_stage no_problem (all_installed 0 1 ([] ∷ [])) (places_of no_problem (fresh [])) ≡ 0 }
+    ensures no_items_nor_room { least_stage no_problem (all_installed 0 1 ([] ∷ [] ∷ [])) (places_of no_problem (fresh [])) ≡ 1 }
+    ensures no_stages_to_fit { fits no_problem (all_installed 0 1 ([] ∷ [])) (places_of no_problem (fresh [])) ≡ true }
 {}
 
 /// At the start the entries of the new tunnel find 3 against 2 at A and at B, and room at Z.
 pub fn new_entries_find_no_room_before_the_idle_ones_left()
-    ensures at_first { room table_network table_plan (places_of table_network []) 0 (the_table 0) ≡ 2 }
-    ensures at_a { room table_network table_plan (places_of table_network (begin_of 7 1 ∷ [])) 0 (the_table 0) ≡ 3 }
-    ensures none_at_a { fits_at table_network table_plan (places_of table_network (begin_of 7 1 ∷ [])) 0 ≡ false }
-    ensures at_b { room table_network table_plan (places_of table_network (begin_of 9 1 ∷ [])) 0 (the_table 1) ≡ 3 }
-    ensures none_at_b { fits_at table_network table_plan (places_of table_network (begin_of 9 1 ∷ [])) 0 ≡ false }
-    ensures at_z { fits table_network table_plan (places_of table_network (begin_of 8 1 ∷ [])) ≡ true }
-    ensures removal_under_way { fits table_network table_plan (places_of table_network (begin_of 4 1 ∷ begin_of 7 1 ∷ [])) ≡ false }
-    ensures once_left { fits table_network table_plan (places_of table_network (begin_of 4 1 ∷ done_of 4 1 ∷ begin_of 7 1 ∷ [])) ≡ true }
+    ensures at_first { room table_network table_plan (places_of table_network (fresh [])) 0 (the_table 0) ≡ 2 }
+    ensures at_a { room table_network table_plan (places_of table_network (fresh (begin_of 7 1 ∷ []))) 0 (the_table 0) ≡ 3 }
+    ensures none_at_a { fits_at table_network table_plan (places_of table_network (fresh (begin_of 7 1 ∷ []))) 0 ≡ false }
+    ensures at_b { room table_network table_plan (places_of table_network (fresh (begin_of 9 1 ∷ []))) 0 (the_table 1) ≡ 3 }
+    ensures none_at_b { fits_at table_network table_plan (places_of table_network (fresh (begin_of 9 1 ∷ []))) 0 ≡ false }
+    ensures at_z { fits table_network table_plan (places_of table_network (fresh (begin_of 8 1 ∷ []))) ≡ true }
+    ensures removal_under_way { fits table_network table_plan (places_of table_network (fresh (begin_of 4 1 ∷ begin_of 7 1 ∷ []))) ≡ false }
+    ensures once_left { fits table_network table_plan (places_of table_network (fresh (begin_of 4 1 ∷ done_of 4 1 ∷ begin_of 7 1 ∷ []))) ≡ true }
 {}
 
 /// The second flow of late has room on the link at stage 0, and finds 4 against 2 at stage 1.
 pub fn room_is_looked_for_at_later_stages_too()
-    ensures at_first { room late late_plan (places_of late (begin_of 1 1 ∷ [])) 0 (the_link 2) ≡ 2 }
-    ensures fits_at_first { fits_at late late_plan (places_of late (begin_of 1 1 ∷ [])) 0 ≡ true }
-    ensures next { room late late_plan (places_of late (begin_of 1 1 ∷ [])) 1 (the_link 2) ≡ 4 }
-    ensures none_next { fits_at late late_plan (places_of late (begin_of 1 1 ∷ [])) 1 ≡ false }
-    ensures without_it { fits late late_plan (places_of late []) ≡ true }
+    ensures at_first { room late late_plan (places_of late (fresh (begin_of 1 1 ∷ []))) 0 (the_link 2) ≡ 2 }
+    ensures fits_at_first { fits_at late late_plan (places_of late (fresh (begin_of 1 1 ∷ []))) 0 ≡ true }
+    ensures next { room late late_plan (places_of late (fresh (begin_of 1 1 ∷ []))) 1 (the_link 2) ≡ 4 }
+    ensures none_next { fits_at late late_plan (places_of late (fresh (begin_of 1 1 ∷ []))) 1 ≡ false }
+    ensures without_it { fits late late_plan (places_of late (fresh [])) ≡ true }
 {}

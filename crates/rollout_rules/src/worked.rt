@@ -1,4 +1,4 @@
-//! The worked rows: each function states a fact of a small network, and proving it is computing it.
+//! The worked examples: each function states a fact of a small network, and proving it is computing it.
 
 pub mod agents;
 pub mod building;
@@ -10,4 +10,6 @@ pub mod plans;
 pub mod releases;
 pub mod safety;
 pub mod slack;
+pub mod starts;
+pub mod widths;
 pub mod worlds;

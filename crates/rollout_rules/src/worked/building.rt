@@ -1,8 +1,8 @@
 //! Which rows a problem takes up, and that what is built of them is a network.
 ghost use Rattle.std.specs.Prelude.{◌≡◌, ◌<◌, Bool, true, false, [], ◌∷◌, codes, replicate, slice_index};
 ghost use Rattle.rollout_rules.specs.Network.{IsRate, IsPath, IsNetwork};
-ghost use Rattle.rollout_rules.specs.Building.{MayAddSwitch, MayAddLink, MayAddFlow, IsRoute, MayAddTunnel, with_flow, no_problem};
-ghost use Rattle.rollout_rules.specs.Named.{one, pause};
+ghost use Rattle.rollout_rules.specs.Building.{MayAddSwitch, MayAddLink, MayAddFlow, IsRoute, MayAddTunnel, with_flow, no_problem, no_wide_problem};
+ghost use Rattle.rollout_rules.specs.Named.{one, pause, wide_network};
 
 /// Its name is new, has 128 bytes at most, and its table 1,000,000 entries.
 pub fn a_switch_with_a_new_name_may_be_added()
@@ -40,19 +40,25 @@ pub fn a_path_follows_links_and_passes_a_switch_once()
     ensures switch_twice { ¬ IsRoute one (0 ∷ 1 ∷ 0 ∷ []) }
 {}
 
-/// Its ends are those of the flow's first tunnel, and its rates are within the limit.
+/// Its ends are those of the flow's first tunnel, and its rates and its width are within the limits.
 pub fn a_tunnel_between_the_flows_ends_may_be_added()
-    ensures another { MayAddTunnel one (0 ∷ 1 ∷ []) None (Some 1000000000) }
-    ensures first_of_a_flow { MayAddTunnel (with_flow one (codes "g")) (2 ∷ 1 ∷ []) None None }
-    ensures other_ends { ¬ MayAddTunnel one (2 ∷ 1 ∷ []) None None }
-    ensures short { ¬ MayAddTunnel one (0 ∷ []) None None }
-    ensures no_flow { ¬ MayAddTunnel (record one { flows = []; tunnels = [] }) (0 ∷ 1 ∷ []) None None }
-    ensures large_rate { ¬ MayAddTunnel one (0 ∷ 1 ∷ []) (Some 1000000001) None }
+    ensures another { MayAddTunnel one (0 ∷ 1 ∷ []) None (Some 1000000000) 1 }
+    ensures first_of_a_flow { MayAddTunnel (with_flow one (codes "g")) (2 ∷ 1 ∷ []) None None 1 }
+    ensures other_ends { ¬ MayAddTunnel one (2 ∷ 1 ∷ []) None None 1 }
+    ensures short { ¬ MayAddTunnel one (0 ∷ []) None None 1 }
+    ensures no_flow { ¬ MayAddTunnel (record one { flows = []; tunnels = [] }) (0 ∷ 1 ∷ []) None None 1 }
+    ensures wide_in_format_1 { ¬ MayAddTunnel one (0 ∷ 1 ∷ []) None None 2 }
+    ensures wide { MayAddTunnel wide_network (0 ∷ 2 ∷ 1 ∷ []) None None 16 }
+    ensures too_wide { ¬ MayAddTunnel wide_network (0 ∷ 2 ∷ 1 ∷ []) None None 17 }
+    ensures no_width { ¬ MayAddTunnel wide_network (0 ∷ 2 ∷ 1 ∷ []) None None 0 }
+    ensures large_rate { ¬ MayAddTunnel one (0 ∷ 1 ∷ []) (Some 1000000001) None 1 }
 {}
 
 /// No limit asks for a row.
 pub fn an_empty_problem_is_a_network()
-    ensures { IsNetwork no_problem }
+    ensures plain { IsNetwork no_problem }
+    ensures wide { IsNetwork no_wide_problem }
+    ensures other_format { ¬ IsNetwork (record no_problem { format = 3 }) }
 {}
 
 /// Its tunnels follow its links and stand in the order of the flows.

@@ -46,6 +46,6 @@ pub fn tunnels_of_a_flow_have_its_ends()
 pub fn a_problem_is_built_row_by_row()
     ensures { let switches = with_switch (with_switch (with_switch no_problem (codes "A") 8) (codes "B") 8) (codes "C") 8 in
         let links = with_link (with_link (with_link switches 0 1 10) 0 2 10) 2 1 10 in
-        let direct = with_tunnel (with_flow links (codes "f")) (0 ∷ 1 ∷ []) (Some 4) (Some 1) in
-        with_tunnel direct (0 ∷ 2 ∷ 1 ∷ []) (Some 0) (Some 3) ≡ one }
+        let direct = with_tunnel (with_flow links (codes "f")) (0 ∷ 1 ∷ []) (Some 4) (Some 1) 1 in
+        with_tunnel direct (0 ∷ 2 ∷ 1 ∷ []) (Some 0) (Some 3) 1 ≡ one }
 {}
