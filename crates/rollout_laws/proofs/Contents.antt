@@ -3,21 +3,22 @@ use Rattle.std.proofs.Common.{◌≡◌, ℕ, zero, suc, ◌<◌, ◌≤◌, Boo
 use Rattle.std.proofs.lemmas.Bool.{cases_lt, or_left, or_right}
 use Rattle.std.proofs.lemmas.List.{get_or_append_left, get_or_push}
 use Rattle.rollout_rules.specs.Sums.{list_below}
-use Rattle.rollout_rules.specs.Wan.{Problem, Plan, flow_at, tunnel_of, switch_of, crosses, rate_at, mark_at, next_stage}
+use Rattle.rollout_rules.specs.Wan.{Problem, Plan, flow_at, tunnel_of, switch_of, width_of, crosses, rate_at, mark_at, next_stage}
 use Rattle.rollout_rules.specs.Items.{Resource, the_link, the_table, takes, content, use_at, greater_rate, either_mark, step_maximum}
 use Rattle.rollout_rules.specs.declared.item.Item.{Item}
 use Rattle.rollout_rules.specs.declared.item.Item.TheVariants as item
 use Rattle.rollout_rules.proofs.Below.{sum_below-mono}
 
-list_below-length : (n : ℕ) (f : ℕ → ℕ) → length (list_below n f) ≡ n
+-- a list by numbers has so many elements, and each at its number
+pub list_below-length : {A : Type 0} (n : ℕ) (f : ℕ → A) → length (list_below n f) ≡ n
 list_below-length zero f = refl
 list_below-length (suc n) f = omega (arith, length-append (list_below n f) (f n ∷ []), list_below-length n f)
 
-list_below-at : (n : ℕ) (f : ℕ → ℕ) (k : ℕ) → k < n → get_or (list_below n f) k 0 ≡ f k
-list_below-at zero f k lt = absurd (omega arith)
-list_below-at (suc n) f k lt = elim (cases_lt k n) as (λ c. get_or (list_below (suc n) f) k 0 ≡ f k) [
-  | inl below ↦ get_or_append_left (list_below n f) (f n ∷ []) 0 k (omega (arith, list_below-length n f)) ∙ list_below-at n f k below
-  | inr above ↦ let at : k ≡ n = omega arith in rw at (get_or_push (list_below n f) (f n) 0 n (list_below-length n f))
+pub list_below-at : {A : Type 0} (n : ℕ) (f : ℕ → A) (d : A) (k : ℕ) → k < n → get_or (list_below n f) k d ≡ f k
+list_below-at zero f d k lt = absurd (omega arith)
+list_below-at (suc n) f d k lt = elim (cases_lt k n) as (λ c. get_or (list_below (suc n) f) k d ≡ f k) [
+  | inl below ↦ get_or_append_left (list_below n f) (f n ∷ []) d k (omega (arith, list_below-length n f)) ∙ list_below-at n f d k below
+  | inr above ↦ let at : k ≡ n = omega arith in rw at (get_or_push (list_below n f) (f n) d n (list_below-length n f))
 ]
 
 -- on an item, the first rates and marks are at most the second
@@ -25,9 +26,9 @@ abbrev pub IsWithin : Problem → (ℕ → ℕ) → (ℕ → ℕ → Bool) → (
 IsWithin p rate there rate' there' (item.Flow f) = (j : ℕ) → j < (flow_at p f).tunnels → rate (tunnel_of p f j) ≤ rate' (tunnel_of p f j)
 IsWithin p rate there rate' there' (item.Entry t h) = there t h ≡ true → there' t h ≡ true
 
-one_if-mono : (a b : Bool) → (a ≡ true → b ≡ true) → (if a then 1 else 0) ≤ (if b then 1 else 0)
-one_if-mono true b up = rw (up refl) (omega arith)
-one_if-mono false b up = omega arith
+there-mono : (a b : Bool) (width : ℕ) → (a ≡ true → b ≡ true) → (if a then width else 0) ≤ (if b then width else 0)
+there-mono true b width up = rw (up refl) (omega arith)
+there-mono false b width up = omega arith
 
 if-mono : (a : Bool) (m n : ℕ) → m ≤ n → (if a then m else 0) ≤ (if a then n else 0)
 if-mono true m n le = le
@@ -42,7 +43,7 @@ takes-mono p rate rate' there there' (item.Flow f) (the_link l) h = sum_below-mo
 takes-mono p rate rate' there there' (item.Flow f) (the_table w) h = omega arith
 takes-mono p rate rate' there there' (item.Entry t g) (the_link l) h = omega arith
 takes-mono p rate rate' there there' (item.Entry t g) (the_table w) h =
-    one_if-mono (switch_of p t g == w && there t g) (switch_of p t g == w && there' t g) (and-mono (switch_of p t g == w) (there t g) (there' t g) h)
+    there-mono (switch_of p t g == w && there t g) (switch_of p t g == w && there' t g) (width_of p t) (and-mono (switch_of p t g == w) (there t g) (there' t g) h)
 
 -- what an item's content says: the rates of a flow's tunnels, or an entry's mark
 abbrev one_if : Bool → ℕ
@@ -56,9 +57,9 @@ mark-from false false e = refl
 
 pub content-rate : (p : Problem) (plan : Plan) (f a b : ℕ) → content p plan (item.Flow f) a ≡ content p plan (item.Flow f) b → (j : ℕ) → j < (flow_at p f).tunnels → rate_at plan a (tunnel_of p f j) ≡ rate_at plan b (tunnel_of p f j)
 content-rate p plan f a b e j lt =
-    sym (list_below-at (flow_at p f).tunnels (λ k. rate_at plan a (tunnel_of p f k)) j lt)
+    sym (list_below-at (flow_at p f).tunnels (λ k. rate_at plan a (tunnel_of p f k)) 0 j lt)
     ∙ ap (λ xs. get_or xs j 0) e
-    ∙ list_below-at (flow_at p f).tunnels (λ k. rate_at plan b (tunnel_of p f k)) j lt
+    ∙ list_below-at (flow_at p f).tunnels (λ k. rate_at plan b (tunnel_of p f k)) 0 j lt
 
 pub content-mark : (p : Problem) (plan : Plan) (t h a b : ℕ) → content p plan (item.Entry t h) a ≡ content p plan (item.Entry t h) b → mark_at plan a t ≡ mark_at plan b t
 content-mark p plan t h a b e = mark-from (mark_at plan a t) (mark_at plan b t) (ap (λ xs. get_or xs 0 0) e)

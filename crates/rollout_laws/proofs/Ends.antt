@@ -1,17 +1,16 @@
 -- Where all operations are settled, each item is at its target.
-use Rattle.std.proofs.Common.{◌≡◌, ℕ, zero, suc, ◌*◌, ◌<◌, true, List, [], ◌∷◌, ◌++◌, ◌==◌, if◌then◌else◌, length, is_some, refl, sym, ap, ap₂, ◌∙◌, arith, eqb-true, ltb-true, le_of_eq}
+use Rattle.std.proofs.Common.{◌≡◌, ℕ, zero, suc, ◌*◌, ◌<◌, true, [], ◌∷◌, ◌++◌, ◌==◌, if◌then◌else◌, length, is_some, refl, sym, ap, ap₂, ◌∙◌, arith, eqb-true, ltb-true, le_of_eq}
 use Rattle.rollout_rules.specs.Sums.{list_below}
 use Rattle.rollout_rules.specs.Wan.{Problem, Plan, flow_at, tunnel_at, tunnel_of, hops, new_rate, rate_at, mark_at, last_stage}
 use Rattle.rollout_rules.specs.Network.{IsNetwork}
 use Rattle.rollout_rules.specs.Items.{is_item, item_count, number_of, item_at, content}
 use Rattle.rollout_rules.specs.Valid.{is_valid_plan}
 use Rattle.rollout_rules.specs.Operations.{operations, content_after}
-use Rattle.rollout_rules.specs.History.{settled, places_of, stand}
+use Rattle.rollout_rules.specs.History.{History, settled, places_of, stand}
 use Rattle.rollout_rules.specs.Legal.{is_finished}
 use Rattle.rollout_rules.specs.Safe.{settled_rate, settled_mark}
 use Rattle.rollout_rules.specs.declared.item.Item.{Item}
 use Rattle.rollout_rules.specs.declared.item.Item.TheVariants as item
-use Rattle.rollout_rules.specs.declared.op.Entry.{Entry}
 use Rattle.rollout_rules.proofs.Below.{all_below-at}
 use Rattle.rollout_rules.proofs.Numbers.{item_at-number_of, number_of-below}
 use Rattle.rollout_rules.proofs.Tunnels.{tunnel_of-below}
@@ -24,7 +23,7 @@ list_below-same : (n : ℕ) (f g : ℕ → ℕ) → ((k : ℕ) → k < n → f k
 list_below-same zero f g same = refl
 list_below-same (suc n) f g same = ap₂ (λ xs x. xs ++ x ∷ []) (list_below-same n f g (λ k lt. same k (omega arith))) (same n (omega arith))
 
-module _ (p : Problem) (plan : Plan) (h : List Entry) where
+module _ (p : Problem) (plan : Plan) (h : History) where
   finished-settled : is_finished p plan h ≡ true → (i : Item) → is_item p i ≡ true → settled h (number_of p i) ≡ operations p plan i
   finished-settled finished i here =
       eqb-true (settled h (number_of p i)) (operations p plan (item_at p (number_of p i))) (all_below-at (item_count p) (λ n. settled h n == operations p plan (item_at p n)) finished (number_of p i) (number_of-below p i here))

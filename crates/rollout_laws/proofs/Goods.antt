@@ -1,11 +1,11 @@
 -- Places stay good: at first, where an operation begins that may, and within what was begun.
-use Rattle.std.proofs.Common.{◌≡◌, ℕ, ◌+◌, ◌<◌, ◌≤◌, ◌⊎◌, Bool, true, false, ◌||◌, if◌then◌else◌, inl, inr, sym, refl, ap, subst, arith, le_refl, le_trans, le_of_eq, le-leb, leb-true, leb-false, ltb-true, lt-ltb, nat_le, nat_lt, []}
+use Rattle.std.proofs.Common.{◌≡◌, ℕ, ◌+◌, ◌<◌, ◌≤◌, ◌⊎◌, Bool, true, false, ◌||◌, if◌then◌else◌, inl, inr, sym, refl, ap, ap₂, subst, arith, le_refl, le_trans, le_of_eq, le-leb, leb-true, leb-false, ltb-true, lt-ltb, nat_le, nat_lt}
 use Rattle.std.proofs.lemmas.Bool.{cases_lt, or_cases, or_left, or_right}
 use Rattle.rollout_rules.specs.Wan.{Problem, Plan, last_stage}
 use Rattle.rollout_rules.specs.Network.{IsNetwork}
 use Rattle.rollout_rules.specs.Items.{Resource, is_item, is_resource, capacity_of, use_at, step_maximum}
 use Rattle.rollout_rules.specs.Operations.{operations, stand_after}
-use Rattle.rollout_rules.specs.History.{Places, places_of, stand}
+use Rattle.rollout_rules.specs.History.{Places, stand}
 use Rattle.rollout_rules.specs.Needs.{needs_met, needs_met_at}
 use Rattle.rollout_rules.specs.Room.{least_stage, share, room, fits_at, fits}
 use Rattle.rollout_rules.specs.Valid.{step_total}
@@ -14,6 +14,7 @@ use Rattle.rollout_rules.proofs.Below.{all_below-at, all_below-from}
 use Rattle.rollout_rules.proofs.OverItems.{sum_items-mono, all_resources-at, all_resources-from}
 use Rattle.rollout_laws.specs.Good.{begun_at, IsGood, IsBetween}
 use Rattle.rollout_laws.proofs.Standing.{content-kept}
+use Rattle.rollout_laws.proofs.Shares.{share_from}
 use Rattle.rollout_laws.proofs.Contents.{use-same, step-begins}
 use Rattle.rollout_laws.proofs.Rooms.{least_stage-up, stand-later, room-later}
 use Rattle.rollout_laws.proofs.Needed.{needs-later}
@@ -43,8 +44,13 @@ module _ (p : Problem) (plan : Plan) where
             (all_resources-from p (λ q. nat_le (room p plan at s q) (capacity_of p plan q)) (λ r here. le-leb (room p plan at s r) (capacity_of p plan r) (each s low lt r here)))
       ])
 
-  -- at first an item adds at most its step's maximum
-  share-first : (i : Item) (s : ℕ) (r : Resource) → share p plan (places_of p []) s r i ≤ step_maximum p plan s i r
+  -- places at which nothing was begun
+  pub record AreFirst (at : Places) : Type 0 where
+    pub settled : (i : Item) → is_item p i ≡ true → at.settled i ≡ 0
+    pub still : (i : Item) → is_item p i ≡ true → at.flies i ≡ false
+
+  -- there an item adds at most its step's maximum
+  share-first : (i : Item) (s : ℕ) (r : Resource) → share_from p plan i r s 0 false ≤ step_maximum p plan s i r
   share-first i s r = bound (nat_le (stand_after p plan i 0) s) refl
     where
       bound : (near : Bool) → nat_le (stand_after p plan i 0) s ≡ near → (if near then step_maximum p plan s i r else use_at p plan (stand_after p plan i 0) i r) ≤ step_maximum p plan s i r
@@ -53,15 +59,20 @@ module _ (p : Problem) (plan : Plan) where
           let past : s < stand_after p plan i 0 = leb-false (stand_after p plan i 0) s e in
           le_trans (use-same p plan i r (stand_after p plan i 0) s (sym (content-kept p plan i 0 s (omega arith) (omega (arith, past))))) (step-begins p plan i r s)
 
-  pub room-first : (s : ℕ) (r : Resource) → room p plan (places_of p []) s r ≤ step_total p plan s r
-  room-first s r = sum_items-mono p (share p plan (places_of p []) s r) (λ i. step_maximum p plan s i r) (λ i here. share-first i s r)
+  pub room-first : (at : Places) → AreFirst at → (s : ℕ) (r : Resource) → room p plan at s r ≤ step_total p plan s r
+  room-first at first s r =
+      sum_items-mono p (share p plan at s r) (λ i. step_maximum p plan s i r)
+      (λ i here. le_trans (le_of_eq (ap₂ (λ j fl. share_from p plan i r s j fl) (first.settled i here) (first.still i here))) (share-first i s r))
 
-  pub good-first : IsValid p plan → IsGood p plan (places_of p [])
-  good-first valid = record {
-    exist = λ i here. omega arith;
-    needs = λ i here k lt. absurd (omega arith);
-    room = λ s low lt r here. le_trans (room-first s r) (valid.step s (omega (arith, lt)) r here);
+  pub good-first : IsValid p plan → (at : Places) → AreFirst at → IsGood p plan at
+  good-first valid at first = record {
+    exist = λ i here. omega (arith, none i here);
+    needs = λ i here k lt. absurd (omega (arith, lt, none i here));
+    room = λ s low lt r here. le_trans (room-first at first s r) (valid.step s (omega (arith, lt)) r here);
   }
+    where
+      none : (i : Item) → is_item p i ≡ true → begun_at at i ≡ 0
+      none i here = ap₂ (λ fl j. if fl then j + 1 else j) (first.still i here) (first.settled i here)
 
   pub good-later : IsNetwork p → (at later : Places) → IsGood p plan at → IsBetween p at later → IsGood p plan later
   good-later net at later good between = record {

@@ -6,6 +6,7 @@ pub mod Rooms
 pub mod Validity
 pub mod Needed
 pub mod Goods
+pub mod SoundStarts
 pub mod Moves
 pub mod Choices
 pub mod Runs
@@ -16,10 +17,13 @@ pub mod Ends
 pub mod Stuck
 pub mod Released
 pub mod Rounds
+pub mod Pairs
 pub mod Answers
 pub mod Keeping
 pub mod Delivery
 pub mod Worlds
 pub mod SafeWorlds
-pub mod Targets
 pub mod Durable
+pub mod Targets
+pub mod Late
+pub mod Again

@@ -1,12 +1,11 @@
 -- Good places are safe.
-use Rattle.std.proofs.Common.{◌≡◌, ℕ, ◌≤◌, Bool, true, List, length, inl, inr, subst, le_refl, le_trans, lt-ltb}
+use Rattle.std.proofs.Common.{◌≡◌, ℕ, ◌≤◌, Bool, true, length, inl, inr, subst, le_refl, le_trans, lt-ltb}
 use Rattle.rollout_rules.specs.Wan.{Problem, Plan, tunnel_at}
 use Rattle.rollout_rules.specs.Network.{IsNetwork}
 use Rattle.rollout_rules.specs.Items.{the_link, the_table, capacity_of}
-use Rattle.rollout_rules.specs.History.{Places, places_of}
+use Rattle.rollout_rules.specs.History.{Places, History, places_of}
 use Rattle.rollout_rules.specs.Valid.{is_valid_plan}
 use Rattle.rollout_rules.specs.Legal.{is_legal}
-use Rattle.rollout_rules.specs.declared.op.Entry.{Entry}
 use Rattle.rollout_rules.specs.Safe.{settled_rate, settled_mark, IsRateChoice, IsMarkChoice, LinksHold, TablesHold, EntriesStand, IsSafe}
 use Rattle.rollout_rules.specs.declared.item.Item.TheVariants as item
 use Rattle.rollout_rules.proofs.Totals.{sum_items-load, sum_items-entries_at}
@@ -44,7 +43,7 @@ module _ (p : Problem) (plan : Plan) (net : IsNetwork p) (valid : IsValid p plan
   good-safe = record { links = links-hold; tables = tables-hold; entries = entries-stand }
 
 -- every legal history of a valid plan is safe
-pub legal-safe : (p : Problem) (plan : Plan) (h : List Entry) → IsNetwork p → is_valid_plan p plan ≡ true → is_legal p plan h ≡ true → IsSafe p plan (places_of p h)
+pub legal-safe : (p : Problem) (plan : Plan) (h : History) → IsNetwork p → is_valid_plan p plan ≡ true → is_legal p plan h ≡ true → IsSafe p plan (places_of p h)
 legal-safe p plan h net is_valid legal =
     let valid = plan-is_valid p plan is_valid in
-    good-safe p plan net valid (places_of p h) (legal-good p plan net valid h legal)
+    good-safe p plan net valid (places_of p h) (legal-good p plan net h legal)

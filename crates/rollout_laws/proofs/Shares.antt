@@ -30,13 +30,13 @@ pub next_stage-before : (plan : Plan) (x : ℕ) → x < last_stage plan → next
 next_stage-before plan x lt = omega arith
 
 module _ (p : Problem) (plan : Plan) (i : Item) (r : Resource) where
-  abbrev most : ℕ → ℕ
+  abbrev pub most : ℕ → ℕ
   most s = step_maximum p plan s i r
 
-  abbrev uses : ℕ → ℕ
+  abbrev pub uses : ℕ → ℕ
   uses s = use_at p plan s i r
 
-  abbrev share_from : ℕ → ℕ → Bool → ℕ
+  abbrev pub share_from : ℕ → ℕ → Bool → ℕ
   share_from s j fl =
       if nat_le (stand_after p plan i j) s then most s
       else (if fl then most (stand_after p plan i j) else uses (stand_after p plan i j))

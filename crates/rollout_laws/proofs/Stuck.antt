@@ -1,11 +1,11 @@
 -- No rollout is stuck: an item at the least stage that has none in flight may begin its next operation.
-use Rattle.std.proofs.Common.{◌≡◌, ℕ, ◌+◌, ◌-◌, ◌<◌, ◌≤◌, true, false, ◌&&◌, ◌||◌, ◌==◌, List, [], ◌∷◌, ◌++◌, length, inl, inr, refl, sym, ap, ◌∙◌, subst, arith, le_trans, le_of_eq, le-leb, lt-ltb, ltb-true, eq-eqb, nat_le, nat_eq}
+use Rattle.std.proofs.Common.{◌≡◌, ℕ, ◌+◌, ◌-◌, ◌<◌, ◌≤◌, true, false, ◌&&◌, ◌||◌, ◌==◌, [], ◌∷◌, length, inl, inr, refl, sym, ap, ◌∙◌, subst, arith, le_trans, le_of_eq, le-leb, lt-ltb, ltb-true, eq-eqb, nat_le, nat_eq}
 use Rattle.std.proofs.lemmas.Bool.{and_from, cases_lt, cases_eq, or_left, or_right, eqb-false, not_from_false}
 use Rattle.rollout_rules.specs.Wan.{Problem, Plan, flow_at, tunnel_at, tunnel_of, hops, rate_at, mark_at, last_stage}
 use Rattle.rollout_rules.specs.Network.{IsNetwork}
 use Rattle.rollout_rules.specs.Items.{Resource, is_item, item_count, number_of, item_at}
 use Rattle.rollout_rules.specs.Operations.{operations, stand_after}
-use Rattle.rollout_rules.specs.History.{settled, flies, Places, places_of, stand}
+use Rattle.rollout_rules.specs.History.{History, Places, with_entries, settled, flies, places_of, stand}
 use Rattle.rollout_rules.specs.Needs.{installed_since, idle_since, entries_past, needs_met_at, needs_met}
 use Rattle.rollout_rules.specs.Room.{least_stage, share, fits}
 use Rattle.rollout_rules.specs.Legal.{is_next, may_begin, is_legal, is_finished}
@@ -13,7 +13,6 @@ use Rattle.rollout_rules.specs.Release.{next_op}
 use Rattle.rollout_rules.specs.declared.item.Item.{Item}
 use Rattle.rollout_rules.specs.declared.item.Item.TheVariants as item
 use Rattle.rollout_rules.specs.declared.op.Op.{Op}
-use Rattle.rollout_rules.specs.declared.op.Entry.{Entry}
 use Rattle.rollout_rules.specs.declared.op.Entry.TheVariants.{Begin}
 use Rattle.rollout_rules.proofs.Below.{all_below-from, all_below-fails}
 use Rattle.rollout_rules.proofs.Numbers.{item_at-number_of, number_of-item_at, number_of-below, is_item-item_at}
@@ -53,7 +52,7 @@ module _ (p : Problem) (plan : Plan) (net : IsNetwork p) (valid : IsValid p plan
       or_right (mark_at plan (m + 1) t) (nat_le (idle_since plan t m) (stand p plan at flow))
       (le-leb (idle_since plan t m) (stand p plan at flow) (le_trans (run_start-most (λ u. rate_at plan u t == 0) m) (least flow (is_item-flow p (tunnel_at p t).flow (net.tunnels t (entry-is_item p t h here).row).flow))))
 
-  module _ (h : List Entry) (legal : is_legal p plan h ≡ true) where
+  module _ (h : History) (legal : is_legal p plan h ≡ true) where
     abbrev now : Places
     now = places_of p h
 
@@ -63,7 +62,7 @@ module _ (p : Problem) (plan : Plan) (net : IsNetwork p) (valid : IsValid p plan
       op = next_op h (number_of p this)
 
       abbrev later : Places
-      later = places_of p (h ++ Begin op ∷ [])
+      later = places_of p (with_entries h (Begin op ∷ []))
 
       same-stand : (i : Item) → stand p plan later i ≡ stand p plan now i
       same-stand i = ap (stand_after p plan i) (settled-begin h op (number_of p i))
@@ -80,7 +79,7 @@ module _ (p : Problem) (plan : Plan) (net : IsNetwork p) (valid : IsValid p plan
             let near : stand p plan now i ≤ s = subst (λ j. stand p plan now j ≤ s) (same-number i found e) (le_trans (le_of_eq at_least) low) in
             le_of_eq (share-here p plan i r later s (le_trans (le_of_eq (same-stand i)) near) ∙ sym (share-here p plan i r now s near))
         | inr other ↦ share-later p plan i r now later s (le_of_eq (sym (settled-begin h op (number_of p i))))
-            (le_of_eq (begun_at-same p h (h ++ Begin op ∷ []) i (begun-begin_other h op (number_of p i) other) (settled-begin h op (number_of p i))))
+            (le_of_eq (begun_at-same p h (with_entries h (Begin op ∷ [])) i (begun-begin_other h op (number_of p i) other) (settled-begin h op (number_of p i))))
       ]
 
       fits-begun : IsGood p plan now → fits p plan later ≡ true
@@ -94,7 +93,7 @@ module _ (p : Problem) (plan : Plan) (net : IsNetwork p) (valid : IsValid p plan
           let item_is = item_at-number_of p this here in
           and_from (is_next p plan h op && needs_met p plan now (item_at p n)) (fits p plan later)
           (and_from (is_next p plan h op) (needs_met p plan now (item_at p n)) next
-          (subst (λ i. needs_met p plan now i ≡ true) (sym item_is) needs)) (fits-begun (legal-good p plan net valid h legal))
+          (subst (λ i. needs_met p plan now i ≡ true) (sym item_is) needs)) (fits-begun (legal-good p plan net h legal))
         where
           left : settled h (number_of p this) < operations p plan this
           left = elim (cases_lt (settled h (number_of p this)) (operations p plan this)) as (λ c. settled h (number_of p this) < operations p plan this) [
@@ -119,7 +118,7 @@ module _ (p : Problem) (plan : Plan) (net : IsNetwork p) (valid : IsValid p plan
         let i = item_at p n in
         let counted = is_counted p plan h legal n in
         let differ = eqb-false (settled h n) (operations p plan i) there.2 in
-        let left : settled h n < operations p plan i = omega (arith, counted.settled_begun, counted.exist, differ) in
+        let left : settled h n < operations p plan i = omega (arith, counted.settled_begun, counted.exist there.1, differ) in
         let stands : stand p plan now i < last_stage plan = subst (λ k. stand_after p plan i (settled h k) < last_stage plan) (sym (number_of-item_at p n there.1)) (stand-left p plan i (settled h n) left) in
         omega (arith, least_stage-at p plan now i (is_item-item_at p n there.1), stands)
 

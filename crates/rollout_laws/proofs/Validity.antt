@@ -1,10 +1,11 @@
 -- What a valid plan gives, stage by stage.
 use Rattle.std.proofs.Common.{◌≡◌, ℕ, ◌+◌, ◌-◌, ◌*◌, ◌<◌, ◌≤◌, Bool, true, false, ◌&&◌, length, inl, inr, refl, sym, arith, leb-true, eqb-true, nat_le, is_some, ◌==◌}
 use Rattle.std.proofs.lemmas.Bool.{and_parts, or_cases}
+use Rattle.rollout_rules.specs.declared.limits.TheConstants.{MOST_STAGES, LARGEST_SCALE}
 use Rattle.rollout_rules.specs.Wan.{Problem, Plan, tunnel_at, new_rate, rate_at, mark_at, stage_at, last_stage, next_stage}
 use Rattle.rollout_rules.specs.Sums.{all_below}
 use Rattle.rollout_rules.specs.Items.{Resource, is_resource, capacity_of}
-use Rattle.rollout_rules.specs.Valid.{is_valid_plan, has_shape, largest_scale, most_stages, begins_at_old, ends_at_new, fits_each_step, carries_what_flows, keeps_totals, same_mark, step_total, is_carried_at}
+use Rattle.rollout_rules.specs.Valid.{is_valid_plan, has_shape, begins_at_old, ends_at_new, fits_each_step, carries_what_flows, keeps_totals, same_mark, step_total, is_carried_at}
 use Rattle.rollout_rules.proofs.Below.{all_below-at}
 use Rattle.rollout_rules.proofs.OverItems.{all_resources-at}
 
@@ -22,10 +23,10 @@ pub record IsValid (p : Problem) (plan : Plan) : Type 0 where
 
 some_stage : (p : Problem) (plan : Plan) → has_shape p plan ≡ true → last_stage plan + 1 ≡ length plan.stages
 some_stage p plan shape =
-    let scale = nat_le 1 plan.scale && nat_le plan.scale largest_scale in
+    let scale = nat_le 1 plan.scale && nat_le plan.scale LARGEST_SCALE in
     let rows = all_below (length plan.stages) (λ s. (length (stage_at plan s).rates == length p.tunnels) && (length (stage_at plan s).installed == length p.tunnels)) in
-    let a = and_parts (scale && nat_le 1 (length plan.stages) && nat_le (length plan.stages) most_stages) rows shape in
-    let b = and_parts (scale && nat_le 1 (length plan.stages)) (nat_le (length plan.stages) most_stages) a.0 in
+    let a = and_parts (scale && nat_le 1 (length plan.stages) && nat_le (length plan.stages) MOST_STAGES) rows shape in
+    let b = and_parts (scale && nat_le 1 (length plan.stages)) (nat_le (length plan.stages) MOST_STAGES) a.0 in
     let least = leb-true 1 (length plan.stages) (and_parts scale (nat_le 1 (length plan.stages)) b.0).1 in
     omega (arith, least)
 
