@@ -4,7 +4,8 @@ use Rattle.std.proofs.lemmas.Bool.{and_from}
 use Rattle.std.proofs.lemmas.List.{length_push}
 use Rattle.rollout_rules.specs.Sums.{same_numbers, sum_below}
 use Rattle.rollout_rules.specs.Wan.{Switch, Link, Flow, Problem, no_switch, no_link, no_flow, switch_at, link_at, flow_at}
-use Rattle.rollout_rules.specs.Network.{largest_table, largest_capacity, longest_name, most_tunnels_of_flow, AreSwitches, AreLinks, AreFlows, IsNetwork}
+use Rattle.rollout_rules.specs.declared.limits.TheConstants.{LARGEST_TABLE, LARGEST_CAPACITY, LONGEST_NAME, MOST_TUNNELS_OF_FLOW}
+use Rattle.rollout_rules.specs.Network.{AreSwitches, AreLinks, AreFlows, IsFormat, IsNetwork}
 use Rattle.rollout_rules.specs.Building.{no_problem, with_switch, with_link, with_flow, MayAddSwitch, MayAddLink, MayAddFlow}
 use Rattle.wan_model.proofs.Positions.{fails_at_each, same_numbers-refl}
 use Rattle.wan_model.proofs.Pushes.{push_cases, push_below, push_last, each_push, once_push, sum_below_agrees}
@@ -20,8 +21,9 @@ abbrev added_flow : Problem → List ℕ → Flow
 added_flow p name = record { name = name; first = length p.tunnels; tunnels = 0 }
 
 -- a list without rows has whatever is asked of each row
-pub no_problem-IsNetwork : IsNetwork no_problem
-no_problem-IsNetwork = record {
+pub no_problem-IsNetwork : (format : ℕ) → IsFormat format → IsNetwork (record no_problem { format = format })
+no_problem-IsNetwork format is = record {
+  format = is;
   switches = record { count = omega arith; names = λ w inside. absurd (omega arith); tables = λ w inside. absurd (omega arith); once = λ v w inside. absurd (omega arith) };
   links = record { count = omega arith; from = λ l inside. absurd (omega arith); to = λ l inside. absurd (omega arith); capacities = λ l inside. absurd (omega arith); once = λ k l inside. absurd (omega arith) };
   flows = record { count = omega arith; names = λ f inside. absurd (omega arith); once = λ f g inside. absurd (omega arith); few = λ f inside. absurd (omega arith); in_order = λ f inside. absurd (omega arith); all = refl };
@@ -36,13 +38,14 @@ module _ (p : Problem) (name : List ℕ) (table : ℕ) (n : IsNetwork p) (may : 
   with_switch-AreSwitches : AreSwitches (with_switch p name table)
   with_switch-AreSwitches = record {
     count = omega (arith, length_push p.switches (added_switch name table), may.room);
-    names = each_push p.switches _ no_switch (λ s. length s.name ≤ longest_name) n.switches.names may.short;
-    tables = each_push p.switches _ no_switch (λ s. s.table ≤ largest_table) n.switches.tables may.within;
+    names = each_push p.switches _ no_switch (λ s. length s.name ≤ LONGEST_NAME) n.switches.names may.short;
+    tables = each_push p.switches _ no_switch (λ s. s.table ≤ LARGEST_TABLE) n.switches.tables may.within;
     once = once_push p.switches _ no_switch (λ s t. s.name ≡ t.name) (λ s t e. sym e) n.switches.once switch_fresh;
   }
 
   with_switch-Grows : Grows p (with_switch p name table)
   with_switch-Grows = record {
+    format = refl;
     switches = omega (arith, length_push p.switches (added_switch name table));
     links = omega arith;
     link = λ l inside. refl;
@@ -54,6 +57,7 @@ module _ (p : Problem) (name : List ℕ) (table : ℕ) (n : IsNetwork p) (may : 
 
   pub with_switch-IsNetwork : IsNetwork (with_switch p name table)
   with_switch-IsNetwork = record {
+    format = n.format;
     switches = with_switch-AreSwitches;
     links = record {
       count = n.links.count;
@@ -83,12 +87,13 @@ module _ (p : Problem) (a b capacity : ℕ) (n : IsNetwork p) (may : MayAddLink 
     count = omega (arith, length_push p.links (added_link a b capacity), may.room);
     from = each_push p.links _ no_link (λ l. l.from < length p.switches) n.links.from may.begins;
     to = each_push p.links _ no_link (λ l. l.to < length p.switches) n.links.to may.ends;
-    capacities = each_push p.links _ no_link (λ l. l.capacity ≤ largest_capacity) n.links.capacities may.within;
+    capacities = each_push p.links _ no_link (λ l. l.capacity ≤ LARGEST_CAPACITY) n.links.capacities may.within;
     once = λ k l in_k in_l from to. once_push p.links _ no_link (λ x y. (x.from ≡ y.from) × (x.to ≡ y.to)) (λ x y e. (sym e.0, sym e.1)) (λ i j in_i in_j e. n.links.once i j in_i in_j e.0 e.1) link_fresh k l in_k in_l (from, to);
   }
 
   with_link-Grows : Grows p (with_link p a b capacity)
   with_link-Grows = record {
+    format = refl;
     switches = omega arith;
     links = omega (arith, length_push p.links (added_link a b capacity));
     link = push_below p.links _ no_link;
@@ -100,6 +105,7 @@ module _ (p : Problem) (a b capacity : ℕ) (n : IsNetwork p) (may : MayAddLink 
 
   pub with_link-IsNetwork : IsNetwork (with_link p a b capacity)
   with_link-IsNetwork = record {
+    format = n.format;
     switches = record {
       count = n.switches.count;
       names = n.switches.names;
@@ -145,15 +151,16 @@ module _ (p : Problem) (name : List ℕ) (n : IsNetwork p) (may : MayAddFlow p n
   with_flow-AreFlows : AreFlows (with_flow p name)
   with_flow-AreFlows = record {
     count = omega (arith, length_push p.flows (added_flow p name), may.room);
-    names = each_push p.flows _ no_flow (λ f. length f.name ≤ longest_name) n.flows.names may.short;
+    names = each_push p.flows _ no_flow (λ f. length f.name ≤ LONGEST_NAME) n.flows.names may.short;
     once = once_push p.flows _ no_flow (λ f g. f.name ≡ g.name) (λ f g e. sym e) n.flows.once flow_fresh;
-    few = each_push p.flows _ no_flow (λ f. f.tunnels ≤ most_tunnels_of_flow) n.flows.few (omega arith);
+    few = each_push p.flows _ no_flow (λ f. f.tunnels ≤ MOST_TUNNELS_OF_FLOW) n.flows.few (omega arith);
     in_order = with_flow-in_order;
     all = with_flow-all;
   }
 
   with_flow-Grows : Grows p (with_flow p name)
   with_flow-Grows = record {
+    format = refl;
     switches = omega arith;
     links = omega arith;
     link = λ l inside. refl;
@@ -165,6 +172,7 @@ module _ (p : Problem) (name : List ℕ) (n : IsNetwork p) (may : MayAddFlow p n
 
   pub with_flow-IsNetwork : IsNetwork (with_flow p name)
   with_flow-IsNetwork = record {
+    format = n.format;
     switches = record {
       count = n.switches.count;
       names = n.switches.names;

@@ -4,18 +4,19 @@ use Rattle.std.proofs.lemmas.Bool.{and_parts, or_cases, cases_eq}
 use Rattle.std.proofs.lemmas.List.{length_push}
 use Rattle.rollout_rules.specs.Sums.{sum_below}
 use Rattle.rollout_rules.specs.Wan.{Flow, Tunnel, Problem, no_flow, no_tunnel, flow_at, tunnel_at, tunnel_of, hops, switch_of}
-use Rattle.rollout_rules.specs.Network.{most_tunnels_of_flow, IsRate, IsPath, IsTunnel, AreFlows, IsNetwork}
+use Rattle.rollout_rules.specs.declared.limits.TheConstants.{MOST_TUNNELS_OF_FLOW}
+use Rattle.rollout_rules.specs.Network.{IsRate, IsWidth, IsPath, IsTunnel, AreFlows, IsNetwork}
 use Rattle.rollout_rules.specs.Building.{with_tunnel, with_one_more, last_flow, links_along, MayAddTunnel}
 use Rattle.wan_model.proofs.Pushes.{push_cases, push_below, push_last, set_keeps, sum_below_agrees}
-use Rattle.wan_model.proofs.Growing.{Grows, path_stays, tunnel_stays}
+use Rattle.wan_model.proofs.Growing.{Grows, path_stays, width_stays, tunnel_stays}
 use Rattle.wan_model.proofs.Routes.{route_is_path}
 
-abbrev added_tunnel : Problem → List ℕ → Option ℕ → Option ℕ → Tunnel
-added_tunnel p path old new = record { flow = last_flow p; path = path; links = links_along p path; old = old; new = new }
+abbrev added_tunnel : Problem → List ℕ → Option ℕ → Option ℕ → ℕ → Tunnel
+added_tunnel p path old new width = record { flow = last_flow p; path = path; links = links_along p path; width = width; old = old; new = new }
 
-module _ (p : Problem) (path : List ℕ) (old new : Option ℕ) (n : IsNetwork p) (may : MayAddTunnel p path old new) where
+module _ (p : Problem) (path : List ℕ) (old new : Option ℕ) (width : ℕ) (n : IsNetwork p) (may : MayAddTunnel p path old new width) where
   abbrev after : Problem
-  after = with_tunnel p path old new
+  after = with_tunnel p path old new width
 
   last_inside : last_flow p < length p.flows
   last_inside = omega (arith, may.some_flow)
@@ -55,10 +56,10 @@ module _ (p : Problem) (path : List ℕ) (old new : Option ℕ) (n : IsNetwork p
   with_tunnel-all =
       let long : length after.flows ≡ suc (last_flow p) = omega (arith, flows_long, may.some_flow) in
       let sums = sums_stay (last_flow p) last_inside in
-      let more : length after.tunnels ≡ sum_below (suc (last_flow p)) (λ g. (flow_at after g).tunnels) = omega (arith, length_push p.tunnels (added_tunnel p path old new), total, sums, last_grows) in
+      let more : length after.tunnels ≡ sum_below (suc (last_flow p)) (λ g. (flow_at after g).tunnels) = omega (arith, length_push p.tunnels (added_tunnel p path old new width), total, sums, last_grows) in
       more ∙ ap (λ m. sum_below m (λ g. (flow_at after g).tunnels)) (sym long)
 
-  with_tunnel-few : (f : ℕ) → f < length after.flows → (flow_at after f).tunnels ≤ most_tunnels_of_flow
+  with_tunnel-few : (f : ℕ) → f < length after.flows → (flow_at after f).tunnels ≤ MOST_TUNNELS_OF_FLOW
   with_tunnel-few f inside =
       ⊎_elim
       (λ e. omega (arith, e.1, ap (λ g. (flow_at p g).tunnels) e.0, may.few))
@@ -77,13 +78,14 @@ module _ (p : Problem) (path : List ℕ) (old new : Option ℕ) (n : IsNetwork p
 
   with_tunnel-Grows : Grows p after
   with_tunnel-Grows = record {
+    format = refl;
     switches = omega arith;
     links = omega arith;
     link = λ l inside. refl;
     flows = omega (arith, flows_long);
     first = λ f inside. first_stays f;
     more = λ f inside. ⊎_elim (λ e. omega (arith, e.1)) (λ e. omega (arith, e)) (flow_grows f);
-    tunnel = push_below p.tunnels (added_tunnel p path old new) no_tunnel;
+    tunnel = push_below p.tunnels (added_tunnel p path old new width) no_tunnel;
   }
 
   -- the flow's first tunnel begins and ends as the path does
@@ -98,7 +100,7 @@ module _ (p : Problem) (path : List ℕ) (old new : Option ℕ) (n : IsNetwork p
   own_head : (flow_at p (last_flow p)).tunnels ≡ 0 → HasEnds (tunnel_of after (last_flow p) 0)
   own_head none =
       let here : tunnel_of after (last_flow p) 0 ≡ length p.tunnels = omega (arith, head_begins, none) in
-      let is : tunnel_at after (tunnel_of after (last_flow p) 0) ≡ added_tunnel p path old new = push_last p.tunnels _ no_tunnel _ here in
+      let is : tunnel_at after (tunnel_of after (last_flow p) 0) ≡ added_tunnel p path old new width = push_last p.tunnels _ no_tunnel _ here in
       record {
         ingress = sym (ap (λ u. slice_index u.path 0) is);
         egress = sym (ap (λ u. slice_index u.path (length u.path - 1)) is);
@@ -125,7 +127,7 @@ module _ (p : Problem) (path : List ℕ) (old new : Option ℕ) (n : IsNetwork p
 
   added-IsTunnel : (t : ℕ) → t ≡ length p.tunnels → IsTunnel after t
   added-IsTunnel t e =
-      let is : tunnel_at after t ≡ added_tunnel p path old new = push_last p.tunnels _ no_tunnel t e in
+      let is : tunnel_at after t ≡ added_tunnel p path old new width = push_last p.tunnels _ no_tunnel t e in
       let flow : (tunnel_at after t).flow ≡ last_flow p = ap (λ u. u.flow) is in
       let first : (flow_at after (tunnel_at after t).flow).first ≡ (flow_at after (last_flow p)).first = ap (λ f. (flow_at after f).first) flow in
       let size : (flow_at after (tunnel_at after t).flow).tunnels ≡ (flow_at after (last_flow p)).tunnels = ap (λ f. (flow_at after f).tunnels) flow in
@@ -137,12 +139,14 @@ module _ (p : Problem) (path : List ℕ) (old new : Option ℕ) (n : IsNetwork p
         path = subst (λ (u : Tunnel). IsPath after u.path u.links) (sym is) (path_stays p after with_tunnel-Grows _ _ way);
         ingress = ap (λ u. slice_index u.path 0) is ∙ head_ends.ingress ∙ ap (λ f. switch_of after (tunnel_of after f 0) 0) (sym flow);
         egress = ap (λ u. slice_index u.path (length u.path - 1)) is ∙ head_ends.egress ∙ ap (λ f. switch_of after (tunnel_of after f 0) (hops after (tunnel_of after f 0) - 1)) (sym flow);
+        width = subst (λ (u : Tunnel). IsWidth after u.width) (sym is) (width_stays p after with_tunnel-Grows _ may.width);
         old = subst (λ (u : Tunnel). IsRate u.old) (sym is) may.old;
         new = subst (λ (u : Tunnel). IsRate u.new) (sym is) may.new;
       }
 
   pub with_tunnel-IsNetwork : IsNetwork after
   with_tunnel-IsNetwork = record {
+    format = n.format;
     switches = record {
       count = n.switches.count;
       names = n.switches.names;
@@ -157,7 +161,7 @@ module _ (p : Problem) (path : List ℕ) (old new : Option ℕ) (n : IsNetwork p
       once = n.links.once;
     };
     flows = with_tunnel-AreFlows;
-    few = omega (arith, length_push p.tunnels (added_tunnel p path old new), may.room);
+    few = omega (arith, length_push p.tunnels (added_tunnel p path old new width), may.room);
     tunnels = λ t inside.
         ⊎_elim
         (λ lt. tunnel_stays p after with_tunnel-Grows t lt (n.tunnels t lt))

@@ -1,10 +1,11 @@
 -- A network that grows keeps its tunnels.
 use Rattle.std.proofs.Common.{◌≡◌, ℕ, ◌+◌, ◌-◌, ◌<◌, ◌≤◌, List, length, slice_index, sym, ap, subst, ◌∙◌, arith}
 use Rattle.rollout_rules.specs.Wan.{Tunnel, Problem, link_at, flow_at, tunnel_at, tunnel_of}
-use Rattle.rollout_rules.specs.Network.{IsPath, IsTunnel, IsRate}
+use Rattle.rollout_rules.specs.Network.{IsPath, IsTunnel, IsRate, IsWidth}
 
--- q has the rows of p, and maybe more; a flow may have more tunnels
+-- q has the format and the rows of p, and maybe more rows; a flow may have more tunnels
 pub record Grows (p q : Problem) : Type 0 where
+  pub format : q.format ≡ p.format
   pub switches : length p.switches ≤ length q.switches
   pub links : length p.links ≤ length q.links
   pub link : (l : ℕ) → l < length p.links → link_at q l ≡ link_at p l
@@ -26,6 +27,13 @@ module _ (p q : Problem) (g : Grows p q) where
     to = λ h inside. ap (λ l. l.to) (g.link (slice_index along h) (i.links h inside)) ∙ i.to h inside;
   }
 
+  pub width_stays : (wide : ℕ) → IsWidth p wide → IsWidth q wide
+  width_stays wide i = record {
+    some = i.some;
+    most = i.most;
+    plain = λ one. i.plain (sym g.format ∙ one);
+  }
+
   pub tunnel_stays : (t : ℕ) → t < length p.tunnels → IsTunnel p t → IsTunnel q t
   tunnel_stays t inside i =
       let same = g.tunnel t inside in
@@ -41,6 +49,7 @@ module _ (p q : Problem) (g : Grows p q) where
         path = subst (λ (u : Tunnel). IsPath q u.path u.links) (sym same) (path_stays _ _ i.path);
         ingress = ap (λ u. slice_index u.path 0) same ∙ i.ingress ∙ sym (ap (λ u. slice_index u.path 0) head);
         egress = ap (λ u. slice_index u.path (length u.path - 1)) same ∙ i.egress ∙ sym (ap (λ u. slice_index u.path (length u.path - 1)) head);
+        width = subst (λ (u : Tunnel). IsWidth q u.width) (sym same) (width_stays _ i.width);
         old = subst (λ (u : Tunnel). IsRate u.old) (sym same) i.old;
         new = subst (λ (u : Tunnel). IsRate u.new) (sym same) i.new;
       }

@@ -53,9 +53,9 @@ module _ (p : Problem) (names flow_names : List (List ℕ)) (ends : List (ℕ ×
       let kept = get_or-map (λ (f : Flow). f.name) p.flows (last_flow p) no_flow [] inside in
       sym (map-set (λ (f : Flow). f.name) p.flows (last_flow p) _ ∙ ap (set (map (λ f. f.name) p.flows) (last_flow p)) (sym kept) ∙ set-get_or (map (λ f. f.name) p.flows) (last_flow p) [])
 
-  pub keeps_with_tunnel : (path : List ℕ) (old new : Option ℕ) → MayAddTunnel p path old new → IsNumberedNetwork (with_tunnel p path old new) names flow_names ends
-  keeps_with_tunnel path old new may = (
-    with_tunnel-IsNetwork p path old new k.0 may,
+  pub keeps_with_tunnel : (path : List ℕ) (old new : Option ℕ) (width : ℕ) → MayAddTunnel p path old new width → IsNumberedNetwork (with_tunnel p path old new width) names flow_names ends
+  keeps_with_tunnel path old new width may = (
+    with_tunnel-IsNetwork p path old new width k.0 may,
     record {
       of_switches = k.1.of_switches;
       of_flows = k.1.of_flows ∙ same_names may.some_flow;

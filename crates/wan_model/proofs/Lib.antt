@@ -7,3 +7,4 @@ pub mod Building
 pub mod BuildingTunnels
 pub mod Kept
 pub mod Counted
+pub mod Shapes

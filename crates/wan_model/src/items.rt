@@ -1,10 +1,9 @@
 ghost use Rattle.std.specs.Prelude.{◌≡◌, ◌<◌, length};
-ghost use Rattle.rollout_rules.specs.Wan as wan;
 ghost use Rattle.rollout_rules.specs.Items.{item_count, item_at, entry_from, home_of};
 ghost use Rattle.rollout_rules.specs.declared.item.Item.TheVariants as variants;
 
 use crate::problem::Problem;
-use crate::rows::Tunnel;
+use crate::tunnel::Tunnel;
 use rollout_rules::Item;
 
 /// How many items a rollout has: the flows, and the entries of each tunnel. Time: the tunnels.
@@ -13,7 +12,7 @@ pub fn item_count(problem: &Problem) -> u32
 {
     let mut count = problem.flows().len() as u32;
     for t in 0..problem.tunnels().len() {
-        count += path_of(problem, t).len() as u32;
+        count += problem.hops(t);
     }
     count
 }
@@ -62,7 +61,7 @@ pub fn home_of(problem: &Problem, number: u32) -> Option<u32>
 {
     match item_at(problem, number) {
         Item::Flow(flow) => first_switch(problem, flow as usize),
-        Item::Entry { tunnel, hop } => Some(path_of(problem, tunnel as usize)[hop as usize]),
+        Item::Entry { tunnel, hop } => Some(problem.path(tunnel as usize)[hop as usize]),
     }
 }
 
@@ -70,36 +69,8 @@ fn first_switch(problem: &Problem, flow: usize) -> Option<u32>
     requires { flow < length problem.now.flows }
     ensures { result ≡ home_of problem.now (variants.Flow flow) }
 {
-    if tunnels_of(problem, flow) == 0 {
+    if problem.tunnel_count(flow) == 0 {
         return None;
     }
-    Some(path_of(problem, first_tunnel(problem, flow))[0])
-}
-
-fn tunnels_of(problem: &Problem, flow: usize) -> u32
-    requires { flow < length problem.now.flows }
-    ensures { result ≡ (wan.flow_at problem.now flow).tunnels }
-{
-    let row = &problem.flows()[flow];
-    row.tunnels
-}
-
-fn first_tunnel(problem: &Problem, flow: usize) -> usize
-    requires flow { flow < length problem.now.flows }
-    requires some { 0 < (wan.flow_at problem.now flow).tunnels }
-    ensures value { result ≡ wan.tunnel_of problem.now flow 0 }
-    ensures inside { result < length problem.now.tunnels }
-{
-    let row = &problem.flows()[flow];
-    row.first as usize
-}
-
-fn path_of(problem: &Problem, tunnel: usize) -> &[u32]
-    requires { tunnel < length problem.now.tunnels }
-    ensures list { result.now ≡ (wan.tunnel_at problem.now tunnel).path }
-    ensures hops { 0 < wan.hops problem.now tunnel }
-    ensures few { wan.hops problem.now tunnel < 32 }
-{
-    let row = &problem.tunnels()[tunnel];
-    row.path.as_slice()
+    Some(problem.path(problem.tunnel_of(flow, 0))[0])
 }

@@ -1,28 +1,35 @@
 //! A wide-area network, the split of its flows over tunnels, and plans between splits.
 //!
-//! [`Problem`] is seen by contracts as four lists; its type keeps the limits, that names and links come
-//! once, and that each tunnel follows links.
+//! [`Problem`] is seen by contracts as its format and four lists; its type keeps the limits, that names
+//! and links come once, and that each tunnel follows links. What a row of a problem or of a plan has is
+//! read by their methods here, and nowhere else.
 #![tactic(auto)]
 
 mod checked;
 mod ends;
+mod flow;
 mod items;
-mod limits;
+mod link;
 mod names;
 mod plan;
 mod problem;
-mod rows;
+mod reading;
+mod side;
+mod stage;
+mod switch;
 #[cfg(test)]
 mod tests;
+mod tunnel;
 
 pub use checked::CheckedPlan;
+pub use flow::Flow;
 pub use items::{home_of, item_at, item_count};
-pub use limits::{
-    LARGEST_CAPACITY, LARGEST_RATE, LARGEST_SCALE, LARGEST_TABLE, LONGEST_NAME, MOST_FLOWS,
-    MOST_HOPS, MOST_LINKS, MOST_STAGES, MOST_SWITCHES, MOST_TUNNELS, MOST_TUNNELS_OF_FLOW,
-};
-pub use lists::{Ids, Marks, Memory, Nums, Text};
-pub use plan::{Plan, Stage, StageList};
+pub use link::Link;
+pub use lists::{Ids, Marks, Nums};
+pub use plan::Plan;
 pub use problem::Problem;
 pub use rollout_rules::{Act, Entry, EntryList, Item, Op, OpList, OpView, Script, Spot};
-pub use rows::{Flow, Link, Switch, Tunnel};
+pub use side::Side;
+pub use stage::{Stage, StageList};
+pub use switch::Switch;
+pub use tunnel::Tunnel;

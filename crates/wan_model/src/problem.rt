@@ -1,21 +1,26 @@
 ghost use Rattle.std.specs.Prelude.{◌≡◌, ◌<◌, Option, Some, length, OnOk, OnErr, IfOk};
-ghost use Rattle.rollout_rules.specs.Network.{IsNetwork};
-ghost use Rattle.rollout_rules.specs.Building.{no_problem, with_switch, with_link, with_flow, with_tunnel, find_switch, find_flow, find_link, links_along, IsRoute, MayAddSwitch, MayAddLink, MayAddFlow, MayAddTunnel};
+ghost use Rattle.rollout_rules.specs.Network.{IsFormat, IsNetwork};
+ghost use Rattle.rollout_rules.specs.Building.{no_problem, no_wide_problem, with_switch, with_link, with_flow, with_tunnel, find_switch, find_flow, find_link, links_along, IsRoute, MayAddSwitch, MayAddLink, MayAddFlow, MayAddTunnel};
 
 use crate::ends::Ends;
+use crate::flow::Flow;
+use crate::link::Link;
 use crate::names::Names;
-use crate::rows::{Flow, Link, Switch, Tunnel};
+use crate::switch::Switch;
+use crate::tunnel::Tunnel;
 use lists::{Ids, Memory, Text};
 use std::alloc::Global;
 use std::marker::Model;
 
-/// A network with the old and the new split of its flows over tunnels.
+/// A network with the old and the new split of its flows over tunnels. In format 1 every tunnel has the
+/// width 1; in format 2 each one has a width of its own.
 ///
 /// Rows are numbered in the order in which they were added. Names and links are looked up by hash, so
 /// that adding a row takes constant time, and a tunnel the length of its path. Want of memory leaves a
 /// problem as it was.
 #[derive(Debug, Drop)]
 pub struct Problem {
+    format: u32,
     switches: Vec<Switch>,
     links: Vec<Link>,
     flows: Vec<Flow>,
@@ -32,17 +37,32 @@ impl Model for Problem {
 
     ghost Value = { wan.Problem };
 
-    ghost view = { λ p. record { switches = p.switches.items; links = p.links.items; flows = p.flows.items; tunnels = p.tunnels.items } };
+    ghost view = { λ p. record { format = p.format; switches = p.switches.items; links = p.links.items; flows = p.flows.items; tunnels = p.tunnels.items } };
 
-    ghost invariant = { λ p. IsNumberedNetwork (record { switches = p.switches.items; links = p.links.items; flows = p.flows.items; tunnels = p.tunnels.items }) p.switch_names p.flow_names p.link_ends };
+    ghost invariant = { λ p. IsNumberedNetwork (record { format = p.format; switches = p.switches.items; links = p.links.items; flows = p.flows.items; tunnels = p.tunnels.items }) p.switch_names p.flow_names p.link_ends };
 }
 
 impl Problem {
-    /// A network without switches.
+    /// A network without switches, in format 1.
     pub fn new(alloc: Global) -> Problem
         ensures { result ≡ no_problem }
     {
+        Problem::of_format(alloc, 1)
+    }
+
+    /// A network without switches, in format 2.
+    pub fn new_wide(alloc: Global) -> Problem
+        ensures { result ≡ no_wide_problem }
+    {
+        Problem::of_format(alloc, 2)
+    }
+
+    fn of_format(alloc: Global, format: u32) -> Problem
+        requires { IsFormat format }
+        ensures { result ≡ record no_problem { format = format } }
+    {
         Problem {
+            format,
             switches: Vec::new(alloc),
             links: Vec::new(alloc),
             flows: Vec::new(alloc),
@@ -110,15 +130,16 @@ impl Problem {
 
     /// Adds a tunnel along a path of switches to the last flow, and answers its number. Where a rate is
     /// `None`, the tunnel isn't installed. The path follows links, meets no switch twice, and has the
-    /// ends of the flow's other tunnels.
+    /// ends of the flow's other tunnels; in format 1 the width is 1.
     pub fn add_tunnel(
         &mut self,
         path: &[u32],
         old: Option<u64>,
         new: Option<u64>,
+        width: u32,
     ) -> Result<u32, Memory>
-        requires { MayAddTunnel self.old path.now old new }
-        ensures ok { OnOk result (self.new ≡ with_tunnel self.old path.now old new) }
+        requires { MayAddTunnel self.old path.now old new width }
+        ensures ok { OnOk result (self.new ≡ with_tunnel self.old path.now old new width) }
         ensures place { IfOk result (λ place. place ≡ length self.old.tunnels) }
         ensures err { OnErr result (self.new ≡ self.old) }
     {
@@ -132,10 +153,19 @@ impl Problem {
             flow: flow as u32,
             path,
             links,
+            width,
             old,
             new,
         });
         Ok(place)
+    }
+
+    /// 1 where every tunnel has the width 1, and 2 where each one has a width of its own.
+    pub fn format(&self) -> u32
+        ensures value { result ≡ self.now.format }
+        ensures network { IsNetwork self.now }
+    {
+        self.format
     }
 
     /// The switches by their numbers.

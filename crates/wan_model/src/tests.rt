@@ -1,4 +1,6 @@
 use super::*;
+use lists::Memory;
+use rollout_rules::{LARGEST_CAPACITY, LARGEST_TABLE, LONGEST_NAME, MOST_LINKS, MOST_SWITCHES};
 use std::test::Fail;
 
 const LONG: &str =

@@ -1,4 +1,4 @@
-use Rattle.std.proofs.Common.{◌+◌, ◌≤◌, ap, length, arith}
+use Rattle.std.proofs.Common.{◌+◌, ◌≤◌, length, arith}
 use Rattle.wan_model.proofs.Counted.{first-few, first-next}
 use Rattle.wan_model.proofs.items.item_count.Goals as goal
 
@@ -7,10 +7,10 @@ overflow_add-count c =
     let p = c.args.problem.now in
     let t = c.loop-t.t in
     let below : t + 1 ≤ length p.tunnels = grind arith in
-    omega (arith, c.loop-t.invariant, ap length c.path_of.ensures.list, first-next p t, first-few p (t + 1) c.tunnels-t-end.ensures.network below)
+    omega (arith, c.loop-t.invariant, c.hops-count.ensures.value, first-next p t, first-few p (t + 1) c.tunnels-t-end.ensures.network below)
 
 pub loop-t-preserved : goal.loop-t-preserved
 loop-t-preserved c =
     let p = c.args.problem.now in
     let t = c.loop-t.t in
-    omega (arith, c.loop-t.invariant, ap length c.path_of.ensures.list, first-next p t)
+    omega (arith, c.loop-t.invariant, c.hops-count.ensures.value, first-next p t)

@@ -14,4 +14,4 @@ invariant_of-self-2 c =
     let kept = keeps_with_flow _ _ _ _ c.self.invariant c.args.name.now may in
     let rows : c.self.inside.flows.items ++ record { name = c.args.name.now; first = length c.self.inside.tunnels.items; tunnels = 0 } ∷ [] ≡ c.push_reserved.new.self.items = search rules in
     let names = sym c.in_ok-add.ensures.ok in
-    subst₂ (λ rows names. IsNumberedNetwork (record { switches = c.self.inside.switches.items; links = c.self.inside.links.items; flows = rows; tunnels = c.self.inside.tunnels.items }) c.self.inside.switch_names names c.self.inside.link_ends) rows names kept
+    subst₂ (λ rows names. IsNumberedNetwork (record { format = c.self.inside.format; switches = c.self.inside.switches.items; links = c.self.inside.links.items; flows = rows; tunnels = c.self.inside.tunnels.items }) c.self.inside.switch_names names c.self.inside.link_ends) rows names kept

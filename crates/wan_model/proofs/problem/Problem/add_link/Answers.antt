@@ -14,4 +14,4 @@ invariant_of-self-2 c =
     let kept = keeps_with_link _ _ _ _ c.self.invariant c.args.from c.args.to c.args.capacity may in
     let rows : c.self.inside.links.items ++ record { from = c.args.from; to = c.args.to; capacity = c.args.capacity } ∷ [] ≡ c.push_reserved.new.self.items = search rules in
     let ends = sym c.in_ok-add.ensures.ok in
-    subst₂ (λ rows ends. IsNumberedNetwork (record { switches = c.self.inside.switches.items; links = rows; flows = c.self.inside.flows.items; tunnels = c.self.inside.tunnels.items }) c.self.inside.switch_names c.self.inside.flow_names ends) rows ends kept
+    subst₂ (λ rows ends. IsNumberedNetwork (record { format = c.self.inside.format; switches = c.self.inside.switches.items; links = rows; flows = c.self.inside.flows.items; tunnels = c.self.inside.tunnels.items }) c.self.inside.switch_names c.self.inside.flow_names ends) rows ends kept

@@ -14,4 +14,4 @@ invariant_of-self-2 c =
     let kept = keeps_with_switch _ _ _ _ c.self.invariant c.args.name.now c.args.table may in
     let rows : c.self.inside.switches.items ++ record { name = c.args.name.now; table = c.args.table } ∷ [] ≡ c.push_reserved.new.self.items = search rules in
     let names = sym c.in_ok-add.ensures.ok in
-    subst₂ (λ rows names. IsNumberedNetwork (record { switches = rows; links = c.self.inside.links.items; flows = c.self.inside.flows.items; tunnels = c.self.inside.tunnels.items }) names c.self.inside.flow_names c.self.inside.link_ends) rows names kept
+    subst₂ (λ rows names. IsNumberedNetwork (record { format = c.self.inside.format; switches = rows; links = c.self.inside.links.items; flows = c.self.inside.flows.items; tunnels = c.self.inside.tunnels.items }) names c.self.inside.flow_names c.self.inside.link_ends) rows names kept
