@@ -1,10 +1,9 @@
 -- Running sums over tunnels: what each tunnel adds, and what all have added.
-use Rattle.std.proofs.Common.{◌≡◌, ℕ, zero, suc, ◌+◌, ◌*◌, ◌^◌, ◌<◌, ◌≤◌, Bool, true, false, ◌&&◌, List, [], ◌∷◌, length, slice_index, get_or, eqb, ◌==◌, if◌then◌else◌, refl, sym, ap, ◌∙◌, inl, inr, add-one, arith}
-use mir.Val.{bool_byte}
+use Rattle.std.proofs.Common.{◌≡◌, ℕ, suc, ◌+◌, ◌*◌, ◌^◌, ◌<◌, ◌≤◌, Bool, true, false, ◌&&◌, List, [], ◌∷◌, length, slice_index, ◌==◌, if◌then◌else◌, refl, sym, ap, ◌∙◌, inl, inr, add-one, arith}
 use Rattle.std.specs.List.{list_any}
-use Rattle.std.proofs.lemmas.Bool.{cases_Bool, eqb-true, false≢true}
+use Rattle.std.proofs.lemmas.Bool.{cases_Bool, eqb-true}
 use Rattle.rollout_rules.specs.Sums.{sum_below}
-use Rattle.rollout_rules.specs.Wan.{Problem, Plan, tunnel_at, link_at, switch_of, hops, crosses}
+use Rattle.rollout_rules.specs.Wan.{Problem, Plan, tunnel_at, link_at, switch_of, hops, width_of, crosses}
 use Rattle.rollout_rules.specs.Items.{the_link, the_table, greater_rate, either_mark}
 use Rattle.rollout_rules.specs.Network.{IsPath, IsNetwork}
 use Rattle.rollout_rules.proofs.Below.{sum_below-front, sum_below-zero, sum_below-same}
@@ -61,19 +60,14 @@ links_once : (p : Problem) (path along : List ℕ) → IsPath p path along → (
 links_once p path along is g h gl hl e =
     is.once g h (omega (arith, is.between)) (omega (arith, is.between)) (sym (is.from g gl) ∙ ap (λ l. (link_at p l).from) e ∙ is.from h hl)
 
-one_and : (a b : Bool) → ◌≡◌ {A = ℕ} (if a then (if b then 1 else 0) else 0) (if a && b then 1 else 0)
-one_and true true = refl
-one_and true false = refl
-one_and false true = refl
-one_and false false = refl
+-- an amount that is taken where two tests pass, of which the second does, or does not
+taken : (a b : Bool) (n : ℕ) → b ≡ true → (if a then n else 0) ≡ (if a && b then n else 0)
+taken true b n passes = rw passes refl
+taken false b n passes = refl
 
-pub byte_is : (b : Bool) → bool_byte b ≡ (if b then 1 else 0)
-byte_is true = refl
-byte_is false = refl
-
-one_small : (b : Bool) → (if b then 1 else 0) < 2 ^ 64
-one_small true = omega arith
-one_small false = omega arith
+left : (a b : Bool) (n : ℕ) → b ≡ false → (if a && b then n else 0) ≡ 0
+left true b n fails = rw fails refl
+left false b n fails = refl
 
 pub load_grown : (p : Problem) (plan : Plan) (s t : ℕ) (old new row : List ℕ) (amount : ℕ) → IsNetwork p → t < length p.tunnels → row ≡ (tunnel_at p t).links → amount ≡ greater_rate plan s t → amount < 2 ^ 64 → GrownBy old new (added row amount) (length row * amount) → GrownBy old new (load_share p plan s t) largest_share
 load_grown p plan s t old new row amount net inside is rate small by =
@@ -86,16 +80,26 @@ load_grown p plan s t old new row amount net inside is rate small by =
     ∙ ap (λ a. if crosses p t k then a else 0) rate)
     (few_times (length row) amount few small)
 
-pub entry_grown : (p : Problem) (plan : Plan) (s t : ℕ) (old new row : List ℕ) (amount : ℕ) → IsNetwork p → t < length p.tunnels → row ≡ (tunnel_at p t).path → amount ≡ (if either_mark plan s t then 1 else 0) → GrownBy old new (added row amount) (length row * amount) → GrownBy old new (entry_share p plan s t) largest_share
-entry_grown p plan s t old new row amount net inside is one by =
+-- a tunnel with entries at either end of the step adds its width to the table of each switch on its path
+pub entry_grown : (p : Problem) (plan : Plan) (s t : ℕ) (old new row : List ℕ) (amount : ℕ) → IsNetwork p → t < length p.tunnels → either_mark plan s t ≡ true → row ≡ (tunnel_at p t).path → amount ≡ width_of p t → amount < 2 ^ 64 → GrownBy old new (added row amount) (length row * amount) → GrownBy old new (entry_share p plan s t) largest_share
+entry_grown p plan s t old new row amount net inside there is wide small by =
     let few : length row ≤ 17 = omega (arith, ap length is, (net.tunnels t inside).path.most) in
-    let small : amount < 2 ^ 64 = rw one (one_small (either_mark plan s t)) in
     GrownBy_as old new (added row amount) (entry_share p plan s t) (length row * amount) largest_share by
     (λ k.
     ap (λ r. added r amount k) is
-    ∙ ap (λ a. added (tunnel_at p t).path a k) one
-    ∙ sum_below-same (hops p t) (λ h. if switch_of p t h == k then (if either_mark plan s t then 1 else 0) else 0) (λ h. if (switch_of p t h == k) && either_mark plan s t then 1 else 0) (λ h lt. one_and (switch_of p t h == k) (either_mark plan s t)))
+    ∙ ap (λ a. added (tunnel_at p t).path a k) wide
+    ∙ sum_below-same (hops p t) (λ h. if switch_of p t h == k then width_of p t else 0) (λ h. if (switch_of p t h == k) && either_mark plan s t then width_of p t else 0) (λ h lt. taken (switch_of p t h == k) (either_mark plan s t) (width_of p t) there))
     (few_times (length row) amount few small)
+
+-- and one without adds nothing
+pub entry_stays : (p : Problem) (plan : Plan) (s t : ℕ) (sums : List ℕ) → either_mark plan s t ≡ false → GrownBy sums sums (entry_share p plan s t) largest_share
+entry_stays p plan s t sums none =
+    let nothing : (k : ℕ) → entry_share p plan s t k ≡ 0 = λ k. sum_below-zero (hops p t) (λ h. if (switch_of p t h == k) && either_mark plan s t then width_of p t else 0) (λ h lt. left (switch_of p t h == k) (either_mark plan s t) (width_of p t) none) in
+    record {
+      count = refl;
+      each = λ k lt. omega (arith, nothing k);
+      few = λ k lt. omega arith;
+    }
 
 -- what all tunnels add is what all items may take
 pub loads_from_sums : (p : Problem) (plan : Plan) (s n : ℕ) (sums : List ℕ) → IsNetwork p → n ≡ length p.tunnels → AreSums sums (length p.links) n (load_share p plan s) → AreTotals p plan s (length p.links) the_link sums

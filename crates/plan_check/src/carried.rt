@@ -1,15 +1,14 @@
 ghost use Rattle.std.specs.Prelude.{◌≡◌, ◌<◌, length};
 ghost use Rattle.rollout_rules.specs.Valid as valid;
-ghost use Rattle.plan_check.specs.Parts.{HasRows};
+ghost use Rattle.wan_model.specs.Shaped.{IsShaped};
 ghost use Rattle.plan_check.specs.Parts as parts;
 
-use crate::stages::{mark_at, next_stage, rate_at};
 use wan_model::{Plan, Problem};
 
 /// P4: whether each tunnel with a positive rate at a stage is installed there and at the stages before
 /// and behind, where these exist.
 pub fn carries_what_flows(problem: &Problem, plan: &Plan) -> bool
-    requires { HasRows problem.now plan.now }
+    requires { IsShaped problem.now plan.now }
     ensures { result ≡ valid.carries_what_flows problem.now plan.now }
 {
     for s in 0..plan.stages.as_slice().len() {
@@ -21,7 +20,7 @@ pub fn carries_what_flows(problem: &Problem, plan: &Plan) -> bool
 }
 
 fn carries_at(problem: &Problem, plan: &Plan, s: usize) -> bool
-    requires rows { HasRows problem.now plan.now }
+    requires shape { IsShaped problem.now plan.now }
     requires stage { s < length plan.now.stages }
     ensures { result ≡ parts.carries_at problem.now plan.now s }
 {
@@ -34,19 +33,19 @@ fn carries_at(problem: &Problem, plan: &Plan, s: usize) -> bool
 }
 
 fn is_carried_at(problem: &Problem, plan: &Plan, s: usize, t: usize) -> bool
-    requires rows { HasRows problem.now plan.now }
+    requires shape { IsShaped problem.now plan.now }
     requires stage { s < length plan.now.stages }
     requires tunnel { t < length problem.now.tunnels }
     ensures { result ≡ valid.is_carried_at plan.now s t }
 {
-    if rate_at(plan, s, t) == 0 {
+    if plan.rate(s, t) == 0 {
         return true;
     }
-    if !mark_at(plan, s.saturating_sub(1), t) {
+    if !plan.mark(s.saturating_sub(1), t) {
         return false;
     }
-    if !mark_at(plan, s, t) {
+    if !plan.mark(s, t) {
         return false;
     }
-    mark_at(plan, next_stage(plan, s), t)
+    plan.mark(plan.next_stage(s), t)
 }

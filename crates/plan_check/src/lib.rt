@@ -11,7 +11,6 @@ mod check;
 mod ends;
 mod loads;
 mod shape;
-mod stages;
 mod steps;
 mod totals;
 

@@ -2,15 +2,17 @@ ghost use Rattle.std.specs.Prelude.{◌≡◌, ◌<◌, length};
 ghost use Rattle.std.specs.Bool.{OnTrue};
 ghost use Rattle.rollout_rules.specs.Sums.{all_below};
 ghost use Rattle.rollout_rules.specs.Valid as valid;
+ghost use Rattle.wan_model.specs.Shaped.{IsShaped};
 ghost use Rattle.plan_check.specs.Parts as parts;
 
-use wan_model::{LARGEST_SCALE, MOST_STAGES, Plan, Problem};
+use rollout_rules::{LARGEST_SCALE, MOST_STAGES};
+use wan_model::{Plan, Problem};
 
 /// P0: whether the scale and the number of stages are within their limits, and each stage has a rate
 /// and a mark per tunnel.
 pub fn has_shape(problem: &Problem, plan: &Plan) -> bool
     ensures value { result ≡ valid.has_shape problem.now plan.now }
-    ensures rows { OnTrue result (parts.HasRows problem.now plan.now) }
+    ensures shape { OnTrue result (IsShaped problem.now plan.now) }
 {
     let stages = plan.stages.as_slice().len();
     if plan.scale < 1 {

@@ -2,17 +2,19 @@ ghost use Rattle.std.specs.Prelude.{◌≡◌, ◌<◌, length, nat_le, IfOk};
 ghost use Rattle.rollout_rules.specs.Wan.{switch_at};
 ghost use Rattle.rollout_rules.specs.Items.{the_link, the_table, capacity_of};
 ghost use Rattle.rollout_rules.specs.Valid as valid;
-ghost use Rattle.plan_check.specs.Parts.{HasRows, AreTotals};
+ghost use Rattle.wan_model.specs.Shaped.{IsShaped};
+ghost use Rattle.plan_check.specs.Parts.{AreTotals};
 ghost use Rattle.plan_check.specs.Parts as parts;
 
 use crate::loads::{step_entries, step_loads};
+use lists::Memory;
 use std::alloc::Global;
-use wan_model::{Memory, Plan, Problem};
+use wan_model::{Plan, Problem};
 
-/// P3: whether at each stage the larger rates of the step from it fit on every link, and the entries
-/// that are there at either end fit in every table (SWAN's step rule).
+/// P3: whether at each stage the larger rates of the step from it fit on every link, and the widths of
+/// the entries that are there at either end fit in every table (SWAN's step rule).
 pub fn fits_each_step(alloc: Global, problem: &Problem, plan: &Plan) -> Result<bool, Memory>
-    requires { HasRows problem.now plan.now }
+    requires { IsShaped problem.now plan.now }
     ensures { IfOk result (λ fits. fits ≡ valid.fits_each_step problem.now plan.now) }
 {
     for s in 0..plan.stages.as_slice().len() {
@@ -24,7 +26,7 @@ pub fn fits_each_step(alloc: Global, problem: &Problem, plan: &Plan) -> Result<b
 }
 
 fn fits_step(alloc: Global, problem: &Problem, plan: &Plan, s: usize) -> Result<bool, Memory>
-    requires rows { HasRows problem.now plan.now }
+    requires shape { IsShaped problem.now plan.now }
     requires stage { s < length plan.now.stages }
     ensures { IfOk result (λ fits. fits ≡ parts.fits_step problem.now plan.now s) }
 {
@@ -64,14 +66,12 @@ fn link_holds(problem: &Problem, plan: &Plan, l: usize, load: u128) -> bool
     requires { l < length problem.now.links }
     ensures { result ≡ nat_le load (capacity_of problem.now plan.now (the_link l)) }
 {
-    let link = &problem.links()[l];
-    load <= u128::from(link.capacity) * u128::from(plan.scale)
+    load <= u128::from(problem.capacity(l)) * u128::from(plan.scale)
 }
 
 fn table_holds(problem: &Problem, w: usize, entries: u128) -> bool
     requires { w < length problem.now.switches }
     ensures { result ≡ nat_le entries (switch_at problem.now w).table }
 {
-    let switch = &problem.switches()[w];
-    entries <= u128::from(switch.table)
+    entries <= u128::from(problem.table(w))
 }

@@ -17,8 +17,8 @@ flow_starts p name =
 pub flow_more : (p : Problem) (name : List ℕ) → length (with_flow p name).flows ≡ length p.flows + 1
 flow_more p name = grind (arith, common_steps)
 
-pub tunnel_grows : (p : Problem) (path : List ℕ) (old new : Option ℕ) → 0 < length p.flows → HasMoreTunnels p (with_tunnel p path old new) 1
-tunnel_grows p path old new some = record {
+pub tunnel_grows : (p : Problem) (path : List ℕ) (old new : Option ℕ) (width : ℕ) → 0 < length p.flows → HasMoreTunnels p (with_tunnel p path old new width) 1
+tunnel_grows p path old new width some = record {
   flows = grind (arith, common_steps);
   tunnels = grind (arith, common_steps);
   of_last = let f = with_one_more (flow_at p (last_flow p)) in

@@ -9,7 +9,8 @@ mod Plain
 mod Places
 mod Adding
 mod ReadValues
-mod FoundRows
+mod Formats
+mod Lookups
 mod ReadNetwork
 mod ReadPaths
 mod ReadTunnels

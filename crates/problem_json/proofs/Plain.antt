@@ -1,12 +1,12 @@
 -- A document has whole numbers alone, and its lists and objects do not nest deep.
-use Rattle.std.proofs.Common.{◌≡◌, ℕ, zero, suc, ◌≤◌, List, [], ◌∷◌, ◌++◌, map, length, false, Option, Some, None, refl, arith}
+use Rattle.std.proofs.Common.{◌≡◌, ℕ, zero, suc, ◌≤◌, List, [], ◌∷◌, ◌++◌, map, length, Bool, true, false, Option, Some, None, ◌==◌, if◌then◌else◌, codes, refl, arith}
 use Rattle.std.proofs.lemmas.Bool.{or_from, or_parts}
 use Rattle.rollout_rules.specs.Sums.{list_below}
 use Rattle.rollout_rules.specs.Wan.{Problem, Plan, Stage, tunnel_at, flow_at, tunnel_of}
-use Rattle.serde_json.specs.Data.{Data, boolean, depth, items_depth}
+use Rattle.serde_json.specs.Data.{Data, Members, no_members, member, boolean, depth, items_depth, members_depth}
 use Rattle.serde_json.specs.View.{items_of}
-use Rattle.serde_json.specs.Written.{has_float, items_have_float}
-use Rattle.problem_json.specs.Writing.{number_data, rate_data, name_data, switch_data, link_data, tunnel_data, flow_data, problem_data, stage_data, plan_data, document_data}
+use Rattle.serde_json.specs.Written.{has_float, items_have_float, members_have_float}
+use Rattle.problem_json.specs.Writing.{number_data, rate_data, width_member, format_before, list_data, name_data, switch_data, link_data, tunnel_data, flow_data, problem_data, stage_data, plan_data, document_data}
 
 -- a value without floats in which at most n lists and objects stand inside one another
 pub record IsPlain (n : ℕ) (d : Data) : Type 0 where
@@ -40,12 +40,32 @@ of_rate : (r : Option ℕ) → IsPlain 0 (rate_data r)
 of_rate None = record { whole = refl; shallow = omega arith }
 of_rate (Some n) = record { whole = refl; shallow = omega arith }
 
+-- the members of an object, alike
+record ArePlainMembers (n : ℕ) (ms : Members) : Type 0 where
+  pub whole : members_have_float ms ≡ false
+  pub shallow : members_depth ms ≤ n
+
+of_width : (format width : ℕ) → ArePlainMembers 0 (width_member format width)
+of_width format width = on (format == 1)
+  where
+    on : (plain : Bool) → ArePlainMembers 0 (if plain then no_members else member (codes "width") (number_data width) no_members)
+    on true = record { whole = refl; shallow = omega arith }
+    on false = record { whole = refl; shallow = omega arith }
+
+of_format : (n format : ℕ) (behind : Members) → ArePlainMembers n behind → ArePlainMembers n (format_before format behind)
+of_format n format behind are = on (format == 1)
+  where
+    on : (plain : Bool) → ArePlainMembers n (if plain then behind else member (codes "format") (number_data format) behind)
+    on true = are
+    on false = record { whole = are.whole; shallow = omega (arith, are.shallow) }
+
 of_tunnel : (p : Problem) (t : ℕ) → IsPlain 2 (tunnel_data p t)
 of_tunnel p t =
     let new = of_rate (tunnel_at p t).new in
     let old = of_rate (tunnel_at p t).old in
     let path = of_map 0 (name_data p) (λ w. record { whole = refl; shallow = omega arith }) (tunnel_at p t).path in
-    record { whole = or_from _ _ new.whole (or_from _ _ old.whole (or_from _ _ path.whole refl)); shallow = omega arith }
+    let width = of_width p.format (tunnel_at p t).width in
+    record { whole = or_from _ _ new.whole (or_from _ _ old.whole (or_from _ _ path.whole width.whole)); shallow = omega arith }
 
 of_flow : (p : Problem) (f : ℕ) → IsPlain 4 (flow_data p f)
 of_flow p f =
@@ -57,7 +77,10 @@ of_problem p =
     let flows = of_below 4 (flow_data p) (of_flow p) (length p.flows) in
     let links = of_map 1 (link_data p) (λ l. record { whole = refl; shallow = omega arith }) p.links in
     let switches = of_map 1 switch_data (λ s. record { whole = refl; shallow = omega arith }) p.switches in
-    record { whole = or_from _ _ flows.whole (or_from _ _ links.whole (or_from _ _ switches.whole refl)); shallow = omega arith }
+    let behind = member (codes "links") (list_data (map (link_data p) p.links)) (member (codes "switches") (list_data (map switch_data p.switches)) no_members) in
+    let are : ArePlainMembers 2 behind = record { whole = or_from _ _ links.whole (or_from _ _ switches.whole refl); shallow = omega arith } in
+    let rest = of_format 2 p.format behind are in
+    record { whole = or_from _ _ flows.whole rest.whole; shallow = omega arith }
 
 of_stage : (s : Stage) → IsPlain 2 (stage_data s)
 of_stage s =

@@ -2,23 +2,24 @@
 use Rattle.std.proofs.Common.{◌≡◌, ℕ, ◌+◌, ◌<◌, [], length, take, is_none, Option, Some, ok_or, Ok, refl, sym, ap, ◌∙◌}
 use Rattle.std.proofs.lemmas.List.{take_more}
 use Rattle.rollout_rules.specs.Wan.{Problem, switch_at, link_at, no_switch, no_link}
-use Rattle.rollout_rules.specs.Network.{IsNetwork, largest_table, largest_capacity}
+use Rattle.rollout_rules.specs.Network.{IsNetwork}
+use Rattle.rollout_rules.specs.declared.limits.TheConstants.{LARGEST_TABLE, LARGEST_CAPACITY}
 use Rattle.rollout_rules.specs.Building.{find_switch, find_link}
 use Rattle.problem_json.specs.GrammarValues.{member_in, text_in, name_of, number_of}
-use Rattle.problem_json.specs.GrammarRows.{with_one_switch, with_one_link, switch_named, end_of}
+use Rattle.problem_json.specs.GrammarNetwork.{with_one_switch, with_one_link, switch_named, end_of}
 use Rattle.problem_json.specs.Writing.{switch_data, link_data, name_data}
 use Rattle.problem_json.specs.declared.fault.InputFault.TheVariants.{Bad}
 use Rattle.problem_json.proofs.Adding.{goes_on, held-true}
 use Rattle.problem_json.proofs.ReadValues.{name_in-string, number_in-number}
-use Rattle.problem_json.proofs.FoundRows.{switch_found, switch_is_new, link_is_new}
+use Rattle.problem_json.proofs.Lookups.{switch_found, switch_is_new, link_is_new}
 
 -- the first k switches of a network
 abbrev pub switched : Problem → ℕ → Problem
-switched p k = record { switches = take k p.switches; links = []; flows = []; tunnels = [] }
+switched p k = record { format = p.format; switches = take k p.switches; links = []; flows = []; tunnels = [] }
 
 -- its switches, and its first k links
 abbrev pub linked : Problem → ℕ → Problem
-linked p k = record { switches = p.switches; links = take k p.links; flows = []; tunnels = [] }
+linked p k = record { format = p.format; switches = p.switches; links = take k p.links; flows = []; tunnels = [] }
 
 module _ (p : Problem) (net : IsNetwork p) where
   pub one_switch_more : (k : ℕ) → k < length p.switches → with_one_switch (switch_data (switch_at p k)) (switched p k) ≡ Ok (switched p (k + 1))
@@ -27,8 +28,8 @@ module _ (p : Problem) (net : IsNetwork p) where
       let s = switch_at p k in
       goes_on _ s.name _ (name_in-string s.name (net.switches.names k lt))
       ∙ goes_on _ tt _ (held-true (is_none (find_switch (switched p k) s.name)) Bad (ap is_none (switch_is_new p k net.switches lt)))
-      ∙ goes_on _ s.table _ (number_in-number largest_table s.table (net.switches.tables k lt))
-      ∙ ap (λ ss. Ok (record { switches = ss; links = []; flows = []; tunnels = [] })) (sym (take_more p.switches k no_switch lt))
+      ∙ goes_on _ s.table _ (number_in-number LARGEST_TABLE s.table (net.switches.tables k lt))
+      ∙ ap (λ ss. Ok (record { format = p.format; switches = ss; links = []; flows = []; tunnels = [] })) (sym (take_more p.switches k no_switch lt))
 
   -- the name of a switch is read as its number, where all switches stand
   pub name_is_found : (q : Problem) (w : ℕ) → q.switches ≡ p.switches → w < length p.switches → switch_named q (name_data p w) ≡ Ok w
@@ -44,6 +45,6 @@ module _ (p : Problem) (net : IsNetwork p) where
       let l = link_at p k in
       goes_on _ l.from _ (name_is_found (linked p k) l.from refl (net.links.from k lt))
       ∙ goes_on _ l.to _ (name_is_found (linked p k) l.to refl (net.links.to k lt))
-      ∙ goes_on _ l.capacity _ (number_in-number largest_capacity l.capacity (net.links.capacities k lt))
+      ∙ goes_on _ l.capacity _ (number_in-number LARGEST_CAPACITY l.capacity (net.links.capacities k lt))
       ∙ goes_on _ tt _ (held-true (is_none (find_link (linked p k) l.from l.to)) Bad (ap is_none (link_is_new p k net.links lt)))
-      ∙ ap (λ ls. Ok (record { switches = p.switches; links = ls; flows = []; tunnels = [] })) (sym (take_more p.links k no_link lt))
+      ∙ ap (λ ls. Ok (record { format = p.format; switches = p.switches; links = ls; flows = []; tunnels = [] })) (sym (take_more p.links k no_link lt))

@@ -4,21 +4,22 @@ use Rattle.std.proofs.lemmas.Bool.{or_right, not_from_false, false_from_ne_true,
 use Rattle.std.proofs.lemmas.List.{take_more, take_all, get_or-take, length-take-le, length-map}
 use Rattle.std.specs.List.{list_any}
 use Rattle.rollout_rules.specs.Wan.{Problem, link_at}
-use Rattle.rollout_rules.specs.Network.{IsNetwork, IsPath, most_hops}
+use Rattle.rollout_rules.specs.Network.{IsNetwork, IsPath}
+use Rattle.rollout_rules.specs.declared.limits.TheConstants.{MOST_HOPS}
 use Rattle.rollout_rules.specs.Building.{find_link, links_along}
 use Rattle.serde_json.specs.Data.{Data}
 use Rattle.serde_json.specs.Events.{items_len}
 use Rattle.serde_json.specs.View.{items_of}
 use Rattle.problem_json.specs.GrammarResults.{add_each}
 use Rattle.problem_json.specs.GrammarValues.{member_in, list_in, list_of}
-use Rattle.problem_json.specs.GrammarRows.{with_one_hop, leads_on, path_of}
+use Rattle.problem_json.specs.GrammarNetwork.{with_one_hop, leads_on, path_of}
 use Rattle.problem_json.specs.Writing.{name_data, list_data}
 use Rattle.problem_json.specs.declared.fault.InputFault.TheVariants.{Bad}
 use Rattle.wan_model.proofs.Positions.{passes_nowhere}
 use Rattle.problem_json.proofs.Places.{found_nowhere}
 use Rattle.problem_json.proofs.Adding.{goes_on, held-true, add_each-below, map-below, items_len-items_of}
 use Rattle.problem_json.proofs.ReadValues.{list_in-list}
-use Rattle.problem_json.proofs.FoundRows.{link_found}
+use Rattle.problem_json.proofs.Lookups.{link_found}
 use Rattle.problem_json.proofs.ReadNetwork.{name_is_found}
 
 -- a problem with the switches and the links of p, in which a path of p is looked up
@@ -68,8 +69,8 @@ module _ (p q : Problem) (net : IsNetwork p) (has : HasNetwork p q) (path along 
   path_is_read d e =
       let names = items_of (map (name_data p) path) in
       let len : items_len names ≡ length path = items_len-items_of (map (name_data p) path) ∙ length-map path (name_data p) in
-      let few : length (map (name_data p) path) ≤ most_hops = omega (arith, is.most, length-map path (name_data p)) in
-      goes_on _ names _ (goes_on _ _ (list_in most_hops) e ∙ list_in-list most_hops (map (name_data p) path) few)
+      let few : length (map (name_data p) path) ≤ MOST_HOPS = omega (arith, is.most, length-map path (name_data p)) in
+      goes_on _ names _ (goes_on _ _ (list_in MOST_HOPS) e ∙ list_in-list MOST_HOPS (map (name_data p) path) few)
       ∙ goes_on _ tt _ (held-true _ Bad (le-leb 2 (items_len names) (omega (arith, is.least))))
       ∙ ap (λ ds. add_each (with_one_hop q) (items_of ds) []) (map-below (name_data p) path 0)
       ∙ add_each-below (with_one_hop q) (λ k. name_data p (slice_index path k)) (λ k. take k path) (length path) one_hop_more

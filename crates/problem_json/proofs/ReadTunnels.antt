@@ -1,5 +1,5 @@
 -- The tunnels of a flow, read again one by one.
-use Rattle.std.proofs.Common.{◌≡◌, ℕ, zero, suc, ◌+◌, ◌-◌, ◌<◌, true, ◌==◌, List, [], ◌∷◌, ◌++◌, length, take, slice_index, slice_set, Ok, refl, sym, ap, ap₂, ◌∙◌, arith}
+use Rattle.std.proofs.Common.{◌≡◌, ℕ, zero, suc, ◌+◌, ◌-◌, ◌<◌, true, ◌==◌, List, [], ◌∷◌, ◌++◌, length, map, take, slice_index, slice_set, Ok, refl, sym, ap, ap₂, ◌∙◌, arith}
 use Rattle.std.proofs.lemmas.Bool.{or_left, or_right, and_from, eq-eqb}
 use Rattle.std.proofs.lemmas.List.{take_more, get_or-take, get_or_at, set_at, length-take-le, length_push}
 use Rattle.rollout_rules.specs.Wan.{Problem, Flow, Tunnel, no_flow, no_tunnel, flow_at, tunnel_at, tunnel_of, hops, switch_of}
@@ -7,11 +7,12 @@ use Rattle.rollout_rules.specs.Network.{IsNetwork, IsTunnel}
 use Rattle.rollout_rules.specs.Building.{last_flow, with_one_more, with_tunnel, has_ends, links_along}
 use Rattle.rollout_rules.proofs.Tunnels.{tunnels_of, tunnel_of-below, flow-tunnel_of}
 use Rattle.problem_json.specs.GrammarValues.{member_in, rate_of}
-use Rattle.problem_json.specs.GrammarRows.{with_one_tunnel}
-use Rattle.problem_json.specs.Writing.{tunnel_data}
+use Rattle.problem_json.specs.GrammarNetwork.{with_one_tunnel}
+use Rattle.problem_json.specs.Writing.{rate_data, list_data, name_data, tunnel_data}
 use Rattle.problem_json.specs.declared.fault.InputFault.TheVariants.{Bad}
 use Rattle.problem_json.proofs.Adding.{goes_on, held-true}
 use Rattle.problem_json.proofs.ReadValues.{rate_in-rate}
+use Rattle.problem_json.proofs.Formats.{width_is_read}
 use Rattle.problem_json.proofs.ReadPaths.{HasNetwork, path_is_read, links_are_found}
 
 -- the flows before f with their tunnels, and flow f with its first j
@@ -46,13 +47,13 @@ module _ (p : Problem) (net : IsNetwork p) (f : ℕ) (lt : f < length p.flows) w
   has j = record { switches = refl; links = refl }
 
   tunnel_is_added : (j : ℕ) → j < tunnels_of p f
-      → with_tunnel (begun p f j) (tunnel_at p (tunnel_of p f j)).path (tunnel_at p (tunnel_of p f j)).old (tunnel_at p (tunnel_of p f j)).new ≡ begun p f (j + 1)
+      → with_tunnel (begun p f j) (tunnel_at p (tunnel_of p f j)).path (tunnel_at p (tunnel_of p f j)).old (tunnel_at p (tunnel_of p f j)).new (tunnel_at p (tunnel_of p f j)).width ≡ begun p f (j + 1)
   tunnel_is_added j few =
       let q = begun p f j in
       let t = tunnel_of p f j in
       let old_row : Flow = record (flow_at p f) { tunnels = j } in
       let new_row : Flow = record (flow_at p f) { tunnels = j + 1 } in
-      let made : ℕ → List ℕ → Tunnel = λ g ls. record { flow = g; path = (tunnel_at p t).path; links = ls; old = (tunnel_at p t).old; new = (tunnel_at p t).new } in
+      let made : ℕ → List ℕ → Tunnel = λ g ls. record { flow = g; path = (tunnel_at p t).path; links = ls; width = (tunnel_at p t).width; old = (tunnel_at p t).old; new = (tunnel_at p t).new } in
       let built : List Flow → List Tunnel → Problem = λ fs ts. record p { flows = fs; tunnels = ts } in
       let flows : slice_set q.flows (last_flow q) (with_one_more (flow_at q (last_flow q))) ≡ take f p.flows ++ new_row ∷ [] =
       ap (λ g. slice_set q.flows g (with_one_more (flow_at q g))) (last_is j) ∙ ap (λ r. slice_set q.flows f (with_one_more r)) (row_is j)
@@ -75,4 +76,5 @@ module _ (p : Problem) (net : IsNetwork p) (f : ℕ) (lt : f < length p.flows) w
       ∙ goes_on _ tt _ (held-true _ Bad ends)
       ∙ goes_on _ t.old _ (rate_in-rate t.old row.old)
       ∙ goes_on _ t.new _ (rate_in-rate t.new row.new)
+      ∙ goes_on _ t.width _ (width_is_read p (rate_data t.new) (rate_data t.old) (list_data (map (name_data p) t.path)) t.width row.width)
       ∙ ap Ok (tunnel_is_added j few)

@@ -1,27 +1,32 @@
 -- The values of a row, read again.
-use Rattle.std.proofs.Common.{◌≡◌, ℕ, ◌≤◌, List, length, Option, Some, None, Ok, refl, arith}
+use Rattle.std.proofs.Common.{◌≡◌, ℕ, ◌≤◌, List, length, Option, Some, None, Ok, refl, ◌∙◌, arith}
 use Rattle.std.proofs.lemmas.Bool.{le-leb}
-use Rattle.rollout_rules.specs.Network.{longest_name, largest_rate, IsRate}
+use Rattle.rollout_rules.specs.Network.{IsRate}
+use Rattle.rollout_rules.specs.declared.limits.TheConstants.{LONGEST_NAME, LARGEST_RATE, LARGEST_WIDTH}
 use Rattle.serde_json.specs.Data.{Data, string}
 use Rattle.serde_json.specs.Events.{items_len}
 use Rattle.serde_json.specs.View.{items_of}
-use Rattle.problem_json.specs.GrammarValues.{name_in, text_in, number_in, rate_in, list_in}
+use Rattle.problem_json.specs.GrammarValues.{name_in, text_in, whole_in, number_in, rate_in, width_in, list_in}
 use Rattle.problem_json.specs.Writing.{number_data, rate_data, list_data}
 use Rattle.problem_json.specs.declared.fault.InputFault.TheVariants.{Bad}
 use Rattle.problem_json.proofs.Adding.{goes_on, held-true, items_len-items_of}
 
-pub name_in-string : (name : List ℕ) → length name ≤ longest_name → name_in (string name) ≡ Ok name
+pub name_in-string : (name : List ℕ) → length name ≤ LONGEST_NAME → name_in (string name) ≡ Ok name
 unfolding name_in text_in
-name_in-string name short = goes_on _ tt (λ _. Ok name) (held-true _ Bad (le-leb (length name) longest_name short))
+name_in-string name short = goes_on _ tt (λ _. Ok name) (held-true _ Bad (le-leb (length name) LONGEST_NAME short))
 
 pub number_in-number : (most n : ℕ) → n ≤ most → number_in most (number_data n) ≡ Ok n
-unfolding number_in
+unfolding number_in whole_in
 number_in-number most n within = goes_on _ tt (λ _. Ok n) (held-true _ Bad (le-leb n most within))
 
 pub rate_in-rate : (r : Option ℕ) → IsRate r → rate_in (rate_data r) ≡ Ok r
 unfolding rate_in
 rate_in-rate None within = refl
-rate_in-rate (Some n) within = goes_on _ n (λ m. Ok (Some m)) (number_in-number largest_rate n within)
+rate_in-rate (Some n) within = goes_on _ n (λ m. Ok (Some m)) (number_in-number LARGEST_RATE n within)
+
+pub width_in-number : (n : ℕ) → 1 ≤ n → n ≤ LARGEST_WIDTH → width_in (number_data n) ≡ Ok n
+unfolding width_in
+width_in-number n some most = goes_on _ n _ (number_in-number LARGEST_WIDTH n most) ∙ goes_on _ tt (λ _. Ok n) (held-true _ Bad (le-leb 1 n some))
 
 pub list_in-list : (most : ℕ) (ds : List Data) → length ds ≤ most → list_in most (list_data ds) ≡ Ok (items_of ds)
 unfolding list_in

@@ -6,9 +6,9 @@ use Rattle.std.proofs.lemmas.Bool.Decides.{nat_tests}
 use Rattle.std.proofs.lemmas.List.{get_or_append_left, get_or_push}
 use Rattle.std.proofs.lemmas.List.Folds.{list_any_at}
 use Rattle.rollout_rules.specs.Wan.{Problem}
-use Rattle.rollout_rules.specs.Network.{most_hops}
+use Rattle.rollout_rules.specs.declared.limits.TheConstants.{MOST_HOPS}
 use Rattle.rollout_rules.specs.Building.{find_link, IsRoute}
-use Rattle.problem_json.specs.GrammarRows.{leads_on}
+use Rattle.problem_json.specs.GrammarNetwork.{leads_on}
 
 or_right : (a b : Bool) → a ≡ false → (a || b) ≡ true → b ≡ true
 or_right a b is h = rw is at h
@@ -52,7 +52,7 @@ module _ (p : Problem) (path : List ℕ) (next : ℕ) where
       joined_at p (get_or path (length path - 1) 0) next _ _ (before h b ∙ rw last refl) here (or_right _ _ (not_empty (length path) h e) leads))
       k below is
 
-  pub route_more : IsRoute p path → length path < most_hops → next < length p.switches → list_any (λ s. s == next) path ≡ false → leads_on p path next ≡ true → IsRoute p (path ++ next ∷ [])
+  pub route_more : IsRoute p path → length path < MOST_HOPS → next < length p.switches → list_any (λ s. s == next) path ≡ false → leads_on p path next ≡ true → IsRoute p (path ++ next ∷ [])
   route_more r room below new leads =
       let longer : length (path ++ next ∷ []) ≡ length path + 1 = length-append path (next ∷ []) in
       record {

@@ -1,29 +1,43 @@
 -- Which bytes are a problem, and which problem they are.
-use Rattle.std.specs.Prelude.{ℕ, List, ok_or, if◌then◌else◌, Result, Err, codes}
+use Rattle.std.specs.Prelude.{ℕ, List, Option, None, Some, ok_or, ◌==◌, if◌then◌else◌, Result, Ok, Err, codes}
 use Rattle.std.specs.Str.{is_utf8}
 use Rattle.serde_json.specs.Data.{Data}
+use Rattle.serde_json.specs.Find.{get}
 use Rattle.serde_json.specs.Read.{read}
 use Rattle.rollout_rules.specs.Wan.{Problem}
-use Rattle.rollout_rules.specs.Network.{most_switches, most_links, most_flows}
-use Rattle.rollout_rules.specs.Building.{no_problem}
+use Rattle.rollout_rules.specs.declared.limits.TheConstants.{MOST_SWITCHES, MOST_LINKS, MOST_FLOWS}
+use Rattle.rollout_rules.specs.Building.{no_problem, no_wide_problem}
 use Rattle.problem_json.specs.GrammarResults.{◌>>=◌, add_each}
-use Rattle.problem_json.specs.GrammarValues.{list_of}
-use Rattle.problem_json.specs.GrammarRows.{with_one_switch, with_one_link, with_one_flow}
+use Rattle.problem_json.specs.GrammarValues.{list_of, whole_in}
+use Rattle.problem_json.specs.GrammarNetwork.{with_one_switch, with_one_link, with_one_flow}
 use Rattle.problem_json.specs.declared.fault.InputFault.{InputFault}
-use Rattle.problem_json.specs.declared.fault.InputFault.TheVariants.{NotJson}
+use Rattle.problem_json.specs.declared.fault.InputFault.TheVariants.{NotJson, Bad}
 
--- the rows of a list at a key, each added to what stands
-unfoldable pub with_rows : List ℕ → ℕ → (Data → Problem → Result Problem InputFault) → Data → Problem → Result Problem InputFault
-with_rows key most with_row d p = do
-  rows ← list_of key most d
-  add_each with_row rows p
+-- the problem without rows in a format
+unfoldable pub empty_in : ℕ → Result Problem InputFault
+empty_in format = if format == 1 then Ok no_problem else (if format == 2 then Ok no_wide_problem else Err Bad)
 
--- an object of switches, links between them, and flows over these
+-- the same in the format that an object names; without one it is format 1
+unfoldable pub empty_of_format : Option Data → Result Problem InputFault
+empty_of_format None = Ok no_problem
+empty_of_format (Some d) = whole_in d >>= empty_in
+
+unfoldable pub empty_of : Data → Result Problem InputFault
+empty_of d = empty_of_format (get (codes "format") d)
+
+-- the elements of a list at a key, each added to what stands
+unfoldable pub with_list : List ℕ → ℕ → (Data → Problem → Result Problem InputFault) → Data → Problem → Result Problem InputFault
+with_list key most with_one d p = do
+  elements ← list_of key most d
+  add_each with_one elements p
+
+-- an object of a format, switches, links between them, and flows over these
 unfoldable pub problem_of : Data → Result Problem InputFault
 problem_of d = do
-  switched ← with_rows (codes "switches") most_switches with_one_switch d no_problem
-  linked ← with_rows (codes "links") most_links with_one_link d switched
-  with_rows (codes "flows") most_flows with_one_flow d linked
+  empty ← empty_of d
+  switched ← with_list (codes "switches") MOST_SWITCHES with_one_switch d empty
+  linked ← with_list (codes "links") MOST_LINKS with_one_link d switched
+  with_list (codes "flows") MOST_FLOWS with_one_flow d linked
 
 -- the data of a UTF-8 text (RFC 8259)
 unfoldable pub data_in : List ℕ → Result Data InputFault

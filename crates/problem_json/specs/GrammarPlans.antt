@@ -3,16 +3,11 @@ use Rattle.std.specs.Prelude.{ℕ, Bool, List, [], ◌∷◌, ◌++◌, ok_or, R
 use Rattle.serde_json.specs.Data.{Data}
 use Rattle.serde_json.specs.Find.{as_bool}
 use Rattle.rollout_rules.specs.Wan.{Plan, Stage}
-use Rattle.rollout_rules.specs.Network.{most_tunnels}
-use Rattle.rollout_rules.specs.Valid.{largest_scale, most_stages}
+use Rattle.rollout_rules.specs.declared.limits.TheConstants.{MOST_TUNNELS, LARGEST_SCALE, MOST_STAGES, LARGEST_PLAN_RATE}
 use Rattle.problem_json.specs.GrammarResults.{◌>>=◌, add_each}
 use Rattle.problem_json.specs.GrammarValues.{list_of, number_in, number_of}
 use Rattle.problem_json.specs.declared.fault.InputFault.{InputFault}
 use Rattle.problem_json.specs.declared.fault.InputFault.TheVariants.{Bad}
-
--- the largest rate of a tunnel, at the largest scale
-abbrev pub largest_plan_rate : ℕ
-largest_plan_rate = 65536000000000
 
 -- whether a tunnel is installed
 unfoldable pub mark_in : Data → Result Bool InputFault
@@ -25,17 +20,17 @@ with_one_mark d marks = do
 
 unfoldable pub marks_of : Data → Result (List Bool) InputFault
 marks_of d = do
-  marks ← list_of (codes "installed") most_tunnels d
+  marks ← list_of (codes "installed") MOST_TUNNELS d
   add_each with_one_mark marks []
 
 unfoldable pub with_one_rate : Data → List ℕ → Result (List ℕ) InputFault
 with_one_rate d rates = do
-  rate ← number_in largest_plan_rate d
+  rate ← number_in LARGEST_PLAN_RATE d
   Ok (rates ++ rate ∷ [])
 
 unfoldable pub rates_of : Data → Result (List ℕ) InputFault
 rates_of d = do
-  rates ← list_of (codes "rates") most_tunnels d
+  rates ← list_of (codes "rates") MOST_TUNNELS d
   add_each with_one_rate rates []
 
 unfoldable pub stage_of : Data → Result Stage InputFault
@@ -51,6 +46,6 @@ with_one_stage d plan = do
 
 unfoldable pub plan_of : Data → Result Plan InputFault
 plan_of d = do
-  scale ← number_of (codes "scale") largest_scale d
-  stages ← list_of (codes "stages") most_stages d
+  scale ← number_of (codes "scale") LARGEST_SCALE d
+  stages ← list_of (codes "stages") MOST_STAGES d
   add_each with_one_stage stages (record { scale = scale; stages = [] })

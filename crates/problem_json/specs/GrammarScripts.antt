@@ -4,13 +4,11 @@ use Rattle.serde_json.specs.Data.{Data, Items, no_items, item}
 use Rattle.serde_json.specs.Find.{as_array}
 use Rattle.rollout_rules.specs.declared.event.Act.{Act}
 use Rattle.rollout_rules.specs.declared.event.Act.TheVariants.{Round, Send, Deliver, Hand, All, CrashLost, CrashKept, Stop, Start}
+use Rattle.rollout_rules.specs.declared.limits.TheConstants.{MOST_ACTS}
 use Rattle.problem_json.specs.GrammarResults.{◌>>=◌, add_each}
 use Rattle.problem_json.specs.GrammarValues.{text_in, number_in, list_of}
 use Rattle.problem_json.specs.declared.fault.InputFault.{InputFault}
 use Rattle.problem_json.specs.declared.fault.InputFault.TheVariants.{Bad}
-
-abbrev pub most_events : ℕ
-most_events = 100000
 
 -- the largest number that a command or an answer can have
 abbrev pub largest_number : ℕ
@@ -79,5 +77,5 @@ with_one_event d script = do
 
 unfoldable pub script_of : Data → Result (List Act) InputFault
 script_of d = do
-  events ← list_of (codes "script") most_events d
+  events ← list_of (codes "script") MOST_ACTS d
   add_each with_one_event events []

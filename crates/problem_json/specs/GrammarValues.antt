@@ -1,9 +1,9 @@
--- The values that rows are made of: members, lists, names, numbers and rates.
-use Rattle.std.specs.Prelude.{ℕ, List, length, Option, Some, None, ok_or, option_and_then, is_some, nat_le, if◌then◌else◌, Result, Ok, codes}
+-- The values that a problem is made of: members, lists, names, numbers, rates and widths.
+use Rattle.std.specs.Prelude.{ℕ, List, length, Option, Some, None, ok_or, option_and_then, is_some, nat_le, ◌==◌, if◌then◌else◌, Result, Ok, codes}
 use Rattle.serde_json.specs.Data.{Data, Items}
 use Rattle.serde_json.specs.Events.{items_len}
 use Rattle.serde_json.specs.Find.{get, as_null, as_number, as_str, as_array, as_u64}
-use Rattle.rollout_rules.specs.Network.{longest_name, largest_rate}
+use Rattle.rollout_rules.specs.declared.limits.TheConstants.{LONGEST_NAME, LARGEST_RATE, LARGEST_WIDTH}
 use Rattle.problem_json.specs.GrammarResults.{◌>>=◌, held}
 use Rattle.problem_json.specs.declared.fault.InputFault.{InputFault}
 use Rattle.problem_json.specs.declared.fault.InputFault.TheVariants.{Bad}
@@ -26,19 +26,30 @@ text_in d = ok_or (as_str d) Bad
 unfoldable pub name_in : Data → Result (List ℕ) InputFault
 name_in d = do
   name ← text_in d
-  _ ← held (nat_le (length name) longest_name) Bad
+  _ ← held (nat_le (length name) LONGEST_NAME) Bad
   Ok name
 
--- a number that is whole and at most so large; one with a point or an exponent isn't whole
+-- a number that is whole; one with a point or an exponent isn't
+unfoldable pub whole_in : Data → Result ℕ InputFault
+whole_in d = ok_or (option_and_then as_u64 (as_number d)) Bad
+
+-- a whole number that is at most so large
 unfoldable pub number_in : ℕ → Data → Result ℕ InputFault
 number_in most d = do
-  n ← ok_or (option_and_then as_u64 (as_number d)) Bad
+  n ← whole_in d
   _ ← held (nat_le n most) Bad
   Ok n
 
 -- a rate; null where the tunnel isn't installed
 unfoldable pub rate_in : Data → Result (Option ℕ) InputFault
-rate_in d = if is_some (as_null d) then Ok None else (number_in largest_rate d >>= λ n. Ok (Some n))
+rate_in d = if is_some (as_null d) then Ok None else (number_in LARGEST_RATE d >>= λ n. Ok (Some n))
+
+-- a width is 1 or more
+unfoldable pub width_in : Data → Result ℕ InputFault
+width_in d = do
+  n ← number_in LARGEST_WIDTH d
+  _ ← held (nat_le 1 n) Bad
+  Ok n
 
 -- the same at a key of an object
 
@@ -53,3 +64,7 @@ number_of key most d = member_in key d >>= number_in most
 
 unfoldable pub rate_of : List ℕ → Data → Result (Option ℕ) InputFault
 rate_of key d = member_in key d >>= rate_in
+
+-- in format 1 every width is 1, and a key for it is passed over
+unfoldable pub width_of : ℕ → Data → Result ℕ InputFault
+width_of format d = if format == 1 then Ok 1 else (member_in (codes "width") d >>= width_in)

@@ -1,6 +1,6 @@
 pub mod GrammarResults
 pub mod GrammarValues
-pub mod GrammarRows
+pub mod GrammarNetwork
 pub mod GrammarGrowth
 pub mod Grammar
 pub mod GrammarPlans

@@ -1,8 +1,8 @@
 -- A document as data: a problem and a plan, and the text that they are written as.
-use Rattle.std.specs.Prelude.{◌≡◌, ℕ, List, map, length, codes, Option, Some, None, option_map, option_and_then, Ok}
+use Rattle.std.specs.Prelude.{◌≡◌, ℕ, List, map, length, codes, Option, Some, None, option_map, option_and_then, ◌==◌, if◌then◌else◌, Ok}
 use Rattle.rollout_rules.specs.Sums.{list_below}
 use Rattle.rollout_rules.specs.Wan.{Switch, Link, Problem, Plan, Stage, switch_at, tunnel_at, flow_at, tunnel_of}
-use Rattle.serde_json.specs.Data.{Data, null, boolean, number, string, array, object, unsigned, no_members, member}
+use Rattle.serde_json.specs.Data.{Data, Members, null, boolean, number, string, array, object, unsigned, no_members, member}
 use Rattle.serde_json.specs.Find.{get}
 use Rattle.serde_json.specs.Read.{read}
 use Rattle.serde_json.specs.View.{items_of}
@@ -32,11 +32,15 @@ link_data p l =
     object (member (codes "capacity") (number_data l.capacity) (member (codes "from") (name_data p l.from)
     (member (codes "to") (name_data p l.to) no_members)))
 
--- the tunnel with a number: its rates, and the names of the switches on its path
+-- in format 1 a tunnel has no width of its own
+abbrev pub width_member : ℕ → ℕ → Members
+width_member format width = if format == 1 then no_members else member (codes "width") (number_data width) no_members
+
+-- the tunnel with a number: its rates, the names of the switches on its path, and its width
 abbrev pub tunnel_data : Problem → ℕ → Data
 tunnel_data p t =
     object (member (codes "new") (rate_data (tunnel_at p t).new) (member (codes "old") (rate_data (tunnel_at p t).old)
-    (member (codes "path") (list_data (map (name_data p) (tunnel_at p t).path)) no_members)))
+    (member (codes "path") (list_data (map (name_data p) (tunnel_at p t).path)) (width_member p.format (tunnel_at p t).width))))
 
 -- the flow with a number, and the tunnels in its row
 abbrev pub flow_data : Problem → ℕ → Data
@@ -44,11 +48,15 @@ flow_data p f =
     object (member (codes "name") (string (flow_at p f).name)
     (member (codes "tunnels") (list_data (list_below (flow_at p f).tunnels (λ j. tunnel_data p (tunnel_of p f j)))) no_members))
 
+-- format 1 is the one without a key for it
+abbrev pub format_before : ℕ → Members → Members
+format_before format behind = if format == 1 then behind else member (codes "format") (number_data format) behind
+
 abbrev pub problem_data : Problem → Data
 problem_data p =
     object (member (codes "flows") (list_data (list_below (length p.flows) (flow_data p)))
-    (member (codes "links") (list_data (map (link_data p) p.links))
-    (member (codes "switches") (list_data (map switch_data p.switches)) no_members)))
+    (format_before p.format (member (codes "links") (list_data (map (link_data p) p.links))
+    (member (codes "switches") (list_data (map switch_data p.switches)) no_members))))
 
 abbrev pub stage_data : Stage → Data
 stage_data s =

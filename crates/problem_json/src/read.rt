@@ -1,28 +1,29 @@
-ghost use Rattle.std.specs.Prelude.{◌≡◌, ◌+◌, ◌≤◌, length, OnOk, codes};
+ghost use Rattle.std.specs.Prelude.{◌≡◌, ◌+◌, ◌≤◌, length, IfOk, OnOk, codes};
 ghost use Rattle.serde_json.specs.View.{view, items_view};
-ghost use Rattle.rollout_rules.specs.Network.{most_switches, most_links, most_flows};
+ghost use Rattle.rollout_rules.specs.declared.limits.TheConstants.{MOST_SWITCHES, MOST_LINKS, MOST_FLOWS};
 ghost use Rattle.problem_json.specs.GrammarResults.{Reads, ReadsAs, Leaves, add_each};
-ghost use Rattle.problem_json.specs.GrammarRows.{with_one_switch, with_one_link, with_one_flow};
-ghost use Rattle.problem_json.specs.Grammar.{with_rows, data_in, problem_of, problem_in};
+ghost use Rattle.problem_json.specs.GrammarNetwork.{with_one_switch, with_one_link, with_one_flow};
+ghost use Rattle.problem_json.specs.Grammar.{with_list, empty_in, empty_of, data_in, problem_of, problem_in};
 
 mod documents;
 mod flows;
 mod path;
 mod plans;
-mod rows;
 mod scripts;
 #[cfg(test)]
 mod tests;
+mod topology;
 mod values;
 
 use crate::fault::InputFault;
 use crate::read::flows::add_flow;
-use crate::read::rows::{add_link, add_switch};
-use crate::read::values::list_of;
+use crate::read::topology::{add_link, add_switch};
+use crate::read::values::{list_of, whole};
 pub use documents::{Document, Scripted, read_document, read_script};
+use rollout_rules::{MOST_FLOWS, MOST_LINKS, MOST_SWITCHES};
 use serde_json::Value;
 use std::alloc::Global;
-use wan_model::{MOST_FLOWS, MOST_LINKS, MOST_SWITCHES, Problem};
+use wan_model::Problem;
 
 /// Reads a problem: an object of `switches`, `links` and `flows`, in the keys and limits of its grammar.
 ///
@@ -55,18 +56,46 @@ fn read_value(alloc: Global, bytes: &[u8]) -> Result<Value, InputFault>
 fn problem_of(alloc: Global, value: &Value) -> Result<Problem, InputFault>
     ensures { Reads result (problem_of (view value.now)) }
 {
-    let mut problem = Problem::new(alloc);
+    let mut problem = empty_of(alloc, value)?;
     read_switches(&mut problem, value)?;
     read_links(&mut problem, value)?;
     read_flows(alloc, &mut problem, value)?;
     Ok(problem)
 }
 
-#[tactic(auto, using(crate::proofs::Steps::steps), unfolding(crate::specs::Grammar::with_rows))]
+/// The problem without rows, in the format that an object names, or in format 1.
+#[tactic(auto, using(crate::proofs::Steps::steps), unfolding(crate::specs::Grammar::empty_of, crate::specs::Grammar::empty_of_format))]
+fn empty_of(alloc: Global, value: &Value) -> Result<Problem, InputFault>
+    ensures empty { Reads result (empty_of (view value.now)) }
+    ensures switches { IfOk result (λ p. length p.switches ≡ 0) }
+    ensures links { IfOk result (λ p. length p.links ≡ 0) }
+    ensures flows { IfOk result (λ p. length p.flows ≡ 0) }
+{
+    let Some(format) = value.get("format") else {
+        return Ok(Problem::new(alloc));
+    };
+    empty_in(alloc, whole(format)?)
+}
+
+#[tactic(auto, unfolding(crate::specs::Grammar::empty_in))]
+fn empty_in(alloc: Global, format: u64) -> Result<Problem, InputFault>
+    ensures empty { Reads result (empty_in format) }
+    ensures switches { IfOk result (λ p. length p.switches ≡ 0) }
+    ensures links { IfOk result (λ p. length p.links ≡ 0) }
+    ensures flows { IfOk result (λ p. length p.flows ≡ 0) }
+{
+    match format {
+        1 => Ok(Problem::new(alloc)),
+        2 => Ok(Problem::new_wide(alloc)),
+        _ => Err(InputFault::Bad),
+    }
+}
+
+#[tactic(auto, using(crate::proofs::Steps::steps), unfolding(crate::specs::Grammar::with_list))]
 fn read_switches(problem: &mut Problem, value: &Value) -> Result<(), InputFault>
     requires { length problem.old.switches ≡ 0 }
-    ensures rows { Leaves result problem.new
-        (with_rows (codes "switches") most_switches with_one_switch (view value.now) problem.old) }
+    ensures added { Leaves result problem.new
+        (with_list (codes "switches") MOST_SWITCHES with_one_switch (view value.now) problem.old) }
     ensures links { problem.new.links ≡ problem.old.links }
     ensures flows { problem.new.flows ≡ problem.old.flows }
 {
@@ -76,8 +105,8 @@ fn read_switches(problem: &mut Problem, value: &Value) -> Result<(), InputFault>
 
 #[tactic(auto, using(crate::proofs::Steps::steps))]
 fn add_switches(problem: &mut Problem, switches: &[Value]) -> Result<(), InputFault>
-    requires { length problem.old.switches + length switches.now ≤ most_switches }
-    ensures rows { Leaves result problem.new
+    requires { length problem.old.switches + length switches.now ≤ MOST_SWITCHES }
+    ensures added { Leaves result problem.new
         (add_each with_one_switch (items_view switches.now) problem.old) }
     ensures links { problem.new.links ≡ problem.old.links }
     ensures flows { problem.new.flows ≡ problem.old.flows }
@@ -88,11 +117,11 @@ fn add_switches(problem: &mut Problem, switches: &[Value]) -> Result<(), InputFa
     Ok(())
 }
 
-#[tactic(auto, using(crate::proofs::Steps::steps), unfolding(crate::specs::Grammar::with_rows))]
+#[tactic(auto, using(crate::proofs::Steps::steps), unfolding(crate::specs::Grammar::with_list))]
 fn read_links(problem: &mut Problem, value: &Value) -> Result<(), InputFault>
     requires { length problem.old.links ≡ 0 }
-    ensures rows { Leaves result problem.new
-        (with_rows (codes "links") most_links with_one_link (view value.now) problem.old) }
+    ensures added { Leaves result problem.new
+        (with_list (codes "links") MOST_LINKS with_one_link (view value.now) problem.old) }
     ensures flows { problem.new.flows ≡ problem.old.flows }
 {
     let links = list_of(value, "links", MOST_LINKS)?;
@@ -101,8 +130,8 @@ fn read_links(problem: &mut Problem, value: &Value) -> Result<(), InputFault>
 
 #[tactic(auto, using(crate::proofs::Steps::steps))]
 fn add_links(problem: &mut Problem, links: &[Value]) -> Result<(), InputFault>
-    requires { length problem.old.links + length links.now ≤ most_links }
-    ensures rows { Leaves result problem.new
+    requires { length problem.old.links + length links.now ≤ MOST_LINKS }
+    ensures added { Leaves result problem.new
         (add_each with_one_link (items_view links.now) problem.old) }
     ensures flows { problem.new.flows ≡ problem.old.flows }
 {
@@ -112,11 +141,11 @@ fn add_links(problem: &mut Problem, links: &[Value]) -> Result<(), InputFault>
     Ok(())
 }
 
-#[tactic(auto, using(crate::proofs::Steps::steps), unfolding(crate::specs::Grammar::with_rows))]
+#[tactic(auto, using(crate::proofs::Steps::steps), unfolding(crate::specs::Grammar::with_list))]
 fn read_flows(alloc: Global, problem: &mut Problem, value: &Value) -> Result<(), InputFault>
     requires { length problem.old.flows ≡ 0 }
     ensures { Leaves result problem.new
-        (with_rows (codes "flows") most_flows with_one_flow (view value.now) problem.old) }
+        (with_list (codes "flows") MOST_FLOWS with_one_flow (view value.now) problem.old) }
 {
     let flows = list_of(value, "flows", MOST_FLOWS)?;
     add_flows(alloc, problem, flows)
@@ -124,7 +153,7 @@ fn read_flows(alloc: Global, problem: &mut Problem, value: &Value) -> Result<(),
 
 #[tactic(auto, using(crate::proofs::Steps::steps))]
 fn add_flows(alloc: Global, problem: &mut Problem, flows: &[Value]) -> Result<(), InputFault>
-    requires { length problem.old.flows + length flows.now ≤ most_flows }
+    requires { length problem.old.flows + length flows.now ≤ MOST_FLOWS }
     ensures { Leaves result problem.new
         (add_each with_one_flow (items_view flows.now) problem.old) }
 {

@@ -10,12 +10,13 @@ ghost use Rattle.serde_json.specs.Read.{read};
 ghost use Rattle.serde_json.specs.View.{view};
 ghost use Rattle.problem_json.specs.Writing.{document_data, document_text, HoldsProblem};
 
+use lists::{Memory, Text};
 use plan::plan_value;
 use problem::problem_value;
 pub use round_trip::written_problem_is_read;
 use serde_json::{Value, json};
 use std::alloc::Global;
-use wan_model::{Memory, Plan, Problem, Text};
+use wan_model::{Plan, Problem};
 
 /// The text of a problem with a plan for it: JSON (RFC 8259) without blanks, the keys of each object in
 /// the order of their bytes, and no line feed at the end. A plan's rates are in units of 1/scale; a

@@ -1,28 +1,29 @@
 ghost use Rattle.std.specs.Prelude.{◌≡◌, ◌+◌, ◌-◌, ◌<◌, ◌≤◌, ◌==◌, ◌&&◌, length, slice_index, OnOk};
 ghost use Rattle.serde_json.specs.View.{view, items_view};
-ghost use Rattle.rollout_rules.specs.Network.{most_flows, most_tunnels, most_tunnels_of_flow};
+ghost use Rattle.rollout_rules.specs.declared.limits.TheConstants.{MOST_FLOWS, MOST_TUNNELS, MOST_TUNNELS_OF_FLOW};
 ghost use Rattle.rollout_rules.specs.Building.{has_ends, last_flow};
 ghost use Rattle.problem_json.specs.GrammarResults.{Leaves, add_each};
-ghost use Rattle.problem_json.specs.GrammarRows.{with_one_flow, with_one_tunnel};
+ghost use Rattle.problem_json.specs.GrammarNetwork.{with_one_flow, with_one_tunnel};
 ghost use Rattle.problem_json.specs.GrammarGrowth.{tunnels_of_last, HasMoreTunnels};
 
 use crate::fault::InputFault;
 use crate::read::path::path_of;
-use crate::read::values::{list_of, name_of, rate_of};
+use crate::read::values::{list_of, name_of, rate_of, width_of};
 use lists::Ids;
+use rollout_rules::{MOST_TUNNELS, MOST_TUNNELS_OF_FLOW};
 use serde_json::Value;
 use std::alloc::Global;
-use wan_model::{MOST_TUNNELS, MOST_TUNNELS_OF_FLOW, Problem};
+use wan_model::Problem;
 
 /// Adds a flow with its tunnels.
-#[tactic(auto, using(crate::proofs::Steps::steps, crate::proofs::Growth::flow_starts, crate::proofs::Growth::flow_more), unfolding(crate::specs::GrammarRows::with_one_flow))]
+#[tactic(auto, using(crate::proofs::Steps::steps, crate::proofs::Growth::flow_starts, crate::proofs::Growth::flow_more), unfolding(crate::specs::GrammarNetwork::with_one_flow))]
 pub(super) fn add_flow(
     alloc: Global,
     problem: &mut Problem,
     value: &Value,
 ) -> Result<(), InputFault>
-    requires { length problem.old.flows < most_flows }
-    ensures row { Leaves result problem.new (with_one_flow (view value.now) problem.old) }
+    requires { length problem.old.flows < MOST_FLOWS }
+    ensures added { Leaves result problem.new (with_one_flow (view value.now) problem.old) }
     ensures flows { OnOk result (length problem.new.flows ≡ length problem.old.flows + 1) }
 {
     let name = name_of(value)?;
@@ -41,9 +42,9 @@ pub(super) fn add_flow(
 #[tactic(auto, using(crate::proofs::Steps::steps, crate::proofs::Growth::grows_on))]
 fn add_tunnels(alloc: Global, problem: &mut Problem, tunnels: &[Value]) -> Result<(), InputFault>
     requires some_flow { 0 < length problem.old.flows }
-    requires few { tunnels_of_last problem.old + length tunnels.now ≤ most_tunnels_of_flow }
-    requires room { length problem.old.tunnels + length tunnels.now ≤ most_tunnels }
-    ensures rows { Leaves result problem.new
+    requires few { tunnels_of_last problem.old + length tunnels.now ≤ MOST_TUNNELS_OF_FLOW }
+    requires room { length problem.old.tunnels + length tunnels.now ≤ MOST_TUNNELS }
+    ensures added { Leaves result problem.new
         (add_each with_one_tunnel (items_view tunnels.now) problem.old) }
     ensures grown { OnOk result (HasMoreTunnels problem.old problem.new (length tunnels.now)) }
 {
@@ -54,12 +55,12 @@ fn add_tunnels(alloc: Global, problem: &mut Problem, tunnels: &[Value]) -> Resul
 }
 
 /// Adds a tunnel to the last flow.
-#[tactic(auto, using(crate::proofs::Steps::steps, crate::proofs::Growth::tunnel_grows), unfolding(crate::specs::GrammarRows::with_one_tunnel))]
+#[tactic(auto, using(crate::proofs::Steps::steps, crate::proofs::Growth::tunnel_grows), unfolding(crate::specs::GrammarNetwork::with_one_tunnel))]
 fn add_tunnel(alloc: Global, problem: &mut Problem, value: &Value) -> Result<(), InputFault>
     requires some_flow { 0 < length problem.old.flows }
-    requires few { tunnels_of_last problem.old < most_tunnels_of_flow }
-    requires room { length problem.old.tunnels < most_tunnels }
-    ensures row { Leaves result problem.new (with_one_tunnel (view value.now) problem.old) }
+    requires few { tunnels_of_last problem.old < MOST_TUNNELS_OF_FLOW }
+    requires room { length problem.old.tunnels < MOST_TUNNELS }
+    ensures added { Leaves result problem.new (with_one_tunnel (view value.now) problem.old) }
     ensures grown { OnOk result (HasMoreTunnels problem.old problem.new 1) }
 {
     let path = path_of(alloc, problem, value)?;
@@ -68,7 +69,8 @@ fn add_tunnel(alloc: Global, problem: &mut Problem, value: &Value) -> Result<(),
     }
     let old = rate_of(value, "old")?;
     let new = rate_of(value, "new")?;
-    problem.add_tunnel(path.as_slice(), old, new)?;
+    let width = width_of(problem.format(), value)?;
+    problem.add_tunnel(path.as_slice(), old, new, width)?;
     Ok(())
 }
 

@@ -1,24 +1,25 @@
 ghost use Rattle.std.specs.Prelude.{◌≡◌, ◌+◌, ◌<◌, ◌≤◌, ◌==◌, length, IfOk, OnOk};
 ghost use Rattle.std.specs.List.{list_any};
 ghost use Rattle.serde_json.specs.View.{view, items_view};
-ghost use Rattle.rollout_rules.specs.Network.{most_hops};
+ghost use Rattle.rollout_rules.specs.declared.limits.TheConstants.{MOST_HOPS};
 ghost use Rattle.rollout_rules.specs.Building.{IsRoute};
 ghost use Rattle.problem_json.specs.GrammarResults.{Reads, Leaves, add_each};
-ghost use Rattle.problem_json.specs.GrammarRows.{with_one_hop, leads_on, path_of};
+ghost use Rattle.problem_json.specs.GrammarNetwork.{with_one_hop, leads_on, path_of};
 
 use crate::fault::InputFault;
-use crate::read::rows::switch_named;
+use crate::read::topology::switch_named;
 use crate::read::values::list_of;
 use lists::Ids;
+use rollout_rules::MOST_HOPS;
 use serde_json::Value;
 use std::alloc::Global;
-use wan_model::{MOST_HOPS, Problem};
+use wan_model::Problem;
 
 /// A path joins two switches or more.
 const LEAST_HOPS: usize = 2;
 
 /// The path of a tunnel: switches by their numbers, each joined to the next by a link.
-#[tactic(auto, using(crate::proofs::Steps::steps, crate::proofs::Routes::route_none), unfolding(crate::specs::GrammarRows::path_of))]
+#[tactic(auto, using(crate::proofs::Steps::steps, crate::proofs::Routes::route_none), unfolding(crate::specs::GrammarNetwork::path_of))]
 pub(super) fn path_of(alloc: Global, problem: &Problem, value: &Value) -> Result<Ids, InputFault>
     ensures path { Reads result (path_of problem.now (view value.now)) }
     ensures route { IfOk result (λ path. IsRoute problem.now path) }
@@ -35,7 +36,7 @@ pub(super) fn path_of(alloc: Global, problem: &Problem, value: &Value) -> Result
 
 #[tactic(auto, using(crate::proofs::Steps::steps))]
 fn add_hops(problem: &Problem, names: &[Value], path: &mut Ids) -> Result<(), InputFault>
-    requires room { length path.old + length names.now ≤ most_hops }
+    requires room { length path.old + length names.now ≤ MOST_HOPS }
     requires route { IsRoute problem.now path.old }
     ensures hops { Leaves result path.new
         (add_each (with_one_hop problem.now) (items_view names.now) path.old) }
@@ -49,9 +50,9 @@ fn add_hops(problem: &Problem, names: &[Value], path: &mut Ids) -> Result<(), In
 }
 
 /// Adds a switch to a path.
-#[tactic(auto, using(crate::proofs::Steps::steps, crate::proofs::Routes::route_more), unfolding(crate::specs::GrammarRows::with_one_hop))]
+#[tactic(auto, using(crate::proofs::Steps::steps, crate::proofs::Routes::route_more), unfolding(crate::specs::GrammarNetwork::with_one_hop))]
 fn add_hop(problem: &Problem, value: &Value, path: &mut Ids) -> Result<(), InputFault>
-    requires room { length path.old < most_hops }
+    requires room { length path.old < MOST_HOPS }
     requires route { IsRoute problem.now path.old }
     ensures hop { Leaves result path.new (with_one_hop problem.now (view value.now) path.old) }
     ensures route { OnOk result (IsRoute problem.now path.new) }

@@ -3,13 +3,12 @@ ghost use Rattle.problem_json.specs.GrammarResults.{Reads, Leaves, add_each};
 ghost use Rattle.problem_json.specs.GrammarPlans.{with_one_mark, marks_of, with_one_rate, rates_of, stage_of, with_one_stage, plan_of};
 
 use crate::fault::InputFault;
-use crate::read::values::{list_of, number_of, whole};
+use crate::read::values::{list_of, number, number_of};
+use lists::{Marks, Nums};
+use rollout_rules::{LARGEST_PLAN_RATE, LARGEST_SCALE, MOST_STAGES, MOST_TUNNELS};
 use serde_json::Value;
 use std::alloc::Global;
-use wan_model::{LARGEST_SCALE, MOST_STAGES, MOST_TUNNELS, Marks, Nums, Plan, Stage};
-
-/// The largest rate of a tunnel, at the largest scale.
-const LARGEST_PLAN_RATE: u64 = 65_536_000_000_000;
+use wan_model::{Plan, Stage};
 
 /// The plan that an object is.
 #[tactic(auto, using(crate::proofs::Steps::steps), unfolding(crate::specs::GrammarPlans::plan_of))]
@@ -104,7 +103,7 @@ fn add_rates(rates: &mut Nums, elements: &[Value]) -> Result<(), InputFault>
 fn add_rate(rates: &mut Nums, value: &Value) -> Result<(), InputFault>
     ensures { Leaves result rates.new (with_one_rate (view value.now) rates.old) }
 {
-    let rate = whole(value, LARGEST_PLAN_RATE)?;
+    let rate = number(value, LARGEST_PLAN_RATE)?;
     rates.push(rate)?;
     Ok(())
 }

@@ -4,19 +4,17 @@ ghost use Rattle.problem_json.specs.GrammarResults.{Reads, Leaves, add_each};
 ghost use Rattle.problem_json.specs.GrammarScripts.{plain_act, numbered_act, crash_act, plain_event, crash_in, numbered_in, event_with, event_of_parts, event_in, with_one_event, script_of};
 
 use crate::fault::InputFault;
-use crate::read::values::{list_of, text_of, whole};
-use rollout_rules::{Act, Script};
+use crate::read::values::{list_of, number, text_of};
+use rollout_rules::{Act, MOST_ACTS, Script};
 use serde_json::Value;
 use std::alloc::Global;
-
-const MOST_EVENTS: usize = 100_000;
 
 /// The script in an object.
 #[tactic(auto, using(crate::proofs::Steps::steps), unfolding(crate::specs::GrammarScripts::script_of))]
 pub(super) fn script_of(alloc: Global, value: &Value) -> Result<Script, InputFault>
     ensures { Reads result (script_of (view value.now)) }
 {
-    let events = list_of(value, "script", MOST_EVENTS)?;
+    let events = list_of(value, "script", MOST_ACTS)?;
     let mut script = Script::new(alloc);
     add_events(&mut script, events)?;
     Ok(script)
@@ -113,10 +111,10 @@ fn crash_act(batch: &str) -> Option<Act>
 }
 
 #[tactic(auto, using(crate::proofs::Steps::steps), unfolding(crate::specs::GrammarScripts::numbered_in))]
-fn numbered_of(name: &str, number: &Value) -> Result<Act, InputFault>
-    ensures { Reads result (numbered_in name.now (view number.now)) }
+fn numbered_of(name: &str, value: &Value) -> Result<Act, InputFault>
+    ensures { Reads result (numbered_in name.now (view value.now)) }
 {
-    let number = whole(number, u64::from(u32::MAX))?;
+    let number = number(value, u64::from(u32::MAX))?;
     numbered_act(name, number as u32).ok_or(InputFault::Bad)
 }
 

@@ -1,12 +1,13 @@
-ghost use Rattle.std.specs.Prelude.{◌≤◌, length, IfOk};
+ghost use Rattle.std.specs.Prelude.{◌≤◌, ◌≡◌, length, IfOk};
 ghost use Rattle.serde_json.specs.View.{view, items_view};
-ghost use Rattle.rollout_rules.specs.Network.{longest_name, IsRate};
+ghost use Rattle.rollout_rules.specs.Network.{IsRate};
+ghost use Rattle.rollout_rules.specs.declared.limits.TheConstants.{LONGEST_NAME};
 ghost use Rattle.problem_json.specs.GrammarResults.{Reads, ReadsAs};
-ghost use Rattle.problem_json.specs.GrammarValues.{member_in, text_in, number_in, list_of, name_of, number_of, rate_of};
+ghost use Rattle.problem_json.specs.GrammarValues.{member_in, text_in, number_in, list_of, name_of, number_of, rate_of, whole_in, width_in, width_of};
 
 use crate::fault::InputFault;
+use rollout_rules::{LARGEST_RATE, LARGEST_WIDTH, LONGEST_NAME};
 use serde_json::Value;
-use wan_model::{LARGEST_RATE, LONGEST_NAME};
 
 /// An object's value at a key.
 #[tactic(auto, unfolding(crate::specs::GrammarValues::member_in))]
@@ -45,7 +46,7 @@ pub(super) fn list_of<'v>(
 #[tactic(auto, using(crate::proofs::Steps::steps), unfolding(crate::specs::GrammarValues::name_of, crate::specs::GrammarValues::name_in))]
 pub(super) fn name_of(value: &Value) -> Result<&str, InputFault>
     ensures name { ReadsAs (λ s. s.now) result (name_of (view value.now)) }
-    ensures short { IfOk result (λ s. length s.now ≤ longest_name) }
+    ensures short { IfOk result (λ s. length s.now ≤ LONGEST_NAME) }
 {
     let name = text_of(member(value, "name")?)?;
     if name.len() > LONGEST_NAME {
@@ -60,7 +61,7 @@ pub(super) fn number_of(value: &Value, key: &str, most: u64) -> Result<u64, Inpu
     ensures number { Reads result (number_of key.now most (view value.now)) }
     ensures most { IfOk result (λ n. n ≤ most) }
 {
-    whole(member(value, key)?, most)
+    number(member(value, key)?, most)
 }
 
 /// The rate at a key, or `None` where the tunnel isn't installed.
@@ -73,18 +74,53 @@ pub(super) fn rate_of(value: &Value, key: &str) -> Result<Option<u64>, InputFaul
     if rate.is_null() {
         return Ok(None);
     }
-    Ok(Some(whole(rate, LARGEST_RATE)?))
+    Ok(Some(number(rate, LARGEST_RATE)?))
+}
+
+/// How many entries a tunnel takes in each table on its path: 1 in format 1, which has no key for it.
+#[tactic(auto, using(crate::proofs::Steps::steps), unfolding(crate::specs::GrammarValues::width_of))]
+pub(super) fn width_of(format: u32, value: &Value) -> Result<u32, InputFault>
+    ensures width { Reads result (width_of format (view value.now)) }
+    ensures some { IfOk result (λ n. 1 ≤ n) }
+    ensures most { IfOk result (λ n. n ≤ LARGEST_WIDTH) }
+    ensures plain { IfOk result (λ n. format ≡ 1 → n ≡ 1) }
+{
+    if format == 1 {
+        return Ok(1);
+    }
+    width(member(value, "width")?)
+}
+
+#[tactic(auto, using(crate::proofs::Steps::steps), unfolding(crate::specs::GrammarValues::width_in))]
+fn width(value: &Value) -> Result<u32, InputFault>
+    ensures width { Reads result (width_in (view value.now)) }
+    ensures some { IfOk result (λ n. 1 ≤ n) }
+    ensures most { IfOk result (λ n. n ≤ LARGEST_WIDTH) }
+{
+    let width = number(value, u64::from(LARGEST_WIDTH))?;
+    if width < 1 {
+        return Err(InputFault::Bad);
+    }
+    Ok(width as u32)
 }
 
 /// The whole number that a value is, which is at most so large.
 #[tactic(auto, using(crate::proofs::Steps::steps), unfolding(crate::specs::GrammarValues::number_in))]
-pub(super) fn whole(value: &Value, most: u64) -> Result<u64, InputFault>
+pub(super) fn number(value: &Value, most: u64) -> Result<u64, InputFault>
     ensures number { Reads result (number_in most (view value.now)) }
     ensures most { IfOk result (λ n. n ≤ most) }
 {
-    let number = value.as_u64().ok_or(InputFault::Bad)?;
+    let number = whole(value)?;
     if number > most {
         return Err(InputFault::Bad);
     }
     Ok(number)
+}
+
+/// The whole number that a value is.
+#[tactic(auto, unfolding(crate::specs::GrammarValues::whole_in))]
+pub(super) fn whole(value: &Value) -> Result<u64, InputFault>
+    ensures { Reads result (whole_in (view value.now)) }
+{
+    value.as_u64().ok_or(InputFault::Bad)
 }

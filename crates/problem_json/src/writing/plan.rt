@@ -3,9 +3,10 @@ ghost use Rattle.serde_json.specs.Data.{boolean};
 ghost use Rattle.serde_json.specs.View.{view};
 ghost use Rattle.problem_json.specs.Writing.{number_data, stage_data, plan_data};
 
+use lists::Memory;
 use serde_json::{Value, json};
 use std::alloc::Global;
-use wan_model::{Memory, Plan, Stage};
+use wan_model::{Plan, Stage};
 
 pub fn plan_value(alloc: Global, plan: &Plan) -> Result<Value, Memory>
     ensures { IfOk result (λ v. view v ≡ plan_data plan.now) }

@@ -6,9 +6,10 @@ ghost use Rattle.serde_json.specs.Data.{string};
 ghost use Rattle.serde_json.specs.View.{view};
 ghost use Rattle.problem_json.specs.Writing.{switch_data, link_data, name_data, tunnel_data, flow_data, problem_data};
 
+use lists::Memory;
 use serde_json::{Value, json};
 use std::alloc::Global;
-use wan_model::{Flow, Link, Memory, Problem, Switch, Tunnel};
+use wan_model::{Flow, Link, Problem, Switch, Tunnel};
 
 pub fn problem_value(alloc: Global, problem: &Problem) -> Result<Value, Memory>
     ensures data { IfOk result (λ v. view v ≡ problem_data problem.now) }
@@ -17,7 +18,11 @@ pub fn problem_value(alloc: Global, problem: &Problem) -> Result<Value, Memory>
     let flows = flow_values(alloc, problem)?;
     let links = link_values(alloc, problem)?;
     let switches = switch_values(alloc, problem.switches())?;
-    json!(in alloc; {"flows": flows, "links": links, "switches": switches})
+    let format = problem.format();
+    if format == 1 {
+        return json!(in alloc; {"flows": flows, "links": links, "switches": switches});
+    }
+    json!(in alloc; {"flows": flows, "format": format, "links": links, "switches": switches})
 }
 
 fn switch_values(alloc: Global, switches: &[Switch]) -> Result<Vec<Value>, Memory>
@@ -102,7 +107,10 @@ fn tunnel_value(alloc: Global, problem: &Problem, number: usize) -> Result<Value
 {
     let tunnel = &problem.tunnels()[number];
     let path = path_values(alloc, problem, tunnel.path.as_slice())?;
-    json!(in alloc; {"new": tunnel.new, "old": tunnel.old, "path": path})
+    if problem.format() == 1 {
+        return json!(in alloc; {"new": tunnel.new, "old": tunnel.old, "path": path});
+    }
+    json!(in alloc; {"new": tunnel.new, "old": tunnel.old, "path": path, "width": tunnel.width})
 }
 
 fn path_values(alloc: Global, problem: &Problem, path: &[u32]) -> Result<Vec<Value>, Memory>

@@ -1,8 +1,9 @@
 use super::*;
 use crate::read::read_problem;
+use lists::{Marks, Nums};
 use std::alloc::Global;
 use std::test::Fail;
-use wan_model::{Marks, Nums, Stage};
+use wan_model::Stage;
 
 const DETOUR_READ: &str =
     r#"{"switches":[{"name":"A","table":8},{"name":"B","table":8},{"name":"C","table":8}],"links":[{"from":"A","to":"B","capacity":10},{"from":"A","to":"C","capacity":10},{"from":"C","to":"B","capacity":10}],"flows":[{"name":"f","tunnels":[{"path":["A","B"],"old":4,"new":1},{"path":["A","C","B"],"old":0,"new":3}]}]}"#;

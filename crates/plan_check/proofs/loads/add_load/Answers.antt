@@ -1,6 +1,10 @@
 use Rattle.std.proofs.Common.{arith}
+use Rattle.wan_model.proofs.Shapes.{shaped-rate_behind}
 use Rattle.plan_check.proofs.Shares.{load_grown}
 use Rattle.plan_check.proofs.loads.add_load.Goals as goal
+
+pub greater_rate-requires-clause-behind : goal.greater_rate-requires-clause-behind
+greater_rate-requires-clause-behind c = shaped-rate_behind c.args.problem.now c.args.plan.now c.requires.shape c.args.s c.args.t c.requires.stage c.requires.tunnel
 
 pub returns : goal.returns
 returns c =

@@ -1,4 +1,4 @@
-use Rattle.std.proofs.Common.{◌≡◌, ◌<◌, ◌∙◌, ℕ, Bool, false, length, nat_le, sym, subst, arith}
+use Rattle.std.proofs.Common.{◌≡◌, ◌<◌, ◌∙◌, false, length, nat_le, sym, subst, arith}
 use Rattle.rollout_rules.specs.Items.{the_link, capacity_of}
 use Rattle.rollout_rules.specs.Valid.{step_total}
 use Rattle.plan_check.proofs.Below.{all_below_stops}

@@ -1,7 +1,7 @@
 use Rattle.std.proofs.Common.{◌≡◌, ◌+◌, length, drop}
 use Rattle.serde_json.specs.View.{items_view}
 use Rattle.problem_json.specs.GrammarResults.{add_each}
-use Rattle.problem_json.specs.GrammarRows.{with_one_flow}
+use Rattle.problem_json.specs.GrammarNetwork.{with_one_flow}
 use Rattle.problem_json.proofs.read.add_flows.Given as goal
 
 abbrev pub invariant-loop-flow : goal.invariant-loop-flow

@@ -1,7 +1,7 @@
 use Rattle.std.proofs.Common.{◌≡◌, drop}
 use Rattle.serde_json.specs.View.{items_view}
 use Rattle.problem_json.specs.GrammarResults.{add_each}
-use Rattle.problem_json.specs.GrammarRows.{with_one_tunnel}
+use Rattle.problem_json.specs.GrammarNetwork.{with_one_tunnel}
 use Rattle.problem_json.specs.GrammarGrowth.{HasMoreTunnels}
 use Rattle.problem_json.proofs.read.flows.add_tunnels.Given as goal
 

@@ -1,8 +1,0 @@
-use Rattle.std.proofs.Common.{◌≡◌, true}
-use Rattle.rollout_rules.specs.Sums.{all_below}
-use Rattle.rollout_rules.specs.Wan.{tunnel_at}
-use Rattle.plan_check.specs.Parts.{stands_at}
-use Rattle.plan_check.proofs.ends.begins_at_old.Given as goal
-
-abbrev pub invariant-loop-t : goal.invariant-loop-t
-invariant-loop-t l = all_below l.t (λ t. stands_at l.plan 0 t (tunnel_at l.problem t).old) ≡ true
