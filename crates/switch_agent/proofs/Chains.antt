@@ -5,9 +5,9 @@ use Rattle.std.proofs.lemmas.List.{append-nil, drop-drop, take_rest, take-append
 use Rattle.std.proofs.lemmas.List.Elements.{All-append}
 use Rattle.std.proofs.lemmas.Grind.{flat_map-append}
 use Rattle.std.specs.List.{All, flat_map}
-use Rattle.wan_edge.specs.Frames.{Answer, Command, IsCommand, Splits, answer_bytes, command_bytes}
+use Rattle.wan_edge.specs.Frames.{AnswerFrame, CommandFrame, IsCommand, Splits, answer_bytes, command_bytes}
 use Rattle.wan_edge.specs.Streams.{Appends, AppendsPart}
-use Rattle.wan_edge.specs.Switches.{Holding, after_command, after_commands, answer_to, answers_to}
+use Rattle.wan_edge.specs.Switches.{Holdings, after_command, after_commands, answer_to, answers_to}
 use Rattle.wan_edge.proofs.Chains.{Appends-chain}
 use Rattle.wire_frames.specs.Reading.{IsCommandFault}
 use Rattle.wire_frames.specs.declared.fault.FrameFault.{FrameFault}
@@ -18,18 +18,18 @@ use Rattle.switch_agent.specs.declared.serve_fault.ServeFault.{ServeFault}
 use Rattle.switch_agent.specs.declared.serve_fault.ServeFault.TheVariants.{Frame, Long, Memory, Read, Write}
 use Rattle.switch_agent.specs.declared.serve_fault.Served.{Served}
 
-after_commands-append : (held : Holding) (xs ys : List Command) → after_commands held (xs ++ ys) ≡ after_commands (after_commands held xs) ys
+after_commands-append : (held : Holdings) (xs ys : List CommandFrame) → after_commands held (xs ++ ys) ≡ after_commands (after_commands held xs) ys
 after_commands-append held [] ys = refl
 after_commands-append held (x ∷ xs) ys = after_commands-append (after_command held x) xs ys
 
-answers_to-append : (held : Holding) (xs ys : List Command) → answers_to held (xs ++ ys) ≡ answers_to held xs ++ answers_to (after_commands held xs) ys
+answers_to-append : (held : Holdings) (xs ys : List CommandFrame) → answers_to held (xs ++ ys) ≡ answers_to held xs ++ answers_to (after_commands held xs) ys
 answers_to-append held [] ys = refl
-answers_to-append held (x ∷ xs) ys = ap (λ (answers : List Answer). answer_to held x ∷ answers) (answers_to-append (after_command held x) xs ys)
+answers_to-append held (x ∷ xs) ys = ap (λ (answers : List AnswerFrame). answer_to held x ∷ answers) (answers_to-append (after_command held x) xs ys)
 
-answered-append : (held : Holding) (xs ys : List Command) → answered held (xs ++ ys) ≡ answered held xs ++ answered (after_commands held xs) ys
+answered-append : (held : Holdings) (xs ys : List CommandFrame) → answered held (xs ++ ys) ≡ answered held xs ++ answered (after_commands held xs) ys
 answered-append held xs ys = ap (flat_map answer_bytes) (answers_to-append held xs ys) ∙ flat_map-append answer_bytes (answers_to held xs) (answers_to (after_commands held xs) ys)
 
--- all of a row was appended, and then a part of the next
+-- all of a list was appended, and then a part of the next
 AppendsPart-chain : (a b c : Option (List ℕ)) (xs ys : List ℕ) → Appends a xs b → AppendsPart b ys c → AppendsPart a (xs ++ ys) c
 AppendsPart-chain a b c xs ys first second =
     let front : take (length xs + second.count) (xs ++ ys) ≡ xs ++ take second.count ys = take-append-add xs ys second.count in
@@ -64,9 +64,9 @@ or_swapped true x true a = refl
 or_swapped true x false a = refl
 or_swapped false x y a = refl
 
-asked-append : (xs ys : List Command) (item : ℕ) (a : Bool) → (asked ys item || (asked xs item || a)) ≡ (asked (xs ++ ys) item || a)
+asked-append : (xs ys : List CommandFrame) (item : ℕ) (a : Bool) → (asked ys item || (asked xs item || a)) ≡ (asked (xs ++ ys) item || a)
 asked-append [] ys item a = refl
-asked-append (x ∷ xs) ys item a = or_swapped (item == x.item) (asked xs item) (asked ys item) a ∙ ap (λ (b : Bool). item == x.item || b) (asked-append xs ys item a) ∙ sym (or_assoc (item == x.item) (asked (xs ++ ys) item) a)
+asked-append (x ∷ xs) ys item a = or_swapped (item == x.1.item) (asked xs item) (asked ys item) a ∙ ap (λ (b : Bool). item == x.1.item || b) (asked-append xs ys item a) ∙ sym (or_assoc (item == x.1.item) (asked (xs ++ ys) item) a)
 
 -- a serving that ended without a fault, and one that goes on from what it kept
 pub carry_on : (a b c : Items) (bytes kept more : List ℕ) (m n : ℕ) (fault : Option ServeFault) (GoesOn : List ℕ → Type 0) (w1 w2 w3 : Option (List ℕ))
@@ -75,7 +75,7 @@ pub carry_on : (a b c : Items) (bytes kept more : List ℕ) (m n : ℕ) (fault :
 carry_on a b c bytes kept more m n fault GoesOn w1 w2 w3 first second =
     let held : holding b ≡ after_commands (holding a) first.commands = first.holds in
     let all : answered (holding a) (first.commands ++ second.commands) ≡ answered (holding a) first.commands ++ answered (holding b) second.commands
-    = answered-append (holding a) first.commands second.commands ∙ ap (λ (h : Holding). answered (holding a) first.commands ++ answered h second.commands) (sym held) in
+    = answered-append (holding a) first.commands second.commands ∙ ap (λ (h : Holdings). answered (holding a) first.commands ++ answered h second.commands) (sym held) in
     record {
       commands = first.commands ++ second.commands;
       rest = second.rest;
@@ -88,7 +88,7 @@ carry_on a b c bytes kept more m n fault GoesOn w1 w2 w3 first second =
             ∙ ap (λ (xs : List ℕ). xs ++ second.rest) (sym (flat_map-append command_bytes first.commands second.commands));
       };
       counted = ap₂ (λ (x y : ℕ). x + y) first.counted second.counted ∙ sym (length-append first.commands second.commands);
-      holds = second.holds ∙ ap (λ (h : Holding). after_commands h second.commands) held ∙ sym (after_commands-append (holding a) first.commands second.commands);
+      holds = second.holds ∙ ap (λ (h : Holdings). after_commands h second.commands) held ∙ sym (after_commands-append (holding a) first.commands second.commands);
       items_seen = λ item. second.items_seen item ∙ ap (λ (b : Bool). asked second.commands item || b) (first.items_seen item) ∙ asked-append first.commands second.commands item (seen a item);
       ends = subst (λ (answers : List ℕ). Ends fault GoesOn c second.rest w1 answers w3) (sym all)
           (ends_after fault GoesOn c second.rest w1 w2 w3 (answered (holding a) first.commands) (answered (holding b) second.commands) first.ends.1 second.ends);
@@ -137,15 +137,15 @@ carried_with_more a b bytes more n fault P Q w w' own carried = record {
   ends = ends_with_more fault P Q b carried.rest more w w' (answered (holding a) carried.commands) own carried.ends;
 }
 
-one : (c : Command) → IsCommand c → All IsCommand (c ∷ [])
+one : (c : CommandFrame) → IsCommand c → All IsCommand (c ∷ [])
 one c fits zero d inside = fits
 one c fits (suc k) d inside = absurd (omega arith)
 
-one_command : (c : Command) → IsCommand c → Splits command_bytes IsCommand (command_bytes c) (c ∷ []) []
+one_command : (c : CommandFrame) → IsCommand c → Splits command_bytes IsCommand (command_bytes c) (c ∷ []) []
 one_command c fits = record { fit = one c fits; parts = sym (append-nil (flat_map command_bytes (c ∷ [])) ∙ append-nil (command_bytes c)) }
 
 -- a command that was carried out and answered
-pub carried_one : (a b : Items) (c : Command) (answer : Answer) (bytes : List ℕ) (w w' : Option (List ℕ)) → IsCommand c → holding b ≡ after_command (holding a) c → ((item : ℕ) → seen b item ≡ (item == c.item || seen a item)) → answer ≡ answer_to (holding a) c → bytes ≡ answer_bytes answer → Appends w bytes w'
+pub carried_one : (a b : Items) (c : CommandFrame) (answer : AnswerFrame) (bytes : List ℕ) (w w' : Option (List ℕ)) → IsCommand c → holding b ≡ after_command (holding a) c → ((item : ℕ) → seen b item ≡ (item == c.1.item || seen a item)) → answer ≡ answer_to (holding a) c → bytes ≡ answer_bytes answer → Appends w bytes w'
     → CarriesOut a b (command_bytes c) (record { commands = 1; fault = None }) (λ rest. rest ≡ []) w w'
 carried_one a b c answer bytes w w' fits holds items_seen answer_is bytes_are appended = record {
   commands = c ∷ [];
@@ -153,12 +153,12 @@ carried_one a b c answer bytes w w' fits holds items_seen answer_is bytes_are ap
   whole = one_command c fits;
   counted = refl;
   holds = holds;
-  items_seen = λ item. items_seen item ∙ or_false (item == c.item) (seen a item);
+  items_seen = λ item. items_seen item ∙ or_false (item == c.1.item) (seen a item);
   ends = (refl, subst (λ (xs : List ℕ). Appends w xs w') (bytes_are ∙ ap answer_bytes answer_is ∙ sym (append-nil (answer_bytes (answer_to (holding a) c)))) appended);
 }
 
 -- a command that was carried out, its answer written in part
-pub carried_in_part : (a b : Items) (c : Command) (answer : Answer) (bytes : List ℕ) (w w' : Option (List ℕ)) → IsCommand c → holding b ≡ after_command (holding a) c → ((item : ℕ) → seen b item ≡ (item == c.item || seen a item)) → answer ≡ answer_to (holding a) c → bytes ≡ answer_bytes answer → AppendsPart w bytes w'
+pub carried_in_part : (a b : Items) (c : CommandFrame) (answer : AnswerFrame) (bytes : List ℕ) (w w' : Option (List ℕ)) → IsCommand c → holding b ≡ after_command (holding a) c → ((item : ℕ) → seen b item ≡ (item == c.1.item || seen a item)) → answer ≡ answer_to (holding a) c → bytes ≡ answer_bytes answer → AppendsPart w bytes w'
     → CarriesOut a b (command_bytes c) (record { commands = 1; fault = Some Write }) (λ rest. rest ≡ []) w w'
 carried_in_part a b c answer bytes w w' fits holds items_seen answer_is bytes_are appended = record {
   commands = c ∷ [];
@@ -166,7 +166,7 @@ carried_in_part a b c answer bytes w w' fits holds items_seen answer_is bytes_ar
   whole = one_command c fits;
   counted = refl;
   holds = holds;
-  items_seen = λ item. items_seen item ∙ or_false (item == c.item) (seen a item);
+  items_seen = λ item. items_seen item ∙ or_false (item == c.1.item) (seen a item);
   ends = subst (λ (xs : List ℕ). AppendsPart w xs w') (bytes_are ∙ ap answer_bytes answer_is ∙ sym (append-nil (answer_bytes (answer_to (holding a) c)))) appended;
 }
 

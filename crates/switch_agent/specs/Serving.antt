@@ -1,9 +1,9 @@
 -- What the serving of a guest comes to.
 use Rattle.std.specs.Prelude.{◌≡◌, ℕ, ◌<◌, ◌≤◌, ◌++◌, List, length, false, Option, Some, None, ◌==◌, ◌||◌, Bool, [], ◌∷◌}
 use Rattle.std.specs.List.{flat_map}
-use Rattle.wan_edge.specs.Frames.{Command, IsCommand, IsCutCommand, Splits, answer_bytes, command_bytes}
+use Rattle.wan_edge.specs.Frames.{CommandFrame, IsCommand, IsCutCommand, Splits, answer_bytes, command_bytes}
 use Rattle.wan_edge.specs.Streams.{Appends, AppendsPart, IsAtEnd, TakesFrom}
-use Rattle.wan_edge.specs.Switches.{Holding, after_commands, answers_to}
+use Rattle.wan_edge.specs.Switches.{Holdings, after_commands, answers_to}
 use Rattle.wire_frames.specs.Reading.{IsCommandFault}
 use Rattle.switch_agent.specs.Items.{Items, holding, seen}
 use Rattle.switch_agent.specs.declared.serve_fault.ServeFault.{ServeFault}
@@ -15,14 +15,14 @@ abbrev pub most : ℕ
 most = 100_000_000
 
 -- the bytes of the answers to these commands, by what is held before them
-abbrev pub answered : Holding → List Command → List ℕ
+abbrev pub answered : Holdings → List CommandFrame → List ℕ
 answered held commands = flat_map answer_bytes (answers_to held commands)
 
 -- a whole command stands at the front, of an item that wasn't seen before
 pub record WantsRoom (items : Items) (rest : List ℕ) : Type 0 where
-  pub command : Command
+  pub command : CommandFrame
   pub fits : IsCommand command
-  pub unseen : seen items command.item ≡ false
+  pub unseen : seen items command.1.item ≡ false
   pub behind : List ℕ
   pub parts : rest ≡ command_bytes command ++ behind
 
@@ -37,14 +37,14 @@ Ends (Some Long) GoesOn items rest before answers now = GoesOn rest × Appends b
 Ends (Some Memory) GoesOn items rest before answers now = WantsRoom items rest × Appends before answers now
 
 -- whether one of the commands is for the item
-abbrev pub asked : List Command → ℕ → Bool
+abbrev pub asked : List CommandFrame → ℕ → Bool
 asked [] item = false
-asked (c ∷ cs) item = item == c.item || asked cs item
+asked (c ∷ cs) item = item == c.1.item || asked cs item
 
 -- From the front of these bytes commands were carried out in order, as many as counted, and answered. The items of these commands are seen now, and those
 -- that were seen before.
 pub record CarriesOut (before now : Items) (bytes : List ℕ) (served : Served) (GoesOn : List ℕ → Type 0) (written written_now : Option (List ℕ)) : Type 0 where
-  pub commands : List Command
+  pub commands : List CommandFrame
   pub rest : List ℕ
   pub whole : Splits command_bytes IsCommand bytes commands rest
   pub counted : served.commands ≡ length commands

@@ -1,21 +1,23 @@
 ghost use Rattle.std.specs.Prelude.{◌≡◌, ◌||◌, ◌==◌, [], ℕ, false, option_map, IfOk, OnErr, OnOk};
 ghost use Rattle.rollout_rules.specs.Agent.{is_next_command};
 ghost use Rattle.switch_agent.specs.Items.{content_of, held_by, holding, last_command, seen};
-ghost use Rattle.wan_edge.specs.Switches.{after_command, answer_to};
+ghost use Rattle.wan_edge.specs.Switches.{after_command, answer_to, pair_asked};
 
 use indexmap::IndexMap;
 use lists::Memory;
+use rollout_rules::Held;
 use std::alloc::Global;
 use std::marker::Model;
 use wire_frames::{Answer, Command};
 
-/// What a switch holds of each item, by the agent rule: next number only, in order and once.
+/// What a switch holds of each item, by the agent rule: the next number of a migration only, in order
+/// and once, and any operation of a later migration.
 ///
 /// Of each item that came it keeps the command that it carried out last, in place: so a longer content
 /// takes no memory.
 #[derive(Debug, Drop)]
 pub struct Agent {
-    items: IndexMap<u32, Option<Command>>,
+    items: IndexMap<u32, Option<(u32, Command)>>,
 }
 
 impl Model for Agent {
@@ -35,31 +37,34 @@ impl Agent {
         }
     }
 
-    /// Carries the command out, if it is the next of its item, and answers the number then held. Memory
-    /// is taken for an item that wasn't seen before alone; want of it changes nothing.
-    pub fn apply(&mut self, command: &Command) -> Result<Answer, Memory>
-        ensures applied { OnOk result (holding self.new ≡ after_command (holding self.old) command.now) }
-        ensures answer { IfOk result (λ a. a ≡ answer_to (holding self.old) command.now) }
+    /// Carries the command of this migration out, if it is the next of its item, and answers the
+    /// migration and the number then held. Memory is taken for an item that wasn't seen before alone;
+    /// want of it changes nothing.
+    pub fn apply(&mut self, migration: u32, command: &Command) -> Result<(u32, Answer), Memory>
+        ensures applied { OnOk result (holding self.new ≡ after_command (holding self.old) (migration, command.now)) }
+        ensures answer { IfOk result (λ a. a ≡ answer_to (holding self.old) (migration, command.now)) }
         ensures seen { OnOk result ((item : ℕ) → seen self.new item ≡ (item == command.now.item || seen self.old item)) }
         ensures err { OnErr result (self.new ≡ self.old) }
         ensures memory { OnErr result (seen self.old command.now.item ≡ false) }
     {
         let mut last = self.last(command.item);
-        if is_next(&last, command) {
-            last = Some(*command);
+        if is_next(held_by(&last), pair(migration, command)) {
+            last = Some((migration, *command));
         }
         self.items.insert(command.item, last)?;
-        Ok(Answer {
+        let held = held_by(&last);
+        let answer = Answer {
             item: command.item,
-            held: number_of(&last),
-        })
+            held: held.number,
+        };
+        Ok((held.migration, answer))
     }
 
-    /// The number that is held of an item, 0 at first.
-    pub fn held(&self, item: u32) -> u32
-        ensures { result ≡ (holding self.now item).number }
+    /// The migration and the number that are held of an item, both 0 at first.
+    pub fn held(&self, item: u32) -> Held
+        ensures { result ≡ (holding self.now item).held }
     {
-        number_of(&self.last(item))
+        held_by(&self.last(item))
     }
 
     /// The content that is held of an item: none exactly where the number held is 0.
@@ -67,15 +72,13 @@ impl Agent {
         ensures { option_map (λ rates. rates.now) result ≡ content_of (holding self.now item) }
     {
         match self.items.get(&item) {
-            Some(Some(command)) if command.number > 0 => {
-                Some(&command.rates[..usize::from(command.count)])
-            }
-            _ => None,
+            Some(last) => content_by(last),
+            None => None,
         }
     }
 
     // The command of an item that was carried out last.
-    fn last(&self, item: u32) -> Option<Command>
+    fn last(&self, item: u32) -> Option<(u32, Command)>
         ensures { result ≡ last_command self.now item }
     {
         match self.items.get(&item) {
@@ -85,19 +88,48 @@ impl Agent {
     }
 }
 
-// The number that is held after this last command.
-fn number_of(last: &Option<Command>) -> u32
-    ensures { result ≡ (held_by last.now).number }
+// What is held after this last command.
+fn held_by(last: &Option<(u32, Command)>) -> Held
+    ensures { result ≡ (held_by last.now).held }
 {
     match last {
-        Some(command) => command.number,
-        None => 0,
+        Some((migration, command)) => pair(*migration, command),
+        None => Held {
+            migration: 0,
+            number: 0,
+        },
     }
 }
 
-// Whether the command's number follows that of the last one.
-fn is_next(last: &Option<Command>, command: &Command) -> bool
-    ensures { result ≡ is_next_command (held_by last.now) command.now.number }
+// The content that is held after this last command.
+fn content_by(last: &Option<(u32, Command)>) -> Option<&[u64]>
+    ensures { option_map (λ rates. rates.now) result ≡ content_of (held_by last.now) }
 {
-    u64::from(command.number) == u64::from(number_of(last)) + 1
+    match last {
+        Some((_, command)) if command.number > 0 => {
+            Some(&command.rates[..usize::from(command.count)])
+        }
+        _ => None,
+    }
+}
+
+// The pair that a command of this migration asks for.
+fn pair(migration: u32, command: &Command) -> Held
+    ensures { result ≡ pair_asked (migration, command.now) }
+{
+    Held {
+        migration,
+        number: command.number,
+    }
+}
+
+// Whether an operation is the next after the pair held: the next number of the same migration, or any of
+// a later one.
+fn is_next(held: Held, asked: Held) -> bool
+    ensures { result ≡ is_next_command held asked }
+{
+    if asked.migration == held.migration {
+        return u64::from(asked.number) == u64::from(held.number) + 1;
+    }
+    held.migration < asked.migration && asked.number > 0
 }

@@ -1,12 +1,12 @@
 ghost use Rattle.std.specs.Prelude.{◌≡◌, ◌<◌, ◌≤◌, ◌++◌, [], length, take, None, Some, IfSome, IsTrue};
 ghost use Rattle.switch_agent.specs.Serving.{CarriesOut, IsOwnFault, ServesGuest};
 ghost use Rattle.switch_agent.specs.declared.serve_fault.ServeFault.TheVariants as fault;
-ghost use Rattle.wan_edge.specs.Frames.{IsCommand, IsCutCommand, command_bytes};
+ghost use Rattle.wan_edge.specs.Frames.{IsCommand, IsCutCommand, answer_bytes, command_bytes};
 ghost use Rattle.wan_edge.specs.Streams.{KeepsTelling, Rose};
 
 use crate::{Agent, ServeFault, Served};
 use wan_edge::{Guest, write_all};
-use wire_frames::{Command, CommandReader, write_answer};
+use wire_frames::{ANSWER_LEN, Answer, Command, CommandReader, write_answer};
 
 /// How many bytes are read of one guest.
 const MOST: usize = 100_000_000;
@@ -111,7 +111,7 @@ fn serve_next<G: Guest>(
     ensures unread { (G.left guest.new ≡ G.left guest.old) × (G.Source.faults guest.new ≡ G.Source.faults guest.old) }
 {
     match reader.feed(piece) {
-        Ok((n, Some(command))) => (n, answer(agent, guest, &command)),
+        Ok((n, Some((migration, command)))) => (n, answer(agent, guest, migration, &command)),
         Ok((n, None)) => (
             n,
             Served {
@@ -126,10 +126,10 @@ fn serve_next<G: Guest>(
     }
 }
 
-// Carries out a command and answers it.
-fn answer<G: Guest>(agent: &mut Agent, guest: &mut G, command: &Command) -> Served
-    requires { IsCommand command.now }
-    ensures carried { CarriesOut agent.old agent.new (command_bytes command.now) result (λ rest. rest ≡ []) (G.written guest.old) (G.written guest.new) }
+// Carries out a command of this migration and answers it.
+fn answer<G: Guest>(agent: &mut Agent, guest: &mut G, migration: u32, command: &Command) -> Served
+    requires { IsCommand (migration, command.now) }
+    ensures carried { CarriesOut agent.old agent.new (command_bytes (migration, command.now)) result (λ rest. rest ≡ []) (G.written guest.old) (G.written guest.new) }
     ensures few { result.commands ≤ 1 }
     ensures own { IfSome result.fault IsOwnFault }
     ensures write_cause { result.fault ≡ Some fault.Write → Rose (G.Sink.faults guest.old) (G.Sink.faults guest.new) }
@@ -137,16 +137,23 @@ fn answer<G: Guest>(agent: &mut Agent, guest: &mut G, command: &Command) -> Serv
     ensures told { KeepsTelling (G.written guest.old) (G.written guest.new) }
     ensures unread { (G.left guest.new ≡ G.left guest.old) × (G.Source.faults guest.new ≡ G.Source.faults guest.old) }
 {
-    let given = match agent.apply(command) {
-        Ok(answer) => write_answer(&answer),
+    let bytes = match agent.apply(migration, command) {
+        Ok(given) => bytes_of(&given),
         Err(_) => {
             let fault = Some(ServeFault::Memory);
             return Served { commands: 0, fault };
         }
     };
-    let fault = match write_all(guest, &given) {
+    let fault = match write_all(guest, &bytes) {
         Ok(()) => None,
         Err(_) => Some(ServeFault::Write),
     };
     Served { commands: 1, fault }
+}
+
+// The bytes of an answer and its migration.
+fn bytes_of(given: &(u32, Answer)) -> [u8; ANSWER_LEN]
+    ensures { result ≡ answer_bytes given.now }
+{
+    write_answer(&given.1, given.0)
 }

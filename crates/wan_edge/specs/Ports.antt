@@ -1,9 +1,10 @@
 -- What ports tell, and which of them keep to the agent rule. What a port tells is Some, and what it does not tell is None.
-use Rattle.std.specs.Prelude.{◌≡◌, ℕ, ◌-◌, ◌<◌, ◌≤◌, List, ◌++◌, length, take, All, Option, Some, IfSome}
+use Rattle.std.specs.Prelude.{◌≡◌, ℕ, ◌-◌, ◌<◌, ◌≤◌, List, ◌++◌, length, take, true, All, Option, Some, IfSome}
 use Rattle.std.specs.List.{flat_map}
-use Rattle.wan_edge.specs.Frames.{Answer, Command, IsAnswer, IsCommand, Splits, answer_bytes, command_bytes}
+use Rattle.rollout_rules.specs.Agent.{is_at_most}
+use Rattle.wan_edge.specs.Frames.{AnswerFrame, CommandFrame, IsAnswer, IsCommand, Splits, answer_bytes, command_bytes}
 use Rattle.wan_edge.specs.Streams.{Appends}
-use Rattle.wan_edge.specs.Switches.{Holding, after_commands, answers_to}
+use Rattle.wan_edge.specs.Switches.{Holdings, after_commands, answers_to, pair_given}
 
 -- some of the bytes were appended from the front, perhaps all of them
 pub record AppendsFront (before : Option (List ℕ)) (bytes : List ℕ) (now : Option (List ℕ)) : Type 0 where
@@ -16,36 +17,36 @@ abbrev pub IsOneMore : Option ℕ → Option ℕ → Type 0
 IsOneMore before now = IfSome now (λ after. (0 < after) × (before ≡ Some (after - 1)))
 
 -- a whole command among those that the bytes begin with
-pub record IsOffered (offered : List ℕ) (command : Command) : Type 0 where
-  pub earlier : List Command
+pub record IsOffered (offered : List ℕ) (command : CommandFrame) : Type 0 where
+  pub earlier : List CommandFrame
   pub earlier_fit : All IsCommand earlier
   pub fits : IsCommand command
   pub behind : List ℕ
   pub parts : offered ≡ flat_map command_bytes earlier ++ (command_bytes command ++ behind)
 
 -- what is held moved by the agent rule alone, on commands among those offered, in any order and any number of times
-pub record MovesByRule (offered : List ℕ) (before now : Holding) : Type 0 where
-  pub delivered : List Command
+pub record MovesByRule (offered : List ℕ) (before now : Holdings) : Type 0 where
+  pub delivered : List CommandFrame
   pub each_offered : All (IsOffered offered) delivered
   pub moved : now ≡ after_commands before delivered
 
--- each whole answer heard has at most the number that is held
-abbrev pub AnswersHeld : List ℕ → Holding → Type 0
-AnswersHeld heard holding = (answers : List Answer) (rest : List ℕ) → Splits answer_bytes IsAnswer heard answers rest → All (λ a. a.held ≤ (holding a.item).number) answers
+-- each whole answer heard has at most the pair that is held of its item
+abbrev pub AnswersHeld : List ℕ → Holdings → Type 0
+AnswersHeld heard holdings = (answers : List AnswerFrame) (rest : List ℕ) → Splits answer_bytes IsAnswer heard answers rest → All (λ a. is_at_most (pair_given a) (holdings a.1.item).held ≡ true) answers
 
 -- what an honest port keeps to in each call, by what it tells
-pub record IsHonestStep (offered heard : Option (List ℕ)) (before now : Option Holding) : Type 0 where
+pub record IsHonestStep (offered heard : Option (List ℕ)) (before now : Option Holdings) : Type 0 where
   pub moves : IfSome offered (λ bytes. IfSome before (λ earlier. IfSome now (λ later. MovesByRule bytes earlier later)))
   pub answers : IfSome heard (λ bytes. IfSome now (λ later. AnswersHeld bytes later))
 
 -- no whole command stands at the front
 abbrev pub BeginsNoCommand : List ℕ → Type 0
-BeginsNoCommand bytes = (c : Command) (behind : List ℕ) → IsCommand c → bytes ≡ command_bytes c ++ behind → ⊥
+BeginsNoCommand bytes = (c : CommandFrame) (behind : List ℕ) → IsCommand c → bytes ≡ command_bytes c ++ behind → ⊥
 
 -- The whole commands offered were carried out in order and once each, as far as the switch has come, and what was heard is a front of
 -- the answers to these. At the start the switch held what the first argument says.
-pub record AnswersInOrder (start : Holding) (offered heard : List ℕ) (now : Holding) : Type 0 where
-  pub commands : List Command
+pub record AnswersInOrder (start : Holdings) (offered heard : List ℕ) (now : Holdings) : Type 0 where
+  pub commands : List CommandFrame
   pub rest : List ℕ
   pub whole : Splits command_bytes IsCommand offered commands rest
   pub no_more : BeginsNoCommand rest
@@ -55,13 +56,13 @@ pub record AnswersInOrder (start : Holding) (offered heard : List ℕ) (now : Ho
   pub heard_front : flat_map answer_bytes (answers_to start (take carried_out commands)) ≡ heard ++ to_come
 
 -- what was heard is all the answers to the whole commands offered
-abbrev pub AllAnswered : Holding → List ℕ → List ℕ → Type 0
-AllAnswered start offered heard = (commands : List Command) (rest : List ℕ) → Splits command_bytes IsCommand offered commands rest → BeginsNoCommand rest → heard ≡ flat_map answer_bytes (answers_to start commands)
+abbrev pub AllAnswered : Holdings → List ℕ → List ℕ → Type 0
+AllAnswered start offered heard = (commands : List CommandFrame) (rest : List ℕ) → Splits command_bytes IsCommand offered commands rest → BeginsNoCommand rest → heard ≡ flat_map answer_bytes (answers_to start commands)
 
 -- what a prompt port keeps to, by what it tells
-abbrev pub IsPromptState : Holding → Option (List ℕ) → Option (List ℕ) → Option Holding → Type 0
+abbrev pub IsPromptState : Holdings → Option (List ℕ) → Option (List ℕ) → Option Holdings → Type 0
 IsPromptState start offered heard held = IfSome offered (λ commands. IfSome heard (λ answers. IfSome held (λ now. AnswersInOrder start commands answers now)))
 
 -- where a prompt port has nothing to give, nothing is still to come
-abbrev pub NothingToCome : Holding → Option (List ℕ) → Option (List ℕ) → Type 0
+abbrev pub NothingToCome : Holdings → Option (List ℕ) → Option (List ℕ) → Type 0
 NothingToCome start offered heard = IfSome offered (λ commands. IfSome heard (λ answers. AllAnswered start commands answers))

@@ -1,10 +1,16 @@
-//! The outside of a controller, as traits: a [`Source`] is read and a [`Sink`] is written, and each
-//! may fail. What is read and written is told by two ghost members, where an object tells it, and a
-//! third counts failures: a call answers [`Failed`] only where the count rose.
+//! The outside of a controller and of an agent, as traits: a [`Source`] is read and a [`Sink`] is
+//! written, and each may fail. What is read and written is told by two ghost members, where an object
+//! tells it, and a third counts failures: a call answers [`Failed`] only where the count rose.
+//!
+//! A [`Port`] is the way to one switch and back, and its contracts say which ports keep to the agent
+//! rule. A [`Guest`] is a controller that comes to an agent, source and sink in one. A [`Fleet`] gives
+//! the ports of a controller and the guests of an agent, and takes them back.
 //!
 //! Beside the traits stand objects in memory, which fail at calls of the caller's choice, plain
 //! ones, which never fail, and the two walks that every program needs: reading to the end within a
-//! limit and writing to the end. The words of the contracts are those of `specs/Streams.antt`.
+//! limit and writing to the end. The words of the contracts are in `specs/`: `Streams` for what goes in
+//! and out, `Frames` for the bytes of commands and answers, `Switches` for what a switch holds, `Ports`
+//! and `Fleets`.
 #![tactic(auto)]
 
 mod failing_turns;

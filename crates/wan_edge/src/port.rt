@@ -2,15 +2,16 @@ ghost use Rattle.std.specs.Prelude.{◌≡◌, ℕ, ◌<◌, ◌≤◌, Bool, tr
 ghost use Rattle.std.specs.Bool.{OnTrue};
 ghost use Rattle.wan_edge.specs.Ports.{AppendsFront, IsHonestStep, IsOneMore, IsPromptState, NothingToCome};
 ghost use Rattle.wan_edge.specs.Streams.{Appends, KeepsTelling, Rose};
-ghost use Rattle.wan_edge.specs.Switches.{Holding};
+ghost use Rattle.wan_edge.specs.Switches.{Holdings};
 
 use crate::Failed;
 
 /// The way to one switch and back: commands are offered, and answers heard.
 ///
 /// A port is honest where its switch moves by the agent rule alone, on commands that were offered, and
-/// says of an item no number above the one that it holds. It is prompt where it also answers each
-/// command once, in order, and gives nothing only where all these answers were given.
+/// says of an item no pair of a migration and a number above the one that it holds. It is prompt where
+/// it also answers each command once, in order, and gives nothing only where all these answers were
+/// given.
 pub trait Port {
     /// The bytes that went out, where they are told.
     ghost offered: { Self → Option (List ℕ) };
@@ -18,8 +19,8 @@ pub trait Port {
     /// The bytes that came back, where they are told.
     ghost heard: { Self → Option (List ℕ) };
 
-    /// What the switch holds of each item, where it is told.
-    ghost held: { Self → Option Holding };
+    /// The pair and the content that the switch holds of each item, where they are told.
+    ghost held: { Self → Option Holdings };
 
     /// How often nothing came back, where it is told.
     ghost quiet: { Self → Option ℕ };
@@ -34,7 +35,7 @@ pub trait Port {
     ghost prompt: { Self → Bool };
 
     /// What the switch held of each item before the first byte went out.
-    ghost start: { Self → Holding };
+    ghost start: { Self → Holdings };
 
     /// Sends all the bytes, or fails and sends the first of them.
     fn offer(&mut self, from: &[u8]) -> Result<(), Failed>

@@ -3,7 +3,7 @@ use Rattle.std.proofs.Common.{◌≡◌, ℕ, zero, suc, ◌+◌, ◌-◌, ◌*�
 use Rattle.std.proofs.lemmas.Bool.{cases_lt, true≢false}
 use Rattle.std.proofs.lemmas.List.{get_or_append_left, get_or-append_right, get_or-replicate, get_or_at, get_or_past, drop-drop, length-replicate}
 use Rattle.byteorder.specs.Endian.{big_number, IsRead}
-use Rattle.wan_edge.specs.Frames.{Answer, Command, IsAnswer, IsCommand, IsCutAnswer, IsCutCommand, answer_bytes, answer_kind, command_bytes, command_kind}
+use Rattle.wan_edge.specs.Frames.{AnswerFrame, CommandFrame, IsAnswer, IsCommand, IsCutAnswer, IsCutCommand, answer_bytes, answer_kind, command_bytes, command_kind}
 use Rattle.wire_frames.specs.Contents.{content_of}
 use Rattle.wire_frames.specs.Reading.{IsBegun, IsBegunAnswer, IsWhole, Reader, ReadsAnswer, ReadsCommand}
 use Rattle.wire_frames.specs.declared.fault.FrameFault.{FrameFault}
@@ -31,26 +31,27 @@ IsBytes-replicate n byte small i =
 length-zeros : (n : ℕ) → length (zeros n) ≡ n
 length-zeros n = length-replicate {A = ℕ} n 0
 
--- nine bytes with an answer's kind are an answer
-answer_of : (bytes : List ℕ) → length bytes ≡ 9 → slice_index bytes 0 ≡ answer_kind → IsBytes bytes → (a : Answer) × IsAnswer a × (answer_bytes a ≡ bytes)
+-- 13 bytes with an answer's kind are an answer
+answer_of : (bytes : List ℕ) → length bytes ≡ 13 → slice_index bytes 0 ≡ answer_kind → IsBytes bytes → (a : AnswerFrame) × IsAnswer a × (answer_bytes a ≡ bytes)
 answer_of bytes long kind each =
-    let item = big_number 4 (take (length bytes - 1) (drop 1 bytes)) in
-    let held = big_number 4 (take (length bytes - 5) (drop 5 bytes)) in (
-      record { item = item; held = held },
-      record { item = number_fits bytes 1 item each refl; held = number_fits bytes 5 held each refl },
-      answer_spelled bytes item held long kind each refl refl,
+    let migration = big_number 4 (take (length bytes - 1) (drop 1 bytes)) in
+    let item = big_number 4 (take (length bytes - 5) (drop 5 bytes)) in
+    let held = big_number 4 (take (length bytes - 9) (drop 9 bytes)) in (
+      (migration, record { item = item; held = held }),
+      record { migration = number_fits bytes 1 migration each refl; item = number_fits bytes 5 item each refl; held = number_fits bytes 9 held each refl },
+      answer_spelled bytes migration item held long kind each refl refl refl,
     )
 
 pub cut_answer : (kept : List ℕ) → IsBytes kept → IsBegunAnswer kept → IsCutAnswer kept
 cut_answer [] each begun =
-    let a = answer_of (answer_kind ∷ replicate 8 0) refl refl (IsBytes-append (answer_kind ∷ []) (replicate 8 0) (IsBytes-replicate 1 answer_kind (omega arith)) (IsBytes-replicate 8 0 (omega arith))) in
-    record { frame = a.0; fits = a.1; missing = answer_kind ∷ replicate 8 0; some = omega arith; begins = a.2 }
+    let a = answer_of (answer_kind ∷ replicate 12 0) refl refl (IsBytes-append (answer_kind ∷ []) (replicate 12 0) (IsBytes-replicate 1 answer_kind (omega arith)) (IsBytes-replicate 12 0 (omega arith))) in
+    record { frame = a.0; fits = a.1; missing = answer_kind ∷ replicate 12 0; some = omega arith; begins = a.2 }
 cut_answer (x ∷ kept) each begun =
-    let missing = zeros (8 - length kept) in
+    let missing = zeros (12 - length kept) in
     let short = begun.short in
-    let long : length ((x ∷ kept) ++ missing) ≡ 9 = omega (arith, length-append (x ∷ kept) missing, length-zeros (8 - length kept)) in
-    let a = answer_of ((x ∷ kept) ++ missing) long (begun.kind (omega arith)) (IsBytes-append (x ∷ kept) missing each (IsBytes-replicate (8 - length kept) 0 (omega arith))) in
-    record { frame = a.0; fits = a.1; missing = missing; some = omega (arith, length-zeros (8 - length kept)); begins = a.2 }
+    let long : length ((x ∷ kept) ++ missing) ≡ 13 = omega (arith, length-append (x ∷ kept) missing, length-zeros (12 - length kept)) in
+    let a = answer_of ((x ∷ kept) ++ missing) long (begun.kind (omega arith)) (IsBytes-append (x ∷ kept) missing each (IsBytes-replicate (12 - length kept) 0 (omega arith))) in
+    record { frame = a.0; fits = a.1; missing = missing; some = omega (arith, length-zeros (12 - length kept)); begins = a.2 }
 
 -- the numbers of eight bytes each, so many of them
 numbers_at : ℕ → List ℕ → List ℕ
@@ -70,15 +71,16 @@ numbers_at-read (suc n) bytes (suc k) inside =
     numbers_at-read n (drop 8 bytes) k (omega arith) ∙ ap (big_number 8) (drop-drop (8 * k) 8 bytes) ∙ ap (λ (at : ℕ). big_number 8 (drop at bytes)) (omega arith)
 
 -- bytes that are all of a command are one
-command_of : (bytes : List ℕ) → IsWhole bytes → IsBytes bytes → (c : Command) × IsCommand c × (command_bytes c ≡ bytes)
+command_of : (bytes : List ℕ) → IsWhole bytes → IsBytes bytes → (c : CommandFrame) × IsCommand c × (command_bytes c ≡ bytes)
 command_of bytes whole each =
-    let count = slice_index bytes 13 in
-    let behind = take (length bytes - 14) (drop 14 bytes) in
+    let count = slice_index bytes 17 in
+    let behind = take (length bytes - 18) (drop 18 bytes) in
     let rates = numbers_at count behind in
     let long = length-numbers_at count behind in
     let read : IsRead big_number 8 behind rates = λ k inside. numbers_at-read count behind k (omega (arith, long)) in
-    let command : Command = record { item = big_number 4 (take (length bytes - 1) (drop 1 bytes)); number = big_number 4 (take (length bytes - 5) (drop 5 bytes)); scale = big_number 4 (take (length bytes - 9) (drop 9 bytes)); content = content_of count (rates ++ drop count []) } in
-    let made = command_made bytes _ _ _ count rates [] whole each refl refl refl refl long read command refl in
+    let migration = big_number 4 (take (length bytes - 1) (drop 1 bytes)) in
+    let command : CommandFrame = (migration, record { item = big_number 4 (take (length bytes - 5) (drop 5 bytes)); number = big_number 4 (take (length bytes - 9) (drop 9 bytes)); scale = big_number 4 (take (length bytes - 13) (drop 13 bytes)); content = content_of count (rates ++ drop count []) }) in
+    let made = command_made bytes _ _ _ _ count rates [] whole each refl refl refl refl refl long read command refl in
     (command, made.0, made.1)
 
 -- what has come and what is missing is all of a command
@@ -92,29 +94,29 @@ one_rate : List ℕ
 one_rate = 1 ∷ replicate 8 0
 
 -- before the count
-cut_early : (x : ℕ) (kept : List ℕ) → x ≡ command_kind → length kept ≤ 12 → IsBytes (x ∷ kept) → IsCutCommand (x ∷ kept)
+cut_early : (x : ℕ) (kept : List ℕ) → x ≡ command_kind → length kept ≤ 16 → IsBytes (x ∷ kept) → IsCutCommand (x ∷ kept)
 unfolding one_rate
 cut_early x kept kind short each =
-    let missing = zeros (12 - length kept) in
-    let before : length ((x ∷ kept) ++ missing) ≡ 13 = omega (arith, length-append (x ∷ kept) missing, length-zeros (12 - length kept)) in
-    let count : slice_index ((x ∷ kept) ++ (missing ++ one_rate)) 13 ≡ 1
-    = ap (λ (bytes : List ℕ). slice_index bytes 13) (sym (append_assoc (x ∷ kept) missing one_rate)) ∙ get_or_at ((x ∷ kept) ++ missing) 1 (replicate 8 0) 0 13 before in
+    let missing = zeros (16 - length kept) in
+    let before : length ((x ∷ kept) ++ missing) ≡ 17 = omega (arith, length-append (x ∷ kept) missing, length-zeros (16 - length kept)) in
+    let count : slice_index ((x ∷ kept) ++ (missing ++ one_rate)) 17 ≡ 1
+    = ap (λ (bytes : List ℕ). slice_index bytes 17) (sym (append_assoc (x ∷ kept) missing one_rate)) ∙ get_or_at ((x ∷ kept) ++ missing) 1 (replicate 8 0) 0 17 before in
     cut_by (x ∷ kept) (missing ++ one_rate) (omega (arith, length-append missing one_rate))
     (record {
       kind = kind;
       some = omega (arith, count);
       few = omega (arith, count);
-      long = omega (arith, count, length-append (x ∷ kept) (missing ++ one_rate), length-append missing one_rate, length-zeros (12 - length kept));
+      long = omega (arith, count, length-append (x ∷ kept) (missing ++ one_rate), length-append missing one_rate, length-zeros (16 - length kept));
     })
-    (IsBytes-append (x ∷ kept) (missing ++ one_rate) each (IsBytes-append missing one_rate (IsBytes-replicate (12 - length kept) 0 (omega arith)) (IsBytes-append (1 ∷ []) (replicate 8 0) (IsBytes-replicate 1 1 (omega arith)) (IsBytes-replicate 8 0 (omega arith)))))
+    (IsBytes-append (x ∷ kept) (missing ++ one_rate) each (IsBytes-append missing one_rate (IsBytes-replicate (16 - length kept) 0 (omega arith)) (IsBytes-append (1 ∷ []) (replicate 8 0) (IsBytes-replicate 1 1 (omega arith)) (IsBytes-replicate 8 0 (omega arith)))))
 
 -- behind the count
-cut_late : (kept : List ℕ) → 13 < length kept → IsBegun kept → IsBytes kept → IsCutCommand kept
+cut_late : (kept : List ℕ) → 17 < length kept → IsBegun kept → IsBytes kept → IsCutCommand kept
 cut_late kept late begun each =
-    let count = slice_index kept 13 in
-    let n = 14 + 8 * count - length kept in
+    let count = slice_index kept 17 in
+    let n = 18 + 8 * count - length kept in
     let short = begun.short late in
-    let same : slice_index (kept ++ zeros n) 13 ≡ count = get_or_append_left kept (zeros n) 0 13 late in
+    let same : slice_index (kept ++ zeros n) 17 ≡ count = get_or_append_left kept (zeros n) 0 17 late in
     cut_by kept (zeros n) (omega (arith, length-zeros n))
     (record {
       kind = get_or_append_left kept (zeros n) 0 0 (omega arith) ∙ begun.kind (omega arith);
@@ -128,20 +130,20 @@ cut_late kept late begun each =
 pub cut_none : IsCutCommand []
 unfolding one_rate
 cut_none =
-    cut_by [] (command_kind ∷ (replicate 12 0 ++ one_rate)) (omega arith)
+    cut_by [] (command_kind ∷ (replicate 16 0 ++ one_rate)) (omega arith)
     (record { kind = refl; some = omega arith; few = omega arith; long = refl })
-    (IsBytes-append (command_kind ∷ []) (replicate 12 0 ++ one_rate) (IsBytes-replicate 1 command_kind (omega arith)) (IsBytes-append (replicate 12 0 ++ (1 ∷ [])) (replicate 8 0) (IsBytes-append (replicate 12 0) (1 ∷ []) (IsBytes-replicate 12 0 (omega arith)) (IsBytes-replicate 1 1 (omega arith))) (IsBytes-replicate 8 0 (omega arith))))
+    (IsBytes-append (command_kind ∷ []) (replicate 16 0 ++ one_rate) (IsBytes-replicate 1 command_kind (omega arith)) (IsBytes-append (replicate 16 0 ++ (1 ∷ [])) (replicate 8 0) (IsBytes-append (replicate 16 0) (1 ∷ []) (IsBytes-replicate 16 0 (omega arith)) (IsBytes-replicate 1 1 (omega arith))) (IsBytes-replicate 8 0 (omega arith))))
 
 pub cut_command : (kept : List ℕ) → IsBytes kept → IsBegun kept → IsCutCommand kept
 cut_command [] each begun = cut_none
 cut_command (x ∷ kept) each begun =
-    elim (cases_lt (length kept) 13) [
+    elim (cases_lt (length kept) 17) [
       | inl early ↦ cut_early x kept (begun.kind (omega arith)) (omega arith) each
       | inr late ↦ cut_late (x ∷ kept) (omega arith) begun each
     ]
 
 -- what a reader keeps is the front of a frame, as long as there was no fault
-pub cut_kept : (kept piece : List ℕ) (result : Result (ℕ × Option Command) FrameFault) (now : Reader) → ReadsCommand kept piece result now → now.live ≡ true → IsCutCommand now.kept
+pub cut_kept : (kept piece : List ℕ) (result : Result (ℕ × Option CommandFrame) FrameFault) (now : Reader) → ReadsCommand kept piece result now → now.live ≡ true → IsCutCommand now.kept
 cut_kept kept piece (Err fault) now read live = absurd (true≢false (sym live ∙ read.now_dead))
 cut_kept kept piece (Ok (n, Some frame)) now read live = subst IsCutCommand (ap (λ (r : Reader). r.kept) (sym read.now_fresh)) cut_none
 cut_kept kept piece (Ok (n, None)) now read live = subst IsCutCommand (ap (λ (r : Reader). r.kept) (sym read.now_longer)) read.cut
@@ -149,7 +151,7 @@ cut_kept kept piece (Ok (n, None)) now read live = subst IsCutCommand (ap (λ (r
 pub cut_no_answer : IsCutAnswer []
 cut_no_answer = cut_answer [] (λ i. omega arith) (record { kind = λ some. absurd (omega arith); short = omega arith })
 
-pub cut_kept_answer : (kept piece : List ℕ) (result : Result (ℕ × Option Answer) FrameFault) (now : Reader) → ReadsAnswer kept piece result now → now.live ≡ true → IsCutAnswer now.kept
+pub cut_kept_answer : (kept piece : List ℕ) (result : Result (ℕ × Option AnswerFrame) FrameFault) (now : Reader) → ReadsAnswer kept piece result now → now.live ≡ true → IsCutAnswer now.kept
 cut_kept_answer kept piece (Err fault) now read live = absurd (true≢false (sym live ∙ read.now_dead))
 cut_kept_answer kept piece (Ok (n, Some frame)) now read live = subst IsCutAnswer (ap (λ (r : Reader). r.kept) (sym read.now_fresh)) cut_no_answer
 cut_kept_answer kept piece (Ok (n, None)) now read live = subst IsCutAnswer (ap (λ (r : Reader). r.kept) (sym read.now_longer)) read.cut

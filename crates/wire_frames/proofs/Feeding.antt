@@ -3,7 +3,7 @@ use Rattle.std.proofs.Common.{◌≡◌, ℕ, ◌+◌, ◌-◌, ◌*◌, ◌<◌
 use Rattle.std.proofs.Math.Seq.{take-add}
 use Rattle.std.proofs.lemmas.Bool.{cases_lt}
 use Rattle.std.proofs.lemmas.List.{take_all, take_rest, take-append-drop, length-take-le, get_or_append_left, get_or-take, drop_more}
-use Rattle.wan_edge.specs.Frames.{Command, HasOtherCount, IsAnswer, IsCommand, answer_bytes, answer_kind, command_bytes, command_kind}
+use Rattle.wan_edge.specs.Frames.{CommandFrame, HasOtherCount, IsAnswer, IsCommand, answer_bytes, answer_kind, command_bytes, command_kind}
 use Rattle.wire_frames.specs.Reading.{Ends, GoesOn, IsAnswerFault, IsBegun, IsCommandFault, IsWhole, Reader}
 use Rattle.wire_frames.proofs.Numbers.{IsBytes, IsBytes-take}
 use Rattle.wire_frames.proofs.Cuts.{cut_answer, cut_command}
@@ -19,7 +19,7 @@ length_of : (kept piece new : List ℕ) (n : ℕ) → n ≤ length piece → new
 length_of kept piece new n within is = ap length is ∙ length-append kept (take n piece) ∙ ap (λ (m : ℕ). length kept + m) (length-take-le n piece within)
 
 pub answer_goes_on : (kept piece new : List ℕ) (n : ℕ) → IsBytes (kept ++ piece) → (0 < length (kept ++ piece) → slice_index (kept ++ piece) 0 ≡ answer_kind)
-    → n ≡ min (9 - length kept) (length piece) → new ≡ kept ++ take n piece → length new < 9 → GoesOn answer_bytes IsAnswer IsAnswerFault kept piece n (record { kept = new; live = true })
+    → n ≡ min (13 - length kept) (length piece) → new ≡ kept ++ take n piece → length new < 13 → GoesOn answer_bytes IsAnswer IsAnswerFault kept piece n (record { kept = new; live = true })
 unfolding reader
 answer_goes_on kept piece new n each first count is short =
     let grown = length_of kept piece new n (omega arith) is in
@@ -31,8 +31,8 @@ answer_goes_on kept piece new n each first count is short =
     }
 
 module _ (kept piece : List ℕ) (each : IsBytes (kept ++ piece)) (begun : IsBegun kept) (first : 0 < length (kept ++ piece) → slice_index (kept ++ piece) 0 ≡ command_kind) where
-  module _ (new : List ℕ) (n : ℕ) (count : n ≡ min (14 - length kept) (length piece)) (is : new ≡ kept ++ take n piece) where
-    pub head_goes_on : length new < 14 → GoesOn command_bytes IsCommand IsCommandFault kept piece n (record { kept = new; live = true })
+  module _ (new : List ℕ) (n : ℕ) (count : n ≡ min (18 - length kept) (length piece)) (is : new ≡ kept ++ take n piece) where
+    pub head_goes_on : length new < 18 → GoesOn command_bytes IsCommand IsCommandFault kept piece n (record { kept = new; live = true })
     unfolding reader
     head_goes_on short =
         let grown = length_of kept piece new n (omega arith) is in
@@ -49,26 +49,26 @@ module _ (kept piece : List ℕ) (each : IsBytes (kept ++ piece)) (begun : IsBeg
     front_of =
         ap (λ (xs : List ℕ). kept ++ xs) (sym (take-append-drop n piece)) ∙ sym (append_assoc kept (take n piece) (drop n piece)) ∙ ap (λ (xs : List ℕ). xs ++ drop n piece) (sym is)
 
-    count_of : 14 ≤ length new → slice_index (kept ++ piece) 13 ≡ slice_index new 13
-    count_of late = ap (λ (xs : List ℕ). slice_index xs 13) front_of ∙ get_or_append_left new (drop n piece) 0 13 (omega arith)
+    count_of : 18 ≤ length new → slice_index (kept ++ piece) 17 ≡ slice_index new 17
+    count_of late = ap (λ (xs : List ℕ). slice_index xs 17) front_of ∙ get_or_append_left new (drop n piece) 0 17 (omega arith)
 
-    pub other_count : 14 ≤ length new → (slice_index new 13 ≡ 0) ⊎ (16 < slice_index new 13) → HasOtherCount (kept ++ piece) (slice_index new 13)
+    pub other_count : 18 ≤ length new → (slice_index new 17 ≡ 0) ⊎ (16 < slice_index new 17) → HasOtherCount (kept ++ piece) (slice_index new 17)
     other_count late other =
         let bytes = kept ++ piece in
-        let long : 14 ≤ length bytes = omega (arith, ap length front_of, length-append new (drop n piece)) in
-        let head = take 13 bytes in
-        let head_long : length head ≡ 13 = length-take-le 13 bytes (omega arith) in
+        let long : 18 ≤ length bytes = omega (arith, ap length front_of, length-append new (drop n piece)) in
+        let head = take 17 bytes in
+        let head_long : length head ≡ 17 = length-take-le 17 bytes (omega arith) in
         record {
           head = head;
-          begins = cut_command head (IsBytes-take 13 bytes each) (record { kind = λ some. get_or-take 13 bytes 0 0 (omega arith) ∙ first (omega arith); some = λ more. absurd (omega arith); few = λ more. absurd (omega arith); short = λ more. absurd (omega arith) });
+          begins = cut_command head (IsBytes-take 17 bytes each) (record { kind = λ some. get_or-take 17 bytes 0 0 (omega arith) ∙ first (omega arith); some = λ more. absurd (omega arith); few = λ more. absurd (omega arith); short = λ more. absurd (omega arith) });
           long = head_long;
           other = other;
-          behind = drop 14 bytes;
-          parts = sym (take-append-drop 13 bytes) ∙ ap (λ (xs : List ℕ). head ++ xs) (drop_more bytes 13 0 (omega arith) ∙ ap (λ (byte : ℕ). byte ∷ drop 14 bytes) (count_of late));
+          behind = drop 18 bytes;
+          parts = sym (take-append-drop 17 bytes) ∙ ap (λ (xs : List ℕ). head ++ xs) (drop_more bytes 17 0 (omega arith) ∙ ap (λ (byte : ℕ). byte ∷ drop 18 bytes) (count_of late));
         }
 
-    module _ (late : 14 ≤ length new) (longer : List ℕ) (m rates : ℕ) (rates_are : rates ≡ slice_index new 13) (some : 0 < rates) (few : rates ≤ 16)
-        (more : m ≡ min (14 + 8 * rates - length new) (length (take (length piece - n) (drop n piece)))) (longer_is : longer ≡ new ++ take m (take (length piece - n) (drop n piece))) where
+    module _ (late : 18 ≤ length new) (longer : List ℕ) (m rates : ℕ) (rates_are : rates ≡ slice_index new 17) (some : 0 < rates) (few : rates ≤ 16)
+        (more : m ≡ min (18 + 8 * rates - length new) (length (take (length piece - n) (drop n piece)))) (longer_is : longer ≡ new ++ take m (take (length piece - n) (drop n piece))) where
       taken : longer ≡ kept ++ take (n + m) piece
       taken =
           longer_is ∙ ap₂ (λ (xs ys : List ℕ). xs ++ take m ys) is (take_rest piece n) ∙ append_assoc kept (take n piece) (take m (drop n piece))
@@ -86,7 +86,7 @@ module _ (kept piece : List ℕ) (each : IsBytes (kept ++ piece)) (begun : IsBeg
       grown : length new ≡ length kept + n
       grown = length_of kept piece new n (omega arith) is
 
-      rates_of : slice_index (kept ++ piece) 13 ≡ rates
+      rates_of : slice_index (kept ++ piece) 17 ≡ rates
       rates_of = count_of late ∙ sym rates_are
 
       -- the bytes so far begin with what is kept now
@@ -95,8 +95,8 @@ module _ (kept piece : List ℕ) (each : IsBytes (kept ++ piece)) (begun : IsBeg
           ap (λ (xs : List ℕ). kept ++ xs) (sym (take-append-drop (n + m) piece)) ∙ sym (append_assoc kept (take (n + m) piece) (drop (n + m) piece))
           ∙ ap (λ (xs : List ℕ). xs ++ drop (n + m) piece) (sym taken)
 
-      longer_count : slice_index longer 13 ≡ rates
-      longer_count = sym (get_or_append_left longer (drop (n + m) piece) 0 13 (omega (arith, long, grown))) ∙ ap (λ (xs : List ℕ). slice_index xs 13) (sym longer_front) ∙ rates_of
+      longer_count : slice_index longer 17 ≡ rates
+      longer_count = sym (get_or_append_left longer (drop (n + m) piece) 0 17 (omega (arith, long, grown))) ∙ ap (λ (xs : List ℕ). slice_index xs 17) (sym longer_front) ∙ rates_of
 
       longer_first : slice_index longer 0 ≡ command_kind
       longer_first =
@@ -104,16 +104,16 @@ module _ (kept piece : List ℕ) (each : IsBytes (kept ++ piece)) (begun : IsBeg
           ∙ first (omega (arith, length-append kept piece, grown))
 
       -- what was kept before ends before the command does: where it has the count, it tells so
-      kept_short : length kept < 14 + 8 * rates
+      kept_short : length kept < 18 + 8 * rates
       kept_short =
-          elim (cases_lt 13 (length kept)) [
+          elim (cases_lt 17 (length kept)) [
             | inl more ↦
-                let same : slice_index kept 13 ≡ rates = sym (get_or_append_left kept piece 0 13 more) ∙ rates_of in
+                let same : slice_index kept 17 ≡ rates = sym (get_or_append_left kept piece 0 17 more) ∙ rates_of in
                 omega (arith, begun.short more, same)
             | inr less ↦ omega arith
           ]
 
-      pub body_begun : length longer < 14 + 8 * rates → IsBegun longer
+      pub body_begun : length longer < 18 + 8 * rates → IsBegun longer
       body_begun short = record {
         kind = λ some. longer_first;
         some = λ late. omega (arith, longer_count);
@@ -121,7 +121,7 @@ module _ (kept piece : List ℕ) (each : IsBytes (kept ++ piece)) (begun : IsBeg
         short = λ late. omega (arith, longer_count);
       }
 
-      pub body_goes_on : length longer < 14 + 8 * rates → GoesOn command_bytes IsCommand IsCommandFault kept piece (n + m) (record { kept = longer; live = true })
+      pub body_goes_on : length longer < 18 + 8 * rates → GoesOn command_bytes IsCommand IsCommandFault kept piece (n + m) (record { kept = longer; live = true })
       unfolding reader
       body_goes_on short =
           let all : n + m ≡ length piece = omega (arith, rest_long, long, grown, kept_short) in
@@ -132,7 +132,7 @@ module _ (kept piece : List ℕ) (each : IsBytes (kept ++ piece)) (begun : IsBeg
             cut = cut_command (kept ++ piece) each (subst IsBegun whole (body_begun short));
           }
 
-      pub body_whole : 14 + 8 * rates ≤ length longer → IsWhole longer
+      pub body_whole : 18 + 8 * rates ≤ length longer → IsWhole longer
       body_whole reached = record {
         kind = longer_first;
         some = omega (arith, longer_count);
@@ -140,7 +140,7 @@ module _ (kept piece : List ℕ) (each : IsBytes (kept ++ piece)) (begun : IsBeg
         long = omega (arith, longer_count, rest_long, long, grown, kept_short);
       }
 
-      pub ends : 14 + 8 * rates ≤ length longer → (command : Command) (cleared : List ℕ) → IsCommand command → command_bytes command ≡ longer → cleared ≡ []
+      pub ends : 18 + 8 * rates ≤ length longer → (command : CommandFrame) (cleared : List ℕ) → IsCommand command → command_bytes command ≡ longer → cleared ≡ []
           → Ends command_bytes IsCommand IsCommandFault kept piece (n + m) command (record { kept = cleared; live = true })
       unfolding reader
       ends reached command cleared fits spelled empty = record {

@@ -1,6 +1,6 @@
 -- What a reader makes of the pieces that it is fed.
 use Rattle.std.specs.Prelude.{◌≡◌, ℕ, ◌+◌, ◌*◌, ◌<◌, ◌≤◌, Bool, true, false, List, [], ◌++◌, length, take, slice_index, Option, Some, None, Result, Ok, Err}
-use Rattle.wan_edge.specs.Frames.{Answer, Command, IsAnswer, IsCommand, IsCut, HasOtherCount, HasOtherKind, answer_bytes, answer_kind, command_bytes, command_kind}
+use Rattle.wan_edge.specs.Frames.{AnswerFrame, CommandFrame, IsAnswer, IsCommand, IsCut, HasOtherCount, HasOtherKind, answer_bytes, answer_kind, command_bytes, command_kind}
 use Rattle.wire_frames.specs.declared.fault.FrameFault.{FrameFault}
 use Rattle.wire_frames.specs.declared.fault.FrameFault.TheVariants.{Count, Kind}
 
@@ -52,27 +52,27 @@ module _ {X : Type 0} (bytes_of : X → List ℕ) (Fits : X → Type 0) (IsFault
   Reads kept piece (Ok given) now = Gives kept piece given.0 given.1 now
   Reads kept piece (Err fault) now = Breaks kept piece fault now
 
-abbrev pub ReadsCommand : List ℕ → List ℕ → Result (ℕ × Option Command) FrameFault → Reader → Type 0
+abbrev pub ReadsCommand : List ℕ → List ℕ → Result (ℕ × Option CommandFrame) FrameFault → Reader → Type 0
 ReadsCommand = Reads command_bytes IsCommand IsCommandFault
 
-abbrev pub ReadsAnswer : List ℕ → List ℕ → Result (ℕ × Option Answer) FrameFault → Reader → Type 0
+abbrev pub ReadsAnswer : List ℕ → List ℕ → Result (ℕ × Option AnswerFrame) FrameFault → Reader → Type 0
 ReadsAnswer = Reads answer_bytes IsAnswer IsAnswerFault
 
 -- the front of a command as far as it has come: its kind, and its count, which tells its length
 pub record IsBegun (kept : List ℕ) : Type 0 where
   pub kind : 0 < length kept → slice_index kept 0 ≡ command_kind
-  pub some : 13 < length kept → 0 < slice_index kept 13
-  pub few : 13 < length kept → slice_index kept 13 ≤ 16
-  pub short : 13 < length kept → length kept < 14 + 8 * slice_index kept 13
+  pub some : 17 < length kept → 0 < slice_index kept 17
+  pub few : 17 < length kept → slice_index kept 17 ≤ 16
+  pub short : 17 < length kept → length kept < 18 + 8 * slice_index kept 17
 
 -- the front of an answer as far as it has come
 pub record IsBegunAnswer (kept : List ℕ) : Type 0 where
   pub kind : 0 < length kept → slice_index kept 0 ≡ answer_kind
-  pub short : length kept < 9
+  pub short : length kept < 13
 
 -- bytes that are all of a command: its kind, a count, and as many bytes as the count tells
 pub record IsWhole (bytes : List ℕ) : Type 0 where
   pub kind : slice_index bytes 0 ≡ command_kind
-  pub some : 0 < slice_index bytes 13
-  pub few : slice_index bytes 13 ≤ 16
-  pub long : length bytes ≡ 14 + 8 * slice_index bytes 13
+  pub some : 0 < slice_index bytes 17
+  pub few : slice_index bytes 17 ≤ 16
+  pub long : length bytes ≡ 18 + 8 * slice_index bytes 17

@@ -42,9 +42,10 @@ impl AnswerReader {
         self.live
     }
 
-    /// Takes bytes of the piece up to the end of one answer, and says how many and which answer it is.
-    /// Without an answer it has taken the whole piece. After a fault nothing more may be fed.
-    pub fn feed(&mut self, piece: &[u8]) -> Result<(usize, Option<Answer>), FrameFault>
+    /// Takes bytes of the piece up to the end of one answer, and says how many, and which answer of which
+    /// migration it is. Without an answer it has taken the whole piece. After a fault nothing more may
+    /// be fed.
+    pub fn feed(&mut self, piece: &[u8]) -> Result<(usize, Option<(u32, Answer)>), FrameFault>
         requires live { IsTrue self.old.live }
         ensures read { ReadsAnswer self.old.kept piece.now result self.new }
         ensures cut { IsTrue self.new.live → IsCutAnswer self.new.kept }
@@ -59,7 +60,7 @@ impl AnswerReader {
 fn read_answer(
     front: &mut Front<ANSWER_LEN>,
     piece: &[u8],
-) -> Result<(usize, Option<Answer>), FrameFault>
+) -> Result<(usize, Option<(u32, Answer)>), FrameFault>
     requires { IsBegunAnswer front.old }
     ensures begun { IsBegunAnswer front.new }
     ensures read { ReadsAnswer front.old piece.now result (record { kept = front.new; live = is_ok result }) }

@@ -42,9 +42,10 @@ impl CommandReader {
         self.live
     }
 
-    /// Takes bytes of the piece up to the end of one command, and says how many and which command it
-    /// is. Without a command it has taken the whole piece. After a fault nothing more may be fed.
-    pub fn feed(&mut self, piece: &[u8]) -> Result<(usize, Option<Command>), FrameFault>
+    /// Takes bytes of the piece up to the end of one command, and says how many, and which command of
+    /// which migration it is. Without a command it has taken the whole piece. After a fault nothing more
+    /// may be fed.
+    pub fn feed(&mut self, piece: &[u8]) -> Result<(usize, Option<(u32, Command)>), FrameFault>
         requires live { IsTrue self.old.live }
         ensures read { ReadsCommand self.old.kept piece.now result self.new }
         ensures cut { IsTrue self.new.live → IsCutCommand self.new.kept }
@@ -59,7 +60,7 @@ impl CommandReader {
 fn read_command(
     front: &mut Front<COMMAND_LEN>,
     piece: &[u8],
-) -> Result<(usize, Option<Command>), FrameFault>
+) -> Result<(usize, Option<(u32, Command)>), FrameFault>
     requires { IsBegun front.old }
     ensures begun { IsBegun front.new }
     ensures read { ReadsCommand front.old piece.now result (record { kept = front.new; live = is_ok result }) }

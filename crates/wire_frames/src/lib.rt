@@ -1,7 +1,7 @@
-//! The frames between a controller and a switch: a [`Command`] and an [`Answer`], each written in its
-//! one spelling and read from a stream that comes in any pieces.
+//! The frames between a controller and a switch: a [`Command`] and an [`Answer`], each with the number
+//! of its migration, written in its one spelling and read from a stream that comes in any pieces.
 //!
-//! Contracts see both as the records of `wan_edge`'s `specs/Frames.antt`, which has the spelling. A
+//! Contracts see both as the frames of `wan_edge`'s `specs/Frames.antt`, which has the spelling. A
 //! reader takes bytes up to the end of one frame; with the bytes that it kept, those are exactly that
 //! frame, so it doesn't matter where a stream is cut. No call takes memory.
 #![tactic(auto)]

@@ -64,6 +64,9 @@ const SIXTEEN_RATES: Command = Command {
     ],
 };
 
+// The largest and the smallest number, and one between, of a migration.
+const MIGRATIONS: [u32; 3] = [0, 258, 4_294_967_295];
+
 // The command that stands at this place of a long stream: of 1, 2 and 16 rates in turn.
 fn numbered(place: u32) -> Command {
     let like = match place % 3 {
@@ -83,9 +86,9 @@ fn read_commands(reader: &mut CommandReader, piece: &[u8], place: u32) -> Result
     let mut next = place;
     let mut rest = piece;
     while reader.live() && !rest.is_empty() {
-        let (n, command) = reader.feed(rest)?;
-        if let Some(command) = command {
-            ensure(command == numbered(next))?;
+        let (n, found) = reader.feed(rest)?;
+        if let Some((migration, command)) = found {
+            ensure(migration == next / 2 && command == numbered(next))?;
             next = next.saturating_add(1);
         }
         rest = &rest[n..];
@@ -93,14 +96,15 @@ fn read_commands(reader: &mut CommandReader, piece: &[u8], place: u32) -> Result
     Ok(next)
 }
 
-// The same of answers, of which each says its place of both its item and what is held.
+// The same of answers, of which each says its place of both its item and what is held. Two frames in a
+// row are of one migration.
 fn read_answers(reader: &mut AnswerReader, piece: &[u8], place: u32) -> Result<u32, Fail> {
     let mut next = place;
     let mut rest = piece;
     while reader.live() && !rest.is_empty() {
-        let (n, answer) = reader.feed(rest)?;
-        if let Some(answer) = answer {
-            ensure(answer.item == next && answer.held == next)?;
+        let (n, found) = reader.feed(rest)?;
+        if let Some((migration, answer)) = found {
+            ensure(migration == next / 2 && answer.item == next && answer.held == next)?;
             next = next.saturating_add(1);
         }
         rest = &rest[n..];
@@ -119,9 +123,10 @@ fn ensure(holds: bool) -> Result<(), Fail> {
 #[test]
 fn a_command_has_its_bytes(rt: HostRuntime) -> Result<(), Fail> {
     let mut out = [255; COMMAND_LEN];
-    let n = write_command(&TWO_RATES, &mut out);
-    assert_eq!(rt; n, 30);
-    let wanted = *b"C\0\0\0\x03\0\0\0\x01\0\0\0\x02\x02\0\0\0\0\0\0\0\x06\0\0\0\0\0\0\0\x06\xff";
+    let n = write_command(&TWO_RATES, 0, &mut out);
+    assert_eq!(rt; n, 34);
+    let wanted =
+        *b"M\0\0\0\0\0\0\0\x03\0\0\0\x01\0\0\0\x02\x02\0\0\0\0\0\0\0\x06\0\0\0\0\0\0\0\x06\xff";
     assert!(rt; out.starts_with(&wanted));
     Ok(())
 }
@@ -129,11 +134,15 @@ fn a_command_has_its_bytes(rt: HostRuntime) -> Result<(), Fail> {
 #[test]
 fn an_answer_has_its_bytes(rt: HostRuntime) {
     let answer = Answer { item: 3, held: 1 };
-    assert_eq!(rt; write_answer(&answer), *b"A\0\0\0\x03\0\0\0\x01");
+    assert_eq!(rt; write_answer(&answer, 0), *b"N\0\0\0\0\0\0\0\x03\0\0\0\x01");
+    assert_eq!(rt;
+        write_answer(&answer, 0x0102_0304),
+        *b"N\x01\x02\x03\x04\0\0\0\x03\0\0\0\x01"
+    );
 }
 
 // What a reader gives for the bytes in two pieces.
-fn in_two_pieces(bytes: &[u8], cut: usize) -> Result<[Option<Command>; 2], FrameFault>
+fn in_two_pieces(bytes: &[u8], cut: usize) -> Result<[Option<(u32, Command)>; 2], FrameFault>
     requires { cut ≤ length bytes.now }
 {
     let mut reader = CommandReader::new();
@@ -144,12 +153,14 @@ fn in_two_pieces(bytes: &[u8], cut: usize) -> Result<[Option<Command>; 2], Frame
 
 #[test]
 fn a_command_may_be_cut_at_each_byte(rt: HostRuntime) {
-    for command in [ONE_RATE, TWO_RATES, SIXTEEN_RATES] {
+    let commands = [ONE_RATE, TWO_RATES, SIXTEEN_RATES];
+    for (command, migration) in commands.iter().zip(MIGRATIONS) {
         let mut out = [0; COMMAND_LEN];
-        let n = write_command(&command, &mut out);
+        let n = write_command(command, migration, &mut out);
         let bytes = &out[..n];
         for cut in 0..bytes.len() {
-            assert_eq!(rt; in_two_pieces(bytes, cut), Ok([None, Some(command)]));
+            let found = in_two_pieces(bytes, cut);
+            assert_eq!(rt; found, Ok([None, Some((migration, *command))]));
         }
     }
 }
@@ -157,13 +168,13 @@ fn a_command_may_be_cut_at_each_byte(rt: HostRuntime) {
 #[test]
 fn an_answer_may_be_cut_at_each_byte(rt: HostRuntime) -> Result<(), Fail> {
     let answer = Answer { item: 7, held: 9 };
-    let bytes = write_answer(&answer);
+    let bytes = write_answer(&answer, 5);
     for cut in 0..ANSWER_LEN {
         let mut reader = AnswerReader::new();
         assert_eq!(rt; reader.feed(&bytes[..cut])?, (cut, None));
         assert_eq!(rt;
             reader.feed(&bytes[cut..])?,
-            (ANSWER_LEN - cut, Some(answer))
+            (ANSWER_LEN - cut, Some((5, answer)))
         );
     }
     Ok(())
@@ -171,19 +182,21 @@ fn an_answer_may_be_cut_at_each_byte(rt: HostRuntime) -> Result<(), Fail> {
 
 #[test]
 fn a_fault_ends_a_reader(rt: HostRuntime) -> Result<(), Fail> {
-    let mut reader = CommandReader::new();
-    assert_eq!(rt; reader.feed(&[0x44]), Err(FrameFault::Kind(0x44)));
-    assert!(rt; !reader.live());
+    for kind in [0x41, 0x43, 0x44, 0x4E] {
+        let mut reader = CommandReader::new();
+        assert_eq!(rt; reader.feed(&[kind]), Err(FrameFault::Kind(kind)));
+        assert!(rt; !reader.live());
+    }
     let mut out = [0; COMMAND_LEN];
-    write_command(&TWO_RATES, &mut out);
+    write_command(&TWO_RATES, 0, &mut out);
     for count in [0, 17] {
-        out[13] = count;
+        out[17] = count;
         assert_eq!(rt;
             CommandReader::new().feed(&out),
             Err(FrameFault::Count(count))
         );
     }
-    assert_eq!(rt; AnswerReader::new().feed(&out), Err(FrameFault::Kind(0x43)));
+    assert_eq!(rt; AnswerReader::new().feed(&out), Err(FrameFault::Kind(0x4D)));
     Ok(())
 }
 
@@ -192,7 +205,7 @@ fn ten_thousand_commands_may_come_in_pieces_of_any_length(rt: HostRuntime) -> Re
     let mut stream = Vec::new(rt.alloc());
     for place in 0..10_000 {
         let mut out = [0; COMMAND_LEN];
-        let n = write_command(&numbered(place), &mut out);
+        let n = write_command(&numbered(place), place / 2, &mut out);
         stream.extend_from_slice(out.get(..n).unwrap_or(&[]))?;
     }
     for length in 1..21 {
@@ -214,7 +227,7 @@ fn ten_thousand_answers_may_come_in_pieces_of_any_length(rt: HostRuntime) -> Res
             item: place,
             held: place,
         };
-        stream.extend_from_slice(&write_answer(&answer))?;
+        stream.extend_from_slice(&write_answer(&answer, place / 2))?;
     }
     for length in 1..21 {
         let mut reader = AnswerReader::new();

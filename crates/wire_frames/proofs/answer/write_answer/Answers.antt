@@ -3,4 +3,4 @@ use Rattle.wire_frames.proofs.answer.write_answer.Goals as goal
 
 pub returns : goal.returns
 unfolding answer_bytes
-returns c = rw (c.write_u32-2.ensures, c.write_u32.ensures, ← c.answer.view_is)
+returns c = rw (c.write_u32-3.ensures, c.write_u32-2.ensures, c.write_u32.ensures, ← c.answer.view_is)

@@ -22,9 +22,9 @@ returns-then-count-eq0-clause-read c =
     let first = subst (λ (front : List ℕ). 0 < length (front ++ piece) → slice_index (front ++ piece) 0 ≡ command_kind) c.bytes.ensures.all c.in_default.ensures.none in
     let each = IsBytes-append kept piece c.bytes.ensures.small (λ i. omega (arith, c.type_inv.piece i)) in
     let new = c.fill-head.new.self in
-    let late : 14 ≤ length new = omega (arith, ap length c.bytes-2.ensures.all) in
-    let count_is : slice_index c.bytes-3.result.now 13 ≡ slice_index new 13 = ap (λ (xs : List ℕ). slice_index xs 13) c.bytes-3.ensures.all in
-    let other : (slice_index new 13 ≡ 0) ⊎ (16 < slice_index new 13) = elim c.then-count-eq0.branch [
+    let late : 18 ≤ length new = omega (arith, ap length c.bytes-2.ensures.all) in
+    let count_is : slice_index c.bytes-3.result.now 17 ≡ slice_index new 17 = ap (λ (xs : List ℕ). slice_index xs 17) c.bytes-3.ensures.all in
+    let other : (slice_index new 17 ≡ 0) ⊎ (16 < slice_index new 17) = elim c.then-count-eq0.branch [
       | then-count-eq0-via-then-count-eq0 w ↦ inl (omega (arith, count_is))
       | then-count-eq0-via-else-count-eq0+then-count-gt16 w ↦ inr (omega (arith, count_is))
     ] in
@@ -38,8 +38,8 @@ returns-then-bytes-len-clause-begun c =
     let first = subst (λ (front : List ℕ). 0 < length (front ++ piece) → slice_index (front ++ piece) 0 ≡ command_kind) c.bytes.ensures.all c.in_default.ensures.none in
     let each = IsBytes-append kept piece c.bytes.ensures.small (λ i. omega (arith, c.type_inv.piece i)) in
     let new = c.fill-head.new.self in
-    let late : 14 ≤ length new = omega (arith, ap length c.bytes-2.ensures.all) in
-    let count_is : slice_index c.bytes-3.result.now 13 ≡ slice_index new 13 = ap (λ (xs : List ℕ). slice_index xs 13) c.bytes-3.ensures.all in
+    let late : 18 ≤ length new = omega (arith, ap length c.bytes-2.ensures.all) in
+    let count_is : slice_index c.bytes-3.result.now 17 ≡ slice_index new 17 = ap (λ (xs : List ℕ). slice_index xs 17) c.bytes-3.ensures.all in
     let some : 0 < c.from.result = omega (arith, c.from.ensures) in
     let few : c.from.result ≤ 16 = omega (arith, c.from.ensures) in
     body_begun kept piece each c.requires first new c.fill-head.result c.fill-head.ensures.count c.fill-head.ensures.filled late c.fill-body.new.self c.fill-body.result c.from.result (c.from.ensures ∙ count_is) some few c.fill-body.ensures.count c.fill-body.ensures.filled (omega (arith, ap length c.bytes-4.ensures.all))
@@ -51,8 +51,8 @@ returns-then-bytes-len-clause-read c =
     let first = subst (λ (front : List ℕ). 0 < length (front ++ piece) → slice_index (front ++ piece) 0 ≡ command_kind) c.bytes.ensures.all c.in_default.ensures.none in
     let each = IsBytes-append kept piece c.bytes.ensures.small (λ i. omega (arith, c.type_inv.piece i)) in
     let new = c.fill-head.new.self in
-    let late : 14 ≤ length new = omega (arith, ap length c.bytes-2.ensures.all) in
-    let count_is : slice_index c.bytes-3.result.now 13 ≡ slice_index new 13 = ap (λ (xs : List ℕ). slice_index xs 13) c.bytes-3.ensures.all in
+    let late : 18 ≤ length new = omega (arith, ap length c.bytes-2.ensures.all) in
+    let count_is : slice_index c.bytes-3.result.now 17 ≡ slice_index new 17 = ap (λ (xs : List ℕ). slice_index xs 17) c.bytes-3.ensures.all in
     let some : 0 < c.from.result = omega (arith, c.from.ensures) in
     let few : c.from.result ≤ 16 = omega (arith, c.from.ensures) in
     body_goes_on kept piece each c.requires first new c.fill-head.result c.fill-head.ensures.count c.fill-head.ensures.filled late c.fill-body.new.self c.fill-body.result c.from.result (c.from.ensures ∙ count_is) some few c.fill-body.ensures.count c.fill-body.ensures.filled (omega (arith, ap length c.bytes-4.ensures.all))
@@ -64,8 +64,8 @@ command_of-command-requires c =
     let first = subst (λ (front : List ℕ). 0 < length (front ++ piece) → slice_index (front ++ piece) 0 ≡ command_kind) c.bytes.ensures.all c.in_default.ensures.none in
     let each = IsBytes-append kept piece c.bytes.ensures.small (λ i. omega (arith, c.type_inv.piece i)) in
     let new = c.fill-head.new.self in
-    let late : 14 ≤ length new = omega (arith, ap length c.bytes-2.ensures.all) in
-    let count_is : slice_index c.bytes-3.result.now 13 ≡ slice_index new 13 = ap (λ (xs : List ℕ). slice_index xs 13) c.bytes-3.ensures.all in
+    let late : 18 ≤ length new = omega (arith, ap length c.bytes-2.ensures.all) in
+    let count_is : slice_index c.bytes-3.result.now 17 ≡ slice_index new 17 = ap (λ (xs : List ℕ). slice_index xs 17) c.bytes-3.ensures.all in
     let some : 0 < c.from.result = omega (arith, c.from.ensures) in
     let few : c.from.result ≤ 16 = omega (arith, c.from.ensures) in
     let whole = body_whole kept piece each c.requires first new c.fill-head.result c.fill-head.ensures.count c.fill-head.ensures.filled late c.fill-body.new.self c.fill-body.result c.from.result (c.from.ensures ∙ count_is) some few c.fill-body.ensures.count c.fill-body.ensures.filled (omega (arith, ap length c.bytes-4.ensures.all)) in
@@ -78,8 +78,8 @@ returns-clause-read c =
     let first = subst (λ (front : List ℕ). 0 < length (front ++ piece) → slice_index (front ++ piece) 0 ≡ command_kind) c.bytes.ensures.all c.in_default.ensures.none in
     let each = IsBytes-append kept piece c.bytes.ensures.small (λ i. omega (arith, c.type_inv.piece i)) in
     let new = c.fill-head.new.self in
-    let late : 14 ≤ length new = omega (arith, ap length c.bytes-2.ensures.all) in
-    let count_is : slice_index c.bytes-3.result.now 13 ≡ slice_index new 13 = ap (λ (xs : List ℕ). slice_index xs 13) c.bytes-3.ensures.all in
+    let late : 18 ≤ length new = omega (arith, ap length c.bytes-2.ensures.all) in
+    let count_is : slice_index c.bytes-3.result.now 17 ≡ slice_index new 17 = ap (λ (xs : List ℕ). slice_index xs 17) c.bytes-3.ensures.all in
     let some : 0 < c.from.result = omega (arith, c.from.ensures) in
     let few : c.from.result ≤ 16 = omega (arith, c.from.ensures) in
     ends kept piece each c.requires first new c.fill-head.result c.fill-head.ensures.count c.fill-head.ensures.filled late c.fill-body.new.self c.fill-body.result c.from.result (c.from.ensures ∙ count_is) some few c.fill-body.ensures.count c.fill-body.ensures.filled (omega (arith, ap length c.bytes-4.ensures.all)) c.command_of-command.result c.clear-2.new.self c.command_of-command.ensures.fits (c.command_of-command.ensures.spelled ∙ c.bytes-5.ensures.all) c.clear-2.ensures

@@ -1,33 +1,40 @@
-use Rattle.std.proofs.Common.{◌≡◌, ◌∙◌, ◌==◌, ◌||◌, ℕ, Option, Some, sym, ap, ap₂}
-use Rattle.rollout_rules.specs.Agent.{held_after}
-use Rattle.wan_edge.specs.Frames.{Command}
-use Rattle.wan_edge.specs.Switches.{after_command}
+use Rattle.std.proofs.Common.{◌≡◌, ◌∙◌, ◌==◌, ◌||◌, ℕ, Option, Some, is_some, sym, ap, ap₂}
+use Rattle.rollout_rules.specs.Agent.{held_after, is_next_command}
+use Rattle.wan_edge.specs.Frames.{Command, CommandFrame}
+use Rattle.wan_edge.specs.Switches.{after_command, pair_asked}
 use Rattle.switch_agent.specs.Items.{Items, held_by, holding, last_command, seen}
-use Rattle.switch_agent.proofs.Carrying.{carried, passed_over, holding_now, seen_now}
+use Rattle.switch_agent.proofs.Carrying.{carried, passed_over, holding_now, on_err, seen_now}
 use Rattle.switch_agent.proofs.agent.Agent.apply.Goals as goal
 use Rattle.switch_agent.proofs.agent.Agent.apply.Goals.{then-is_next, else-is_next}
 
-some_command : Command → Option Command
-some_command c = Some c
+some_command : ℕ → Command → Option CommandFrame
+some_command migration c = Some (migration, c)
 
 pub returns-clause-applied : goal.returns-clause-applied
 unfolding some_command
 returns-clause-applied c =
     let command : Command = c.args.command.now in
+    let asked : CommandFrame = (c.args.migration, command) in
     let items : Items = c.self.inside.items.entries in
     let item = c.command.inside.item in
-    let last : Option Command = c.last-last.result in
+    let last : Option CommandFrame = c.last-last.result in
     let item_is : command.item ≡ item = ap (λ (x : Command). x.item) (sym c.command.view_is) in
     let last_is : last ≡ last_command items item = c.last-last.ensures ∙ ap (λ (xs : Items). last_command xs item) (sym c.self.view_is) in
-    let rule : held_by c.if-is_next.last ≡ held_after (held_by last) command.number command.content = elim c.if-is_next.branch [
-      | then-is_next w ↦ ap held_by (w.last-is ∙ ap some_command c.command.view_is) ∙ carried last command (sym c.is_next.ensures ∙ w.if-is_next.true)
-      | else-is_next w ↦ ap held_by w.last-is ∙ passed_over last command (sym c.is_next.ensures ∙ w.if-is_next.false)
+    let next_is : c.is_next.result ≡ is_next_command (held_by last).held (pair_asked asked) = c.is_next.ensures ∙ ap₂ is_next_command c.held_by.ensures c.pair.ensures in
+    let rule : held_by c.if-is_next.last ≡ held_after (held_by last) (pair_asked asked) command.content = elim c.if-is_next.branch [
+      | then-is_next w ↦ ap held_by (w.last-is ∙ ap (some_command c.args.migration) c.command.view_is) ∙ carried last asked (sym next_is ∙ w.if-is_next.true)
+      | else-is_next w ↦ ap held_by w.last-is ∙ passed_over last asked (sym next_is ∙ w.if-is_next.false)
     ] in
-    let rule_now : held_by c.if-is_next.last ≡ held_after (holding items item) command.number command.content = rule ∙ ap (λ (l : Option Command). held_after (held_by l) command.number command.content) last_is in
-    let held = holding_now items c.insert.new.self.entries item c.if-is_next.last c.in_ok-insert.ensures.updates.0 command item_is rule_now in
-    held ∙ ap (λ (xs : Items). after_command (holding xs) command) c.self.view_is
+    let rule_now : held_by c.if-is_next.last ≡ held_after (holding items item) (pair_asked asked) command.content = rule ∙ ap (λ (l : Option CommandFrame). held_after (held_by l) (pair_asked asked) command.content) last_is in
+    let held = holding_now items c.insert.new.self.entries item c.if-is_next.last c.in_ok-insert.ensures.updates.0 asked item_is rule_now in
+    held ∙ ap (λ (xs : Items). after_command (holding xs) asked) c.self.view_is
 
 pub returns-clause-seen : goal.returns-clause-seen
 returns-clause-seen c q =
     seen_now c.self.inside.items.entries c.insert.new.self.entries c.command.inside.item c.if-is_next.last c.in_ok-insert.ensures.updates.0 q
     ∙ ap₂ (λ (n : ℕ) (xs : Items). q == n || seen xs q) (ap (λ (x : Command). x.item) c.command.view_is) c.self.view_is
+
+pub returns-in_err-insert-clause-memory : goal.returns-in_err-insert-clause-memory
+returns-in_err-insert-clause-memory c =
+    on_err c.from_residual.result
+    (ap₂ (λ (xs : Items) (x : Command). seen xs x.item) (sym c.self.view_is) (sym c.command.view_is) ∙ ap is_some c.in_err-insert.ensures.absent)
