@@ -1,16 +1,15 @@
 -- What taking, carrying out and answering one command more comes to.
-use Rattle.std.proofs.Common.{◌≡◌, ℕ, zero, suc, ◌≤◌, List, [], ◌∷◌, ◌++◌, replicate, Option, Some, None, IfNone, IfSome, refl, sym, ap, subst, ◌∙◌, append_assoc, arith}
+use Rattle.std.proofs.Common.{◌≡◌, ℕ, zero, suc, ◌≤◌, List, [], ◌∷◌, ◌++◌, replicate, refl, sym, ap, subst, ◌∙◌, append_assoc, arith}
 use Rattle.std.specs.List.{All, flat_map}
 use Rattle.std.proofs.lemmas.Grind.{flat_map-append}
 use Rattle.std.proofs.lemmas.List.{append-nil}
 use Rattle.std.proofs.lemmas.List.Elements.{All-cons, All-head, All-nil, All-tail}
-use Rattle.wan_edge.specs.Frames.{Command, IsCommand, Splits, answer_bytes, command_bytes}
+use Rattle.wan_edge.specs.Frames.{CommandFrame, IsCommand, Splits, answer_bytes, command_bytes}
 use Rattle.wan_edge.specs.Ports.{IsOffered, MovesByRule}
-use Rattle.wan_edge.specs.Switches.{Holding, after_command, after_commands, answer_to}
-use Rattle.lossy_link.specs.Faithful.{AnswersBehind, AnswersFront, bytes_to}
-use Rattle.lossy_link.specs.Incoming.{GivesNext, HasCommands, IsReadOut, Stream, TakesBehind, offered_of}
+use Rattle.wan_edge.specs.Switches.{Holdings, after_command, after_commands, answer_to}
+use Rattle.lossy_link.specs.Faithful.{AreAnswered, AreFirstAnswered, bytes_to}
+use Rattle.lossy_link.specs.Incoming.{GivesNext, HasCommands, Stream, TakesBehind, TakesMore}
 use Rattle.lossy_link.specs.WayBack.{Back, with_due}
-use Rattle.lossy_link.proofs.Sending.{one_taken, out_same, out_taken}
 use Rattle.lossy_link.proofs.Taking.{after-append, bytes_to-append}
 
 back_of : List ℕ → List ℕ → Back
@@ -26,102 +25,77 @@ due-append b xs ys = ap (back_of b.heard) (append_assoc b.due xs ys)
 
 -- ---- one command more
 
--- a call of next takes further whole commands, or has found none
-module _ (before now : Stream) (found : Option Command) (given : IfSome found (λ c. GivesNext before now c)) (none : IfNone found (IsReadOut before now)) where
-  pub next_same : offered_of now ≡ offered_of before
-  next_same = at found given none
-    where
-      at : (f : Option Command) → IfSome f (λ c. GivesNext before now c) → IfNone f (IsReadOut before now) → offered_of now ≡ offered_of before
-      at (Some c) gives out = gives.same
-      at None gives out = out_same before now out
+pub none_answered : (held : Holdings) (back : Back) → AreAnswered held held back back []
+none_answered held back = record { carried_out = refl; answered = sym (none_due back) }
 
-  pub next_taken : (earlier : List Command) → TakesBehind earlier before.taken → TakesBehind earlier now.taken
-  next_taken earlier = at found given none
-    where
-      at : (f : Option Command) → IfSome f (λ c. GivesNext before now c) → IfNone f (IsReadOut before now) → TakesBehind earlier before.taken → TakesBehind earlier now.taken
-      at (Some c) gives out = one_taken before now c gives earlier
-      at None gives out = out_taken before now out earlier
+-- it is carried out and answered
+pub answered_on : (held held_then held_now : Holdings) (back back_then back_now : Back) (c : CommandFrame) → held_now ≡ after_command held_then c → back_now ≡ with_due back_then (answer_bytes (answer_to held_then c))
+    → (cs : List CommandFrame) → AreAnswered held held_then back back_then cs → AreAnswered held held_now back back_now (cs ++ c ∷ [])
+answered_on held held_then held_now back back_then back_now c held_is back_is cs so =
+    let mine = bytes_to held cs in
+    let bytes = answer_bytes (answer_to held_then c) in
+    let spelled : mine ++ bytes ≡ bytes_to held (cs ++ c ∷ [])
+    = ap (λ (xs : List ℕ). mine ++ xs) (sym (append-nil bytes) ∙ ap (λ (h : Holdings). bytes_to h (c ∷ [])) so.carried_out) ∙ sym (bytes_to-append held cs (c ∷ [])) in
+    record {
+      carried_out = held_is ∙ ap (λ (h : Holdings). after_command h c) so.carried_out ∙ sym (after-append held cs (c ∷ []));
+      answered = back_is ∙ ap (λ (b : Back). with_due b bytes) so.answered ∙ due-append back mine bytes ∙ ap (with_due back) spelled;
+    }
 
-pub none_answered : (earlier : List Command) (taken : List ℕ) (held : Holding) (back : Back) → HasCommands taken earlier → AnswersBehind earlier taken held held back back
-none_answered earlier taken held back has = record {
-  commands = [];
-  has = subst (HasCommands taken) (sym (append-nil earlier)) has;
-  carried_out = refl;
-  answered = sym (none_due back);
-}
-
-module _ (before now : Stream) (c : Command) (gives : GivesNext before now c) (earlier : List Command) (held held_then : Holding) (back back_then : Back) (behind : AnswersBehind earlier before.taken held held_then back back_then) where
+-- memory ran out at this command, and the rest were taken
+module _ (before now : Stream) (c : CommandFrame) (gives : GivesNext before now c) (earlier : List CommandFrame) (held held_then : Holdings) (back back_then : Back) (behind : TakesBehind (AreAnswered held held_then back back_then) earlier before.taken) where
   has_one_more : HasCommands now.taken (earlier ++ (behind.commands ++ c ∷ []))
   has_one_more = subst (HasCommands now.taken) (append_assoc earlier behind.commands (c ∷ [])) (gives.next (earlier ++ behind.commands) behind.has)
 
-  pub one_answered : (held_now : Holding) (back_now : Back) → held_now ≡ after_command held_then c → back_now ≡ with_due back_then (answer_bytes (answer_to held_then c)) → AnswersBehind earlier now.taken held held_now back back_now
-  one_answered held_now back_now held_is back_is =
-      let mine = bytes_to held behind.commands in
-      let bytes = answer_bytes (answer_to held_then c) in
-      let spelled : mine ++ bytes ≡ bytes_to held (behind.commands ++ c ∷ [])
-      = ap (λ (xs : List ℕ). mine ++ xs) (sym (append-nil bytes) ∙ ap (λ (h : Holding). bytes_to h (c ∷ [])) behind.carried_out) ∙ sym (bytes_to-append held behind.commands (c ∷ [])) in
+  pub one_failed : (end : Stream) → ((all : List CommandFrame) → HasCommands now.taken all → TakesMore all end.taken) → (n : ℕ) → n ≤ 1 → (held_now : Holdings) (back_now : Back) → held_now ≡ after_commands held_then (replicate n c) → back_now ≡ back_then
+      → TakesBehind (AreFirstAnswered held held_now back back_now) earlier end.taken
+  one_failed end skips n few held_now back_now held_is back_is =
       record {
-        commands = behind.commands ++ c ∷ [];
-        has = has_one_more;
-        carried_out = held_is ∙ ap (λ (h : Holding). after_command h c) behind.carried_out ∙ sym (after-append held behind.commands (c ∷ []));
-        answered = back_is ∙ ap (λ (b : Back). with_due b bytes) behind.answered ∙ due-append back mine bytes ∙ ap (with_due back) spelled;
+        commands = behind.commands ++ c ∷ rest.commands;
+        has = has_all;
+        so = at n few held_is;
       }
-
-  -- memory ran out at this command, and the rest were taken
-  pub one_failed : (end : Stream) → ((all : List Command) → HasCommands now.taken all → TakesBehind all end.taken) → (n : ℕ) → n ≤ 1 → (held_now : Holding) (back_now : Back) → held_now ≡ after_commands held_then (replicate n c) → back_now ≡ back_then → AnswersFront earlier end.taken held held_now back back_now
-  one_failed end skips n few held_now back_now held_is back_is = at n few held_is
     where
-      rest : TakesBehind (earlier ++ (behind.commands ++ c ∷ [])) end.taken
+      rest : TakesMore (earlier ++ (behind.commands ++ c ∷ [])) end.taken
       rest = skips (earlier ++ (behind.commands ++ c ∷ [])) has_one_more
 
       has_all : HasCommands end.taken (earlier ++ (behind.commands ++ c ∷ rest.commands))
       has_all =
           subst (HasCommands end.taken)
-          (append_assoc earlier (behind.commands ++ c ∷ []) rest.commands ∙ ap (λ (cs : List Command). earlier ++ cs) (append_assoc behind.commands (c ∷ []) rest.commands))
+          (append_assoc earlier (behind.commands ++ c ∷ []) rest.commands ∙ ap (λ (cs : List CommandFrame). earlier ++ cs) (append_assoc behind.commands (c ∷ []) rest.commands))
           rest.has
 
-      at : (k : ℕ) → k ≤ 1 → held_now ≡ after_commands held_then (replicate k c) → AnswersFront earlier end.taken held held_now back back_now
+      at : (k : ℕ) → k ≤ 1 → held_now ≡ after_commands held_then (replicate k c) → AreFirstAnswered held held_now back back_now (behind.commands ++ c ∷ rest.commands)
       at zero few is = record {
-        commands = behind.commands;
+        first = behind.commands;
         unanswered = [];
         at_most_one = omega arith;
         later = c ∷ rest.commands;
-        has = has_all;
-        carried_out = is ∙ behind.carried_out ∙ ap (after_commands held) (sym (append-nil behind.commands));
-        answered = back_is ∙ behind.answered;
+        parts = refl;
+        carried_out = is ∙ behind.so.carried_out ∙ ap (after_commands held) (sym (append-nil behind.commands));
+        answered = back_is ∙ behind.so.answered;
       }
       at (suc zero) few is = record {
-        commands = behind.commands;
+        first = behind.commands;
         unanswered = c ∷ [];
         at_most_one = omega arith;
         later = rest.commands;
-        has = has_all;
-        carried_out = is ∙ ap (λ (h : Holding). after_command h c) behind.carried_out ∙ sym (after-append held behind.commands (c ∷ []));
-        answered = back_is ∙ behind.answered;
+        parts = refl;
+        carried_out = is ∙ ap (λ (h : Holdings). after_command h c) behind.so.carried_out ∙ sym (after-append held behind.commands (c ∷ []));
+        answered = back_is ∙ behind.so.answered;
       }
       at (suc (suc k)) few is = absurd (omega arith)
 
-pub out_answered : (before now : Stream) → IsReadOut before now → (earlier : List Command) (held held_now : Holding) (back back_now : Back) → AnswersBehind earlier before.taken held held_now back back_now → AnswersBehind earlier now.taken held held_now back back_now
-out_answered before now out earlier held held_now back back_now behind = record {
-  commands = behind.commands;
-  has = out.none (earlier ++ behind.commands) behind.has;
-  carried_out = behind.carried_out;
-  answered = behind.answered;
-}
-
 -- where each was carried out and answered, nothing is left
-unfoldable pub front_of : (earlier : List Command) (taken_now : List ℕ) (held held_now : Holding) (back back_now : Back) → AnswersBehind earlier taken_now held held_now back back_now → AnswersFront earlier taken_now held held_now back back_now
-front_of earlier taken_now held held_now back back_now behind =
-    let bare = append-nil behind.commands in
-    record {
-      commands = behind.commands;
-      unanswered = [];
-      at_most_one = omega arith;
-      later = [];
-      has = subst (λ (cs : List Command). HasCommands taken_now (earlier ++ cs)) (sym bare) behind.has;
-      carried_out = behind.carried_out ∙ ap (after_commands held) (sym bare);
-      answered = behind.answered;
-    }
+unfoldable pub front_of : (held held_now : Holdings) (back back_now : Back) (cs : List CommandFrame) → AreAnswered held held_now back back_now cs → AreFirstAnswered held held_now back back_now cs
+front_of held held_now back back_now cs so = record {
+  first = cs;
+  unanswered = [];
+  at_most_one = omega arith;
+  later = [];
+  parts = sym (append-nil cs);
+  carried_out = so.carried_out ∙ ap (after_commands held) (sym (append-nil cs));
+  answered = so.answered;
+}
 
 -- ---- what is held moved by commands that were offered
 
@@ -134,7 +108,7 @@ back_of_each P [] others each = each
 back_of_each P (x ∷ front) others each = back_of_each P front others (All-tail P x (front ++ others) each)
 
 -- each of the commands that the bytes have was offered
-each_offered : (bytes : List ℕ) (earlier commands later : List Command) (rest : List ℕ) → Splits command_bytes IsCommand bytes (earlier ++ (commands ++ later)) rest → All (IsOffered bytes) commands
+each_offered : (bytes : List ℕ) (earlier commands later : List CommandFrame) (rest : List ℕ) → Splits command_bytes IsCommand bytes (earlier ++ (commands ++ later)) rest → All (IsOffered bytes) commands
 each_offered bytes earlier [] later rest split = All-nil (IsOffered bytes)
 each_offered bytes earlier (c ∷ commands) later rest split =
     let front = flat_map command_bytes earlier in
@@ -151,12 +125,19 @@ each_offered bytes earlier (c ∷ commands) later rest split =
           ∙ append_assoc front (command_bytes c ++ others) rest
           ∙ ap (λ (xs : List ℕ). front ++ xs) (append_assoc (command_bytes c) others rest);
     })
-    (each_offered bytes (earlier ++ c ∷ []) commands later rest (subst (λ (cs : List Command). Splits command_bytes IsCommand bytes cs rest) (sym (append_assoc earlier (c ∷ []) (commands ++ later))) split))
+    (each_offered bytes (earlier ++ c ∷ []) commands later rest (subst (λ (cs : List CommandFrame). Splits command_bytes IsCommand bytes cs rest) (sym (append_assoc earlier (c ∷ []) (commands ++ later))) split))
 
-pub moves_front : (earlier : List Command) (taken_now : List ℕ) (held held_now : Holding) (back back_now : Back) → AnswersFront earlier taken_now held held_now back back_now → MovesByRule taken_now held held_now
-moves_front earlier taken_now held held_now back back_now front = record {
-  delivered = front.commands ++ front.unanswered;
-  each_offered = each_offered taken_now earlier (front.commands ++ front.unanswered) front.later front.has.rest
-      (subst (λ (cs : List Command). Splits command_bytes IsCommand taken_now (earlier ++ cs) front.has.rest) (sym (append_assoc front.commands front.unanswered front.later)) front.has.whole);
-  moved = front.carried_out;
-}
+-- the whole commands behind the earlier ones, the first of them apart
+pub parts_of : (earlier : List CommandFrame) (taken_now : List ℕ) (held held_now : Holdings) (back back_now : Back) (front : TakesBehind (AreFirstAnswered held held_now back back_now) earlier taken_now) → HasCommands taken_now (earlier ++ (front.so.first ++ (front.so.unanswered ++ front.so.later)))
+parts_of earlier taken_now held held_now back back_now front = subst (λ (cs : List CommandFrame). HasCommands taken_now (earlier ++ cs)) front.so.parts front.has
+
+pub moves_front : (earlier : List CommandFrame) (taken_now : List ℕ) (held held_now : Holdings) (back back_now : Back) → TakesBehind (AreFirstAnswered held held_now back back_now) earlier taken_now → MovesByRule taken_now held held_now
+moves_front earlier taken_now held held_now back back_now front =
+    let so = front.so in
+    let has = parts_of earlier taken_now held held_now back back_now front in
+    record {
+      delivered = so.first ++ so.unanswered;
+      each_offered = each_offered taken_now earlier (so.first ++ so.unanswered) so.later has.rest
+          (subst (λ (cs : List CommandFrame). Splits command_bytes IsCommand taken_now (earlier ++ cs) has.rest) (sym (append_assoc so.first so.unanswered so.later)) has.whole);
+      moved = so.carried_out;
+    }

@@ -4,25 +4,22 @@ use Rattle.std.specs.Prelude.{OnErr}
 use Rattle.std.proofs.Math.Seq.{drop-nil}
 use Rattle.std.proofs.lemmas.List.{append-nil, nil_from_length, take-append-drop, take_all, take_at}
 use Rattle.std.proofs.lemmas.List.Elements.{All-take}
-use Rattle.wan_edge.specs.Frames.{Command, IsCommand, Splits, command_bytes}
+use Rattle.wan_edge.specs.Frames.{CommandFrame, IsCommand, Splits, command_bytes}
 use Rattle.wan_edge.specs.Ports.{AllAnswered, AnswersHeld, AnswersInOrder, AppendsFront, IsHonestStep, MovesByRule}
-use Rattle.wan_edge.specs.Switches.{Holding, after_commands, holding_nothing}
+use Rattle.wan_edge.specs.Switches.{Holdings, after_commands, holding_nothing}
 use Rattle.switch_agent.specs.Items.{Items, holding}
-use Rattle.lossy_link.specs.Faithful.{AnswersBehind, AnswersFront, AnswersSome, IsFaithful, bytes_to}
-use Rattle.lossy_link.specs.Incoming.{HasCommands, Stream, offered_of}
+use Rattle.lossy_link.specs.Faithful.{AreAnswered, AreFirstAnswered, IsFaithful, bytes_to}
+use Rattle.lossy_link.specs.Incoming.{Came, HasCommands, Stream, TakesBehind, offered_of}
 use Rattle.lossy_link.specs.WayBack.{Back, after_hearing}
+use Rattle.lossy_link.proofs.Behind.{none_behind, whole}
 use Rattle.lossy_link.proofs.Ordered.{answers_held, one_split}
 use Rattle.lossy_link.proofs.Sending.{honest_step, no_commands}
-use Rattle.lossy_link.proofs.Taking.{after-append, bytes_to-append, moves_not, no_numbers}
-use Rattle.lossy_link.proofs.Answering.{front_of, moves_front, none_answered}
-
--- all that was offered was taken
-whole : (s : Stream) → s.pending ≡ [] → s.taken ≡ offered_of s
-whole s all = sym (append-nil s.taken) ∙ ap (λ (xs : List ℕ). s.taken ++ xs) (sym all)
+use Rattle.lossy_link.proofs.Taking.{after-append, bytes_to-append, moves_not, no_pairs}
+use Rattle.lossy_link.proofs.Answering.{front_of, moves_front, none_answered, parts_of}
 
 -- what a port keeps that is up
 record IsUp (stream : Stream) (items : Items) (back : Back) : Type 0 where
-  pub commands : List Command
+  pub commands : List CommandFrame
   pub has : HasCommands stream.taken commands
   pub holds : holding items ≡ after_commands holding_nothing commands
   pub came : bytes_to holding_nothing commands ≡ back.heard ++ back.due
@@ -30,10 +27,10 @@ record IsUp (stream : Stream) (items : Items) (back : Back) : Type 0 where
 is_up : (stream : Stream) (items : Items) (back : Back) (down : Bool) → IsFaithful stream items back down → down ≡ false → IsUp stream items back
 is_up stream items back down keeps up =
     let none = keeps.up up in
-    let bare : keeps.commands ++ keeps.unanswered ≡ keeps.commands = ap (λ (cs : List Command). keeps.commands ++ cs) none.0 ∙ append-nil keeps.commands in
+    let bare : keeps.commands ++ keeps.unanswered ≡ keeps.commands = ap (λ (cs : List CommandFrame). keeps.commands ++ cs) none.0 ∙ append-nil keeps.commands in
     record {
       commands = keeps.commands;
-      has = subst (HasCommands stream.taken) (ap₂ (λ (xs ys : List Command). keeps.commands ++ (xs ++ ys)) none.0 none.1 ∙ append-nil keeps.commands) keeps.has;
+      has = subst (HasCommands stream.taken) (ap₂ (λ (xs ys : List CommandFrame). keeps.commands ++ (xs ++ ys)) none.0 none.1 ∙ append-nil keeps.commands) keeps.has;
       holds = keeps.holds ∙ ap (after_commands holding_nothing) bare;
       came = keeps.came;
     }
@@ -97,9 +94,9 @@ in_order stream items back down keeps =
           ∙ append_assoc back.heard back.due (bytes_to (after_commands holding_nothing keeps.commands) keeps.unanswered);
     }
 
-held_so : (offered heard : List ℕ) (now : Holding) → AnswersInOrder holding_nothing offered heard now → AnswersHeld heard now
+held_so : (offered heard : List ℕ) (now : Holdings) → AnswersInOrder holding_nothing offered heard now → AnswersHeld heard now
 held_so offered heard now order =
-    answers_held holding_nothing now (take order.carried_out order.commands) heard order.to_come no_numbers (All-take IsCommand order.carried_out order.commands order.whole.fit) order.holds order.heard_front
+    answers_held holding_nothing now (take order.carried_out order.commands) heard order.to_come no_pairs (All-take IsCommand order.carried_out order.commands order.whole.fit) order.holds order.heard_front
 
 -- where all that is there was given, all was answered
 all_given : (stream : Stream) (items : Items) (back : Back) (down : Bool) → IsFaithful stream items back down → down ≡ false → back.due ≡ [] → AllAnswered holding_nothing (offered_of stream) back.heard
@@ -109,7 +106,7 @@ all_given stream items back down keeps up none commands rest split no_more =
     ∙ ap (bytes_to holding_nothing) (one_split is.commands commands is.has.rest rest is.has.whole.fit split.fit is.has.no_more no_more (sym is.has.whole.parts ∙ whole stream keeps.all ∙ split.parts))
 
 -- nothing moves
-pub stands_step : (stream : Stream) (items : Items) (back : Back) (down : Bool) → IsFaithful stream items back down → (before : Holding) → holding items ≡ before → IsHonestStep (Some (offered_of stream)) (Some back.heard) (Some before) (Some (holding items))
+pub stands_step : (stream : Stream) (items : Items) (back : Back) (down : Bool) → IsFaithful stream items back down → (before : Holdings) → holding items ≡ before → IsHonestStep (Some (offered_of stream)) (Some back.heard) (Some before) (Some (holding items))
 stands_step stream items back down keeps before same =
     honest_step (offered_of stream) back.heard before (holding items) (holding items) same (moves_not (offered_of stream) (holding items)) (held_so (offered_of stream) back.heard (holding items) (in_order stream items back down keeps))
 
@@ -118,7 +115,7 @@ module _ (stream : Stream) (items : Items) (back now : Back) (down : Bool) (keep
   pub hear_order : AnswersInOrder holding_nothing (offered_of stream) now.heard (holding items)
   hear_order = subst (λ (b : Back). AnswersInOrder holding_nothing (offered_of stream) b.heard (holding items)) (sym now_is) (in_order stream items (after_hearing back n) down (heard_faithful stream items back down n keeps))
 
-  pub hear_step : (before : Holding) → holding items ≡ before → IsHonestStep (Some (offered_of stream)) (Some now.heard) (Some before) (Some (holding items))
+  pub hear_step : (before : Holdings) → holding items ≡ before → IsHonestStep (Some (offered_of stream)) (Some now.heard) (Some before) (Some (holding items))
   hear_step before same =
       subst (λ (b : Back). IsHonestStep (Some (offered_of stream)) (Some b.heard) (Some before) (Some (holding items))) (sym now_is) (stands_step stream items (after_hearing back n) down (heard_faithful stream items back down n keeps) before same)
 
@@ -152,53 +149,56 @@ module _ (stream middle now : Stream) (from : List ℕ) (items items_now : Items
   had : HasCommands middle.taken is.commands
   had = subst (λ (xs : List ℕ). HasCommands xs is.commands) (sym (ap (λ (s : Stream). s.taken) middle_is)) is.has
 
-  after_front : (down_now : Bool) (front : AnswersFront is.commands now.taken (holding items) (holding items_now) back back_now) → (down_now ≡ false → (front.unanswered ≡ []) × (front.later ≡ [])) → IsFaithful now items_now back_now down_now
+  after_front : (down_now : Bool) (front : TakesBehind (AreFirstAnswered (holding items) (holding items_now) back back_now) is.commands now.taken) → (down_now ≡ false → (front.so.unanswered ≡ []) × (front.so.later ≡ [])) → IsFaithful now items_now back_now down_now
   after_front down_now front is_all =
-      let done = is.commands ++ front.commands in
+      let so = front.so in
+      let done = is.commands ++ so.first in
       record {
         commands = done;
-        unanswered = front.unanswered;
-        later = front.later;
-        has = subst (HasCommands now.taken) (sym (append_assoc is.commands front.commands (front.unanswered ++ front.later))) front.has;
+        unanswered = so.unanswered;
+        later = so.later;
+        has = subst (HasCommands now.taken) (sym (append_assoc is.commands so.first (so.unanswered ++ so.later))) (parts_of is.commands now.taken (holding items) (holding items_now) back back_now front);
         all = all;
         holds =
-            front.carried_out ∙ ap (λ (h : Holding). after_commands h (front.commands ++ front.unanswered)) is.holds
-            ∙ sym (after-append holding_nothing is.commands (front.commands ++ front.unanswered))
-            ∙ ap (after_commands holding_nothing) (sym (append_assoc is.commands front.commands front.unanswered));
+            so.carried_out ∙ ap (λ (h : Holdings). after_commands h (so.first ++ so.unanswered)) is.holds
+            ∙ sym (after-append holding_nothing is.commands (so.first ++ so.unanswered))
+            ∙ ap (after_commands holding_nothing) (sym (append_assoc is.commands so.first so.unanswered));
         came =
-            bytes_to-append holding_nothing is.commands front.commands
-            ∙ ap₂ (λ (xs : List ℕ) (h : Holding). xs ++ bytes_to h front.commands) is.came (sym is.holds)
-            ∙ append_assoc back.heard back.due (bytes_to (holding items) front.commands)
-            ∙ ap (λ (b : Back). b.heard ++ b.due) (sym front.answered);
+            bytes_to-append holding_nothing is.commands so.first
+            ∙ ap₂ (λ (xs : List ℕ) (h : Holdings). xs ++ bytes_to h so.first) is.came (sym is.holds)
+            ∙ append_assoc back.heard back.due (bytes_to (holding items) so.first)
+            ∙ ap (λ (b : Back). b.heard ++ b.due) (sym so.answered);
         up = is_all;
       }
 
-  module _ (some : (earlier : List Command) → HasCommands middle.taken earlier → AnswersFront earlier now.taken (holding items) (holding items_now) back back_now) where
+  module _ (some : (earlier : List CommandFrame) → HasCommands middle.taken earlier → TakesBehind (AreFirstAnswered (holding items) (holding items_now) back back_now) earlier now.taken) where
     pub keeps_down : IsFaithful now items_now back_now true
     keeps_down = after_front true (some is.commands had) (λ e. (cc, cc))
 
-    pub answers_some : AnswersSome (offered_of stream) (offered_of now) (holding items) (holding items_now) back back_now
+    pub answers_some : Came (AreFirstAnswered (holding items) (holding items_now) back back_now) (offered_of stream) (offered_of now)
     answers_some = record {
       earlier = is.commands;
       had = subst (λ (xs : List ℕ). HasCommands xs is.commands) (whole stream keeps.all) is.has;
-      some = subst (λ (xs : List ℕ). AnswersFront is.commands xs (holding items) (holding items_now) back back_now) (whole now all) (some is.commands had);
+      behind = subst (TakesBehind (AreFirstAnswered (holding items) (holding items_now) back back_now) is.commands) (whole now all) (some is.commands had);
     }
 
     pub same_heard : back_now.heard ≡ back.heard
-    same_heard = ap (λ (b : Back). b.heard) (some is.commands had).answered
+    same_heard = ap (λ (b : Back). b.heard) (some is.commands had).so.answered
 
-    step_by : (down_now : Bool) → IsFaithful now items_now back_now down_now → (before : Holding) → holding items ≡ before → IsHonestStep (Some (offered_of now)) (Some back_now.heard) (Some before) (Some (holding items_now))
+    step_by : (down_now : Bool) → IsFaithful now items_now back_now down_now → (before : Holdings) → holding items ≡ before → IsHonestStep (Some (offered_of now)) (Some back_now.heard) (Some before) (Some (holding items_now))
     step_by down_now keeps_now before is_same =
         honest_step (offered_of now) back_now.heard before (holding items) (holding items_now) is_same
         (subst (λ (xs : List ℕ). MovesByRule xs (holding items) (holding items_now)) (whole now all) (moves_front is.commands now.taken (holding items) (holding items_now) back back_now (some is.commands had)))
         (held_so (offered_of now) back_now.heard (holding items_now) (in_order now items_now back_now down_now keeps_now))
 
-    pub step_down : (before : Holding) → holding items ≡ before → IsHonestStep (Some (offered_of now)) (Some back_now.heard) (Some before) (Some (holding items_now))
+    pub step_down : (before : Holdings) → holding items ≡ before → IsHonestStep (Some (offered_of now)) (Some back_now.heard) (Some before) (Some (holding items_now))
     step_down = step_by true keeps_down
 
-  module _ (each : (earlier : List Command) → HasCommands middle.taken earlier → AnswersBehind earlier now.taken (holding items) (holding items_now) back back_now) where
-    each_front : (earlier : List Command) → HasCommands middle.taken earlier → AnswersFront earlier now.taken (holding items) (holding items_now) back back_now
-    each_front earlier has = front_of earlier now.taken (holding items) (holding items_now) back back_now (each earlier has)
+  module _ (each : (earlier : List CommandFrame) → HasCommands middle.taken earlier → TakesBehind (AreAnswered (holding items) (holding items_now) back back_now) earlier now.taken) where
+    each_front : (earlier : List CommandFrame) → HasCommands middle.taken earlier → TakesBehind (AreFirstAnswered (holding items) (holding items_now) back back_now) earlier now.taken
+    each_front earlier has =
+        let behind = each earlier has in
+        record { commands = behind.commands; has = behind.has; so = front_of (holding items) (holding items_now) back back_now behind.commands behind.so }
 
     pub keeps_up : IsFaithful now items_now back_now false
     unfolding each_front front_of
@@ -207,18 +207,18 @@ module _ (stream middle now : Stream) (from : List ℕ) (items items_now : Items
     pub same_heard_up : back_now.heard ≡ back.heard
     same_heard_up = same_heard each_front
 
-    pub step_up : (before : Holding) → holding items ≡ before → IsHonestStep (Some (offered_of now)) (Some back_now.heard) (Some before) (Some (holding items_now))
+    pub step_up : (before : Holdings) → holding items ≡ before → IsHonestStep (Some (offered_of now)) (Some back_now.heard) (Some before) (Some (holding items_now))
     step_up = step_by each_front false keeps_up
 
 -- a port that does nothing
-pub answers_none : (stream : Stream) (items : Items) (back : Back) (down : Bool) → IsFaithful stream items back down → AnswersSome (offered_of stream) (offered_of stream) (holding items) (holding items) back back
+pub answers_none : (stream : Stream) (items : Items) (back : Back) (down : Bool) → IsFaithful stream items back down → Came (AreFirstAnswered (holding items) (holding items) back back) (offered_of stream) (offered_of stream)
 answers_none stream items back down keeps =
     let commands = keeps.commands ++ (keeps.unanswered ++ keeps.later) in
     let has = subst (λ (xs : List ℕ). HasCommands xs commands) (whole stream keeps.all) keeps.has in
     record {
       earlier = commands;
       had = has;
-      some = front_of commands (offered_of stream) (holding items) (holding items) back back (none_answered commands (offered_of stream) (holding items) back has);
+      behind = none_behind (AreFirstAnswered (holding items) (holding items) back back) commands (offered_of stream) has (front_of (holding items) (holding items) back back [] (none_answered (holding items) back));
     }
 
 pub on_err : {T E P : Type 0} (r : Result T E) → P → OnErr r P

@@ -1,11 +1,15 @@
 pub mod AlienAnswers
 pub mod Answering
+pub mod Behind
 pub mod Counted
+pub mod Gates
 pub mod Keeping
+pub mod Noises
 pub mod Ordered
+pub mod Pairs
 pub mod Readings
-pub mod Rows
 pub mod Sending
 pub mod Silent
+pub mod SmallCases
 pub mod Taking
 pub mod Traffics

@@ -1,24 +1,25 @@
 -- What deliveries, answers that set out and answers that arrive add up to.
-use Rattle.std.proofs.Common.{◌≡◌, ℕ, zero, suc, ◌+◌, ◌<◌, ◌≤◌, true, false, List, [], ◌∷◌, ◌++◌, length, get_or, take, drop, map, replicate, refl, sym, ap, ap₂, subst, ◌∙◌, append_assoc, add-one, arith}
+use Rattle.std.proofs.Common.{◌≡◌, ℕ, zero, suc, ◌+◌, ◌<◌, true, false, List, [], ◌∷◌, ◌++◌, length, get_or, take, drop, map, replicate, refl, sym, ap, ap₂, subst, ◌∙◌, append_assoc, add-one, arith}
 use Rattle.std.specs.List.{All, filter, flat_map}
 use Rattle.std.proofs.Math.ListN.{set}
 use Rattle.std.proofs.Math.Seq.{take-add}
 use Rattle.std.proofs.lemmas.Grind.{flat_map-append}
 use Rattle.std.proofs.lemmas.List.{append-nil, drop-drop, replicate-append-replicate, take-append-drop, take-append-le, take_all, take_more}
 use Rattle.std.proofs.lemmas.List.Elements.{All-append, All-cons, All-filter, All-head, All-map, All-nil, All-tail, All-take, filter-append}
-use Rattle.wan_edge.specs.Frames.{Answer, Command, IsAnswer, answer_bytes}
+use Rattle.wan_edge.specs.Frames.{AnswerFrame, CommandFrame, IsAnswer, answer_bytes}
 use Rattle.wan_edge.specs.Ports.{AnswersHeld}
-use Rattle.wan_edge.specs.Switches.{Holding, after_command, after_commands}
+use Rattle.wan_edge.specs.Switches.{Holdings, after_command, after_commands, pair_given}
 use Rattle.lossy_link.specs.Traffic.{IsAnswered, SaysAtMost, arriving, is_late, is_there, less_late}
 use Rattle.lossy_link.specs.WayBack.{Back, after_hearing, with_due}
 use Rattle.lossy_link.specs.declared.waiting.Waiting.{Waiting}
-use Rattle.lossy_link.proofs.Ordered.{front_answers, front_of_all, numbers_grow}
+use Rattle.lossy_link.proofs.Ordered.{IsBelow, front_answers, front_of_all, pairs_grow}
+use Rattle.lossy_link.proofs.Pairs.{at_most-trans}
 
 -- one delivery more
-pub after-replicate : (held : Holding) (n : ℕ) (c : Command) → after_command (after_commands held (replicate n c)) c ≡ after_commands held (replicate (n + 1) c)
+pub after-replicate : (held : Holdings) (n : ℕ) (c : CommandFrame) → after_command (after_commands held (replicate n c)) c ≡ after_commands held (replicate (n + 1) c)
 after-replicate held n c = at_suc held n ∙ ap (λ (k : ℕ). after_commands held (replicate k c)) (sym (add-one n))
   where
-    at_suc : (h : Holding) (k : ℕ) → after_command (after_commands h (replicate k c)) c ≡ after_commands h (replicate (suc k) c)
+    at_suc : (h : Holdings) (k : ℕ) → after_command (after_commands h (replicate k c)) c ≡ after_commands h (replicate (suc k) c)
     at_suc h zero = refl
     at_suc h (suc k) = at_suc (after_command h c) k
 
@@ -71,24 +72,24 @@ one_less ws items i w is inside here =
 
 -- ---- answers say at most what is held
 
-fit_of : (held : Holding) (answers : List Answer) → All (SaysAtMost held) answers → All IsAnswer answers
+fit_of : (held : Holdings) (answers : List AnswerFrame) → All (SaysAtMost held) answers → All IsAnswer answers
 fit_of held [] each = All-nil IsAnswer
 fit_of held (a ∷ answers) each = All-cons IsAnswer a answers (All-head (SaysAtMost held) a answers each).fits (fit_of held answers (All-tail (SaysAtMost held) a answers each))
 
-below_of : (held : Holding) (answers : List Answer) → All (SaysAtMost held) answers → All (λ a. a.held ≤ (held a.item).number) answers
-below_of held [] each = All-nil (λ a. a.held ≤ (held a.item).number)
-below_of held (a ∷ answers) each = All-cons (λ a. a.held ≤ (held a.item).number) a answers (All-head (SaysAtMost held) a answers each).below (below_of held answers (All-tail (SaysAtMost held) a answers each))
+below_of : (held : Holdings) (answers : List AnswerFrame) → All (SaysAtMost held) answers → All (IsBelow held) answers
+below_of held [] each = All-nil (IsBelow held)
+below_of held (a ∷ answers) each = All-cons (IsBelow held) a answers (All-head (SaysAtMost held) a answers each).below (below_of held answers (All-tail (SaysAtMost held) a answers each))
 
-pub answered_held : (held : Holding) (waiting : List Waiting) (back : Back) → IsAnswered held waiting back → AnswersHeld back.heard held
+pub answered_held : (held : Holdings) (waiting : List Waiting) (back : Back) → IsAnswered held waiting back → AnswersHeld back.heard held
 answered_held held waiting back is answers rest split =
     let front = front_answers answers is.came rest back.due split.fit (fit_of held is.came is.each) (is.parts ∙ ap (λ (xs : List ℕ). xs ++ back.due) split.parts) in
-    let below = subst (λ (as_said : List Answer). All (λ a. a.held ≤ (held a.item).number) as_said) front.parts (below_of held is.came is.each) in
-    front_of_all (λ a. a.held ≤ (held a.item).number) answers front.others below
+    let below = subst (λ (as_said : List AnswerFrame). All (IsBelow held) as_said) front.parts (below_of held is.came is.each) in
+    front_of_all (IsBelow held) answers front.others below
 
-pub nothing_answered : (held : Holding) → IsAnswered held [] (record { heard = []; due = [] })
+pub nothing_answered : (held : Holdings) → IsAnswered held [] (record { heard = []; due = [] })
 nothing_answered held = record { came = []; parts = refl; each = All-nil (SaysAtMost held); each_waiting = All-nil (λ (w : Waiting). SaysAtMost held w.answer) }
 
-pub answered_heard : (held : Holding) (waiting : List Waiting) (back : Back) (n : ℕ) → IsAnswered held waiting back → IsAnswered held waiting (after_hearing back n)
+pub answered_heard : (held : Holdings) (waiting : List Waiting) (back : Back) (n : ℕ) → IsAnswered held waiting back → IsAnswered held waiting (after_hearing back n)
 answered_heard held waiting back n is = record {
   came = is.came;
   parts = is.parts ∙ ap (λ (xs : List ℕ). back.heard ++ xs) (sym (take-append-drop n back.due)) ∙ sym (append_assoc back.heard (take n back.due) (drop n back.due));
@@ -96,7 +97,7 @@ answered_heard held waiting back n is = record {
   each_waiting = is.each_waiting;
 }
 
-answers_in : List Waiting → List Answer
+answers_in : List Waiting → List AnswerFrame
 answers_in ws = map (λ (w : Waiting). w.answer) (filter is_there ws)
 
 arriving_are : (ws : List Waiting) → flat_map answer_bytes (answers_in ws) ≡ arriving ws
@@ -108,7 +109,7 @@ arriving_are ws = of (filter is_there ws)
     of (x ∷ xs) = ap (λ (ys : List ℕ). answer_bytes x.answer ++ ys) (of xs)
 
 -- more answers arrived
-pub answered_arrived : (held : Holding) (waiting arrived : List Waiting) (back : Back) → All (λ w. SaysAtMost held w.answer) arrived → IsAnswered held waiting back → IsAnswered held waiting (with_due back (arriving arrived))
+pub answered_arrived : (held : Holdings) (waiting arrived : List Waiting) (back : Back) → All (λ w. SaysAtMost held w.answer) arrived → IsAnswered held waiting back → IsAnswered held waiting (with_due back (arriving arrived))
 unfolding answers_in
 answered_arrived held waiting arrived back says is = record {
   came = is.came ++ answers_in arrived;
@@ -117,7 +118,7 @@ answered_arrived held waiting arrived back says is = record {
   each_waiting = is.each_waiting;
 }
 
-module _ (held : Holding) (waiting seen : List Waiting) (back back_now : Back) (seen_is : seen ≡ waiting) (is : IsAnswered held waiting back) where
+module _ (held : Holdings) (waiting seen : List Waiting) (back back_now : Back) (seen_is : seen ≡ waiting) (is : IsAnswered held waiting back) where
   -- memory ran out when some of them had arrived
   pub answered_front : (n : ℕ) → back_now ≡ with_due back (arriving (take n seen)) → IsAnswered held waiting back_now
   answered_front n now_is =
@@ -136,20 +137,21 @@ module _ (held : Holding) (waiting seen : List Waiting) (back back_now : Back) (
         each_waiting = subst (All (λ (w : Waiting). SaysAtMost held w.answer)) (sym waiting_is) (All-map (λ (w : Waiting). SaysAtMost held w.answer) less_late (filter is_late waiting) (All-filter is_late (λ (w : Waiting). SaysAtMost held w.answer) waiting is.each_waiting));
       }
 
--- numbers held only grow
-says_still : (held held_now : Holding) (n : ℕ) (c : Command) → held_now ≡ after_commands held (replicate n c) → (a : Answer) → SaysAtMost held a → SaysAtMost held_now a
+-- pairs held only grow
+says_still : (held held_now : Holdings) (n : ℕ) (c : CommandFrame) → held_now ≡ after_commands held (replicate n c) → (a : AnswerFrame) → SaysAtMost held a → SaysAtMost held_now a
 says_still held held_now n c is a says =
-    let below = says.below in
     record {
       fits = says.fits;
-      below = subst (λ (h : Holding). a.held ≤ (h a.item).number) (sym is) (omega (arith, numbers_grow held (replicate n c) a.item));
+      below =
+          subst (λ (h : Holdings). IsBelow h a) (sym is)
+          (at_most-trans (pair_given a) (held a.1.item).held (after_commands held (replicate n c) a.1.item).held says.below (pairs_grow held (replicate n c) a.1.item));
     }
 
 each_still : {T : Type 0} (P Q : T → Type 0) → ((x : T) → P x → Q x) → (xs : List T) → All P xs → All Q xs
 each_still P Q to [] each = All-nil Q
 each_still P Q to (x ∷ xs) each = All-cons Q x xs (to x (All-head P x xs each)) (each_still P Q to xs (All-tail P x xs each))
 
-pub answered_delivered : (held held_now : Holding) (n : ℕ) (c : Command) (waiting : List Waiting) (back : Back) → held_now ≡ after_commands held (replicate n c) → IsAnswered held waiting back → IsAnswered held_now waiting back
+pub answered_delivered : (held held_now : Holdings) (n : ℕ) (c : CommandFrame) (waiting : List Waiting) (back : Back) → held_now ≡ after_commands held (replicate n c) → IsAnswered held waiting back → IsAnswered held_now waiting back
 answered_delivered held held_now n c waiting back now_is is = record {
   came = is.came;
   parts = is.parts;
@@ -161,7 +163,7 @@ pub each_replicate : {T : Type 0} (P : T → Type 0) (n : ℕ) (x : T) → P x �
 each_replicate P zero x p = All-nil P
 each_replicate P (suc n) x p = All-cons P x (replicate n x) p (each_replicate P n x p)
 
-pub answered_set_out : (held : Holding) (waiting waiting_now : List Waiting) (back : Back) (n : ℕ) (w : Waiting) → waiting_now ≡ waiting ++ replicate n w → SaysAtMost held w.answer → IsAnswered held waiting back → IsAnswered held waiting_now back
+pub answered_set_out : (held : Holdings) (waiting waiting_now : List Waiting) (back : Back) (n : ℕ) (w : Waiting) → waiting_now ≡ waiting ++ replicate n w → SaysAtMost held w.answer → IsAnswered held waiting back → IsAnswered held waiting_now back
 answered_set_out held waiting waiting_now back n w now_is says is = record {
   came = is.came;
   parts = is.parts;

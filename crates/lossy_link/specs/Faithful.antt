@@ -1,10 +1,10 @@
 -- What a faithful port is seen as, and what it keeps.
 use Rattle.std.specs.Prelude.{◌≡◌, ℕ, ◌≤◌, Bool, false, List, [], ◌++◌, length}
 use Rattle.std.specs.List.{flat_map}
-use Rattle.wan_edge.specs.Frames.{Command, answer_bytes}
-use Rattle.wan_edge.specs.Switches.{Holding, after_commands, answers_to, holding_nothing}
+use Rattle.wan_edge.specs.Frames.{CommandFrame, answer_bytes}
+use Rattle.wan_edge.specs.Switches.{Holdings, after_commands, answers_to, holding_nothing}
 use Rattle.switch_agent.specs.Items.{Items, holding}
-use Rattle.lossy_link.specs.Counting.{Counts, after_giving, no_counts, one_fault_more}
+use Rattle.lossy_link.specs.Counting.{Counts, after_giving, no_counts, one_fault_more, one_quiet_more}
 use Rattle.lossy_link.specs.Incoming.{HasCommands, Stream}
 use Rattle.lossy_link.specs.WayBack.{Back, after_hearing, with_due}
 
@@ -24,49 +24,39 @@ fresh_faith = record { offered = []; items = []; back = record { heard = []; due
 abbrev pub after_hear : Faith → ℕ → Faith
 after_hear f n = record f { back = after_hearing f.back n; counts = after_giving f.counts n }
 
+-- a hear gave nothing, whatever is there
+abbrev pub after_silence : Faith → Faith
+after_silence f = record f { counts = one_quiet_more f.counts }
+
 -- a call failed, and nothing else
 abbrev pub after_failure : Faith → Faith
 after_failure f = record f { counts = one_fault_more f.counts }
 
 -- the bytes of the answers to these commands, each by what is held when it comes
-abbrev pub bytes_to : Holding → List Command → List ℕ
+abbrev pub bytes_to : Holdings → List CommandFrame → List ℕ
 bytes_to held commands = flat_map answer_bytes (answers_to held commands)
 
--- behind these commands further ones were taken, and each was carried out and answered, in order
-pub record AnswersBehind (earlier : List Command) (taken_now : List ℕ) (held held_now : Holding) (back back_now : Back) : Type 0 where
-  pub commands : List Command
-  pub has : HasCommands taken_now (earlier ++ commands)
+-- each of these commands was carried out and answered, in order
+pub record AreAnswered (held held_now : Holdings) (back back_now : Back) (commands : List CommandFrame) : Type 0 where
   pub carried_out : held_now ≡ after_commands held commands
   pub answered : back_now ≡ with_due back (bytes_to held commands)
 
--- Behind these commands further ones were taken. The first were carried out and answered, in order; one more was perhaps carried out and
--- not answered, and the rest were neither.
-pub record AnswersFront (earlier : List Command) (taken_now : List ℕ) (held held_now : Holding) (back back_now : Back) : Type 0 where
-  pub commands : List Command
-  pub unanswered : List Command
+-- The first of these commands were carried out and answered, in order. One more was perhaps carried out and not answered, and the rest
+-- were neither.
+pub record AreFirstAnswered (held held_now : Holdings) (back back_now : Back) (commands : List CommandFrame) : Type 0 where
+  pub first : List CommandFrame
+  pub unanswered : List CommandFrame
   pub at_most_one : length unanswered ≤ 1
-  pub later : List Command
-  pub has : HasCommands taken_now (earlier ++ (commands ++ (unanswered ++ later)))
-  pub carried_out : held_now ≡ after_commands held (commands ++ unanswered)
-  pub answered : back_now ≡ with_due back (bytes_to held commands)
-
--- the whole commands that came with these bytes were each carried out and answered, in order
-pub record AnswersEach (offered offered_now : List ℕ) (held held_now : Holding) (back back_now : Back) : Type 0 where
-  pub earlier : List Command
-  pub had : HasCommands offered earlier
-  pub each : AnswersBehind earlier offered_now held held_now back back_now
-
--- of the whole commands that came with these bytes, the first were carried out and answered, in order, perhaps the last of them without its answer
-pub record AnswersSome (offered offered_now : List ℕ) (held held_now : Holding) (back back_now : Back) : Type 0 where
-  pub earlier : List Command
-  pub had : HasCommands offered earlier
-  pub some : AnswersFront earlier offered_now held held_now back back_now
+  pub later : List CommandFrame
+  pub parts : commands ≡ first ++ (unanswered ++ later)
+  pub carried_out : held_now ≡ after_commands held (first ++ unanswered)
+  pub answered : back_now ≡ with_due back (bytes_to held first)
 
 -- All bytes offered were taken, and what is held and what came back is of the first commands in them: of all, as long as there is memory.
 pub record IsFaithful (stream : Stream) (items : Items) (back : Back) (down : Bool) : Type 0 where
-  pub commands : List Command
-  pub unanswered : List Command
-  pub later : List Command
+  pub commands : List CommandFrame
+  pub unanswered : List CommandFrame
+  pub later : List CommandFrame
   pub has : HasCommands stream.taken (commands ++ (unanswered ++ later))
   pub all : stream.pending ≡ []
   pub holds : holding items ≡ after_commands holding_nothing (commands ++ unanswered)

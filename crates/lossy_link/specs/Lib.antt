@@ -3,8 +3,10 @@ pub mod Berths
 pub mod Counting
 pub mod Faithful
 pub mod FleetState
+pub mod Gates
 pub mod Guests
 pub mod Incoming
+pub mod Noise
 pub mod Scripted
 pub mod Silent
 pub mod Traffic

@@ -1,10 +1,10 @@
 -- What a scripted port is seen as, and what it keeps.
-use Rattle.std.specs.Prelude.{◌≡◌, ℕ, ◌++◌, Bool, false, List, [], length, min}
-use Rattle.wan_edge.specs.Frames.{Command}
+use Rattle.std.specs.Prelude.{◌≡◌, ℕ, Bool, false, List, [], length, min}
+use Rattle.wan_edge.specs.Frames.{CommandFrame}
 use Rattle.wan_edge.specs.Ports.{AnswersHeld}
 use Rattle.switch_agent.specs.Items.{holding}
 use Rattle.lossy_link.specs.Counting.{Counts, no_counts}
-use Rattle.lossy_link.specs.Incoming.{HasCommands, IsTaken, Stream}
+use Rattle.lossy_link.specs.Incoming.{IsTaken, Stream}
 use Rattle.lossy_link.specs.Traffic.{LineState, Traffic, after_sendings, after_turn, no_traffic, traffic_of}
 use Rattle.lossy_link.specs.WayBack.{after_hearing}
 use Rattle.lossy_link.specs.declared.fate.Fate.{Fate}
@@ -23,19 +23,9 @@ pub record IsFresh (fates : List Fate) (port : Scripted) : Type 0 where
   pub up : port.down ≡ false
   pub counts : port.counts ≡ no_counts
 
--- behind these commands further ones were taken and sent, one after the other
-pub record SendsBehind (earlier : List Command) (taken_now : List ℕ) (traffic traffic_now : Traffic) : Type 0 where
-  pub commands : List Command
-  pub has : HasCommands taken_now (earlier ++ commands)
-  pub sent : traffic_now ≡ after_sendings traffic commands
-
--- the whole commands that came with these bytes were sent, one after the other
-pub record SendsEach (offered offered_now : List ℕ) (traffic traffic_now : Traffic) : Type 0 where
-  pub earlier : List Command
-  pub had : HasCommands offered earlier
-  pub commands : List Command
-  pub has : HasCommands offered_now (earlier ++ commands)
-  pub sent : traffic_now ≡ after_sendings traffic commands
+-- these commands were sent, one after the other
+abbrev pub AreSent : Traffic → Traffic → List CommandFrame → Type 0
+AreSent traffic traffic_now commands = traffic_now ≡ after_sendings traffic commands
 
 -- a hear, for which there was so much room, gave so many of the bytes that were there once it had begun: all, or as many as there was room for
 pub record HearsNext (room count : ℕ) (traffic traffic_now : Traffic) : Type 0 where

@@ -1,9 +1,10 @@
 -- What passes between a controller and a switch over a line on which each command has its fate.
-use Rattle.std.specs.Prelude.{◌≡◌, ℕ, ◌==◌, ◌-◌, ◌≤◌, ◌++◌, Bool, not, List, [], ◌∷◌, All, drop, filter, map, replicate, if◌then◌else◌}
+use Rattle.std.specs.Prelude.{◌≡◌, ℕ, ◌==◌, ◌-◌, ◌++◌, Bool, true, not, List, [], ◌∷◌, All, drop, filter, map, replicate, if◌then◌else◌}
 use Rattle.std.specs.List.{flat_map}
-use Rattle.wan_edge.specs.Frames.{Answer, Command, IsAnswer, answer_bytes}
+use Rattle.rollout_rules.specs.Agent.{is_at_most}
+use Rattle.wan_edge.specs.Frames.{AnswerFrame, CommandFrame, IsAnswer, answer_bytes}
 use Rattle.switch_agent.specs.Items.{Items, holding}
-use Rattle.wan_edge.specs.Switches.{Holding, after_commands, holding_nothing}
+use Rattle.wan_edge.specs.Switches.{Holdings, after_commands, answer_of, holding_nothing, pair_given}
 use Rattle.lossy_link.specs.WayBack.{Back, with_due}
 use Rattle.lossy_link.specs.declared.fate.Fate.{Fate}
 use Rattle.lossy_link.specs.declared.waiting.Waiting.{Waiting}
@@ -11,7 +12,7 @@ use Rattle.lossy_link.specs.declared.waiting.Waiting.{Waiting}
 -- the fates still to come, what the switch holds, the answers on their way, in order, and the bytes that came back
 pub record Traffic : Type 0 where
   pub fates : List Fate
-  pub held : Holding
+  pub held : Holdings
   pub waiting : List Waiting
   pub back : Back
 
@@ -42,15 +43,15 @@ abbrev pub answers_of : Fate → ℕ
 answers_of fate = if fate.times == 0 then 0 else fate.answers
 
 -- what the switch holds once the command came as often as its fate says
-abbrev pub held_by_fate : Holding → Fate → Command → Holding
+abbrev pub held_by_fate : Holdings → Fate → CommandFrame → Holdings
 held_by_fate held fate c = after_commands held (replicate fate.times c)
 
 -- the answer to a command by what is held after it, and the hears that it still waits
-abbrev pub waiting_for : Holding → Fate → Command → Waiting
-waiting_for held fate c = record { answer = record { item = c.item; held = (held c.item).number }; late = fate.late }
+abbrev pub waiting_for : Holdings → Fate → CommandFrame → Waiting
+waiting_for held fate c = record { answer = answer_of c.1.item (held c.1.item).held; late = fate.late }
 
 -- a command is sent, and meets the next fate
-abbrev pub after_sending : Traffic → Command → Traffic
+abbrev pub after_sending : Traffic → CommandFrame → Traffic
 after_sending t c =
     let fate = first_fate t.fates in
     let held = held_by_fate t.held fate c in
@@ -62,7 +63,7 @@ after_sending t c =
     }
 
 -- commands are sent, one after the other
-abbrev pub after_sendings : Traffic → List Command → Traffic
+abbrev pub after_sendings : Traffic → List CommandFrame → Traffic
 after_sendings t [] = t
 after_sendings t (c ∷ cs) = after_sendings (after_sending t c) cs
 
@@ -91,13 +92,13 @@ after_turn t = record {
 }
 
 -- an answer that has bytes, and says at most what is held
-pub record SaysAtMost (held : Holding) (a : Answer) : Type 0 where
+pub record SaysAtMost (held : Holdings) (a : AnswerFrame) : Type 0 where
   pub fits : IsAnswer a
-  pub below : a.held ≤ (held a.item).number
+  pub below : is_at_most (pair_given a) (held a.1.item).held ≡ true
 
 -- the bytes that came back are answers, and each of these and of those on their way says at most what is held
-pub record IsAnswered (held : Holding) (waiting : List Waiting) (back : Back) : Type 0 where
-  pub came : List Answer
+pub record IsAnswered (held : Holdings) (waiting : List Waiting) (back : Back) : Type 0 where
+  pub came : List AnswerFrame
   pub parts : flat_map answer_bytes came ≡ back.heard ++ back.due
   pub each : All (SaysAtMost held) came
   pub each_waiting : All (λ w. SaysAtMost held w.answer) waiting

@@ -1,9 +1,9 @@
 ghost use Rattle.std.specs.Prelude.{◌≡◌, ◌<◌, ◌≤◌, ◌++◌, [], List, length, min, take, true, false, Some, Ok, IfOk, OnErr, OnOk};
-ghost use Rattle.lossy_link.specs.Aliens.{AnswersBehind, AnswersEach, fresh};
+ghost use Rattle.lossy_link.specs.Aliens.{AreAnsweredWith, fresh};
 ghost use Rattle.lossy_link.specs.Counting.{after_giving, one_fault_more, told_quiet};
-ghost use Rattle.lossy_link.specs.Incoming.{HasCommands, TakesBehind, offered_of};
+ghost use Rattle.lossy_link.specs.Incoming.{Came, HasCommands, TakesBehind, TakesMore, offered_of};
 ghost use Rattle.lossy_link.specs.WayBack.{after_hearing};
-ghost use Rattle.wan_edge.specs.Frames.{Command};
+ghost use Rattle.wan_edge.specs.Frames.{CommandFrame};
 ghost use Rattle.wan_edge.specs.Ports.{AppendsFront, IsOneMore};
 ghost use Rattle.wan_edge.specs.Streams.{Appends, Rose};
 ghost use Rattle.wan_edge.specs.Switches.{holding_nothing};
@@ -17,8 +17,8 @@ use std::marker::Model;
 use wan_edge::{Failed, Port};
 use wire_frames::Answer;
 
-/// A dishonest port: it answers one number to each whole command, whatever its switch holds, which is
-/// nothing. Where memory runs out the port is down, and each later call fails.
+/// A dishonest port: it answers one number to each whole command, in the command's migration, whatever
+/// its switch holds, which is nothing. Where memory runs out the port is down, and each later call fails.
 #[derive(Debug, Drop)]
 pub struct AlienPort {
     incoming: Incoming,
@@ -57,7 +57,7 @@ impl AlienPort {
     fn take(&mut self, from: &[u8]) -> Result<(), Memory>
         requires { self.old.down ≡ false }
         ensures all { OnOk result (self.new.offered ≡ self.old.offered ++ from.now) }
-        ensures answered { OnOk result (AnswersEach self.old.number self.old.offered self.new.offered self.old.back self.new.back) }
+        ensures answered { OnOk result (Came (AreAnsweredWith self.old.number self.old.back self.new.back) self.old.offered self.new.offered) }
         ensures up { OnOk result (self.new.down ≡ false) }
         ensures down { OnErr result (self.new.down ≡ true) }
         ensures part { OnErr result (AppendsFront (Some self.old.offered) from.now (Some self.new.offered)) }
@@ -75,15 +75,15 @@ impl AlienPort {
 
 // Answers this number to the whole commands that are still to be taken, one after the other.
 fn answer_each(incoming: &mut Incoming, back: &mut WayBack, held: u32) -> Result<(), Memory>
-    ensures answered { OnOk result ((earlier : List Command) → HasCommands incoming.old.taken earlier → AnswersBehind held earlier incoming.new.taken back.old back.new) }
+    ensures answered { OnOk result ((earlier : List CommandFrame) → HasCommands incoming.old.taken earlier → TakesBehind (AreAnsweredWith held back.old back.new) earlier incoming.new.taken) }
     ensures all { OnOk result (incoming.new.pending ≡ []) }
     ensures same { offered_of incoming.new ≡ offered_of incoming.old }
-    ensures has { (earlier : List Command) → HasCommands incoming.old.taken earlier → TakesBehind earlier incoming.new.taken }
+    ensures has { (earlier : List CommandFrame) → HasCommands incoming.old.taken earlier → TakesMore earlier incoming.new.taken }
     ensures unheard { back.new.heard ≡ back.old.heard }
 {
     while let Some(command) = incoming.next() {
-        let item = command.item;
-        back.add(&Answer { item, held })?;
+        let item = command.1.item;
+        back.add(command.0, &Answer { item, held })?;
     }
     Ok(())
 }
@@ -112,7 +112,7 @@ impl Port for AlienPort {
     /// Takes all the bytes and answers each whole command, or fails for want of memory.
     fn offer(&mut self, from: &[u8]) -> Result<(), Failed>
         ensures all { OnOk result (Appends (Some self.old.offered) from.now (Some self.new.offered)) }
-        ensures answered { OnOk result (AnswersEach self.old.number self.old.offered self.new.offered self.old.back self.new.back) }
+        ensures answered { OnOk result (Came (AreAnsweredWith self.old.number self.old.back self.new.back) self.old.offered self.new.offered) }
         ensures number { self.new.number ≡ self.old.number }
         ensures up { OnOk result ((self.old.down ≡ false) × (self.new.down ≡ false)) }
         ensures down { OnErr result (self.new.down ≡ true) }

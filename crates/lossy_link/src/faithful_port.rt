@@ -1,10 +1,10 @@
 ghost use Rattle.std.specs.Prelude.{◌≡◌, ℕ, ◌<◌, ◌≤◌, [], ◌++◌, List, length, min, replicate, take, true, false, Some, Ok, IfOk, OnErr, OnOk};
 ghost use Rattle.lossy_link.specs.Counting.{one_fault_more, one_quiet_more, told_quiet};
-ghost use Rattle.lossy_link.specs.Faithful.{AnswersBehind, AnswersEach, AnswersFront, AnswersSome, after_failure, after_hear, fresh_faith};
-ghost use Rattle.lossy_link.specs.Incoming.{HasCommands, TakesBehind, offered_of};
+ghost use Rattle.lossy_link.specs.Faithful.{AreAnswered, AreFirstAnswered, after_failure, after_hear, after_silence, fresh_faith};
+ghost use Rattle.lossy_link.specs.Incoming.{Came, HasCommands, TakesBehind, TakesMore, offered_of};
 ghost use Rattle.lossy_link.specs.WayBack.{with_due};
 ghost use Rattle.switch_agent.specs.Items.{holding};
-ghost use Rattle.wan_edge.specs.Frames.{Command, answer_bytes};
+ghost use Rattle.wan_edge.specs.Frames.{CommandFrame, answer_bytes};
 ghost use Rattle.wan_edge.specs.Ports.{AppendsFront, IsHonestStep, IsOneMore, IsPromptState, NothingToCome};
 ghost use Rattle.wan_edge.specs.Streams.{Appends, Rose};
 ghost use Rattle.wan_edge.specs.Switches.{after_command, after_commands, answer_to, holding_nothing};
@@ -54,15 +54,24 @@ impl FaithfulPort {
         }
     }
 
+    /// Counts a hear that gives nothing, whatever is there.
+    pub(crate) fn stay_quiet(&mut self)
+        ensures quiet { self.new ≡ after_silence self.old }
+        ensures by_rule { IsHonestStep (Some self.new.offered) (Some self.new.back.heard) (Some (holding self.old.items)) (Some (holding self.new.items)) }
+        ensures in_order { IsPromptState holding_nothing (Some self.new.offered) (Some self.new.back.heard) (Some (holding self.new.items)) }
+    {
+        self.counters.count_quiet();
+    }
+
     // Takes all the bytes, and carries out and answers each whole command among them.
     fn take(&mut self, from: &[u8]) -> Result<(), Memory>
         requires { self.old.down ≡ false }
         ensures all { OnOk result (self.new.offered ≡ self.old.offered ++ from.now) }
-        ensures answered { OnOk result (AnswersEach self.old.offered self.new.offered (holding self.old.items) (holding self.new.items) self.old.back self.new.back) }
+        ensures answered { OnOk result (Came (AreAnswered (holding self.old.items) (holding self.new.items) self.old.back self.new.back) self.old.offered self.new.offered) }
         ensures up { OnOk result (self.new.down ≡ false) }
         ensures down { OnErr result (self.new.down ≡ true) }
         ensures part { OnErr result (AppendsFront (Some self.old.offered) from.now (Some self.new.offered)) }
-        ensures some { OnErr result (AnswersSome self.old.offered self.new.offered (holding self.old.items) (holding self.new.items) self.old.back self.new.back) }
+        ensures some { OnErr result (Came (AreFirstAnswered (holding self.old.items) (holding self.new.items) self.old.back self.new.back) self.old.offered self.new.offered) }
         ensures unheard { self.new.back.heard ≡ self.old.back.heard }
         ensures counts { self.new.counts ≡ self.old.counts }
         ensures by_rule { IsHonestStep (Some self.new.offered) (Some self.new.back.heard) (Some (holding self.old.items)) (Some (holding self.new.items)) }
@@ -80,8 +89,8 @@ impl FaithfulPort {
 // out, the rest are taken all the same.
 fn answer_each(incoming: &mut Incoming, agent: &mut Agent, back: &mut WayBack) -> Result<(), Memory>
     ensures all { incoming.new ≡ record { taken = offered_of incoming.old; pending = [] } }
-    ensures each { OnOk result ((earlier : List Command) → HasCommands incoming.old.taken earlier → AnswersBehind earlier incoming.new.taken (holding agent.old) (holding agent.new) back.old back.new) }
-    ensures some { OnErr result ((earlier : List Command) → HasCommands incoming.old.taken earlier → AnswersFront earlier incoming.new.taken (holding agent.old) (holding agent.new) back.old back.new) }
+    ensures each { OnOk result ((earlier : List CommandFrame) → HasCommands incoming.old.taken earlier → TakesBehind (AreAnswered (holding agent.old) (holding agent.new) back.old back.new) earlier incoming.new.taken) }
+    ensures some { OnErr result ((earlier : List CommandFrame) → HasCommands incoming.old.taken earlier → TakesBehind (AreFirstAnswered (holding agent.old) (holding agent.new) back.old back.new) earlier incoming.new.taken) }
 {
     while let Some(command) = incoming.next() {
         if let Err(memory) = answer(&command, agent, back) {
@@ -92,22 +101,22 @@ fn answer_each(incoming: &mut Incoming, agent: &mut Agent, back: &mut WayBack) -
     Ok(())
 }
 
-// Carries out a command and answers it. Where memory runs out it is not answered, and perhaps not
+// Carries out a command with its migration and answers it. Where memory runs out it is not answered, and perhaps not
 // carried out.
-fn answer(command: &Command, agent: &mut Agent, back: &mut WayBack) -> Result<(), Memory>
+fn answer(command: &(u32, Command), agent: &mut Agent, back: &mut WayBack) -> Result<(), Memory>
     ensures carried_out { OnOk result (holding agent.new ≡ after_command (holding agent.old) command.now) }
     ensures answered { OnOk result (back.new ≡ with_due back.old (answer_bytes (answer_to (holding agent.old) command.now))) }
     ensures perhaps { OnErr result ((n : ℕ) × (n ≤ 1) × (holding agent.new ≡ after_commands (holding agent.old) (replicate n command.now))) }
     ensures unanswered { OnErr result (back.new ≡ back.old) }
 {
-    let answer = agent.apply(command)?;
-    back.add(&answer)
+    let (migration, answer) = agent.apply(command.0, &command.1)?;
+    back.add(migration, &answer)
 }
 
 // Takes the whole commands still to be taken, and does nothing with them.
 fn skip_each(incoming: &mut Incoming)
     ensures all { incoming.new ≡ record { taken = offered_of incoming.old; pending = [] } }
-    ensures has { (earlier : List Command) → HasCommands incoming.old.taken earlier → TakesBehind earlier incoming.new.taken }
+    ensures has { (earlier : List CommandFrame) → HasCommands incoming.old.taken earlier → TakesMore earlier incoming.new.taken }
 {
     while incoming.next().is_some() {}
 }
@@ -149,14 +158,14 @@ impl Port for FaithfulPort {
     /// in an earlier call.
     fn offer(&mut self, from: &[u8]) -> Result<(), Failed>
         ensures all { OnOk result (Appends (Some self.old.offered) from.now (Some self.new.offered)) }
-        ensures answered { OnOk result (AnswersEach self.old.offered self.new.offered (holding self.old.items) (holding self.new.items) self.old.back self.new.back) }
+        ensures answered { OnOk result (Came (AreAnswered (holding self.old.items) (holding self.new.items) self.old.back self.new.back) self.old.offered self.new.offered) }
         ensures up { OnOk result ((self.old.down ≡ false) × (self.new.down ≡ false)) }
         ensures counts { OnOk result (self.new.counts ≡ self.old.counts) }
         ensures fault { OnErr result (self.new.counts ≡ one_fault_more self.old.counts) }
         ensures down { OnErr result (self.new.down ≡ true) }
         ensures still_down { self.old.down ≡ true → self.new ≡ after_failure self.old }
         ensures part { OnErr result (AppendsFront (Some self.old.offered) from.now (Some self.new.offered)) }
-        ensures some { OnErr result (AnswersSome self.old.offered self.new.offered (holding self.old.items) (holding self.new.items) self.old.back self.new.back) }
+        ensures some { OnErr result (Came (AreFirstAnswered (holding self.old.items) (holding self.new.items) self.old.back self.new.back) self.old.offered self.new.offered) }
         ensures unheard { Some self.new.back.heard ≡ Some self.old.back.heard }
         ensures no_hear { told_quiet self.new.counts ≡ told_quiet self.old.counts }
         ensures cause { OnErr result (Rose self.old.counts.faults self.new.counts.faults) }

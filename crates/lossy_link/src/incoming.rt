@@ -46,8 +46,8 @@ impl Incoming {
         self.offered.extend_from_slice(bytes)
     }
 
-    /// Takes the next whole command. Where there is none, it takes all the bytes.
-    pub(crate) fn next(&mut self) -> Option<Command>
+    /// Takes the next whole command, with its migration. Where there is none, it takes all the bytes.
+    pub(crate) fn next(&mut self) -> Option<(u32, Command)>
         ensures given { IfSome result (λ c. GivesNext self.old self.new c) }
         ensures none { IfNone result (IsReadOut self.old self.new) }
     {

@@ -49,9 +49,9 @@ impl Line {
         }
     }
 
-    /// Sends a command, which meets its fate. Where memory runs out, it may have come to the switch a few
+    /// Sends a command with its migration, which meets its fate. Where memory runs out, it may have come to the switch a few
     /// times less.
-    pub(crate) fn send(&mut self, command: &Command) -> Result<(), Memory>
+    pub(crate) fn send(&mut self, command: &(u32, Command)) -> Result<(), Memory>
         requires { IsCommand command.now }
         ensures ok { OnOk result (traffic_of self.new ≡ after_sending (traffic_of self.old) command.now) }
         ensures moves { (n : ℕ) × (holding self.new.items ≡ after_commands (holding self.old.items) (replicate n command.now)) }
@@ -60,12 +60,13 @@ impl Line {
     {
         let fate = self.fates.next();
         deliver(&mut self.agent, command, fate.times)?;
+        let held = self.agent.held(command.1.item);
         let answer = Answer {
-            item: command.item,
-            held: self.agent.held(command.item),
+            item: command.1.item,
+            held: held.number,
         };
         let waiting = Waiting {
-            answer,
+            answer: (held.migration, answer),
             late: fate.late,
         };
         set_out(&mut self.waiting, &waiting, fate.answers())
@@ -95,13 +96,13 @@ impl Line {
     }
 }
 
-// Delivers a command so many times.
-fn deliver(agent: &mut Agent, command: &Command, times: u8) -> Result<(), Memory>
+// Delivers a command with its migration so many times.
+fn deliver(agent: &mut Agent, command: &(u32, Command), times: u8) -> Result<(), Memory>
     ensures ok { OnOk result (holding agent.new ≡ after_commands (holding agent.old) (replicate times command.now)) }
     ensures some { (n : ℕ) × (holding agent.new ≡ after_commands (holding agent.old) (replicate n command.now)) }
 {
     for _time in 0..times {
-        agent.apply(command)?;
+        agent.apply(command.0, &command.1)?;
     }
     Ok(())
 }
@@ -124,7 +125,8 @@ fn arrive(waiting: &[Waiting], back: &mut WayBack) -> Result<(), Memory>
 {
     for w in waiting {
         if w.late == 0 {
-            back.add(&w.answer)?;
+            let (migration, answer) = &w.answer;
+            back.add(*migration, answer)?;
         }
     }
     Ok(())

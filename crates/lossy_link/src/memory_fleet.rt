@@ -6,11 +6,11 @@ ghost use Rattle.wan_edge.specs.Fleets.{marked, with_one, without};
 
 mod berth;
 mod berths;
-mod guest_row;
+mod guest_queue;
 
 use crate::MemoryGuest;
 use berths::Berths;
-use guest_row::GuestRow;
+use guest_queue::GuestQueue;
 use lists::Memory;
 use std::alloc::Global;
 use std::marker::Model;
@@ -22,7 +22,7 @@ use wan_edge::{Failed, Fleet, Port};
 #[derive(Debug, Drop)]
 pub struct MemoryFleet<P> {
     berths: Berths<P>,
-    guests: GuestRow,
+    guests: GuestQueue,
     guests_fail: bool,
     faults: u64,
 }
@@ -41,7 +41,7 @@ impl<P> MemoryFleet<P> {
     {
         MemoryFleet {
             berths: Berths::new(alloc),
-            guests: GuestRow::new(alloc),
+            guests: GuestQueue::new(alloc),
             guests_fail: false,
             faults: 0,
         }

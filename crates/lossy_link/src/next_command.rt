@@ -3,9 +3,12 @@ ghost use Rattle.lossy_link.specs.Incoming.{Advances, GoesOnAs};
 
 use wire_frames::{Command, CommandReader};
 
-/// Takes bytes up to the end of one command, and says how many and which it is. Where the bytes are no
+/// Takes bytes up to the end of one command, and says how many and which of which migration it is. Where the bytes are no
 /// commands any more, it takes them all.
-pub(crate) fn next_command(reader: &mut CommandReader, piece: &[u8]) -> (usize, Option<Command>)
+pub(crate) fn next_command(
+    reader: &mut CommandReader,
+    piece: &[u8],
+) -> (usize, Option<(u32, Command)>)
     requires { 0 < length piece.now }
     ensures some { 0 < result.0 }
     ensures within { result.0 ≤ length piece.now }

@@ -1,10 +1,10 @@
 ghost use Rattle.std.specs.Prelude.{◌≡◌, ℕ, ◌<◌, ◌≤◌, [], ◌++◌, List, length, take, true, false, Some, Ok, IfOk, OnErr, OnOk};
 ghost use Rattle.lossy_link.specs.Counting.{after_giving, one_fault_more, told_quiet};
-ghost use Rattle.lossy_link.specs.Incoming.{HasCommands, TakesBehind, offered_of};
-ghost use Rattle.lossy_link.specs.Scripted.{HearsNext, IsFresh, SendsBehind, SendsEach};
+ghost use Rattle.lossy_link.specs.Incoming.{Came, HasCommands, TakesBehind, TakesMore, offered_of};
+ghost use Rattle.lossy_link.specs.Scripted.{AreSent, HearsNext, IsFresh};
 ghost use Rattle.lossy_link.specs.Traffic.{traffic_of};
 ghost use Rattle.switch_agent.specs.Items.{holding};
-ghost use Rattle.wan_edge.specs.Frames.{Command};
+ghost use Rattle.wan_edge.specs.Frames.{CommandFrame};
 ghost use Rattle.wan_edge.specs.Ports.{AnswersHeld, AppendsFront, IsHonestStep, IsOneMore, MovesByRule};
 ghost use Rattle.wan_edge.specs.Streams.{Appends, Rose};
 ghost use Rattle.wan_edge.specs.Switches.{holding_nothing};
@@ -57,7 +57,7 @@ impl ScriptPort {
     fn take(&mut self, from: &[u8]) -> Result<(), Memory>
         requires { self.old.down ≡ false }
         ensures all { OnOk result (self.new.offered ≡ self.old.offered ++ from.now) }
-        ensures sent { OnOk result (SendsEach self.old.offered self.new.offered (traffic_of self.old.line) (traffic_of self.new.line)) }
+        ensures sent { OnOk result (Came (AreSent (traffic_of self.old.line) (traffic_of self.new.line)) self.old.offered self.new.offered) }
         ensures up { OnOk result (self.new.down ≡ false) }
         ensures down { OnErr result (self.new.down ≡ true) }
         ensures part { OnErr result (AppendsFront (Some self.old.offered) from.now (Some self.new.offered)) }
@@ -76,11 +76,11 @@ impl ScriptPort {
 // Sends the whole commands that are still to be taken, one after the other.
 fn send_each(incoming: &mut Incoming, line: &mut Line) -> Result<(), Memory>
     requires honest { AnswersHeld line.old.back.heard (holding line.old.items) }
-    ensures sent { OnOk result ((earlier : List Command) → HasCommands incoming.old.taken earlier → SendsBehind earlier incoming.new.taken (traffic_of line.old) (traffic_of line.new)) }
+    ensures sent { OnOk result ((earlier : List CommandFrame) → HasCommands incoming.old.taken earlier → TakesBehind (AreSent (traffic_of line.old) (traffic_of line.new)) earlier incoming.new.taken) }
     ensures all { OnOk result (incoming.new.pending ≡ []) }
     ensures same { offered_of incoming.new ≡ offered_of incoming.old }
-    ensures has { (earlier : List Command) → HasCommands incoming.old.taken earlier → TakesBehind earlier incoming.new.taken }
-    ensures moves { (earlier : List Command) → HasCommands incoming.old.taken earlier → MovesByRule (offered_of incoming.new) (holding line.old.items) (holding line.new.items) }
+    ensures has { (earlier : List CommandFrame) → HasCommands incoming.old.taken earlier → TakesMore earlier incoming.new.taken }
+    ensures moves { (earlier : List CommandFrame) → HasCommands incoming.old.taken earlier → MovesByRule (offered_of incoming.new) (holding line.old.items) (holding line.new.items) }
     ensures unheard { line.new.back.heard ≡ line.old.back.heard }
     ensures honest { AnswersHeld line.new.back.heard (holding line.new.items) }
 {
@@ -114,7 +114,7 @@ impl Port for ScriptPort {
     /// Takes all the bytes and sends each whole command to its fate, or fails for want of memory.
     fn offer(&mut self, from: &[u8]) -> Result<(), Failed>
         ensures all { OnOk result (Appends (Some self.old.offered) from.now (Some self.new.offered)) }
-        ensures sent { OnOk result (SendsEach self.old.offered self.new.offered (traffic_of self.old.line) (traffic_of self.new.line)) }
+        ensures sent { OnOk result (Came (AreSent (traffic_of self.old.line) (traffic_of self.new.line)) self.old.offered self.new.offered) }
         ensures up { OnOk result ((self.old.down ≡ false) × (self.new.down ≡ false)) }
         ensures down { OnErr result (self.new.down ≡ true) }
         ensures counts { OnOk result (self.new.counts ≡ self.old.counts) }

@@ -36,12 +36,13 @@ impl WayBack {
         }
     }
 
-    /// Adds the bytes of an answer. Want of memory changes nothing.
-    pub(crate) fn add(&mut self, answer: &Answer) -> Result<(), Memory>
-        ensures ok { OnOk result (self.new ≡ with_due self.old (answer_bytes answer.now)) }
+    /// Adds the bytes of an answer of this migration. Want of memory changes nothing.
+    pub(crate) fn add(&mut self, migration: u32, answer: &Answer) -> Result<(), Memory>
+        ensures ok { OnOk result (self.new ≡ with_due self.old (answer_bytes (migration, answer.now))) }
         ensures err { OnErr result (self.new ≡ self.old) }
     {
-        self.bytes.extend_from_slice(&write_answer(answer))
+        self.bytes
+            .extend_from_slice(&write_answer(answer, migration))
     }
 
     /// Gives the next bytes that are there, as many as fit.
@@ -50,10 +51,18 @@ impl WayBack {
         ensures given { take result into.new ≡ take result self.old.due }
         ensures left { self.new ≡ after_hearing self.old result }
     {
-        let due = &self.bytes.as_slice()[self.given..];
-        let n = into.len().min(due.len());
-        into[..n].copy_from_slice(&due[..n]);
+        let n = give_front(&self.bytes.as_slice()[self.given..], into);
         self.given += n;
         n
     }
+}
+
+/// Gives the first of these bytes, as many as fit.
+pub(crate) fn give_front(due: &[u8], into: &mut [u8]) -> usize
+    ensures count { result ≡ min (length into.old) (length due.now) }
+    ensures given { take result into.new ≡ take result due.now }
+{
+    let n = into.len().min(due.len());
+    into[..n].copy_from_slice(&due[..n]);
+    n
 }

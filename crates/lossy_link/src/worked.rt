@@ -1,11 +1,12 @@
-//! Worked rows on what is honest, what is prompt and what becomes of a command by its fate: each
-//! function states a fact of a small case, some that hold and some that fail.
-ghost use Rattle.std.specs.Prelude.{◌≡◌, [], ◌∷◌, ◌++◌};
+//! Worked examples of what is honest, what is prompt, what becomes of a command by its fate, and when a
+//! gate opens: each function states a fact of a small case, some that hold and some that fail.
+ghost use Rattle.std.specs.Prelude.{◌≡◌, [], ◌∷◌, ◌++◌, true, false};
+ghost use Rattle.lossy_link.specs.Gates.{crossing, have_met, inside_at};
 ghost use Rattle.lossy_link.specs.Traffic.{after_sending, after_turn, no_traffic};
 ghost use Rattle.lossy_link.specs.Worked.{first, first_held, lost, twice_late};
 ghost use Rattle.wan_edge.specs.Frames.{answer_bytes, command_bytes};
 ghost use Rattle.wan_edge.specs.Ports.{AllAnswered, AnswersHeld, AnswersInOrder, MovesByRule};
-ghost use Rattle.wan_edge.specs.Switches.{Holding, after_command, after_commands, holding_nothing};
+ghost use Rattle.wan_edge.specs.Switches.{Holdings, after_command, after_commands, holding_nothing};
 
 /// A command that comes twice is one that was offered.
 pub fn a_repeat_is_by_the_rule()
@@ -21,7 +22,7 @@ pub fn an_answer_above_what_is_held_is_not_honest()
 {}
 
 pub fn an_answer_that_is_heard_twice_is_not_prompt()
-    ensures { (now : Holding) → AnswersInOrder holding_nothing (command_bytes first) (answer_bytes first_held ++ answer_bytes first_held) now → ⊥ }
+    ensures { (now : Holdings) → AnswersInOrder holding_nothing (command_bytes first) (answer_bytes first_held ++ answer_bytes first_held) now → ⊥ }
 {}
 
 pub fn an_answer_that_was_not_heard_is_still_to_come()
@@ -38,4 +39,20 @@ pub fn a_lost_command_has_no_answer()
 pub fn two_answers_come_a_hear_late()
     ensures early { (after_turn (after_sending (no_traffic (twice_late ∷ [])) first)).back.due ≡ [] }
     ensures then { (after_turn (after_turn (after_sending (no_traffic (twice_late ∷ [])) first))).back.due ≡ answer_bytes first_held ++ (answer_bytes first_held ++ []) }
+{}
+
+/// The first half comes in, and then the second: both are inside at once.
+pub fn two_halves_inside_have_met()
+    ensures { have_met (crossing false true ∷ crossing true true ∷ []) ≡ true }
+{}
+
+/// The first half has gone out when the second comes in.
+pub fn a_half_that_went_out_is_not_met()
+    ensures apart { have_met (crossing false true ∷ crossing false false ∷ crossing true true ∷ []) ≡ false }
+    ensures inside { inside_at (crossing false true ∷ crossing false false ∷ crossing true true ∷ []) ≡ record { first = false; second = true } }
+{}
+
+/// Once they have met, going out closes nothing.
+pub fn a_gate_that_was_opened_stays_open()
+    ensures { have_met (crossing false true ∷ crossing true true ∷ crossing false false ∷ []) ≡ true }
 {}

@@ -36,7 +36,7 @@ fn a_kept_port_is_given_again_as_it_was(rt: HostRuntime) -> Result<(), Fail> {
     port.offer(FIRST)?;
     fleet.keep(1, port);
     assert_eq!(rt; heard_at(&mut fleet, 2)?, 0);
-    assert_eq!(rt; heard_at(&mut fleet, 1)?, 9);
+    assert_eq!(rt; heard_at(&mut fleet, 1)?, 13);
     Ok(())
 }
 

@@ -1,10 +1,11 @@
-use Rattle.std.proofs.Common.{◌≡◌, ◌∙◌, List, ℕ, true, false, ap, subst, sym}
+use Rattle.std.proofs.Common.{◌≡◌, ◌∙◌, List, ℕ, true, false, refl, ap, subst, sym}
 use Rattle.std.proofs.lemmas.Bool.{true≢false}
 use Rattle.switch_agent.specs.Items.{holding}
-use Rattle.lossy_link.specs.Incoming.{HasCommands, IsTaken, Stream, offered_of}
-use Rattle.lossy_link.specs.Scripted.{Scripted, SendsEach}
+use Rattle.lossy_link.specs.Incoming.{Came, HasCommands, IsTaken, Stream, offered_of}
+use Rattle.lossy_link.specs.Scripted.{AreSent, Scripted}
 use Rattle.lossy_link.specs.Traffic.{traffic_of}
-use Rattle.lossy_link.proofs.Sending.{honest_step, sends_each, taken_on}
+use Rattle.lossy_link.proofs.Behind.{all_came}
+use Rattle.lossy_link.proofs.Sending.{honest_step, taken_on}
 use Rattle.lossy_link.proofs.script_port.ScriptPort.take.Goals as goal
 
 pub invariant_of-self-in_err-send_each : goal.invariant_of-self-in_err-send_each
@@ -24,8 +25,8 @@ pub returns-clause-sent : goal.returns-clause-sent
 returns-clause-sent c =
     let down_is : c.self.inside.down ≡ false = ap (λ (v : Scripted). v.down) c.self.view_is ∙ c.requires in
     let is : IsTaken c.self.inside.incoming false = subst (IsTaken c.self.inside.incoming) down_is c.self.invariant.taken in
-    subst (λ (v : Scripted). SendsEach v.offered (offered_of c.send_each.new.incoming) (traffic_of v.line) (traffic_of c.send_each.new.line)) c.self.view_is
-    (sends_each c.self.inside.incoming c.accept.new.self c.send_each.new.incoming (traffic_of c.self.inside.line) (traffic_of c.send_each.new.line) is (ap (λ (s : Stream). s.taken) c.in_ok-accept.ensures.ok) c.in_ok-send_each.ensures.sent c.in_ok-send_each.ensures.all)
+    subst (λ (v : Scripted). Came (AreSent (traffic_of v.line) (traffic_of c.send_each.new.line)) v.offered (offered_of c.send_each.new.incoming)) c.self.view_is
+    (all_came (AreSent (traffic_of c.self.inside.line) (traffic_of c.send_each.new.line)) c.self.inside.incoming c.accept.new.self c.send_each.new.incoming is.commands is.has (is.all refl) (ap (λ (s : Stream). s.taken) c.in_ok-accept.ensures.ok) c.in_ok-send_each.ensures.sent c.in_ok-send_each.ensures.all)
 
 pub returns-clause-by_rule : goal.returns-clause-by_rule
 returns-clause-by_rule c =

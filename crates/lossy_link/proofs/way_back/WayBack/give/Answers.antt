@@ -9,5 +9,5 @@ back_of heard due = record { heard = heard; due = due }
 pub returns-clause-left : goal.returns-clause-left
 unfolding back_of
 returns-clause-left c =
-    let further = given_further c.self.inside.bytes c.self.inside.given c.min-n.result c.args.self.now (ap (λ (b : Back). b.heard) c.self.view_is) (ap (λ (b : Back). b.due) c.self.view_is) in
+    let further = given_further c.self.inside.bytes c.self.inside.given c.give_front-n.result c.args.self.now (ap (λ (b : Back). b.heard) c.self.view_is) (ap (λ (b : Back). b.due) c.self.view_is) in
     ap₂ back_of further.0 further.1

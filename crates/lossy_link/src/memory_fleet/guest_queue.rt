@@ -11,28 +11,28 @@ use std::marker::Model;
 ///
 /// The place in which a guest is given back is made when it is put, so that no later call takes memory.
 #[derive(Debug, Drop)]
-pub(crate) struct GuestRow {
+pub(crate) struct GuestQueue {
     coming: VecDeque<MemoryGuest>,
     served: Vec<MemoryGuest>,
     visiting: usize,
 }
 
-impl Model for GuestRow {
+impl Model for GuestQueue {
     ghost use Rattle.std.specs.Prelude.{◌+◌, length, vec_capacity};
     ghost use Rattle.lossy_link.specs.FleetState.{HasPlaces, Visits};
 
     ghost Value = { Visits };
 
-    ghost view = { λ r. record { coming = r.coming.items; served = r.served.items; visiting = r.visiting } };
+    ghost view = { λ q. record { coming = q.coming.items; served = q.served.items; visiting = q.visiting } };
 
-    ghost invariant = { λ r. HasPlaces (r.visiting + length r.coming.items) (length r.served.items) (vec_capacity r.served) };
+    ghost invariant = { λ q. HasPlaces (q.visiting + length q.coming.items) (length q.served.items) (vec_capacity q.served) };
 }
 
-impl GuestRow {
+impl GuestQueue {
     pub(crate) fn new(alloc: Global) -> Self
         ensures { result ≡ record { coming = []; served = []; visiting = 0 } }
     {
-        GuestRow {
+        GuestQueue {
             coming: VecDeque::new(alloc),
             served: Vec::new(alloc),
             visiting: 0,

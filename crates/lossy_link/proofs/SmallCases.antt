@@ -1,20 +1,21 @@
--- Why the worked rows hold.
-use Rattle.std.proofs.Common.{◌≡◌, ℕ, zero, suc, ◌<◌, ◌≤◌, ◌^◌, List, [], ◌∷◌, ◌++◌, length, take, refl, sym, ap, subst, ◌∙◌, arith, length-append}
+-- Why the worked examples hold.
+use Rattle.std.proofs.Common.{◌≡◌, ℕ, zero, suc, ◌<◌, ◌≤◌, ◌^◌, List, [], ◌∷◌, ◌++◌, length, take, true, refl, sym, ap, subst, ◌∙◌, arith, length-append}
 use Rattle.std.specs.List.{All, flat_map}
 use Rattle.std.proofs.lemmas.List.{append-nil}
 use Rattle.std.proofs.lemmas.List.Elements.{All-cons, All-head, All-nil}
-use Rattle.wan_edge.specs.Frames.{Answer, Command, IsAnswer, IsCommand, Splits, answer_bytes, command_bytes, command_head}
+use Rattle.rollout_rules.specs.Agent.{is_at_most}
+use Rattle.wan_edge.specs.Frames.{AnswerFrame, CommandFrame, IsAnswer, IsCommand, Splits, answer_bytes, command_bytes, command_head}
 use Rattle.wan_edge.specs.Ports.{AllAnswered, AnswersHeld, AnswersInOrder, IsOffered, MovesByRule}
-use Rattle.wan_edge.specs.Switches.{Holding, after_command, after_commands, answers_to, holding_nothing}
+use Rattle.wan_edge.specs.Switches.{pair_given, Holdings, after_command, after_commands, answers_to, holding_nothing}
 use Rattle.lossy_link.specs.Worked.{first, first_held}
 use Rattle.lossy_link.proofs.Ordered.{one_split}
 use Rattle.lossy_link.proofs.Sending.{empty_begins_none}
 
 first_fits : IsCommand first
-first_fits = record { item = omega arith; number = omega arith; scale = omega arith; some = omega arith; few = omega arith; rates = All-cons (λ rate. rate < 2 ^ 64) 6 (6 ∷ []) (omega arith) (All-cons (λ rate. rate < 2 ^ 64) 6 [] (omega arith) (All-nil (λ rate. rate < 2 ^ 64))) }
+first_fits = record { migration = omega arith; item = omega arith; number = omega arith; scale = omega arith; some = omega arith; few = omega arith; rates = All-cons (λ rate. rate < 2 ^ 64) 6 (6 ∷ []) (omega arith) (All-cons (λ rate. rate < 2 ^ 64) 6 [] (omega arith) (All-nil (λ rate. rate < 2 ^ 64))) }
 
 first_held_fits : IsAnswer first_held
-first_held_fits = record { item = omega arith; held = omega arith }
+first_held_fits = record { migration = omega arith; item = omega arith; held = omega arith }
 
 first_alone : Splits command_bytes IsCommand (command_bytes first) (first ∷ []) []
 first_alone = record { fit = All-cons IsCommand first [] first_fits (All-nil IsCommand); parts = sym (append-nil (command_bytes first)) ∙ ap (λ (xs : List ℕ). xs ++ []) (sym (append-nil (command_bytes first))) }
@@ -29,43 +30,43 @@ repeated = record {
   moved = refl;
 }
 
-length-command_bytes : (c : Command) → 0 < length (command_bytes c)
+length-command_bytes : (c : CommandFrame) → 0 < length (command_bytes c)
 unfolding command_bytes command_head
 length-command_bytes c = omega arith
 
-nothing_offered : (c : Command) → IsOffered [] c → ⊥
+nothing_offered : (c : CommandFrame) → IsOffered [] c → ⊥
 nothing_offered c is =
     absurd (omega (arith, ap length is.parts, length-append (flat_map command_bytes is.earlier) (command_bytes c ++ is.behind), length-append (command_bytes c) is.behind, length-command_bytes c))
 
 pub never_offered : MovesByRule [] holding_nothing (after_command holding_nothing first) → ⊥
 never_offered moved = of moved.delivered moved.each_offered moved.moved
   where
-    of : (delivered : List Command) → All (IsOffered []) delivered → after_command holding_nothing first ≡ after_commands holding_nothing delivered → ⊥
-    of [] each same = absurd (omega (arith, ap (λ (h : Holding). (h 3).number) same))
+    of : (delivered : List CommandFrame) → All (IsOffered []) delivered → after_command holding_nothing first ≡ after_commands holding_nothing delivered → ⊥
+    of [] each same = absurd (omega (arith, ap (λ (h : Holdings). (h 3).held.number) same))
     of (c ∷ cs) each same = nothing_offered c (All-head (IsOffered []) c cs each)
 
 pub above : AnswersHeld (answer_bytes first_held) holding_nothing → ⊥
 above held =
     let one = held (first_held ∷ []) [] (record { fit = All-cons IsAnswer first_held [] first_held_fits (All-nil IsAnswer); parts = sym (append-nil (answer_bytes first_held)) ∙ ap (λ (xs : List ℕ). xs ++ []) (sym (append-nil (answer_bytes first_held))) }) in
-    absurd (omega (arith, All-head (λ a. a.held ≤ (holding_nothing a.item).number) first_held [] one))
+    absurd (cc (All-head (λ a. is_at_most (pair_given a) (holding_nothing a.1.item).held ≡ true) first_held [] one))
 
-length-answer_bytes : (a : Answer) → length (answer_bytes a) ≡ 9
+length-answer_bytes : (a : AnswerFrame) → length (answer_bytes a) ≡ 13
 unfolding answer_bytes
 length-answer_bytes a = refl
 
-one_answer : length (flat_map answer_bytes (answers_to holding_nothing (first ∷ []))) ≡ 9
+one_answer : length (flat_map answer_bytes (answers_to holding_nothing (first ∷ []))) ≡ 13
 one_answer = ap length (append-nil (answer_bytes first_held)) ∙ length-answer_bytes first_held
 
 -- at most one answer comes to at most one command
-few_bytes : (cs : List Command) (n : ℕ) → cs ≡ first ∷ [] → length (flat_map answer_bytes (answers_to holding_nothing (take n cs))) ≤ 9
-few_bytes cs n is = subst (λ (xs : List Command). length (flat_map answer_bytes (answers_to holding_nothing (take n xs))) ≤ 9) (sym is) (at n)
+few_bytes : (cs : List CommandFrame) (n : ℕ) → cs ≡ first ∷ [] → length (flat_map answer_bytes (answers_to holding_nothing (take n cs))) ≤ 13
+few_bytes cs n is = subst (λ (xs : List CommandFrame). length (flat_map answer_bytes (answers_to holding_nothing (take n xs))) ≤ 13) (sym is) (at n)
   where
-    at : (k : ℕ) → length (flat_map answer_bytes (answers_to holding_nothing (take k (first ∷ [])))) ≤ 9
+    at : (k : ℕ) → length (flat_map answer_bytes (answers_to holding_nothing (take k (first ∷ [])))) ≤ 13
     at zero = omega arith
     at (suc zero) = omega (arith, one_answer)
     at (suc (suc k)) = omega (arith, one_answer)
 
-pub twice : (now : Holding) → AnswersInOrder holding_nothing (command_bytes first) (answer_bytes first_held ++ answer_bytes first_held) now → ⊥
+pub twice : (now : Holdings) → AnswersInOrder holding_nothing (command_bytes first) (answer_bytes first_held ++ answer_bytes first_held) now → ⊥
 twice now order =
     let one : order.commands ≡ first ∷ [] = one_split order.commands (first ∷ []) order.rest [] order.whole.fit first_alone.fit order.no_more empty_begins_none (sym order.whole.parts ∙ first_alone.parts) in
     absurd (omega (arith, few_bytes order.commands order.carried_out one, ap length order.heard_front, length-append (answer_bytes first_held ++ answer_bytes first_held) order.to_come, length-append (answer_bytes first_held) (answer_bytes first_held), length-answer_bytes first_held))
