@@ -3,7 +3,7 @@ use Rattle.std.proofs.Common.{◌≡◌, ℕ, suc, ◌<◌, ◌≤◌, ◌⊎◌
 use Rattle.std.proofs.lemmas.Bool.{cases_Bool, cases_lt, or_cases, or_left, or_right, not-true, not-false}
 use Rattle.std.specs.List.{list_any}
 use Rattle.rollout_rules.specs.Sums.{all_below}
-use Rattle.rollout_rules.specs.Wan.{Problem, Plan, flow_at, tunnel_at, tunnel_of, switch_of, crosses, rate_at, mark_at}
+use Rattle.rollout_rules.specs.Wan.{Problem, Plan, flow_at, tunnel_at, tunnel_of, switch_of, width_of, crosses, rate_at, mark_at}
 use Rattle.rollout_rules.specs.Network.{IsNetwork}
 use Rattle.rollout_rules.specs.Items.{Resource, the_link, the_table, is_item, is_resource, capacity_of, takes, use_at, greater_rate, either_mark, step_maximum}
 use Rattle.rollout_rules.specs.Operations.{stand_after}
@@ -106,7 +106,7 @@ module _ (p : Problem) (plan : Plan) (places : Places) (s : ℕ) where
   touched-or_none (item.Entry t h) (the_link l) holds = inr (λ rate there. refl)
   touched-or_none (item.Entry t h) (the_table w) holds = elim (cases_Bool (switch_of p t h == w)) as (λ c. Holds (the_table w) ⊎ TakesNone p (item.Entry t h) (the_table w)) [
     | inl here ↦ inl (subst (λ v. Holds (the_table v)) (eqb-true (switch_of p t h) w here) (leb-true _ _ holds))
-    | inr away ↦ inr (λ rate there. ap (λ b. if (b && there t h) then 1 else 0) away)
+    | inr away ↦ inr (λ rate there. ap (λ b. if (b && there t h) then width_of p t else 0) away)
   ]
 
   pub touched-from : IsNetwork p → (i : Item) → is_item p i ≡ true → ((r : Resource) → is_resource p r ≡ true → Holds r) → touched_hold p plan places i s ≡ true

@@ -6,11 +6,11 @@ use Rattle.std.proofs.lemmas.List.Elements.{All-nil, All-push, All-weaker, All-f
 use Rattle.rollout_rules.specs.Sums.{list_below}
 use Rattle.rollout_rules.specs.Wan.{Problem}
 use Rattle.rollout_rules.specs.Items.{item_count}
-use Rattle.rollout_rules.specs.History.{begun, settled, flies}
+use Rattle.rollout_rules.specs.History.{History, started, begun, settled, flies}
 use Rattle.rollout_rules.specs.Release.{next_op}
 use Rattle.rollout_rules.specs.World.{in_flight, no_op}
-use Rattle.rollout_rules.specs.declared.op.Entry.{Entry}
 use Rattle.rollout_rules.specs.declared.op.Op.{Op}
+use Rattle.rollout_laws.proofs.Histories.{flies-started}
 use Rattle.rollout_core.specs.Progress.{Counts, AreCountsOf}
 use Rattle.rollout_core.specs.Flights.{passing, flies_by, Noted, AreFlying}
 
@@ -52,21 +52,22 @@ passing-none zero = refl
 passing-none (suc n) = filter-append (λ k. false) (list_below n (λ k. k)) (n ∷ []) ∙ append-nil (passing (λ k. false) n) ∙ passing-none n
 
 -- ---- those that fly by the counts of a history are those that fly by it
-pub flying-counts : (c : Counts) (h : List Entry) → AreCountsOf c h → passing (flies_by c) (item_count c.rollout.problem) ≡ passing (flies h) (item_count c.rollout.problem)
+pub flying-counts : (c : Counts) (h : History) → AreCountsOf c h → passing (flies_by c) (item_count c.rollout.problem) ≡ passing (flies h) (item_count c.rollout.problem)
 flying-counts c h so = passing-same (flies_by c) (flies h) (item_count c.rollout.problem) (λ n lt. ap₂ (λ a b. a == b + 1) (so.begun n lt) (so.settled n lt))
 
--- at first there is none
-pub flying-first : (p : Problem) (noted : Noted) → noted ≡ record { room = item_count p; items = [] } → AreFlying p [] noted
-flying-first p noted is = record {
+-- at a start there is none
+pub flying-first : (p : Problem) (start : List ℕ) (noted : Noted) → noted ≡ record { room = item_count p; items = [] } → AreFlying p (started start) noted
+flying-first p start noted is = record {
   room = ap (λ f. f.room) is;
-  items = ap (λ f. f.items) is ∙ sym (passing-none (item_count p));
+  items = ap (λ f. f.items) is
+      ∙ sym (passing-same (flies (started start)) (λ k. false) (item_count p) (λ k lt. flies-started start k) ∙ passing-none (item_count p));
 }
 
 -- how many operations are in flight
-pub length-in_flight : (p : Problem) (h : List Entry) → length (in_flight p h) ≡ length (passing (flies h) (item_count p))
+pub length-in_flight : (p : Problem) (h : History) → length (in_flight p h) ≡ length (passing (flies h) (item_count p))
 length-in_flight p h = length-map (passing (flies h) (item_count p)) (next_op h)
 
-module _ (p : Problem) (h : List Entry) (noted : Noted) (so : AreFlying p h noted) where
+module _ (p : Problem) (h : History) (noted : Noted) (so : AreFlying p h noted) where
   pub flying-count : length noted.items ≡ length (in_flight p h)
   flying-count = ap length so.items ∙ sym (length-in_flight p h)
 

@@ -10,8 +10,8 @@ use Rattle.rollout_rules.specs.declared.item.Item.TheVariants as item
 use Rattle.rollout_rules.proofs.Below.{sum_below-up}
 use Rattle.rollout_rules.proofs.Numbers.{item_at-number_of, number_of-below}
 use Rattle.rollout_rules.proofs.OverItems.{is_item-flow, is_item-entry}
-use Rattle.rollout_core.specs.declared.index.touch.Touch.{Touch}
-use Rattle.rollout_core.specs.Index.{no_touch, AreItems, AreOperations, AreFirstEntries, IsCrossing, IsTable, AreCrossings, AreTables}
+use Rattle.rollout_core.specs.declared.index.table_place.TablePlace.{TablePlace}
+use Rattle.rollout_core.specs.Index.{no_place, AreItems, AreOperations, AreFirstEntries, IsCrossing, IsTable, AreCrossings, AreTables}
 use Rattle.rollout_core.proofs.Elements.{length-push, each-push, sum-push}
 
 -- ---- numbers of items are small
@@ -108,30 +108,30 @@ crossing-pass p l t row past so = let e : suc t ≡ t + 1 = omega arith in subst
 pub table-none : (p : Problem) (w : ℕ) → IsTable p w 0 0 []
 table-none p w = record { tunnels = λ j lt. absurd (omega arith); items = λ j lt. absurd (omega arith); sums = λ f. refl }
 
-table-in : (p : Problem) (w t h : ℕ) (row : List Touch) (x : Touch) → IsTable p w t h row → t < length p.tunnels → h < hops p t → x.tunnel ≡ t → x.item ≡ number_of p (item.Entry t h) → switch_of p t h == w ≡ true → IsTable p w t (suc h) (row ++ x ∷ [])
+table-in : (p : Problem) (w t h : ℕ) (row : List TablePlace) (x : TablePlace) → IsTable p w t h row → t < length p.tunnels → h < hops p t → x.tunnel ≡ t → x.item ≡ number_of p (item.Entry t h) → switch_of p t h == w ≡ true → IsTable p w t (suc h) (row ++ x ∷ [])
 table-in p w t h row x so lt low tunnel number here = record {
-  tunnels = λ j below. each-push (λ m y. y.tunnel < length p.tunnels) row x no_touch (length row) refl so.tunnels (omega arith) j (omega (arith, length-push row x));
-  items = λ j below. each-push (λ m y. y.item < item_count p) row x no_touch (length row) refl so.items (omega (arith, number_of-below p (item.Entry t h) (is_item-entry p t h lt low))) j (omega (arith, length-push row x));
+  tunnels = λ j below. each-push (λ m y. y.tunnel < length p.tunnels) row x no_place (length row) refl so.tunnels (omega arith) j (omega (arith, length-push row x));
+  items = λ j below. each-push (λ m y. y.item < item_count p) row x no_place (length row) refl so.items (omega (arith, number_of-below p (item.Entry t h) (is_item-entry p t h lt low))) j (omega (arith, length-push row x));
   sums = λ f.
-      sum-push (λ y. f y.tunnel y.item) row x no_touch
+      sum-push (λ y. f y.tunnel y.item) row x no_place
       ∙ rw here (omega (arith, so.sums f, ap (λ n. f n x.item) tunnel, ap (f t) number));
 }
 
-table-out : (p : Problem) (w t h : ℕ) (row : List Touch) → IsTable p w t h row → switch_of p t h == w ≡ false → IsTable p w t (suc h) row
+table-out : (p : Problem) (w t h : ℕ) (row : List TablePlace) → IsTable p w t h row → switch_of p t h == w ≡ false → IsTable p w t (suc h) row
 table-out p w t h row so away = record {
   tunnels = so.tunnels;
   items = so.items;
   sums = λ f. rw away (omega (arith, so.sums f));
 }
 
-pub table-push : (p : Problem) (w t h : ℕ) (row : List Touch) (x : Touch) → IsTable p w t h row → t < length p.tunnels → h < hops p t → x.tunnel ≡ t → x.item ≡ number_of p (item.Entry t h) → switch_of p t h == w ≡ true → IsTable p w t (h + 1) (row ++ x ∷ [])
+pub table-push : (p : Problem) (w t h : ℕ) (row : List TablePlace) (x : TablePlace) → IsTable p w t h row → t < length p.tunnels → h < hops p t → x.tunnel ≡ t → x.item ≡ number_of p (item.Entry t h) → switch_of p t h == w ≡ true → IsTable p w t (h + 1) (row ++ x ∷ [])
 table-push p w t h row x so lt low tunnel number here = let e : suc h ≡ h + 1 = omega arith in subst (λ m. IsTable p w t m (row ++ x ∷ [])) e (table-in p w t h row x so lt low tunnel number here)
 
-pub table-pass : (p : Problem) (w t h : ℕ) (row : List Touch) → IsTable p w t h row → switch_of p t h == w ≡ false → IsTable p w t (h + 1) row
+pub table-pass : (p : Problem) (w t h : ℕ) (row : List TablePlace) → IsTable p w t h row → switch_of p t h == w ≡ false → IsTable p w t (h + 1) row
 table-pass p w t h row so away = let e : suc h ≡ h + 1 = omega arith in subst (λ m. IsTable p w t m row) e (table-out p w t h row so away)
 
 -- the entries of one tunnel more
-pub table-next : (p : Problem) (w t : ℕ) (row : List Touch) → IsTable p w t (hops p t) row → IsTable p w (t + 1) 0 row
+pub table-next : (p : Problem) (w t : ℕ) (row : List TablePlace) → IsTable p w t (hops p t) row → IsTable p w (t + 1) 0 row
 table-next p w t row so = let e : suc t ≡ t + 1 = omega arith in subst (λ n. IsTable p w n 0 row) e next
   where
     next : IsTable p w (suc t) 0 row
@@ -150,7 +150,7 @@ crossings-push p rows l row so here = record {
 pub tables-none : (p : Problem) → AreTables p [] 0
 tables-none p = record { count = refl; each = λ w lt. absurd (omega arith) }
 
-pub tables-push : (p : Problem) (rows : List (List Touch)) (w : ℕ) (row : List Touch) → AreTables p rows w → IsTable p w (length p.tunnels) 0 row → AreTables p (rows ++ row ∷ []) (w + 1)
+pub tables-push : (p : Problem) (rows : List (List TablePlace)) (w : ℕ) (row : List TablePlace) → AreTables p rows w → IsTable p w (length p.tunnels) 0 row → AreTables p (rows ++ row ∷ []) (w + 1)
 tables-push p rows w row so here = record {
   count = omega (arith, length-push rows row, so.count);
   each = each-push (λ k xs. IsTable p k (length p.tunnels) 0 xs) rows row [] w so.count so.each here;

@@ -1,4 +1,3 @@
-pub mod Shapes
 pub mod Contents
 pub mod Elements
 pub mod Growing
@@ -9,8 +8,8 @@ pub mod Touched
 pub mod Changed
 pub mod Begun
 pub mod Standings
-pub mod Stood
+pub mod StageCounts
 pub mod Flying
 pub mod Following
-pub mod HeldNumbers
+pub mod HeldPairs
 pub mod Schedules

@@ -7,7 +7,7 @@ use Rattle.rollout_rules.specs.Sums.{all_below}
 use Rattle.rollout_rules.specs.Wan.{Problem, Plan, Rollout, hops, last_stage}
 use Rattle.rollout_rules.specs.Items.{is_item, item_count, item_at, number_of}
 use Rattle.rollout_rules.specs.Operations.{operations, stand_after}
-use Rattle.rollout_rules.specs.History.{stand, begun, settled}
+use Rattle.rollout_rules.specs.History.{History, with_entries, stand, begins_in, dones_in, settled}
 use Rattle.rollout_rules.specs.Needs.{needs_met_at, needs_met}
 use Rattle.rollout_rules.specs.Legal.{may_begin, is_finished}
 use Rattle.rollout_rules.specs.declared.item.Item.{Item}
@@ -18,7 +18,7 @@ use Rattle.rollout_rules.specs.declared.op.Entry.TheVariants.{Begin, Done}
 use Rattle.rollout_rules.proofs.Numbers.{is_item-item_at, item_at-number_of, number_of-item_at}
 use Rattle.rollout_rules.proofs.OverItems.{is_item-entry}
 use Rattle.rollout_laws.proofs.Standing.{stand-most, stand-left}
-use Rattle.rollout_laws.proofs.Histories.{begun-append, settled-append}
+use Rattle.rollout_laws.proofs.Histories.{begun-with, settled-with}
 use Rattle.rollout_core.specs.Progress.{Counts, AreCountsOf}
 use Rattle.rollout_core.specs.Ahead.{settled_with, stand_with, places_with, is_next_with, all_settled, settles, starts}
 
@@ -51,7 +51,7 @@ needs-number r c ahead n s i lt is at =
     (at ∙ ap (λ m. stand_after r.problem r.plan (item_at r.problem n) (settled_with c ahead m)) (sym (number_of-item_at r.problem n lt)))
 
 -- an operation of no item may not begin
-pub begin-unknown : (p : Problem) (plan : Plan) (h : List Entry) (op : Op) → item_count p ≤ op.item → may_begin p plan h op ≡ false
+pub begin-unknown : (p : Problem) (plan : Plan) (h : History) (op : Op) → item_count p ≤ op.item → may_begin p plan h op ≡ false
 begin-unknown p plan h op past = let no' : nat_lt op.item (item_count p) ≡ false = le-ltb op.item (item_count p) past in rw no' refl
 
 -- what one entry more settles, and begins
@@ -62,32 +62,32 @@ pub byte_is : (b : Bool) → bool_byte b ≡ one_if b
 byte_is true = refl
 byte_is false = refl
 
-settled-more : (es : List Entry) (k n : ℕ) (d : Entry) → k < length es → settled (take (suc k) es) n ≡ settled (take k es) n + one_if (settles (get_or es k d) n)
-settled-more [] k n d lt = absurd (omega arith)
-settled-more (Begin op ∷ es) zero n d lt = refl
-settled-more (Done op ∷ es) zero n d lt = omega arith
-settled-more (Begin op ∷ es) (suc k) n d lt = settled-more es k n d (omega arith)
-settled-more (Done op ∷ es) (suc k) n d lt = omega (arith, settled-more es k n d (omega arith))
+dones-more : (es : List Entry) (k n : ℕ) (d : Entry) → k < length es → dones_in (take (suc k) es) n ≡ dones_in (take k es) n + one_if (settles (get_or es k d) n)
+dones-more [] k n d lt = absurd (omega arith)
+dones-more (Begin op ∷ es) zero n d lt = refl
+dones-more (Done op ∷ es) zero n d lt = omega arith
+dones-more (Begin op ∷ es) (suc k) n d lt = dones-more es k n d (omega arith)
+dones-more (Done op ∷ es) (suc k) n d lt = omega (arith, dones-more es k n d (omega arith))
 
-begun-more : (es : List Entry) (k n : ℕ) (d : Entry) → k < length es → begun (take (suc k) es) n ≡ begun (take k es) n + one_if (starts (get_or es k d) n)
-begun-more [] k n d lt = absurd (omega arith)
-begun-more (Done op ∷ es) zero n d lt = refl
-begun-more (Begin op ∷ es) zero n d lt = omega arith
-begun-more (Done op ∷ es) (suc k) n d lt = begun-more es k n d (omega arith)
-begun-more (Begin op ∷ es) (suc k) n d lt = omega (arith, begun-more es k n d (omega arith))
+begins-more : (es : List Entry) (k n : ℕ) (d : Entry) → k < length es → begins_in (take (suc k) es) n ≡ begins_in (take k es) n + one_if (starts (get_or es k d) n)
+begins-more [] k n d lt = absurd (omega arith)
+begins-more (Done op ∷ es) zero n d lt = refl
+begins-more (Begin op ∷ es) zero n d lt = omega arith
+begins-more (Done op ∷ es) (suc k) n d lt = begins-more es k n d (omega arith)
+begins-more (Begin op ∷ es) (suc k) n d lt = omega (arith, begins-more es k n d (omega arith))
 
-pub settled-next : (es : List Entry) (k n : ℕ) (d : Entry) → k < length es → settled (take (k + 1) es) n ≡ settled (take k es) n + one_if (settles (get_or es k d) n)
-settled-next es k n d lt = let e : suc k ≡ k + 1 = omega arith in subst (λ m. settled (take m es) n ≡ settled (take k es) n + one_if (settles (get_or es k d) n)) e (settled-more es k n d lt)
+pub dones-next : (es : List Entry) (k n : ℕ) (d : Entry) → k < length es → dones_in (take (k + 1) es) n ≡ dones_in (take k es) n + one_if (settles (get_or es k d) n)
+dones-next es k n d lt = let e : suc k ≡ k + 1 = omega arith in subst (λ m. dones_in (take m es) n ≡ dones_in (take k es) n + one_if (settles (get_or es k d) n)) e (dones-more es k n d lt)
 
-pub begun-next : (es : List Entry) (k n : ℕ) (d : Entry) → k < length es → begun (take (k + 1) es) n ≡ begun (take k es) n + one_if (starts (get_or es k d) n)
-begun-next es k n d lt = let e : suc k ≡ k + 1 = omega arith in subst (λ m. begun (take m es) n ≡ begun (take k es) n + one_if (starts (get_or es k d) n)) e (begun-more es k n d lt)
+pub begins-next : (es : List Entry) (k n : ℕ) (d : Entry) → k < length es → begins_in (take (k + 1) es) n ≡ begins_in (take k es) n + one_if (starts (get_or es k d) n)
+begins-next es k n d lt = let e : suc k ≡ k + 1 = omega arith in subst (λ m. begins_in (take m es) n ≡ begins_in (take k es) n + one_if (starts (get_or es k d) n)) e (begins-more es k n d lt)
 
 pub one_small : (b : Bool) → one_if b ≤ 1
 one_small true = omega arith
 one_small false = omega arith
 
 -- all is settled by the counts where it is in the history
-pub finished-counts : (c : Counts) (h : List Entry) → AreCountsOf c h → all_settled c ≡ is_finished c.rollout.problem c.rollout.plan h
+pub finished-counts : (c : Counts) (h : History) → AreCountsOf c h → all_settled c ≡ is_finished c.rollout.problem c.rollout.plan h
 finished-counts c h so = same (item_count c.rollout.problem) (λ n lt. so.settled n lt)
   where
     same : (m : ℕ) → ((n : ℕ) → n < m → slice_index c.settled n ≡ settled h n)
@@ -104,20 +104,20 @@ set-at xs i x n inside is = elim (cases_eq i n) as (λ _. slice_index (set xs i 
 ]
 
 abbrev counted : Rollout → List ℕ → List ℕ → Counts
-counted r done started = record { rollout = r; settled = done; begun = started }
+counted r done opened = record { rollout = r; settled = done; begun = opened }
 
-pub counts-begin : (r : Rollout) (done started : List ℕ) (h : List Entry) (e : Entry) (op : Op) (x : ℕ) → e ≡ Begin op → op.item < item_count r.problem → x ≡ slice_index started op.item + 1 → AreCountsOf (counted r done started) h → AreCountsOf (counted r done (set started op.item x)) (h ++ e ∷ [])
-counts-begin r done started h e op x is lt more so = subst (λ y. AreCountsOf (counted r done (set started op.item x)) (h ++ y ∷ [])) (sym is) (record {
+pub counts-begin : (r : Rollout) (done opened : List ℕ) (h : History) (e : Entry) (op : Op) (x : ℕ) → e ≡ Begin op → op.item < item_count r.problem → x ≡ slice_index opened op.item + 1 → AreCountsOf (counted r done opened) h → AreCountsOf (counted r done (set opened op.item x)) (with_entries h (e ∷ []))
+counts-begin r done opened h e op x is lt more so = subst (λ y. AreCountsOf (counted r done (set opened op.item x)) (with_entries h (y ∷ []))) (sym is) (record {
   all_settled = so.all_settled;
-  all_begun = length-set started op.item x ∙ so.all_begun;
-  settled = λ n here. omega (arith, so.settled n here, settled-append h (Begin op ∷ []) n);
-  begun = λ n here. omega (arith, set-at started op.item x n (omega (arith, so.all_begun)) more, so.begun n here, begun-append h (Begin op ∷ []) n);
+  all_begun = length-set opened op.item x ∙ so.all_begun;
+  settled = λ n here. omega (arith, so.settled n here, settled-with h (Begin op ∷ []) n);
+  begun = λ n here. omega (arith, set-at opened op.item x n (omega (arith, so.all_begun)) more, so.begun n here, begun-with h (Begin op ∷ []) n);
 })
 
-pub counts-done : (r : Rollout) (done started : List ℕ) (h : List Entry) (e : Entry) (op : Op) (x : ℕ) → e ≡ Done op → op.item < item_count r.problem → x ≡ slice_index done op.item + 1 → AreCountsOf (counted r done started) h → AreCountsOf (counted r (set done op.item x) started) (h ++ e ∷ [])
-counts-done r done started h e op x is lt more so = subst (λ y. AreCountsOf (counted r (set done op.item x) started) (h ++ y ∷ [])) (sym is) (record {
+pub counts-done : (r : Rollout) (done opened : List ℕ) (h : History) (e : Entry) (op : Op) (x : ℕ) → e ≡ Done op → op.item < item_count r.problem → x ≡ slice_index done op.item + 1 → AreCountsOf (counted r done opened) h → AreCountsOf (counted r (set done op.item x) opened) (with_entries h (e ∷ []))
+counts-done r done opened h e op x is lt more so = subst (λ y. AreCountsOf (counted r (set done op.item x) opened) (with_entries h (y ∷ []))) (sym is) (record {
   all_settled = length-set done op.item x ∙ so.all_settled;
   all_begun = so.all_begun;
-  settled = λ n here. omega (arith, set-at done op.item x n (omega (arith, so.all_settled)) more, so.settled n here, settled-append h (Done op ∷ []) n);
-  begun = λ n here. omega (arith, so.begun n here, begun-append h (Done op ∷ []) n);
+  settled = λ n here. omega (arith, set-at done op.item x n (omega (arith, so.all_settled)) more, so.settled n here, settled-with h (Done op ∷ []) n);
+  begun = λ n here. omega (arith, so.begun n here, begun-with h (Done op ∷ []) n);
 })

@@ -1,7 +1,7 @@
 -- The room of a link is a sum over the tunnels that cross it, and that of a table one over the entries in it.
 use Rattle.std.proofs.Common.{◌≡◌, ℕ, ◌+◌, ◌<◌, ◌≤◌, Bool, true, false, ◌&&◌, List, length, slice_index, refl, sym, ap, ap₂, ◌∙◌, arith, nat_le, ◌==◌, if◌then◌else◌}
 use Rattle.rollout_rules.specs.Sums.{sum_below}
-use Rattle.rollout_rules.specs.Wan.{Problem, Plan, Rollout, tunnel_of, flow_at, hops, switch_of, crosses, rate_at, mark_at, last_stage}
+use Rattle.rollout_rules.specs.Wan.{Problem, Plan, Rollout, tunnel_of, flow_at, hops, switch_of, width_of, crosses, rate_at, mark_at, last_stage}
 use Rattle.rollout_rules.specs.Network.{IsNetwork}
 use Rattle.rollout_rules.specs.Items.{the_link, the_table, is_item, item_count, item_at, number_of, greater_rate, either_mark}
 use Rattle.rollout_rules.specs.Operations.{stand_after}
@@ -16,10 +16,10 @@ use Rattle.rollout_rules.proofs.Numbers.{item_at-number_of, number_of-below, is_
 use Rattle.rollout_rules.proofs.Tunnels.{flow-tunnel_of}
 use Rattle.rollout_rules.proofs.Totals.{sum_below-tunnels}
 use Rattle.rollout_rules.proofs.OverItems.{is_item-flow, is_item-entry, least_items-top, least_items-at, least_items-from}
-use Rattle.rollout_core.specs.declared.index.touch.Touch.{Touch}
-use Rattle.rollout_core.specs.Index.{touch_at, IsCrossing, IsTable}
+use Rattle.rollout_core.specs.declared.index.table_place.TablePlace.{TablePlace}
+use Rattle.rollout_core.specs.Index.{place_at, IsCrossing, IsTable}
 use Rattle.rollout_core.specs.Progress.{Counts}
-use Rattle.rollout_core.specs.Ahead.{settled_with, flies_begun, stand_with, places_begun, flow_share, rate_share, takes_place}
+use Rattle.rollout_core.specs.Ahead.{settled_with, flies_begun, stand_with, places_begun, flow_share, rate_share, takes_place, width_share}
 use Rattle.rollout_core.specs.Fits.{least_stand}
 
 -- which of three sums is taken is asked once, or for each place
@@ -35,15 +35,15 @@ none true fl = refl
 none false true = refl
 none false false = refl
 
-one : (near fl here a b d : Bool)
-    → ◌≡◌ {A = ℕ} (if near then (if here && a then 1 else 0) else (if fl then (if here && b then 1 else 0) else (if here && d then 1 else 0)))
-    (if here then (if (if near then a else (if fl then b else d)) then 1 else 0) else 0)
-one true fl true a b d = refl
-one true fl false a b d = refl
-one false true true a b d = refl
-one false true false a b d = refl
-one false false true a b d = refl
-one false false false a b d = refl
+its_width : (width : ℕ) (near fl here a b d : Bool)
+    → ◌≡◌ {A = ℕ} (if near then (if here && a then width else 0) else (if fl then (if here && b then width else 0) else (if here && d then width else 0)))
+    (if here then (if (if near then a else (if fl then b else d)) then width else 0) else 0)
+its_width width true fl true a b d = refl
+its_width width true fl false a b d = refl
+its_width width false true true a b d = refl
+its_width width false true false a b d = refl
+its_width width false false true a b d = refl
+its_width width false false false a b d = refl
 
 module _ (r : Rollout) (c : Counts) (ahead : List Entry) (op : Op) where
   abbrev p : Problem
@@ -88,9 +88,9 @@ module _ (r : Rollout) (c : Counts) (ahead : List Entry) (op : Op) where
       let tunnels = sum_below-tunnels p (λ t. if crosses p t l then rate_share r c ahead op s t else 0) net in
       ap₂ (λ a b. a + b) (flows ∙ tunnels) entries ∙ omega arith
 
-  -- a place in a table
+  -- what an entry takes of its table
   abbrev taken : ℕ → ℕ → ℕ → ℕ
-  taken s t n = if takes_place r c ahead op s t n then 1 else 0
+  taken = width_share r c ahead op
 
   abbrev placed : ℕ → ℕ → Bool → ℕ → Bool
   placed s u fl t = if nat_le u s then either_mark plan s t else (if fl then either_mark plan u t else mark_at plan u t)
@@ -99,8 +99,8 @@ module _ (r : Rollout) (c : Counts) (ahead : List Entry) (op : Op) where
   share-entry s w t h lt low =
       let u = stand p plan at (item.Entry t h) in
       let fl = flies_begun c ahead op (number_of p (item.Entry t h)) in
-      one (nat_le u s) fl (switch_of p t h == w) (either_mark plan s t) (either_mark plan u t) (mark_at plan u t)
-      ∙ ap (λ v. if switch_of p t h == w then (if placed s v fl t then 1 else 0) else 0) (stand-number (item.Entry t h) (is_item-entry p t h lt low))
+      its_width (width_of p t) (nat_le u s) fl (switch_of p t h == w) (either_mark plan s t) (either_mark plan u t) (mark_at plan u t)
+      ∙ ap (λ v. if switch_of p t h == w then (if placed s v fl t then width_of p t else 0) else 0) (stand-number (item.Entry t h) (is_item-entry p t h lt low))
 
   share-away : (s w f : ℕ) → share p plan at s (the_table w) (item.Flow f) ≡ 0
   share-away s w f = none (nat_le (stand p plan at (item.Flow f)) s) (flies_begun c ahead op f)
@@ -118,8 +118,8 @@ module _ (r : Rollout) (c : Counts) (ahead : List Entry) (op : Op) where
   pub room-crossing : (s l : ℕ) (row : List ℕ) → IsNetwork p → IsCrossing p l (length p.tunnels) row → sum_below (length row) (λ j. rate_share r c ahead op s (slice_index row j)) ≡ room p plan at s (the_link l)
   room-crossing s l row net so = so.sums (rate_share r c ahead op s) ∙ sym (room-link s l net)
 
-  pub room-touches : (s w : ℕ) (row : List Touch) → IsTable p w (length p.tunnels) 0 row → sum_below (length row) (λ j. taken s (touch_at row j).tunnel (touch_at row j).item) ≡ room p plan at s (the_table w)
-  room-touches s w row so = so.sums (taken s) ∙ omega (arith, room-table s w)
+  pub room-places : (s w : ℕ) (row : List TablePlace) → IsTable p w (length p.tunnels) 0 row → sum_below (length row) (λ j. taken s (place_at row j).tunnel (place_at row j).item) ≡ room p plan at s (the_table w)
+  room-places s w row so = so.sums (taken s) ∙ omega (arith, room-table s w)
 
   -- the least stage by the items' numbers
   pub least-numbers : least_stand r c ahead ≡ least_stage p plan at

@@ -1,11 +1,10 @@
 -- How far items have come with entries behind those that are counted.
 use Rattle.std.specs.Prelude.{ℕ, ◌+◌, Bool, false, not, ◌&&◌, List, slice_index, ◌==◌, if◌then◌else◌, nat_le, nat_lt}
 use Rattle.rollout_rules.specs.Sums.{all_below}
-use Rattle.rollout_rules.specs.Wan.{Rollout, tunnel_at, rate_at, mark_at}
+use Rattle.rollout_rules.specs.Wan.{Rollout, tunnel_at, width_of, rate_at, mark_at}
 use Rattle.rollout_rules.specs.Items.{item_count, item_at, number_of, greater_rate, either_mark}
 use Rattle.rollout_rules.specs.Operations.{operations, stand_after}
-use Rattle.rollout_rules.specs.History.{Places}
-use Rattle.rollout_rules.specs.History as history
+use Rattle.rollout_rules.specs.History.{Places, begins_in, dones_in}
 use Rattle.rollout_rules.specs.declared.op.Op.{Op}
 use Rattle.rollout_rules.specs.Needs.{needs_met}
 use Rattle.rollout_rules.specs.Room.{fits}
@@ -15,10 +14,10 @@ use Rattle.rollout_core.specs.Progress.{Counts}
 
 -- how many operations of item n are settled, and how many were begun
 abbrev pub settled_with : Counts → List Entry → ℕ → ℕ
-settled_with c ahead n = slice_index c.settled n + history.settled ahead n
+settled_with c ahead n = slice_index c.settled n + dones_in ahead n
 
 abbrev pub begun_with : Counts → List Entry → ℕ → ℕ
-begun_with c ahead n = slice_index c.begun n + history.begun ahead n
+begun_with c ahead n = slice_index c.begun n + begins_in ahead n
 
 -- whether an operation of item n flies, and whether one does once this one has begun
 abbrev pub flies_with : Counts → List Entry → ℕ → Bool
@@ -55,11 +54,14 @@ flow_share r c ahead op s n t =
 abbrev pub rate_share : Rollout → Counts → List Entry → Op → ℕ → ℕ → ℕ
 rate_share r c ahead op s t = flow_share r c ahead op s (tunnel_at r.problem t).flow t
 
--- whether the entry of tunnel t with item number n takes a place at stage s
+-- whether the entry of tunnel t with item number n takes its place in its table at stage s, and how much it takes there
 abbrev pub takes_place : Rollout → Counts → List Entry → Op → ℕ → ℕ → ℕ → Bool
 takes_place r c ahead op s t n =
     if nat_le (stand_with r c ahead n) s then either_mark r.plan s t
     else (if flies_begun c ahead op n then either_mark r.plan (stand_with r c ahead n) t else mark_at r.plan (stand_with r c ahead n) t)
+
+abbrev pub width_share : Rollout → Counts → List Entry → Op → ℕ → ℕ → ℕ → ℕ
+width_share r c ahead op s t n = if takes_place r c ahead op s t n then width_of r.problem t else 0
 
 -- whether an entry settles, or begins, an operation of item n
 abbrev pub settles : Entry → ℕ → Bool

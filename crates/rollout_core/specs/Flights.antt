@@ -4,8 +4,7 @@ use Rattle.std.specs.List.{filter}
 use Rattle.rollout_rules.specs.Sums.{list_below}
 use Rattle.rollout_rules.specs.Wan.{Problem}
 use Rattle.rollout_rules.specs.Items.{item_count}
-use Rattle.rollout_rules.specs.History.{flies}
-use Rattle.rollout_rules.specs.declared.op.Entry.{Entry}
+use Rattle.rollout_rules.specs.History.{History, flies}
 use Rattle.rollout_core.specs.Progress.{Counts}
 
 -- the numbers below n that pass a test, in order
@@ -27,6 +26,6 @@ pub record IsNoted (row : List ℕ) (count : ℕ) : Type 0 where
   pub few : length row < 2 ^ 32
 
 -- there is room for all items, and those noted are those of which an operation flies
-pub record AreFlying (p : Problem) (h : List Entry) (noted : Noted) : Type 0 where
+pub record AreFlying (p : Problem) (h : History) (noted : Noted) : Type 0 where
   pub room : noted.room ≡ item_count p
   pub items : noted.items ≡ passing (flies h) (item_count p)

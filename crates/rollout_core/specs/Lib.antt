@@ -2,7 +2,7 @@ pub mod Progress
 pub mod Ahead
 pub mod Fits
 pub mod Index
-pub mod Stands
+pub mod StageCounts
 pub mod Flights
 pub mod Worlds
 pub mod Drafts

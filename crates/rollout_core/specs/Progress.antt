@@ -2,6 +2,7 @@
 use Rattle.std.specs.Prelude.{◌≡◌, ℕ, ◌<◌, List, length, slice_index}
 use Rattle.rollout_rules.specs.Wan.{Rollout}
 use Rattle.rollout_rules.specs.Items.{item_count}
+use Rattle.rollout_rules.specs.History.{History}
 use Rattle.rollout_rules.specs.History as history
 use Rattle.rollout_rules.specs.declared.op.Entry.{Entry}
 use Rattle.rollout_rules.specs.declared.op.Entry.TheVariants.{Begin, Done}
@@ -13,7 +14,7 @@ pub record Counts : Type 0 where
   pub begun : List ℕ
 
 -- the counts are those of a history
-pub record AreCountsOf (c : Counts) (h : List Entry) : Type 0 where
+pub record AreCountsOf (c : Counts) (h : History) : Type 0 where
   pub all_settled : length c.settled ≡ item_count c.rollout.problem
   pub all_begun : length c.begun ≡ item_count c.rollout.problem
   pub settled : (n : ℕ) → n < item_count c.rollout.problem → slice_index c.settled n ≡ history.settled h n

@@ -1,12 +1,15 @@
--- The world of a rollout in code: the durable history with its counts, and what the switches hold by number.
-use Rattle.std.specs.Prelude.{◌≡◌, ℕ, ◌+◌, ◌<◌, Bool, true, List, [], ◌∷◌, length, ◌==◌, if◌then◌else◌}
+-- The world of a rollout in code: the durable history with its counts, and what the switches hold by pairs.
+use Rattle.std.specs.Prelude.{◌≡◌, ℕ, ◌<◌, Bool, true, List, [], ◌∷◌, ◌++◌, length, slice_set}
 use Rattle.std.specs.List.{All}
+use Rattle.rollout_rules.specs.Sums.{list_below}
 use Rattle.rollout_rules.specs.Wan.{Problem, Plan, Rollout}
-use Rattle.rollout_rules.specs.Items.{item_count, item_at}
-use Rattle.rollout_rules.specs.Operations.{content_after}
+use Rattle.rollout_rules.specs.Items.{item_count}
+use Rattle.rollout_rules.specs.History.{History}
 use Rattle.rollout_rules.specs.Legal.{may_follow, is_legal}
-use Rattle.rollout_rules.specs.Agent.{Held}
-use Rattle.rollout_rules.specs.World.{World}
+use Rattle.rollout_rules.specs.Agent.{Holding}
+use Rattle.rollout_rules.specs.World.{World, holding_of, pair_at}
+use Rattle.rollout_rules.specs.declared.held.Held.{Held}
+use Rattle.rollout_rules.specs.declared.held.Given.{Given}
 use Rattle.rollout_rules.specs.declared.op.Op.{Op}
 use Rattle.rollout_rules.specs.declared.op.Entry.{Entry}
 use Rattle.rollout_core.specs.Progress.{Counts, AreCountsOf}
@@ -15,7 +18,7 @@ use Rattle.rollout_core.specs.Flights.{Noted, AreFlying}
 -- the history of a rollout
 pub record Recorded : Type 0 where
   pub rollout : Rollout
-  pub entries : List Entry
+  pub history : History
 
 -- a world, with the rollout whose world it is
 pub record Standing : Type 0 where
@@ -23,53 +26,63 @@ pub record Standing : Type 0 where
   pub world : World
 
 -- a legal history with its counts under a plan, and what is in flight
-pub record IsRecorded (r : Rollout) (c : Counts) (noted : Noted) (h : List Entry) : Type 0 where
+pub record IsRecorded (r : Rollout) (c : Counts) (noted : Noted) (h : History) : Type 0 where
   pub rollout : r ≡ c.rollout
   pub counts : AreCountsOf c h
+  pub start : length h.start ≡ item_count r.problem
   pub flights : AreFlying r.problem h noted
   pub legal : is_legal r.problem r.plan h ≡ true
 
 -- A batch goes on from a history that is counted: that history is legal, and the batch may follow it.
 pub record GoesOn (c : Counts) (batch : List Entry) : Type 0 where
-  pub history : List Entry
+  pub history : History
   pub counts : AreCountsOf c history
   pub legal : is_legal c.rollout.problem c.rollout.plan history ≡ true
   pub follows : may_follow c.rollout.problem c.rollout.plan history batch ≡ true
 
--- what a switch holds of item n, by the number of the operation last applied: nothing at 0, else that operation's content
-abbrev pub held_at : Problem → Plan → ℕ → ℕ → Held
-held_at p plan n number = record { number = number; content = if number == 0 then [] else content_after p plan (item_at p n) number }
+-- what the switches hold of the items, by the pair held of each
+abbrev pub holdings : Problem → Plan → List ℕ → ℕ → List Held → List Holding
+holdings p plan start migration pairs = list_below (length pairs) (λ n. holding_of p plan start migration n (pair_at pairs n))
 
--- what is held of the items from n on, by their numbers
-abbrev pub held_from : Problem → Plan → ℕ → List ℕ → List Held
-held_from p plan n [] = []
-held_from p plan n (number ∷ numbers) = held_at p plan n number ∷ held_from p plan (n + 1) numbers
-
--- a world by its parts in code: what is durable, whether the controller is up, the batch being written, the commands
--- sent, the answers given and those handed over, and the numbers held
-abbrev pub standing_of : Recorded → Bool → List Entry → List Op → List Op → List Op → List ℕ → Standing
-standing_of r up writing sent given handed numbers = record {
+-- a world by its parts in code: the migration, the pairs held at first, what is durable, whether the controller is up,
+-- the batch being written, the commands sent, the answers given and those handed over, and the pairs held
+abbrev pub standing_of : Recorded → ℕ → List Held → Bool → List Entry → List Op → List Given → List Given → List Held → Standing
+standing_of r migration first up writing sent given handed pairs = record {
   rollout = r.rollout;
   world = record {
-    durable = r.entries;
+    migration = migration;
+    first = first;
+    durable = r.history;
     up = up;
     writing = writing;
     sent = sent;
     given = given;
     handed = handed;
-    held = held_from r.rollout.problem r.rollout.plan 0 numbers;
+    held = holdings r.rollout.problem r.rollout.plan r.history.start migration pairs;
   };
 }
 
--- operations of items that exist
+-- the world in which an item's switch holds a pair
+abbrev pub with_held : Problem → Plan → World → ℕ → Held → World
+with_held p plan w n held = record w { held = slice_set w.held n (holding_of p plan w.durable.start w.migration n held) }
+
+-- the world in which an answer is given too: an item, and the pair that its switch holds
+abbrev pub with_answer : World → ℕ → Held → World
+with_answer w n held = record w { given = w.given ++ record { item = n; held = held } ∷ [] }
+
+-- operations, and answers, of items that exist
 abbrev pub AreOfItems : Problem → List Op → Type 0
 AreOfItems p ops = All (λ op. op.item < item_count p) ops
 
--- What the code of a world relies on: what is being written may follow the durable history, each item has a number
--- held, and commands and answers are of items.
-pub record IsStanding (r : Recorded) (batch : List Entry) (commands answers taken : List Op) (numbers : List ℕ) : Type 0 where
-  pub follows : may_follow r.rollout.problem r.rollout.plan r.entries batch ≡ true
-  pub items : length numbers ≡ item_count r.rollout.problem
+abbrev pub AreAnswersOfItems : Problem → List Given → Type 0
+AreAnswersOfItems p answers = All (λ a. a.item < item_count p) answers
+
+-- What the code of a world relies on: what is being written may follow the durable history, each item has a pair held,
+-- and one held at first, and commands and answers are of items.
+pub record IsStanding (r : Recorded) (batch : List Entry) (commands : List Op) (answers taken : List Given) (pairs_at_first pairs : List Held) : Type 0 where
+  pub follows : may_follow r.rollout.problem r.rollout.plan r.history batch ≡ true
+  pub first : length pairs_at_first ≡ item_count r.rollout.problem
+  pub items : length pairs ≡ item_count r.rollout.problem
   pub sent : AreOfItems r.rollout.problem commands
-  pub given : AreOfItems r.rollout.problem answers
-  pub handed : AreOfItems r.rollout.problem taken
+  pub given : AreAnswersOfItems r.rollout.problem answers
+  pub handed : AreAnswersOfItems r.rollout.problem taken

@@ -4,8 +4,6 @@ ghost use Rattle.rollout_rules.specs.Items.{is_item};
 ghost use Rattle.rollout_rules.specs.Operations as operation;
 ghost use Rattle.rollout_rules.specs.declared.item.Item.TheVariants as variants;
 
-use crate::rows::{tunnel_of, tunnels_of};
-use crate::stages::{last_stage, mark_at, next_stage, rate_at};
 use rollout_rules::Item;
 use wan_model::CheckedPlan;
 
@@ -16,7 +14,7 @@ pub(crate) fn operations(plan: &CheckedPlan, item: Item) -> u32
     ensures { result ≡ operation.operations plan.now.problem plan.now.plan item }
 {
     let mut changes = 0;
-    for s in 0..last_stage(plan) {
+    for s in 0..plan.last_stage() {
         if changes_behind(plan, item, s) {
             changes += 1;
         }
@@ -32,7 +30,7 @@ pub fn stand_after(plan: &CheckedPlan, item: Item, settled: u64) -> u32
 {
     let mut changes = 0;
     let mut stand = 0;
-    for s in 0..last_stage(plan) {
+    for s in 0..plan.last_stage() {
         if changes_behind(plan, item, s) {
             changes += 1;
         }
@@ -51,7 +49,7 @@ fn changes_behind(plan: &CheckedPlan, item: Item, s: usize) -> bool
     match item {
         Item::Flow(flow) => rates_change(plan, flow as usize, s),
         Item::Entry { tunnel, .. } => {
-            mark_at(plan, s, tunnel as usize) != mark_at(plan, next_stage(plan, s), tunnel as usize)
+            plan.mark(s, tunnel as usize) != plan.mark(plan.next_stage(s), tunnel as usize)
         }
     }
 }
@@ -61,10 +59,10 @@ fn rates_change(plan: &CheckedPlan, f: usize, s: usize) -> bool
     requires stage { s < wan.last_stage plan.now.plan }
     ensures { result ≡ operation.changes_behind plan.now.problem plan.now.plan (variants.Flow f) s }
 {
-    let next = next_stage(plan, s);
-    for j in 0..tunnels_of(plan, f) {
-        let t = tunnel_of(plan, f, j);
-        if rate_at(plan, s, t) != rate_at(plan, next, t) {
+    let next = plan.next_stage(s);
+    for j in 0..plan.tunnel_count(f) {
+        let t = plan.tunnel_of(f, j);
+        if plan.rate(s, t) != plan.rate(next, t) {
             return true;
         }
     }

@@ -1,4 +1,5 @@
 ghost use Rattle.std.specs.Prelude.{◌≡◌, [], ◌∷◌, ◌++◌, IfOk, OnOk, OnErr, IsTrue};
+ghost use Rattle.rollout_rules.specs.History.{with_entries};
 ghost use Rattle.rollout_rules.specs.Legal as legal;
 ghost use Rattle.rollout_rules.specs.declared.op.Entry.TheVariants as entry;
 ghost use Rattle.rollout_core.specs.Drafts.{drafted};
@@ -16,6 +17,7 @@ use wan_model::CheckedPlan;
 #[derive(Drop)]
 pub struct Draft<'w> {
     plan: &'w CheckedPlan,
+    start: &'w [u32],
     durable: &'w EntryList,
     progress: Progress,
     ahead: EntryList,
@@ -26,9 +28,9 @@ impl<'w> Model for Draft<'w> {
 
     ghost Value = { Drafted };
 
-    ghost view = { λ d. record { rollout = d.plan.now; durable = d.durable.now; ahead = d.ahead } };
+    ghost view = { λ d. record { rollout = d.plan.now; durable = record { start = d.start.now; entries = d.durable.now }; ahead = d.ahead } };
 
-    ghost invariant = { λ d. IsDrafted d.plan.now d.progress d.durable.now d.ahead };
+    ghost invariant = { λ d. IsDrafted d.plan.now d.progress (record { start = d.start.now; entries = d.durable.now }) d.ahead };
 }
 
 impl<'w> Draft<'w> {
@@ -40,6 +42,7 @@ impl<'w> Draft<'w> {
         let progress = history.copied_progress(alloc)?;
         Ok(Draft {
             plan: history.plan(),
+            start: history.start(),
             durable: history.entries(),
             progress,
             ahead: EntryList::new(alloc),
@@ -48,14 +51,14 @@ impl<'w> Draft<'w> {
 
     /// Whether an operation may begin behind the entries ahead.
     pub fn may_begin(&self, op: Op) -> bool
-        ensures { result ≡ legal.may_begin self.now.rollout.problem self.now.rollout.plan (self.now.durable ++ self.now.ahead) op }
+        ensures { result ≡ legal.may_begin self.now.rollout.problem self.now.rollout.plan (with_entries self.now.durable self.now.ahead) op }
     {
         self.progress.may_begin(self.plan, &[], op)
     }
 
     /// Puts the Begin of an operation that may begin behind the entries ahead. Want of memory changes nothing.
     pub fn begin(&mut self, op: Op) -> Result<(), Memory>
-        requires { IsTrue (legal.may_begin self.old.rollout.problem self.old.rollout.plan (self.old.durable ++ self.old.ahead) op) }
+        requires { IsTrue (legal.may_begin self.old.rollout.problem self.old.rollout.plan (with_entries self.old.durable self.old.ahead) op) }
         ensures ok { OnOk result (self.new ≡ record self.old { ahead = self.old.ahead ++ entry.Begin op ∷ [] }) }
         ensures err { OnErr result (self.new ≡ self.old) }
     {
@@ -64,7 +67,7 @@ impl<'w> Draft<'w> {
 
     /// Puts the Done of an operation in flight behind the entries ahead. Want of memory changes nothing.
     pub fn end(&mut self, op: Op) -> Result<(), Memory>
-        requires { IsTrue (legal.may_end (self.old.durable ++ self.old.ahead) op) }
+        requires { IsTrue (legal.may_end (with_entries self.old.durable self.old.ahead) op) }
         ensures ok { OnOk result (self.new ≡ record self.old { ahead = self.old.ahead ++ entry.Done op ∷ [] }) }
         ensures err { OnErr result (self.new ≡ self.old) }
     {
@@ -72,7 +75,7 @@ impl<'w> Draft<'w> {
     }
 
     fn add(&mut self, entry: Entry) -> Result<(), Memory>
-        requires { IsTrue (legal.may_add self.old.rollout.problem self.old.rollout.plan (self.old.durable ++ self.old.ahead) entry) }
+        requires { IsTrue (legal.may_add self.old.rollout.problem self.old.rollout.plan (with_entries self.old.durable self.old.ahead) entry) }
         ensures ok { OnOk result (self.new ≡ record self.old { ahead = self.old.ahead ++ entry ∷ [] }) }
         ensures err { OnErr result (self.new ≡ self.old) }
     {

@@ -1,15 +1,16 @@
-ghost use Rattle.std.specs.Prelude.{◌≡◌, ℕ, ◌<◌, ◌++◌, [], ◌∷◌, List, true, IfOk, OnOk, OnErr, IsTrue, length, slice_index_or};
+ghost use Rattle.std.specs.Prelude.{◌≡◌, ◌<◌, IfOk, OnOk, OnErr, IsTrue, length, slice_index_or};
 ghost use Rattle.rollout_rules.specs.Items.{item_count, item_at};
 ghost use Rattle.rollout_rules.specs.Operations.{operations};
+ghost use Rattle.rollout_rules.specs.History.{started, with_entries};
 ghost use Rattle.rollout_rules.specs.History as counts;
 ghost use Rattle.rollout_rules.specs.Legal as legal;
 ghost use Rattle.rollout_rules.specs.World.{in_flight, no_op};
-ghost use Rattle.rollout_rules.specs.declared.op.Entry.{Entry};
 ghost use Rattle.rollout_core.specs.Progress.{AreCountsOf};
 ghost use Rattle.rollout_core.specs.Worlds.{GoesOn};
 
 use crate::flights::Flights;
 use crate::progress::Progress;
+use crate::stage_counts::copied;
 use lists::Memory;
 use rollout_rules::{Entry, EntryList, Op};
 use std::alloc::Global;
@@ -20,6 +21,7 @@ use wan_model::CheckedPlan;
 #[derive(Drop)]
 pub(crate) struct History<'p> {
     plan: &'p CheckedPlan,
+    start: Vec<u32>,
     entries: EntryList,
     progress: Progress,
     flights: Flights,
@@ -30,20 +32,28 @@ impl<'p> Model for History<'p> {
 
     ghost Value = { Recorded };
 
-    ghost view = { λ h. record { rollout = h.plan.now; entries = h.entries } };
+    ghost view = { λ h. record { rollout = h.plan.now; history = record { start = h.start.items; entries = h.entries } } };
 
-    ghost invariant = { λ h. IsRecorded h.plan.now h.progress h.flights h.entries };
+    ghost invariant = { λ h. IsRecorded h.plan.now h.progress h.flights (record { start = h.start.items; entries = h.entries }) };
 }
 
 impl<'p> History<'p> {
-    /// The empty history.
-    pub(crate) fn new(alloc: Global, plan: &'p CheckedPlan) -> Result<History<'p>, Memory>
-        ensures { IfOk result (λ h. h ≡ record { rollout = plan.now; entries = [] }) }
+    /// The history that begins at a sound start.
+    pub(crate) fn new(
+        alloc: Global,
+        plan: &'p CheckedPlan,
+        start: &[u32],
+    ) -> Result<History<'p>, Memory>
+        requires numbers { length start.now ≡ item_count plan.now.problem }
+        requires sound { IsTrue (legal.is_sound plan.now.problem plan.now.plan start.now) }
+        ensures { IfOk result (λ h. h ≡ record { rollout = plan.now; history = started start.now }) }
     {
-        let progress = Progress::new(alloc, plan)?;
+        let numbers = copied(alloc, start)?;
+        let progress = Progress::new(alloc, plan, start)?;
         let flights = Flights::new(alloc, progress.item_count())?;
         Ok(History {
             plan,
+            start: numbers,
             entries: EntryList::new(alloc),
             progress,
             flights,
@@ -59,7 +69,7 @@ impl<'p> History<'p> {
     /// How far each item has come, once more.
     pub(crate) fn copied_progress(&self, alloc: Global) -> Result<Progress, Memory>
         ensures rollout { IfOk result (λ progress. progress.rollout ≡ self.now.rollout) }
-        ensures counts { IfOk result (λ progress. AreCountsOf progress self.now.entries) }
+        ensures counts { IfOk result (λ progress. AreCountsOf progress self.now.history) }
     {
         self.progress.copied(alloc)
     }
@@ -71,9 +81,17 @@ impl<'p> History<'p> {
         self.progress.item_count()
     }
 
+    /// How many operations of each item were settled before the first entry.
+    pub(crate) fn start(&self) -> &[u32]
+        ensures list { result.now ≡ self.now.history.start }
+        ensures count { length self.now.history.start ≡ item_count self.now.rollout.problem }
+    {
+        &self.start
+    }
+
     pub(crate) fn entries(&self) -> &EntryList
-        ensures entries { result.now ≡ self.now.entries }
-        ensures legal { IsTrue (legal.is_legal self.now.rollout.problem self.now.rollout.plan self.now.entries) }
+        ensures entries { result.now ≡ self.now.history.entries }
+        ensures legal { IsTrue (legal.is_legal self.now.rollout.problem self.now.rollout.plan self.now.history) }
     {
         &self.entries
     }
@@ -89,7 +107,7 @@ impl<'p> History<'p> {
     /// How many operations of the item are settled.
     pub(crate) fn settled(&self, item: u32) -> u32
         requires { item < item_count self.now.rollout.problem }
-        ensures { result ≡ counts.settled self.now.entries item }
+        ensures { result ≡ counts.settled self.now.history item }
     {
         self.progress.settled(item)
     }
@@ -97,22 +115,22 @@ impl<'p> History<'p> {
     /// How many operations of the item were begun.
     pub(crate) fn begun(&self, item: u32) -> u32
         requires { item < item_count self.now.rollout.problem }
-        ensures { result ≡ counts.begun self.now.entries item }
+        ensures { result ≡ counts.begun self.now.history item }
     {
         self.progress.begun(item)
     }
 
     /// How many operations are in flight.
     pub(crate) fn flying_count(&self) -> u32
-        ensures { result ≡ length (in_flight self.now.rollout.problem self.now.entries) }
+        ensures { result ≡ length (in_flight self.now.rollout.problem self.now.history) }
     {
         self.flights.count()
     }
 
     /// The n-th operation in flight, by item.
     pub(crate) fn flying(&self, n: u32) -> Op
-        requires { n < length (in_flight self.now.rollout.problem self.now.entries) }
-        ensures operation { result ≡ slice_index_or (in_flight self.now.rollout.problem self.now.entries) n no_op }
+        requires { n < length (in_flight self.now.rollout.problem self.now.history) }
+        ensures operation { result ≡ slice_index_or (in_flight self.now.rollout.problem self.now.history) n no_op }
         ensures item { result.item < item_count self.now.rollout.problem }
     {
         let item = self.flights.item(n);
@@ -121,15 +139,15 @@ impl<'p> History<'p> {
     }
 
     pub(crate) fn may_begin(&self, ahead: &[Entry], op: Op) -> bool
-        requires { IsTrue (legal.may_follow self.now.rollout.problem self.now.rollout.plan self.now.entries ahead.now) }
-        ensures { result ≡ legal.may_begin self.now.rollout.problem self.now.rollout.plan (self.now.entries ++ ahead.now) op }
+        requires { IsTrue (legal.may_follow self.now.rollout.problem self.now.rollout.plan self.now.history ahead.now) }
+        ensures { result ≡ legal.may_begin self.now.rollout.problem self.now.rollout.plan (with_entries self.now.history ahead.now) op }
     {
         self.progress.may_begin(self.plan, ahead, op)
     }
 
     /// Whether a batch may follow the history, entry by entry.
     pub(crate) fn may_follow(&self, batch: &[Entry]) -> bool
-        ensures { result ≡ legal.may_follow self.now.rollout.problem self.now.rollout.plan self.now.entries batch.now }
+        ensures { result ≡ legal.may_follow self.now.rollout.problem self.now.rollout.plan self.now.history batch.now }
     {
         for n in 0..batch.len() {
             if !self.may_add(&batch[..n], batch[n]) {
@@ -140,8 +158,8 @@ impl<'p> History<'p> {
     }
 
     fn may_add(&self, ahead: &[Entry], entry: Entry) -> bool
-        requires { IsTrue (legal.may_follow self.now.rollout.problem self.now.rollout.plan self.now.entries ahead.now) }
-        ensures { result ≡ legal.may_add self.now.rollout.problem self.now.rollout.plan (self.now.entries ++ ahead.now) entry }
+        requires { IsTrue (legal.may_follow self.now.rollout.problem self.now.rollout.plan self.now.history ahead.now) }
+        ensures { result ≡ legal.may_add self.now.rollout.problem self.now.rollout.plan (with_entries self.now.history ahead.now) entry }
     {
         match entry {
             Entry::Begin(op) => self.may_begin(ahead, op),
@@ -151,8 +169,8 @@ impl<'p> History<'p> {
 
     /// Adds a batch that may follow. Want of memory changes nothing.
     pub(crate) fn append(&mut self, batch: &[Entry]) -> Result<(), Memory>
-        requires { IsTrue (legal.may_follow self.old.rollout.problem self.old.rollout.plan self.old.entries batch.now) }
-        ensures ok { OnOk result (self.new ≡ record self.old { entries = self.old.entries ++ batch.now }) }
+        requires { IsTrue (legal.may_follow self.old.rollout.problem self.old.rollout.plan self.old.history batch.now) }
+        ensures ok { OnOk result (self.new ≡ record self.old { history = with_entries self.old.history batch.now }) }
         ensures err { OnErr result (self.new ≡ self.old) }
     {
         self.entries.extend_from_slice(batch)?;
@@ -167,7 +185,7 @@ fn count(progress: &mut Progress, plan: &CheckedPlan, batch: &[Entry])
     requires own { plan.now ≡ progress.old.rollout }
     requires legal { GoesOn progress.old batch.now }
     ensures rollout { progress.new.rollout ≡ progress.old.rollout }
-    ensures counts { (h : List Entry) → AreCountsOf progress.old h → AreCountsOf progress.new (h ++ batch.now) }
+    ensures counts { (h : counts.History) → AreCountsOf progress.old h → AreCountsOf progress.new (with_entries h batch.now) }
 {
     for entry in batch {
         progress.add(plan, *entry);

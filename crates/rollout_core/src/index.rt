@@ -7,13 +7,13 @@ ghost use Rattle.rollout_core.specs.Index.{IsCrossing, IsTable};
 
 mod links;
 mod numbers;
+mod table_place;
 mod tables;
-mod touch;
 
 use crate::index::links::crossings;
 use crate::index::numbers::{first_entries, items, operations_of_all};
-use crate::index::tables::{TouchList, tables};
-pub(crate) use crate::index::touch::Touch;
+pub(crate) use crate::index::table_place::TablePlace;
+use crate::index::tables::{TablePlaces, tables};
 use lists::{Ids, Many, Memory};
 use rollout_rules::Item;
 use std::alloc::Global;
@@ -30,7 +30,7 @@ pub struct Index {
     operations: Ids,
     first_entries: Ids,
     crossings: Many<Ids>,
-    tables: Many<TouchList>,
+    tables: Many<TablePlaces>,
 }
 
 impl Model for Index {
@@ -105,7 +105,7 @@ impl Index {
     }
 
     /// The entries in the table of a switch, of all tunnels, installed or not.
-    pub(crate) fn table(&self, switch: usize) -> &[Touch]
+    pub(crate) fn table(&self, switch: usize) -> &[TablePlace]
         requires { switch < length self.now.problem.switches }
         ensures { IsTable self.now.problem switch (length self.now.problem.tunnels) 0 result.now }
     {

@@ -8,18 +8,17 @@
 //! over that and over nothing else. A [`Draft`] makes a batch entry by entry behind what is durable.
 #![tactic(auto)]
 
+mod answers;
 mod changes;
 mod checked;
-mod commands;
 mod draft;
 mod flights;
 mod history;
 mod index;
+mod pairs;
 mod progress;
 mod rollout;
-mod rows;
-mod stages;
-mod stands;
+mod stage_counts;
 mod world;
 
 pub use changes::stand_after;
@@ -27,6 +26,4 @@ pub use draft::Draft;
 pub use index::Index;
 pub use rollout::any_rollout;
 pub use rollout_rules::{Event, EventList};
-pub use rows::{links_of, path_of, tunnel_of, tunnels_of};
-pub use stages::{mark_at, rate_at};
 pub use world::World;

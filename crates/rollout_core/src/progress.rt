@@ -1,12 +1,12 @@
-ghost use Rattle.std.specs.Prelude.{◌≡◌, ◌+◌, ◌<◌, ◌≤◌, false, List, [], ◌∷◌, ◌++◌, length, slice_index, IfOk};
+ghost use Rattle.std.specs.Prelude.{◌≡◌, ◌+◌, ◌<◌, ◌≤◌, false, [], ◌∷◌, length, slice_index, IfOk};
 ghost use Rattle.rollout_rules.specs.Items.{item_count, item_at};
 ghost use Rattle.rollout_rules.specs.Operations as operation;
+ghost use Rattle.rollout_rules.specs.History.{History, started, with_entries};
 ghost use Rattle.rollout_rules.specs.Legal as legal;
-ghost use Rattle.rollout_rules.specs.declared.op.Entry.{Entry};
 ghost use Rattle.rollout_core.specs.Progress.{AreCountsOf, MayCount};
 ghost use Rattle.rollout_core.specs.Ahead as places;
 ghost use Rattle.rollout_core.specs.Flights.{flies_by};
-ghost use Rattle.rollout_core.specs.Stands.{AreFirstStands};
+ghost use Rattle.rollout_core.specs.StageCounts.{AreStands};
 ghost use Rattle.rollout_core.specs.Worlds.{GoesOn};
 
 mod ahead;
@@ -19,8 +19,7 @@ use crate::index::Index;
 use crate::progress::ahead::{flies, settled};
 use crate::progress::needs::needs_met;
 use crate::progress::room::fits;
-use crate::stages::last_stage;
-use crate::stands::{Stands, copied};
+use crate::stage_counts::{StageCounts, copied};
 use lists::Memory;
 use rollout_rules::{Entry, Op};
 use std::alloc::Global;
@@ -36,13 +35,13 @@ pub struct Progress {
     index: Arc<Index, Global>,
     settled: Vec<u32>,
     begun: Vec<u32>,
-    stands: Stands,
+    stands: StageCounts,
 }
 
 impl Model for Progress {
     ghost use Rattle.std.specs.Arc.{arc_value};
     ghost use Rattle.rollout_core.specs.Progress.{Counts};
-    ghost use Rattle.rollout_core.specs.Stands.{IsProgress};
+    ghost use Rattle.rollout_core.specs.StageCounts.{IsProgress};
 
     ghost Value = { Counts };
 
@@ -52,16 +51,17 @@ impl Model for Progress {
 }
 
 impl Progress {
-    /// Nothing begun, under this plan.
-    pub fn new(alloc: Global, plan: &CheckedPlan) -> Result<Progress, Memory>
+    /// What was settled at a start, and nothing begun behind it, under this plan.
+    pub fn new(alloc: Global, plan: &CheckedPlan, start: &[u32]) -> Result<Progress, Memory>
+        requires { length start.now ≡ item_count plan.now.problem }
         ensures plan { IfOk result (λ progress. progress.rollout ≡ plan.now) }
-        ensures none { IfOk result (λ progress. AreCountsOf progress []) }
+        ensures counts { IfOk result (λ progress. AreCountsOf progress (started start.now)) }
     {
         let index = Index::new(alloc, plan)?;
-        let settled = vec![in alloc; 0u32; index.item_count() as usize]?;
-        let begun = vec![in alloc; 0u32; index.item_count() as usize]?;
-        let stages = first_stands(alloc, plan, &index)?;
-        let stands = Stands::new(alloc, last_stage(plan) as u32, stages)?;
+        let stages = first_stages(alloc, plan, &index, start)?;
+        let stands = StageCounts::new(alloc, plan.last_stage() as u32, stages)?;
+        let settled = copied(alloc, start)?;
+        let begun = copied(alloc, start)?;
         Ok(Progress {
             index: Arc::new(alloc, index)?,
             settled,
@@ -130,7 +130,7 @@ impl Progress {
 
     /// Whether every operation of every item is settled.
     pub fn is_finished(&self) -> bool
-        ensures { (h : List Entry) → AreCountsOf self.now h → result ≡ legal.is_finished self.now.rollout.problem self.now.rollout.plan h }
+        ensures { (h : History) → AreCountsOf self.now h → result ≡ legal.is_finished self.now.rollout.problem self.now.rollout.plan h }
     {
         all_settled(self)
     }
@@ -140,7 +140,7 @@ impl Progress {
     pub fn may_begin(&self, plan: &CheckedPlan, ahead: &[Entry], op: Op) -> bool
         requires own { plan.now ≡ self.now.rollout }
         requires goes_on { GoesOn self.now ahead.now }
-        ensures { (h : List Entry) → AreCountsOf self.now h → result ≡ legal.may_begin self.now.rollout.problem self.now.rollout.plan (h ++ ahead.now) op }
+        ensures { (h : History) → AreCountsOf self.now h → result ≡ legal.may_begin self.now.rollout.problem self.now.rollout.plan (with_entries h ahead.now) op }
     {
         checked_plan_is_valid(plan);
         if op.item >= self.lookup().item_count() {
@@ -151,7 +151,7 @@ impl Progress {
 
     /// Whether an operation may be done behind these: it is in flight.
     pub fn may_end(&self, ahead: &[Entry], op: Op) -> bool
-        ensures known { (h : List Entry) → AreCountsOf self.now h → op.item < item_count self.now.rollout.problem → result ≡ legal.may_end (h ++ ahead.now) op }
+        ensures known { (h : History) → AreCountsOf self.now h → op.item < item_count self.now.rollout.problem → result ≡ legal.may_end (with_entries h ahead.now) op }
         ensures unknown { item_count self.now.rollout.problem ≤ op.item → result ≡ false }
     {
         if op.item >= self.lookup().item_count() {
@@ -165,7 +165,7 @@ impl Progress {
         requires own { plan.now ≡ self.old.rollout }
         requires left { MayCount self.old entry }
         ensures rollout { self.new.rollout ≡ self.old.rollout }
-        ensures counts { (h : List Entry) → AreCountsOf self.old h → AreCountsOf self.new (h ++ entry ∷ []) }
+        ensures counts { (h : History) → AreCountsOf self.old h → AreCountsOf self.new (with_entries h (entry ∷ [])) }
     {
         match entry {
             Entry::Begin(op) => self.begun[op.item as usize] += 1,
@@ -180,15 +180,22 @@ impl Progress {
     }
 }
 
-fn first_stands(alloc: Global, plan: &CheckedPlan, index: &Index) -> Result<Vec<u32>, Memory>
-    requires { index.now ≡ plan.now }
-    ensures { IfOk result (λ stands. AreFirstStands plan.now stands.items (item_count plan.now.problem)) }
+fn first_stages(
+    alloc: Global,
+    plan: &CheckedPlan,
+    index: &Index,
+    start: &[u32],
+) -> Result<Vec<u32>, Memory>
+    requires own { index.now ≡ plan.now }
+    requires numbers { length start.now ≡ item_count plan.now.problem }
+    ensures { IfOk result (λ stages. AreStands plan.now start.now stages.items (item_count plan.now.problem)) }
 {
-    let mut stands = Vec::new(alloc);
+    let mut stages = Vec::new(alloc);
     for item in 0..index.item_count() {
-        stands.push(stand_after(plan, index.item(item), 0))?;
+        let settled = u64::from(start[item as usize]);
+        stages.push(stand_after(plan, index.item(item), settled))?;
     }
-    Ok(stands)
+    Ok(stages)
 }
 
 fn all_settled(progress: &Progress) -> bool

@@ -1,29 +1,39 @@
-ghost use Rattle.std.specs.Prelude.{◌≡◌, IfOk};
-ghost use Rattle.rollout_rules.specs.World.{first_world, after_events};
+ghost use Rattle.std.specs.Prelude.{◌≡◌, IfOk, IsTrue, length};
+ghost use Rattle.rollout_rules.specs.Items.{item_count};
+ghost use Rattle.rollout_rules.specs.Legal.{is_sound};
+ghost use Rattle.rollout_rules.specs.World.{first_world, are_first_pairs, after_events};
 ghost use Rattle.rollout_laws.specs.SafeWorlds.{IsSafeWorld, EveryWorldIsSafe};
 
 use crate::checked::checked_plan_is_valid;
 use crate::world::World;
 use lists::Memory;
-use rollout_rules::{EntryList, Event, EventList};
+use rollout_rules::{EntryList, Event, EventList, Held};
 use std::alloc::Global;
 use wan_model::CheckedPlan;
 
-/// The world that a schedule leads to: its events in order, those that aren't allowed passed over.
+/// The world that a schedule leads to from a sound start, a migration and what the switches held at first:
+/// its events in order, those that aren't allowed passed over.
 ///
 /// Whatever the events, every world on the way is safe.
 pub fn any_rollout<'p>(
     alloc: Global,
     plan: &'p CheckedPlan,
+    start: &[u32],
+    migration: u32,
+    first: &[Held],
     events: &EventList,
 ) -> Result<World<'p>, Memory>
+    requires numbers { length start.now ≡ item_count plan.now.problem }
+    requires pairs { length first.now ≡ item_count plan.now.problem }
+    requires sound { IsTrue (is_sound plan.now.problem plan.now.plan start.now) }
+    requires first { IsTrue (are_first_pairs plan.now.problem start.now migration first.now) }
     ensures rollout { IfOk result (λ w. w.rollout ≡ plan.now) }
-    ensures world { IfOk result (λ w. w.world ≡ after_events plan.now.problem plan.now.plan (first_world plan.now.problem) events.now) }
+    ensures world { IfOk result (λ w. w.world ≡ after_events plan.now.problem plan.now.plan (first_world plan.now.problem plan.now.plan start.now migration first.now) events.now) }
     ensures safe { IfOk result (λ w. IsSafeWorld plan.now.problem plan.now.plan w.world) }
-    ensures every { IfOk result (λ w. EveryWorldIsSafe plan.now.problem plan.now.plan (first_world plan.now.problem) events.now) }
+    ensures every { IfOk result (λ w. EveryWorldIsSafe plan.now.problem plan.now.plan (first_world plan.now.problem plan.now.plan start.now migration first.now) events.now) }
 {
     checked_plan_is_valid(plan);
-    let mut world = World::new(alloc, plan)?;
+    let mut world = World::new(alloc, plan, start, migration, first)?;
     for event in events.as_slice() {
         if world.allows(event) {
             world.step(copied(alloc, event)?)?;
@@ -45,6 +55,15 @@ fn copied(alloc: Global, event: &Event) -> Result<Event, Memory>
         Event::Send(n) => Event::Send(*n),
         Event::Deliver(n) => Event::Deliver(*n),
         Event::Hand(n) => Event::Hand(*n),
+        Event::Old {
+            item,
+            migration,
+            number,
+        } => Event::Old {
+            item: *item,
+            migration: *migration,
+            number: *number,
+        },
         Event::Crash(n) => Event::Crash(*n),
         Event::Restart => Event::Restart,
     })

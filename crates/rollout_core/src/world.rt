@@ -1,31 +1,36 @@
-ghost use Rattle.std.specs.Prelude.{◌≡◌, ◌<◌, ◌≤◌, ◌++◌, IfOk, OnOk, OnErr, IsTrue, length, slice_index_or};
+ghost use Rattle.std.specs.Prelude.{◌≡◌, ◌<◌, ◌≤◌, IfOk, OnOk, OnErr, IsTrue, length, slice_index_or};
 ghost use Rattle.rollout_rules.specs.Items.{item_count, item_at};
 ghost use Rattle.rollout_rules.specs.Operations.{operations};
 ghost use Rattle.rollout_rules.specs.History as counts;
 ghost use Rattle.rollout_rules.specs.Legal as legal;
-ghost use Rattle.rollout_rules.specs.World.{first_world, held_of, in_flight, no_op, is_writing, allows, happens, delivered};
+ghost use Rattle.rollout_rules.specs.World.{first_world, are_first_pairs, new_world, held_of, in_flight, no_op, is_writing, allows, happens, delivered, comes_late};
+ghost use Rattle.rollout_rules.specs.World as world;
 ghost use Rattle.rollout_rules.specs.declared.event.Event.TheVariants as event;
-ghost use Rattle.rollout_core.specs.Worlds.{AreOfItems};
+ghost use Rattle.rollout_core.specs.Worlds.{AreOfItems, AreAnswersOfItems, with_held, with_answer};
 
-use crate::commands::{all_answered, number_after};
+use crate::answers::all_answered;
+use crate::checked::checked_plan_is_valid;
 use crate::history::History;
+use crate::pairs::{FIRST_PAIR, copied, is_at_most, pair_after};
 use lists::Memory;
-use rollout_rules::{Entry, EntryList, Event, Op, OpList};
+use rollout_rules::{Entry, EntryList, Event, Given, GivenList, Held, Op, OpList};
 use std::alloc::Global;
 use std::marker::Model;
-use wan_model::CheckedPlan;
+use wan_model::{CheckedPlan, item_count};
 
 /// The world of a rollout: what is durable, what the controller does, what is on its way, and what the
 /// switches hold. It is moved by events, one by one.
 #[derive(Drop)]
 pub struct World<'p> {
+    migration: u32,
+    first: Vec<Held>,
     history: History<'p>,
     is_up: bool,
     writing: EntryList,
     sent: OpList,
-    given: OpList,
-    handed: OpList,
-    held: Vec<u32>,
+    given: GivenList,
+    handed: GivenList,
+    held: Vec<Held>,
     alloc: Global,
 }
 
@@ -34,28 +39,53 @@ impl<'p> Model for World<'p> {
 
     ghost Value = { Standing };
 
-    ghost view = { λ w. standing_of w.history w.is_up w.writing w.sent w.given w.handed w.held.items };
+    ghost view = { λ w. standing_of w.history w.migration w.first.items w.is_up w.writing w.sent w.given w.handed w.held.items };
 
-    ghost invariant = { λ w. IsStanding w.history w.writing w.sent w.given w.handed w.held.items };
+    ghost invariant = { λ w. IsStanding w.history w.writing w.sent w.given w.handed w.first.items w.held.items };
 }
 
 impl<'p> World<'p> {
-    /// The world at first: nothing is durable, and the controller is up.
-    pub fn new(alloc: Global, plan: &'p CheckedPlan) -> Result<World<'p>, Memory>
-        ensures { IfOk result (λ w. w ≡ record { rollout = plan.now; world = first_world plan.now.problem }) }
+    /// The world at first, with a start, a migration, and the pair that each item's switch holds: nothing
+    /// more is durable, and the controller is up.
+    pub fn new(
+        alloc: Global,
+        plan: &'p CheckedPlan,
+        start: &[u32],
+        migration: u32,
+        first: &[Held],
+    ) -> Result<World<'p>, Memory>
+        requires numbers { length start.now ≡ item_count plan.now.problem }
+        requires pairs { length first.now ≡ item_count plan.now.problem }
+        requires sound { IsTrue (legal.is_sound plan.now.problem plan.now.plan start.now) }
+        requires first { IsTrue (are_first_pairs plan.now.problem start.now migration first.now) }
+        ensures { IfOk result (λ w. w ≡ record { rollout = plan.now; world = first_world plan.now.problem plan.now.plan start.now migration first.now }) }
     {
-        let history = History::new(alloc, plan)?;
-        let held = vec![in alloc; 0; history.items() as usize]?;
+        let history = History::new(alloc, plan, start)?;
+        let first = copied(alloc, first)?;
+        let held = copied(alloc, &first)?;
         Ok(World {
+            migration,
+            first,
             history,
             is_up: true,
             writing: EntryList::new(alloc),
             sent: OpList::new(alloc),
-            given: OpList::new(alloc),
-            handed: OpList::new(alloc),
+            given: GivenList::new(alloc),
+            handed: GivenList::new(alloc),
             held,
             alloc,
         })
+    }
+
+    /// The world of a network's first migration, where nothing was ever applied.
+    pub fn fresh(alloc: Global, plan: &'p CheckedPlan) -> Result<World<'p>, Memory>
+        ensures { IfOk result (λ w. w ≡ record { rollout = plan.now; world = new_world plan.now.problem plan.now.plan }) }
+    {
+        checked_plan_is_valid(plan);
+        let items = item_count(plan.problem()) as usize;
+        let start = vec![in alloc; 0u32; items]?;
+        let first = vec![in alloc; FIRST_PAIR; items]?;
+        World::new(alloc, plan, &start, 0, &first)
     }
 
     /// Whether the event can happen in this world.
@@ -68,6 +98,11 @@ impl<'p> World<'p> {
             Event::Send(n) => self.is_up && !self.is_writing() && *n < self.flying_count(),
             Event::Deliver(n) => (*n as usize) < self.sent.as_slice().len(),
             Event::Hand(n) => self.is_up && (*n as usize) < self.given.as_slice().len(),
+            Event::Old {
+                item,
+                migration,
+                number,
+            } => self.may_come_late(*item, *migration, *number),
             Event::Crash(n) => self.is_up && *n as usize <= self.writing.as_slice().len(),
             Event::Restart => !self.is_up,
         }
@@ -91,6 +126,11 @@ impl<'p> World<'p> {
                 self.deliver(command)
             }
             Event::Hand(n) => self.hand(n as usize),
+            Event::Old {
+                item,
+                migration,
+                number,
+            } => self.receive(item, Held { migration, number }),
             Event::Crash(n) => self.crash(n as usize),
             Event::Restart => {
                 self.is_up = true;
@@ -114,7 +154,16 @@ impl<'p> World<'p> {
         if !self.history.may_follow(batch) {
             return false;
         }
-        all_answered(self.handed.as_slice(), batch)
+        all_answered(self.migration, self.handed.as_slice(), batch)
+    }
+
+    fn may_come_late(&self, item: u32, migration: u32, number: u32) -> bool
+        ensures { result ≡ allows self.now.rollout.problem self.now.rollout.plan self.now.world (event.Old item migration number) }
+    {
+        if item >= self.items() || migration >= self.migration {
+            return false;
+        }
+        is_at_most(Held { migration, number }, self.first[item as usize])
     }
 
     fn end_write(&mut self) -> Result<(), Memory>
@@ -154,7 +203,7 @@ impl<'p> World<'p> {
         self.history.append(&self.writing.as_slice()[..kept])?;
         self.is_up = false;
         self.writing = EntryList::new(self.alloc);
-        self.handed = OpList::new(self.alloc);
+        self.handed = GivenList::new(self.alloc);
         Ok(())
     }
 
@@ -163,31 +212,75 @@ impl<'p> World<'p> {
         ensures ok { OnOk result (self.new ≡ record self.old { world = delivered self.old.rollout.problem self.old.rollout.plan self.old.world command }) }
         ensures err { OnErr result (self.new ≡ self.old) }
     {
-        let place = command.item as usize;
-        let number = number_after(self.held[place], command.number);
-        self.given.push(Op {
-            item: command.item,
-            number,
-        })?;
-        self.held[place] = number;
+        let asked = Held {
+            migration: self.migration,
+            number: command.number,
+        };
+        self.receive(command.item, asked)?;
         Ok(())
+    }
+
+    /// A command comes to the item's switch, which applies it or not, and answers.
+    fn receive(&mut self, item: u32, asked: Held) -> Result<(), Memory>
+        requires { item < item_count self.old.rollout.problem }
+        ensures ok { OnOk result (self.new ≡ record self.old { world = comes_late self.old.rollout.problem self.old.rollout.plan self.old.world item asked }) }
+        ensures err { OnErr result (self.new ≡ self.old) }
+    {
+        let place = item as usize;
+        let held = pair_after(self.held[place], asked);
+        self.given.push(Given { item, held })?;
+        self.held[place] = held;
+        Ok(())
+    }
+
+    /// Puts the pair that an item's switch holds, as it was found there.
+    pub fn hold(&mut self, item: u32, held: Held)
+        requires { item < item_count self.old.rollout.problem }
+        ensures { self.new ≡ record self.old { world = with_held self.old.rollout.problem self.old.rollout.plan self.old.world item held } }
+    {
+        self.held[item as usize] = held;
+    }
+
+    /// Adds an answer to those given: what an item's switch holds of it. Want of memory changes nothing.
+    pub fn answer(&mut self, item: u32, held: Held) -> Result<(), Memory>
+        requires { item < item_count self.old.rollout.problem }
+        ensures ok { OnOk result (self.new ≡ record self.old { world = with_answer self.old.world item held }) }
+        ensures err { OnErr result (self.new ≡ self.old) }
+    {
+        let answer = Given { item, held };
+        self.given.push(answer)
     }
 }
 
 impl<'p> World<'p> {
     pub(crate) fn history(&self) -> &History<'p>
         ensures rollout { result.now.rollout ≡ self.now.rollout }
-        ensures entries { result.now.entries ≡ self.now.world.durable }
+        ensures history { result.now.history ≡ self.now.world.durable }
     {
         &self.history
     }
 
-    /// The history that every restart finds, which is legal.
+    /// The entries that every restart finds behind the start, which with it are a legal history.
     pub fn durable(&self) -> &EntryList
-        ensures list { result.now ≡ self.now.world.durable }
+        ensures list { result.now ≡ self.now.world.durable.entries }
         ensures legal { IsTrue (legal.is_legal self.now.rollout.problem self.now.rollout.plan self.now.world.durable) }
     {
         self.history.entries()
+    }
+
+    /// How many operations of each item were settled before the first entry, by the item's number.
+    pub fn start(&self) -> &[u32]
+        ensures list { result.now ≡ self.now.world.durable.start }
+        ensures count { length self.now.world.durable.start ≡ item_count self.now.rollout.problem }
+    {
+        self.history.start()
+    }
+
+    /// The number of the migration.
+    pub fn migration(&self) -> u32
+        ensures { result ≡ self.now.world.migration }
+    {
+        self.migration
     }
 
     pub fn is_up(&self) -> bool
@@ -204,18 +297,18 @@ impl<'p> World<'p> {
         &self.sent
     }
 
-    /// The answers given so far: an item, and the number that its switch held.
-    pub fn given(&self) -> &OpList
+    /// The answers given so far: an item, and the pair that its switch held.
+    pub fn given(&self) -> &GivenList
         ensures list { result.now ≡ self.now.world.given }
-        ensures items { AreOfItems self.now.rollout.problem self.now.world.given }
+        ensures items { AreAnswersOfItems self.now.rollout.problem self.now.world.given }
     {
         &self.given
     }
 
     /// The answers handed over to the controller since it started.
-    pub fn handed(&self) -> &OpList
+    pub fn handed(&self) -> &GivenList
         ensures list { result.now ≡ self.now.world.handed }
-        ensures items { AreOfItems self.now.rollout.problem self.now.world.handed }
+        ensures items { AreAnswersOfItems self.now.rollout.problem self.now.world.handed }
     {
         &self.handed
     }
@@ -227,12 +320,25 @@ impl<'p> World<'p> {
         self.history.items()
     }
 
-    /// The number of the operation that the item's switch applied last, or 0.
-    pub fn held(&self, item: u32) -> u32
+    /// The pair that the item's switch holds.
+    pub fn held(&self, item: u32) -> Held
         requires { item < item_count self.now.rollout.problem }
-        ensures { result ≡ (held_of self.now.world item).number }
+        ensures { result ≡ (held_of self.now.world item).held }
     {
         self.held[item as usize]
+    }
+
+    /// How many operations of the item its switch has applied, those of the start among them.
+    pub fn now(&self, item: u32) -> u32
+        requires { item < item_count self.now.rollout.problem }
+        ensures { result ≡ world.now self.now.world item }
+    {
+        let held = self.held(item);
+        if held.migration == self.migration {
+            held.number
+        } else {
+            self.start()[item as usize]
+        }
     }
 
     /// How many operations the item has.

@@ -2,7 +2,6 @@ ghost use Rattle.std.specs.Prelude.{◌≡◌, ◌<◌, length, IfOk};
 ghost use Rattle.rollout_rules.specs.Wan as wan;
 ghost use Rattle.rollout_core.specs.Index.{IsCrossing, AreCrossings};
 
-use crate::rows::links_of;
 use lists::{Ids, Many, Memory};
 use std::alloc::Global;
 use wan_model::CheckedPlan;
@@ -34,5 +33,5 @@ fn crosses(plan: &CheckedPlan, t: usize, l: u32) -> bool
     requires { t < length plan.now.problem.tunnels }
     ensures { result ≡ wan.crosses plan.now.problem t l }
 {
-    links_of(plan, t).iter().any(|link| *link == l)
+    plan.links_of(t).iter().any(|link| *link == l)
 }

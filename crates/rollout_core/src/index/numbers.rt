@@ -6,7 +6,6 @@ ghost use Rattle.rollout_rules.specs.declared.item.Item.TheVariants as variants;
 ghost use Rattle.rollout_core.specs.Index.{AreItems, AreOperations, AreFirstEntries};
 
 use crate::changes::operations;
-use crate::rows::path_of;
 use lists::{Ids, Many, Memory};
 use rollout_rules::Item;
 use std::alloc::Global;
@@ -39,7 +38,7 @@ fn push_entries(row: &mut Many<Item>, plan: &CheckedPlan, t: usize) -> Result<()
     requires before { AreItems plan.now.problem (number_of plan.now.problem (variants.Entry t 0)) row.old }
     ensures { OnOk result (AreItems plan.now.problem (number_of plan.now.problem (variants.Entry t (wan.hops plan.now.problem t))) row.new) }
 {
-    for hop in 0..path_of(plan, t).len() {
+    for hop in 0..plan.path(t).len() {
         row.push(Item::Entry {
             tunnel: t as u32,
             hop: hop as u32,
@@ -72,7 +71,7 @@ pub(crate) fn first_entries(alloc: Global, plan: &CheckedPlan) -> Result<Ids, Me
     let mut next = plan.problem().flows().len() as u32;
     for t in 0..plan.problem().tunnels().len() {
         row.push(next)?;
-        next += path_of(plan, t).len() as u32;
+        next += plan.path(t).len() as u32;
     }
     Ok(row)
 }

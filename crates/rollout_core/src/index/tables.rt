@@ -3,20 +3,19 @@ ghost use Rattle.rollout_rules.specs.Items.{number_of};
 ghost use Rattle.rollout_rules.specs.declared.item.Item.TheVariants as variants;
 ghost use Rattle.rollout_core.specs.Index.{IsTable, AreTables, AreFirstEntries};
 
-use crate::index::touch::Touch;
-use crate::rows::path_of;
+use crate::index::table_place::TablePlace;
 use lists::{Many, Memory};
 use std::alloc::Global;
 use wan_model::CheckedPlan;
 
-pub(crate) type TouchList = Many<Touch>;
+pub(crate) type TablePlaces = Many<TablePlace>;
 
 /// Per switch the entries in its table.
 pub(crate) fn tables(
     alloc: Global,
     plan: &CheckedPlan,
     first_entries: &[u32],
-) -> Result<Many<TouchList>, Memory>
+) -> Result<Many<TablePlaces>, Memory>
     requires { AreFirstEntries plan.now.problem (length plan.now.problem.tunnels) first_entries.now }
     ensures { IfOk result (λ rows. AreTables plan.now.problem rows (length plan.now.problem.switches)) }
 {
@@ -32,11 +31,11 @@ fn table(
     plan: &CheckedPlan,
     w: u32,
     first_entries: &[u32],
-) -> Result<TouchList, Memory>
+) -> Result<TablePlaces, Memory>
     requires { AreFirstEntries plan.now.problem (length plan.now.problem.tunnels) first_entries.now }
     ensures { IfOk result (λ row. IsTable plan.now.problem w (length plan.now.problem.tunnels) 0 row) }
 {
-    let mut row = TouchList::new(alloc);
+    let mut row = TablePlaces::new(alloc);
     for t in 0..plan.problem().tunnels().len() {
         push_entries(&mut row, plan, w, t, first_entries[t])?;
     }
@@ -44,7 +43,7 @@ fn table(
 }
 
 fn push_entries(
-    row: &mut TouchList,
+    row: &mut TablePlaces,
     plan: &CheckedPlan,
     w: u32,
     t: usize,
@@ -55,10 +54,10 @@ fn push_entries(
     requires before { IsTable plan.now.problem w t 0 row.old }
     ensures { OnOk result (IsTable plan.now.problem w (t + 1) 0 row.new) }
 {
-    let path = path_of(plan, t);
+    let path = plan.path(t);
     for hop in 0..path.len() {
         if path[hop] == w {
-            row.push(Touch {
+            row.push(TablePlace {
                 tunnel: t as u32,
                 item: first_entry + hop as u32,
             })?;

@@ -1,7 +1,7 @@
 ghost use Rattle.std.specs.Prelude.{◌≡◌, ◌+◌, ◌≤◌, ◌<◌, ◌^◌, ◌∷◌, [], length};
 ghost use Rattle.rollout_rules.specs.Wan as wan;
 ghost use Rattle.rollout_rules.specs.Items.{item_count};
-ghost use Rattle.rollout_rules.specs.History as history;
+ghost use Rattle.rollout_rules.specs.History.{begins_in, dones_in};
 ghost use Rattle.rollout_core.specs.Ahead as places;
 
 use crate::changes::stand_after;
@@ -60,7 +60,7 @@ pub(crate) fn flies_begun(progress: &Progress, ahead: &[Entry], op: Op, item: u3
 }
 
 fn dones(entries: &[Entry], item: u32) -> u64
-    ensures value { result ≡ history.settled entries.now item }
+    ensures value { result ≡ dones_in entries.now item }
     ensures few { result < 2 ^ 63 }
 {
     let mut count = 0;
@@ -71,7 +71,7 @@ fn dones(entries: &[Entry], item: u32) -> u64
 }
 
 fn begins(entries: &[Entry], item: u32) -> u64
-    ensures value { result ≡ history.begun entries.now item }
+    ensures value { result ≡ begins_in entries.now item }
     ensures few { result < 2 ^ 63 }
 {
     let mut count = 0;

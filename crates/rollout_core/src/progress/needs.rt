@@ -8,10 +8,9 @@ ghost use Rattle.rollout_rules.specs.declared.item.Item.TheVariants as variants;
 ghost use Rattle.rollout_core.specs.Ahead.{stand_with, places_with};
 ghost use Rattle.rollout_core.specs.Fits as parts;
 
+use crate::checked::checked_plan_is_valid;
 use crate::progress::Progress;
 use crate::progress::ahead::stand;
-use crate::rows::{flow_of, path_of, tunnel_of, tunnels_of};
-use crate::stages::{mark_at, next_stage, rate_at};
 use rollout_rules::{Entry, Item};
 use wan_model::CheckedPlan;
 
@@ -42,8 +41,8 @@ fn carriers_stand(
     requires stage { s < wan.last_stage plan.now.plan }
     ensures { result ≡ needs.needs_met_at plan.now.problem plan.now.plan (places_with plan.now progress.now ahead.now) (variants.Flow f) s }
 {
-    for j in 0..tunnels_of(plan, f) {
-        if !carrier_stands(progress, plan, ahead, tunnel_of(plan, f, j), s) {
+    for j in 0..plan.tunnel_count(f) {
+        if !carrier_stands(progress, plan, ahead, plan.tunnel_of(f, j), s) {
             return false;
         }
     }
@@ -62,8 +61,8 @@ fn carrier_stands(
     requires stage { s < wan.last_stage plan.now.plan }
     ensures { result ≡ parts.carrier_stands plan.now.problem plan.now.plan (places_with plan.now progress.now ahead.now) t s }
 {
-    let next = next_stage(plan, s);
-    if rate_at(plan, next, t) == 0 {
+    let next = plan.next_stage(s);
+    if plan.rate(next, t) == 0 {
         return true;
     }
     entries_past(progress, plan, ahead, t, installed_since(plan, t, next))
@@ -81,7 +80,7 @@ fn entries_past(
     requires tunnel { t < length plan.now.problem.tunnels }
     ensures { result ≡ needs.entries_past plan.now.problem plan.now.plan (places_with plan.now progress.now ahead.now) t s }
 {
-    for hop in 0..path_of(plan, t).len() {
+    for hop in 0..plan.path(t).len() {
         if !entry_past(progress, plan, ahead, t, hop, s) {
             return false;
         }
@@ -120,10 +119,12 @@ fn entry_may_change(
     requires stage { s < wan.last_stage plan.now.plan }
     ensures { (h : ℕ) → result ≡ needs.needs_met_at plan.now.problem plan.now.plan (places_with plan.now progress.now ahead.now) (variants.Entry t h) s }
 {
-    if mark_at(plan, next_stage(plan, s), t) {
+    if plan.mark(plan.next_stage(s), t) {
         return true;
     }
-    idle_since(plan, t, s) <= stand(progress, plan, ahead, flow_of(plan, t))
+    checked_plan_is_valid(plan);
+    let flow = plan.flow_of(t) as u32;
+    idle_since(plan, t, s) <= stand(progress, plan, ahead, flow)
 }
 
 /// The first stage of the run of stages at which tunnel `t` is installed, around stage `s`.
@@ -134,7 +135,7 @@ fn installed_since(plan: &CheckedPlan, t: usize, s: usize) -> usize
 {
     let mut since = 0;
     for u in 0..s {
-        if !mark_at(plan, u, t) {
+        if !plan.mark(u, t) {
             since = u + 1;
         }
     }
@@ -149,7 +150,7 @@ fn idle_since(plan: &CheckedPlan, t: usize, s: usize) -> usize
 {
     let mut since = 0;
     for u in 0..s {
-        if rate_at(plan, u, t) != 0 {
+        if plan.rate(u, t) != 0 {
             since = u + 1;
         }
     }

@@ -10,11 +10,9 @@ ghost use Rattle.rollout_core.specs.Fits as parts;
 ghost use Rattle.rollout_core.specs.Worlds.{GoesOn};
 
 use crate::checked::checked_plan_is_valid;
-use crate::index::Touch;
+use crate::index::TablePlace;
 use crate::progress::Progress;
 use crate::progress::ahead::{flies_begun, stand};
-use crate::rows::{flow_of, links_of, switch_of, tunnel_of, tunnels_of};
-use crate::stages::{either_mark, greater_rate, last_stage, mark_at, rate_at};
 use rollout_rules::{Entry, Item, Op};
 use wan_model::CheckedPlan;
 
@@ -60,7 +58,7 @@ fn least_stage(progress: &Progress, plan: &CheckedPlan, ahead: &[Entry]) -> usiz
     if ahead.is_empty() {
         return progress.stands.least() as usize;
     }
-    let mut least = last_stage(plan);
+    let mut least = plan.last_stage();
     for item in 0..progress.lookup().item_count() {
         least = least.min(stand(progress, plan, ahead, item));
     }
@@ -77,7 +75,7 @@ fn touched_hold(progress: &Progress, plan: &CheckedPlan, ahead: &[Entry], op: Op
     match progress.lookup().item(op.item) {
         Item::Flow(flow) => paths_hold(progress, plan, ahead, op, s, flow as usize),
         Item::Entry { tunnel, hop } => {
-            let w = switch_of(plan, tunnel as usize, hop as usize);
+            let w = plan.switch_of(tunnel as usize, hop as usize);
             table_holds(progress, plan, ahead, op, s, w)
         }
     }
@@ -97,8 +95,8 @@ fn paths_hold(
     requires flow { f < length plan.now.problem.flows }
     ensures { result ≡ parts.touched_hold plan.now.problem plan.now.plan (places_begun plan.now progress.now ahead.now op) (variants.Flow f) s }
 {
-    for j in 0..tunnels_of(plan, f) {
-        if !path_holds(progress, plan, ahead, op, s, tunnel_of(plan, f, j)) {
+    for j in 0..plan.tunnel_count(f) {
+        if !path_holds(progress, plan, ahead, op, s, plan.tunnel_of(f, j)) {
             return false;
         }
     }
@@ -120,7 +118,7 @@ fn path_holds(
     ensures { result ≡ parts.path_holds plan.now.problem plan.now.plan (places_begun plan.now progress.now ahead.now op) s t }
 {
     checked_plan_is_valid(plan);
-    let links = links_of(plan, t);
+    let links = plan.links_of(t);
     for k in 0..links.len() {
         if !link_holds(progress, plan, ahead, op, s, links[k] as usize) {
             return false;
@@ -159,7 +157,7 @@ fn table_holds(
     requires switch { w < length plan.now.problem.switches }
     ensures { result ≡ parts.table_holds plan.now.problem plan.now.plan (places_begun plan.now progress.now ahead.now op) s w }
 {
-    entries(progress, plan, ahead, op, s, w) <= table(plan, w)
+    entries(progress, plan, ahead, op, s, w) <= u128::from(plan.problem().table(w))
 }
 
 /// What is taken of link `l` at stage `s`, in units of 1/scale.
@@ -184,7 +182,7 @@ fn load(
     sum
 }
 
-/// How many places are taken in the table of switch `w` at stage `s`.
+/// How much is taken of the table of switch `w` at stage `s`: the widths of the entries there.
 fn entries(
     progress: &Progress,
     plan: &CheckedPlan,
@@ -192,17 +190,17 @@ fn entries(
     op: Op,
     s: usize,
     w: usize,
-) -> u64
+) -> u128
     requires own { plan.now ≡ progress.now.rollout }
     requires stage { s < wan.last_stage plan.now.plan }
     requires switch { w < length plan.now.problem.switches }
     ensures { result ≡ rooms.room plan.now.problem plan.now.plan (places_begun plan.now progress.now ahead.now op) s (the_table w) }
 {
-    let mut count = 0;
-    for touch in progress.lookup().table(w) {
-        count += u64::from(takes_place(progress, plan, ahead, op, s, *touch));
+    let mut sum = 0;
+    for place in progress.lookup().table(w) {
+        sum += u128::from(width_share(progress, plan, ahead, op, s, *place));
     }
-    count
+    sum
 }
 
 /// What tunnel `t` adds at stage `s` to the links on its path, by where its flow stands.
@@ -219,56 +217,70 @@ fn share(
     requires tunnel { t < length plan.now.problem.tunnels }
     ensures { result ≡ places.rate_share plan.now progress.now ahead.now op s t }
 {
-    let flow = flow_of(plan, t);
+    checked_plan_is_valid(plan);
+    let flow = plan.flow_of(t) as u32;
     let at = stand(progress, plan, ahead, flow);
     if at <= s {
-        return greater_rate(plan, s, t);
+        return plan.greater_rate(s, t);
     }
     if flies_begun(progress, ahead, op, flow) {
-        return greater_rate(plan, at, t);
+        return plan.greater_rate(at, t);
     }
-    rate_at(plan, at, t)
+    plan.rate(at, t)
 }
 
-/// Whether an entry takes a place at stage `s`, by where it stands.
+/// What an entry takes of its table at stage `s`: its tunnel's width, where it takes its place.
+fn width_share(
+    progress: &Progress,
+    plan: &CheckedPlan,
+    ahead: &[Entry],
+    op: Op,
+    s: usize,
+    place: TablePlace,
+) -> u32
+    requires own { plan.now ≡ progress.now.rollout }
+    requires stage { s < wan.last_stage plan.now.plan }
+    requires tunnel { place.tunnel < length plan.now.problem.tunnels }
+    requires item { place.item < item_count plan.now.problem }
+    ensures { result ≡ places.width_share plan.now progress.now ahead.now op s place.tunnel place.item }
+{
+    if takes_place(progress, plan, ahead, op, s, place) {
+        plan.width(place.tunnel as usize)
+    } else {
+        0
+    }
+}
+
+/// Whether an entry takes its place at stage `s`, by where it stands.
 fn takes_place(
     progress: &Progress,
     plan: &CheckedPlan,
     ahead: &[Entry],
     op: Op,
     s: usize,
-    touch: Touch,
+    place: TablePlace,
 ) -> bool
     requires own { plan.now ≡ progress.now.rollout }
     requires stage { s < wan.last_stage plan.now.plan }
-    requires tunnel { touch.tunnel < length plan.now.problem.tunnels }
-    requires item { touch.item < item_count plan.now.problem }
-    ensures { result ≡ places.takes_place plan.now progress.now ahead.now op s touch.tunnel touch.item }
+    requires tunnel { place.tunnel < length plan.now.problem.tunnels }
+    requires item { place.item < item_count plan.now.problem }
+    ensures { result ≡ places.takes_place plan.now progress.now ahead.now op s place.tunnel place.item }
 {
-    let at = stand(progress, plan, ahead, touch.item);
-    let t = touch.tunnel as usize;
+    let at = stand(progress, plan, ahead, place.item);
+    let t = place.tunnel as usize;
     if at <= s {
-        return either_mark(plan, s, t);
+        return plan.either_mark(s, t);
     }
-    if flies_begun(progress, ahead, op, touch.item) {
-        return either_mark(plan, at, t);
+    if flies_begun(progress, ahead, op, place.item) {
+        return plan.either_mark(at, t);
     }
-    mark_at(plan, at, t)
+    plan.mark(at, t)
 }
 
+/// The capacity of link `l`, in units of 1/scale.
 fn capacity(plan: &CheckedPlan, l: usize) -> u128
     requires { l < length plan.now.problem.links }
     ensures { result ≡ capacity_of plan.now.problem plan.now.plan (the_link l) }
 {
-    let link = &plan.problem().links()[l];
-    let scale = plan.plan().scale;
-    u128::from(link.capacity) * u128::from(scale)
-}
-
-fn table(plan: &CheckedPlan, w: usize) -> u64
-    requires { w < length plan.now.problem.switches }
-    ensures { result ≡ capacity_of plan.now.problem plan.now.plan (the_table w) }
-{
-    let switch = &plan.problem().switches()[w];
-    u64::from(switch.table)
+    u128::from(plan.problem().capacity(l)) * u128::from(plan.plan().scale)
 }

@@ -4,14 +4,14 @@ use Rattle.rollout_rules.specs.Wan.{rate_at, tunnel_of, flow_at}
 use Rattle.rollout_core.proofs.Contents.{same-below, all_below_stops}
 use Rattle.rollout_core.proofs.changes.rates_change.Goals as goal
 
-pub returns-then-rate_at : goal.returns-then-rate_at
-returns-then-rate_at c =
+pub returns-then-rate : goal.returns-then-rate
+returns-then-rate c =
     let p = c.args.plan.now.problem in
     let plan = c.args.plan.now.plan in
     let inside : c.loop-j.j < (flow_at p c.args.f).tunnels = grind arith in
     let next : c.next_stage-next.result ≡ c.args.s + 1 = omega (arith, c.next_stage-next.ensures.value) in
     let fails = ne_eqb (rate_at plan c.args.s (tunnel_of p c.args.f c.loop-j.j)) (rate_at plan (c.args.s + 1) (tunnel_of p c.args.f c.loop-j.j))
-    (λ q. c.if-rate_at.true (c.rate_at.ensures ∙ ap (rate_at plan c.args.s) c.tunnel_of-t.ensures.value ∙ q ∙ sym (c.rate_at-in-loop-j.ensures ∙ ap₂ (rate_at plan) next c.tunnel_of-t.ensures.value))) in
+    (λ q. c.if-rate.true (c.rate.ensures ∙ ap (rate_at plan c.args.s) c.tunnel_of-t.ensures.value ∙ q ∙ sym (c.rate-in-loop-j.ensures ∙ ap₂ (rate_at plan) next c.tunnel_of-t.ensures.value))) in
     let stops = all_below_stops (λ j. rate_at plan c.args.s (tunnel_of p c.args.f j) == rate_at plan (c.args.s + 1) (tunnel_of p c.args.f j)) (flow_at p c.args.f).tunnels c.loop-j.j inside fails in
     sym (ap not (same-below (flow_at p c.args.f).tunnels (λ j. rate_at plan c.args.s (tunnel_of p c.args.f j)) (λ j. rate_at plan (c.args.s + 1) (tunnel_of p c.args.f j)) ∙ stops))
 
@@ -19,6 +19,6 @@ pub returns : goal.returns
 returns c =
     let p = c.args.plan.now.problem in
     let plan = c.args.plan.now.plan in
-    let end : c.loop-j.j ≡ (flow_at p c.args.f).tunnels = omega (arith, c.tunnels_of-j-end.ensures) in
+    let end : c.loop-j.j ≡ (flow_at p c.args.f).tunnels = omega (arith, c.tunnel_count-j-end.ensures.value) in
     let passes = subst (λ n. all_below n (λ j. rate_at plan c.args.s (tunnel_of p c.args.f j) == rate_at plan (c.args.s + 1) (tunnel_of p c.args.f j)) ≡ true) end c.loop-j.invariant in
     sym (ap not (same-below (flow_at p c.args.f).tunnels (λ j. rate_at plan c.args.s (tunnel_of p c.args.f j)) (λ j. rate_at plan (c.args.s + 1) (tunnel_of p c.args.f j)) ∙ passes))

@@ -1,10 +1,10 @@
-use Rattle.std.proofs.Common.{◌≡◌, ◌++◌, List, take}
-use Rattle.rollout_rules.specs.declared.op.Entry.{Entry}
+use Rattle.std.proofs.Common.{◌≡◌, take}
+use Rattle.rollout_rules.specs.History.{History, with_entries}
 use Rattle.rollout_core.specs.Progress.{AreCountsOf}
 use Rattle.rollout_core.proofs.history.count.Given as goal
 
 abbrev pub invariant-loop-entry : goal.invariant-loop-entry
 invariant-loop-entry l = record {
   rollout : l.progress.rollout ≡ l.fn.progress.rollout;
-  counts : (h : List Entry) → AreCountsOf l.fn.progress h → AreCountsOf l.progress (h ++ take l.entry-index l.batch);
+  counts : (h : History) → AreCountsOf l.fn.progress h → AreCountsOf l.progress (with_entries h (take l.entry-index l.batch));
 }

@@ -11,10 +11,10 @@ pub returns-then-not-may_add : goal.returns-then-not-may_add
 unfolding none
 returns-then-not-may_add c =
     let r = c.args.self.now.rollout in
-    sym (may_follow-stops r.problem r.plan c.args.self.now.entries c.args.batch.now c.loop-n.n none c.loop-n-test.true c.loop-n.invariant (sym c.may_add.ensures ∙ c.if-not-may_add.true))
+    sym (may_follow-stops r.problem r.plan c.args.self.now.history c.args.batch.now c.loop-n.n none c.loop-n-test.true c.loop-n.invariant (sym c.may_add.ensures ∙ c.if-not-may_add.true))
 
 pub loop-n-preserved : goal.loop-n-preserved
 unfolding none
 loop-n-preserved c =
     let r = c.args.self.now.rollout in
-    may_follow-more r.problem r.plan c.args.self.now.entries c.args.batch.now c.loop-n.n none c.loop-n-test.true c.loop-n.invariant (sym c.may_add.ensures ∙ c.if-not-may_add.false)
+    may_follow-more r.problem r.plan c.args.self.now.history c.args.batch.now c.loop-n.n none c.loop-n-test.true c.loop-n.invariant (sym c.may_add.ensures ∙ c.if-not-may_add.false)

@@ -1,6 +1,9 @@
-use Rattle.std.proofs.Common.{◌≡◌, ℕ, ◌∙◌, [], true, refl, sym, ap, subst}
+use Rattle.std.proofs.Common.{◌≡◌, ℕ, ◌∙◌, List, [], true, length, sym, ap, subst}
 use Rattle.rollout_rules.specs.Items.{item_count}
+use Rattle.rollout_rules.specs.History.{History, started}
 use Rattle.rollout_rules.specs.Legal.{is_legal}
+use Rattle.rollout_rules.specs.declared.op.Entry.{Entry}
+use Rattle.rollout_laws.proofs.Histories.{started_is_legal}
 use Rattle.rollout_core.specs.Progress.{AreCountsOf}
 use Rattle.rollout_core.specs.Flights.{Noted, AreFlying}
 use Rattle.rollout_core.proofs.Flying.{flying-first}
@@ -9,14 +12,18 @@ use Rattle.rollout_core.proofs.history.History.new.Goals as goal
 abbrev first : ℕ → Noted
 first room = record { room = room; items = [] }
 
+abbrev past : List ℕ → List Entry → History
+past start entries = record { start = start; entries = entries }
+
 pub invariant_of-result : goal.invariant_of-result
 invariant_of-result c =
     let r = c.args.plan.now in
-    let empty = sym c.new-3.ensures in
+    let is : started c.args.start.now ≡ past c.in_ok-numbers.numbers.items c.new-3.result = λ k. past (sym c.in_ok-numbers.ensures k) (sym c.new-3.ensures k) in
     let room = c.item_count.ensures ∙ ap (λ q. item_count q.problem) c.in_ok-progress.ensures.plan in
     record {
       rollout = sym c.in_ok-progress.ensures.plan;
-      counts = subst (AreCountsOf c.in_ok-progress.progress) empty c.in_ok-progress.ensures.none;
-      flights = subst (λ h. AreFlying r.problem h c.in_ok-flights.flights) empty (flying-first r.problem c.in_ok-flights.flights (c.in_ok-flights.ensures ∙ ap first room));
-      legal = subst (λ h. is_legal r.problem r.plan h ≡ true) empty refl;
+      counts = subst (AreCountsOf c.in_ok-progress.progress) is c.in_ok-progress.ensures.counts;
+      start = subst (λ h. length h.start ≡ item_count r.problem) is c.requires.numbers;
+      flights = subst (λ h. AreFlying r.problem h c.in_ok-flights.flights) is (flying-first r.problem c.args.start.now c.in_ok-flights.flights (c.in_ok-flights.ensures ∙ ap first room));
+      legal = subst (λ h. is_legal r.problem r.plan h ≡ true) is (started_is_legal r.problem r.plan c.args.start.now c.requires.sound);
     }

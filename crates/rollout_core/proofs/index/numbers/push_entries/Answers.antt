@@ -9,6 +9,6 @@ use Rattle.rollout_core.proofs.index.numbers.push_entries.Goals as goal
 pub loop-hop-preserved : goal.loop-hop-preserved
 loop-hop-preserved c =
     let p = c.args.plan.now.problem in
-    let low : c.loop-hop.hop < hops p c.args.t = omega (arith, ap length c.path_of-hop-end.ensures.list) in
+    let low : c.loop-hop.hop < hops p c.args.t = omega (arith, ap length c.path-hop-end.ensures.list) in
     subst (λ row. AreItems p (number_of p (item.Entry c.args.t (c.loop-hop.hop + 1))) row) (sym c.in_ok-push.ensures.ok)
     (items-entry p c.args.t c.loop-hop.hop c.loop-hop.row c.requires.tunnel low c.loop-hop.invariant)

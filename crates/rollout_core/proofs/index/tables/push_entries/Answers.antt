@@ -2,7 +2,7 @@ use Rattle.std.proofs.Common.{◌≡◌, ◌+◌, ◌<◌, ◌∙◌, sym, ap, s
 use Rattle.rollout_rules.specs.Wan.{hops, switch_of}
 use Rattle.rollout_rules.specs.Items.{number_of}
 use Rattle.rollout_rules.specs.declared.item.Item.TheVariants as item
-use Rattle.rollout_core.specs.declared.index.touch.Touch.{Touch}
+use Rattle.rollout_core.specs.declared.index.table_place.TablePlace.{TablePlace}
 use Rattle.rollout_core.specs.Index.{IsTable}
 use Rattle.rollout_core.proofs.Growing.{table-push, table-pass, number_of-few}
 use Rattle.rollout_core.proofs.index.tables.push_entries.Goals as goal
@@ -11,19 +11,19 @@ use Rattle.rollout_core.proofs.index.tables.push_entries.Goals.{then-path-hop+in
 pub overflow_add-first_entry : goal.overflow_add-first_entry
 overflow_add-first_entry c =
     let p = c.args.plan.now.problem in
-    let low : c.loop-hop.hop < hops p c.args.t = omega (arith, ap length c.path_of-path.ensures.list) in
-    omega (arith, c.requires.number, number_of-few p c.args.t c.loop-hop.hop c.path_of-path.ensures.network c.requires.tunnel low)
+    let low : c.loop-hop.hop < hops p c.args.t = omega (arith, ap length c.path-path.ensures.list) in
+    omega (arith, c.requires.number, number_of-few p c.args.t c.loop-hop.hop c.path-path.ensures.network c.requires.tunnel low)
 
 pub loop-hop-preserved : goal.loop-hop-preserved
 loop-hop-preserved c =
     let p = c.args.plan.now.problem in
     let t = c.args.t in
     let h = c.loop-hop.hop in
-    let low : h < hops p t = omega (arith, ap length c.path_of-path.ensures.list) in
-    let here = ap (λ xs. get_or xs h 0) c.path_of-path.ensures.list in
+    let low : h < hops p t = omega (arith, ap length c.path-path.ensures.list) in
+    let here = ap (λ xs. get_or xs h 0) c.path-path.ensures.list in
     elim c.if-path-hop.branch [
       | then-path-hop+in_ok-push w ↦
-          let x : Touch = record { tunnel = t; item = c.args.first_entry + h } in
+          let x : TablePlace = record { tunnel = t; item = c.args.first_entry + h } in
           let row = w.row-is ∙ w.in_ok-push.ensures.ok in
           let number : c.args.first_entry + h ≡ number_of p (item.Entry t h) = omega (arith, c.requires.number) in
           subst (λ xs. IsTable p c.args.w t (h + 1) xs) (sym row)

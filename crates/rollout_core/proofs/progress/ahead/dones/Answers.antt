@@ -1,5 +1,5 @@
 use Rattle.std.proofs.Common.{◌+◌, ◌<◌, sym, ap, ap₂, ◌∙◌, arith, length}
-use Rattle.rollout_core.proofs.Standings.{settled-next, byte_is, one_if, one_small}
+use Rattle.rollout_core.proofs.Standings.{dones-next, byte_is, one_if, one_small}
 use Rattle.rollout_core.proofs.progress.ahead.dones.Goals as goal
 
 pub loop-entry-preserved : goal.loop-entry-preserved
@@ -9,6 +9,6 @@ loop-entry-preserved c =
     let lt : k < length es = grind arith in
     let one = c.from-count.ensures ∙ byte_is c.settles.result in
     record {
-      value = ap₂ (λ a b. a + b) c.loop-entry.invariant.value (one ∙ ap one_if c.settles.ensures) ∙ sym (settled-next es k c.args.item _ lt);
+      value = ap₂ (λ a b. a + b) c.loop-entry.invariant.value (one ∙ ap one_if c.settles.ensures) ∙ sym (dones-next es k c.args.item _ lt);
       few = omega (arith, one, one_small c.settles.result, c.loop-entry.invariant.few);
     }

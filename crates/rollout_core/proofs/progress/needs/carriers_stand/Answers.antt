@@ -9,6 +9,6 @@ pub returns-then-not-carrier_stands : goal.returns-then-not-carrier_stands
 returns-then-not-carrier_stands c =
     let p = c.args.plan.now.problem in
     let plan = c.args.plan.now.plan in
-    let inside : c.loop-j.j < (flow_at p c.args.f).tunnels = omega (arith, c.tunnels_of-j-end.ensures) in
+    let inside : c.loop-j.j < (flow_at p c.args.f).tunnels = omega (arith, c.tunnel_count-j-end.ensures.value) in
     let fails = ap (λ t. carrier_stands p plan (places_with c.args.plan.now c.args.progress.now c.args.ahead.now) t c.args.s) (sym c.tunnel_of.ensures.value) ∙ sym c.carrier_stands.ensures ∙ c.if-not-carrier_stands.true in
     sym (all_below_stops (λ k. carrier_stands p plan (places_with c.args.plan.now c.args.progress.now c.args.ahead.now) (tunnel_of p c.args.f k) c.args.s) ((flow_at p c.args.f).tunnels) c.loop-j.j inside fails)

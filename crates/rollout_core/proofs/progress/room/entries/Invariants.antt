@@ -1,11 +1,11 @@
-use Rattle.std.proofs.Common.{◌≡◌, ◌≤◌, if◌then◌else◌}
+use Rattle.std.proofs.Common.{◌≡◌, ◌≤◌, ◌*◌, ◌^◌}
 use Rattle.rollout_rules.specs.Sums.{sum_below}
-use Rattle.rollout_core.specs.Ahead.{takes_place}
-use Rattle.rollout_core.specs.Index.{touch_at}
+use Rattle.rollout_core.specs.Ahead.{width_share}
+use Rattle.rollout_core.specs.Index.{place_at}
 use Rattle.rollout_core.proofs.progress.room.entries.Given as goal
 
-abbrev pub invariant-loop-touch : goal.invariant-loop-touch
-invariant-loop-touch l = record {
-  value : l.count ≡ sum_below l.touch-index (λ j. if takes_place l.plan l.progress l.ahead l.op l.s (touch_at l.touch-items j).tunnel (touch_at l.touch-items j).item then 1 else 0);
-  small : l.count ≤ l.touch-index;
+abbrev pub invariant-loop-place : goal.invariant-loop-place
+invariant-loop-place l = record {
+  value : l.sum ≡ sum_below l.place-index (λ j. width_share l.plan l.progress l.ahead l.op l.s (place_at l.place-items j).tunnel (place_at l.place-items j).item);
+  small : l.sum ≤ l.place-index * 2 ^ 32;
 }

@@ -15,7 +15,7 @@ returns-then-not-holds_from c =
     let fails = sym c.holds_from.ensures ∙ c.if-not-holds_from.true in
     sym (all_below_stops (λ k. nat_lt k c.least_stage-least.result || holds k) c.stand-s-end.result c.loop-s.s inside fails)
     ∙ ap₂ (λ n m. all_below n (λ k. nat_lt k m || holds k)) c.stand-s-end.ensures.value c.least_stage-least.ensures
-    ∙ fits-begun r c.args.progress.now c.args.ahead.now c.args.op c.requires.own c.checked_plan_is_valid.ensures.network c.checked_plan_is_valid.ensures.valid c.requires.goes_on c.requires.item
+    ∙ fits-begun r c.args.progress.now c.args.ahead.now c.args.op c.requires.own c.checked_plan_is_valid.ensures.network c.requires.goes_on c.requires.item
 
 pub returns : goal.returns
 returns c =
@@ -24,4 +24,4 @@ returns c =
     let all : c.loop-s.s ≡ c.stand-s-end.result = omega arith in
     sym (subst (λ n. all_below n (λ k. nat_lt k c.least_stage-least.result || holds k) ≡ true) all c.loop-s.invariant)
     ∙ ap₂ (λ n m. all_below n (λ k. nat_lt k m || holds k)) c.stand-s-end.ensures.value c.least_stage-least.ensures
-    ∙ fits-begun r c.args.progress.now c.args.ahead.now c.args.op c.requires.own c.checked_plan_is_valid.ensures.network c.checked_plan_is_valid.ensures.valid c.requires.goes_on c.requires.item
+    ∙ fits-begun r c.args.progress.now c.args.ahead.now c.args.op c.requires.own c.checked_plan_is_valid.ensures.network c.requires.goes_on c.requires.item

@@ -3,7 +3,7 @@ use Rattle.std.specs.Arc.{arc_value}
 use Rattle.rollout_rules.specs.Sums.{least_below}
 use Rattle.rollout_rules.specs.declared.op.Entry.{Entry}
 use Rattle.rollout_core.specs.Fits.{least_stand}
-use Rattle.rollout_core.proofs.Stood.{least-kept}
+use Rattle.rollout_core.proofs.StageCounts.{least-kept}
 use Rattle.rollout_core.proofs.progress.room.least_stage.Goals as goal
 
 nothing : (es : List Entry) → length es ≡ 0 → es ≡ []

@@ -11,6 +11,6 @@ returns-then-not-link_holds c =
     let plan = c.args.plan.now.plan in
     let at = places_begun c.args.plan.now c.args.progress.now c.args.ahead.now c.args.op in
     let links = (tunnel_at p c.args.t).links in
-    let inside : c.loop-k.k < length links = omega (arith, c.loop-k-test.true, ap length c.links_of-links.ensures) in
-    let fails = ap (λ row. link_holds p plan at c.args.s (slice_index row c.loop-k.k)) (sym c.links_of-links.ensures) ∙ sym c.link_holds.ensures ∙ c.if-not-link_holds.true in
+    let inside : c.loop-k.k < length links = omega (arith, c.loop-k-test.true, ap length c.links_of-links.ensures.list) in
+    let fails = ap (λ row. link_holds p plan at c.args.s (slice_index row c.loop-k.k)) (sym c.links_of-links.ensures.list) ∙ sym c.link_holds.ensures ∙ c.if-not-link_holds.true in
     sym (all_below_stops (λ k. link_holds p plan at c.args.s (slice_index links k)) (length links) c.loop-k.k inside fails)

@@ -10,6 +10,6 @@ returns-then-not-path_holds c =
     let p = c.args.plan.now.problem in
     let plan = c.args.plan.now.plan in
     let at = places_begun c.args.plan.now c.args.progress.now c.args.ahead.now c.args.op in
-    let inside : c.loop-j.j < (flow_at p c.args.f).tunnels = omega (arith, c.tunnels_of-j-end.ensures) in
+    let inside : c.loop-j.j < (flow_at p c.args.f).tunnels = omega (arith, c.tunnel_count-j-end.ensures.value) in
     let fails = ap (path_holds p plan at c.args.s) (sym c.tunnel_of.ensures.value) ∙ sym c.path_holds.ensures ∙ c.if-not-path_holds.true in
     sym (all_below_stops (λ k. path_holds p plan at c.args.s (tunnel_of p c.args.f k)) ((flow_at p c.args.f).tunnels) c.loop-j.j inside fails)

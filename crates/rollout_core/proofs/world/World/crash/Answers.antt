@@ -6,4 +6,4 @@ use Rattle.rollout_core.proofs.world.World.crash.Goals as goal
 pub append-requires : goal.append-requires
 append-requires c =
     let h = c.self.inside.history in
-    subst (λ b. may_follow h.rollout.problem h.rollout.plan h.entries (take c.args.kept b) ≡ true) (sym c.as_slice.ensures) (take_follows h.rollout.problem h.rollout.plan h.entries c.self.inside.writing c.args.kept c.self.invariant.follows)
+    subst (λ b. may_follow h.rollout.problem h.rollout.plan h.history (take c.args.kept b) ≡ true) (sym c.as_slice.ensures) (take_follows h.rollout.problem h.rollout.plan h.history c.self.inside.writing c.args.kept c.self.invariant.follows)

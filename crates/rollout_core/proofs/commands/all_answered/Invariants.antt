@@ -1,6 +1,0 @@
-use Rattle.std.proofs.Common.{◌≡◌, drop}
-use Rattle.rollout_rules.specs.World as world
-use Rattle.rollout_core.proofs.commands.all_answered.Given as goal
-
-abbrev pub invariant-loop-entry : goal.invariant-loop-entry
-invariant-loop-entry l = world.all_answered l.handed l.batch ≡ world.all_answered l.handed (drop l.entry-index l.batch)
