@@ -14,7 +14,7 @@ import sys
 from runs import PROGRAM, printed, taken, used_by
 
 ITEMS = (1, 16, 1024)
-FRAMES, FRAME = 100000, 30
+FRAMES, FRAME = 100000, 34
 WHOLE = FRAMES * FRAME
 CUTS = (1, 7, 20, 4096, WHOLE)
 TIMES = 20

@@ -17,11 +17,12 @@ import time
 
 HERE = os.path.dirname(os.path.abspath(__file__))
 PROGRAM = os.path.join(HERE, "..", "crates", "swanroll", "out", "swanroll")
+GNU_TIME = "/usr/bin/time"
 MOST_TIMES = 5
 
 
 def run_once(command, path):
-    """The seconds that passed, the processor's seconds and the peak memory in megabytes of one run."""
+    """The seconds that passed and the processor's seconds of one run."""
     with open(path, "rb") as source, open(os.devnull, "wb") as sink:
         begun = time.perf_counter()
         child = subprocess.Popen([PROGRAM, command], stdin=source, stdout=sink)
@@ -29,7 +30,17 @@ def run_once(command, path):
         seconds = time.perf_counter() - begun
     if status != 0:
         sys.exit(f"measure: the program ended with {status} on {path}")
-    return seconds, used.ru_utime + used.ru_stime, used.ru_maxrss / 1024
+    return seconds, used.ru_utime + used.ru_stime
+
+
+def peak_memory(command, path):
+    """The peak memory of one run in megabytes, as text. The system counts as a child's peak what its parent had before, so the
+    run has to be the child of a small program: GNU time (Debian's package time)."""
+    if not os.path.exists(GNU_TIME):
+        return "unknown"
+    with open(path, "rb") as source, open(os.devnull, "wb") as sink:
+        run = subprocess.run([GNU_TIME, "-f", "%M", PROGRAM, command], stdin=source, stdout=sink, stderr=subprocess.PIPE, check=True)
+    return f"{int(run.stderr.split()[-1]) / 1024:.0f} MB"
 
 
 def generate(folder, share):
@@ -51,11 +62,12 @@ def main():
         for _ in range(given.runs):
             for title, path in inputs.items():
                 results[title].append(run_once("plan", path))
+        peaks = {title: peak_memory("plan", path) for title, path in inputs.items()}
     times = []
     for title, runs in results.items():
-        passed, busy, memory = (min(run[0] for run in runs), min(run[1] for run in runs), max(run[2] for run in runs))
+        passed, busy = min(run[0] for run in runs), min(run[1] for run in runs)
         times.append(busy)
-        print(f"measure: {title}: {sizes[title]:.1f} MB of text, {passed:.3f} s, {busy:.3f} s of the processor, {memory:.0f} MB at the most")
+        print(f"measure: {title}: {sizes[title]:.1f} MB of text, {passed:.3f} s, {busy:.3f} s of the processor, {peaks[title]} at the most")
     growth = times[1] / times[0]
     print(f"measure: the largest takes {growth:.1f} times the processor time of a quarter of it")
     if given.check and growth > MOST_TIMES:

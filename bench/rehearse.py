@@ -10,7 +10,7 @@ import subprocess
 import sys
 import tempfile
 
-from measure import HERE, run_once
+from measure import HERE, peak_memory, run_once
 
 CASES = [(20, 2500), (20, 5000), (20, 10000), (20, 20000), (40, 10000), (80, 10000), (160, 10000)]
 
@@ -30,8 +30,8 @@ def main():
         for flows, events in CASES:
             path = generate(folder, flows, events)
             runs = [run_once("sim", path) for _ in range(given.runs)]
-            busy, memory = min(run[1] for run in runs), max(run[2] for run in runs)
-            print(f"rehearse: {flows} flows, {events} events: {busy:.3f} s of the processor, {memory:.0f} MB at the most")
+            busy = min(run[1] for run in runs)
+            print(f"rehearse: {flows} flows, {events} events: {busy:.3f} s of the processor, {peak_memory('sim', path)} at the most")
 
 
 if __name__ == "__main__":

@@ -59,7 +59,8 @@ fn all_bytes(alloc: Global, load: &Load) -> Result<Vec<u8>, AllocError> {
     let mut bytes = Vec::new(alloc);
     for nth in 0..load.commands {
         let mut out = [0; COMMAND_LEN];
-        let n = write_command(&nth_command(nth, load.items), &mut out);
+        let migration = nth_migration(nth, load.commands);
+        let n = write_command(&nth_command(nth, load.items), migration, &mut out);
         bytes.extend_from_slice(&out[..n])?;
     }
     Ok(bytes)
@@ -78,6 +79,11 @@ fn nth_command(nth: u32, items: u32) -> Command
         count: 2,
         rates: [rate, rate, 0, 0, 0, 0, 0, 0, 0, 0, 0, 0, 0, 0, 0, 0],
     }
+}
+
+// The first half is of migration 1, and the rest of migration 2.
+fn nth_migration(nth: u32, commands: u32) -> u32 {
+    if nth < commands / 2 { 1 } else { 2 }
 }
 
 fn answer_all(alloc: Global, bytes: &[u8], load: &Load, tally: &mut Tally) -> Result<()> {
@@ -99,9 +105,9 @@ fn answer_piece(
     let mut rest = piece;
     while reader.live() && !rest.is_empty() {
         let n = match reader.feed(rest) {
-            Ok((n, Some(command))) => {
-                let answer = agent.apply(&command)?;
-                tally.answers.add(&write_answer(&answer));
+            Ok((n, Some((migration, command)))) => {
+                let (held, answer) = agent.apply(migration, &command)?;
+                tally.answers.add(&write_answer(&answer, held));
                 tally.commands = tally.commands.wrapping_add(1);
                 n
             }

@@ -1,48 +1,67 @@
 -- Counts of a history, entry by entry.
 use Rattle.std.proofs.Common.{◌≡◌, ℕ, ◌+◌, ◌<◌, ◌≤◌, Bool, true, false, ◌==◌, if◌then◌else◌, List, [], ◌∷◌, ◌++◌, length, take, get_or, sym, ap, ◌∙◌, arith}
-use Rattle.rollout_rules.specs.History.{settled, begun}
+use Rattle.std.proofs.lemmas.List.{take_more, length-take-le, get_or_default}
+use Rattle.rollout_rules.specs.History.{History, with_entries, begins_in, dones_in, settled, begun}
 use Rattle.rollout_rules.specs.declared.op.Op.{Op}
 use Rattle.rollout_rules.specs.declared.op.Entry.{Entry}
 use Rattle.rollout_rules.specs.declared.op.Entry.TheVariants.{Begin, Done}
-use Rattle.rollout_laws.proofs.Histories.{begun-append, settled-append}
-use Rattle.sim_run.specs.Sums.{AreCounts}
-use Rattle.std.proofs.lemmas.List.{take_more, length-take-le}
+use Rattle.rollout_laws.proofs.Histories.{begun-with, settled-with}
+use Rattle.sim_run.specs.Peaks.{front}
+use Rattle.sim_run.specs.Sums.{entry_at, IsShort, AreCounts}
 
 one_most : (b : Bool) (x : ℕ) → (if b then 1 else 0) + x ≤ 1 + x
 one_most true x = omega arith
 one_most false x = omega arith
 
-pub settled-most : (h : List Entry) (n : ℕ) → settled h n ≤ length h
-settled-most [] n = omega arith
-settled-most (Begin op ∷ h) n = omega (arith, settled-most h n)
-settled-most (Done op ∷ h) n = omega (arith, settled-most h n, one_most (op.item == n) (settled h n))
+dones_in-most : (es : List Entry) (n : ℕ) → dones_in es n ≤ length es
+dones_in-most [] n = omega arith
+dones_in-most (Begin op ∷ es) n = omega (arith, dones_in-most es n)
+dones_in-most (Done op ∷ es) n = omega (arith, dones_in-most es n, one_most (op.item == n) (dones_in es n))
 
-pub begun-most : (h : List Entry) (n : ℕ) → begun h n ≤ length h
-begun-most [] n = omega arith
-begun-most (Begin op ∷ h) n = omega (arith, begun-most h n, one_most (op.item == n) (begun h n))
-begun-most (Done op ∷ h) n = omega (arith, begun-most h n)
-
--- one entry more
-pub settled-more : (h : List Entry) (k n : ℕ) (e : Entry) → k < length h → get_or h k e ≡ e → settled (take (k + 1) h) n ≡ settled (take k h) n + settled (e ∷ []) n
-settled-more h k n e lt at = ap (λ g. settled g n) (take_more h k e lt ∙ ap (λ x. take k h ++ x ∷ []) at) ∙ settled-append (take k h) (e ∷ []) n
-
-pub begun-more : (h : List Entry) (k n : ℕ) (e : Entry) → k < length h → get_or h k e ≡ e → begun (take (k + 1) h) n ≡ begun (take k h) n + begun (e ∷ []) n
-begun-more h k n e lt at = ap (λ g. begun g n) (take_more h k e lt ∙ ap (λ x. take k h ++ x ∷ []) at) ∙ begun-append (take k h) (e ∷ []) n
+begins_in-most : (es : List Entry) (n : ℕ) → begins_in es n ≤ length es
+begins_in-most [] n = omega arith
+begins_in-most (Begin op ∷ es) n = omega (arith, begins_in-most es n, one_most (op.item == n) (begins_in es n))
+begins_in-most (Done op ∷ es) n = omega (arith, begins_in-most es n)
 
 -- a count that may grow by one
-pub room-for_one : (h : List Entry) (k : ℕ) (count : List Entry → ℕ) → ((g : List Entry) → count g ≤ length g) → k < length h → length h < 18446744073709551616 → count (take k h) + 1 < 18446744073709551616
-room-for_one h k count most lt few = omega (arith, most (take k h), length-take-le k h (omega arith))
+module _ (h : History) (k n : ℕ) (short : IsShort h) (lt : k < length h.entries) where
+  pub settled-room : settled (front h k) n + 1 < 18446744073709551616
+  settled-room = omega (arith, short.fits n, dones_in-most (take k h.entries) n, length-take-le k h.entries (omega arith))
 
-pub count-begin : (h : List Entry) (k : ℕ) (op : Op) (s b b' : List ℕ) → k < length h → get_or h k (Begin op) ≡ Begin op → AreCounts (take k h) s b → length b' ≡ length b
-    → ((n : ℕ) → n < length b → get_or b' n 0 ≡ (if op.item == n then 1 else 0) + get_or b n 0) → AreCounts (take (k + 1) h) s b'
-count-begin h k op s b b' lt at are same more = record {
-  settled = λ n low. are.settled n low ∙ sym (settled-more h k n (Begin op) lt at ∙ omega arith);
-  begun = λ n low. more n (omega (arith, same)) ∙ omega (arith, are.begun n (omega (arith, same)), begun-more h k n (Begin op) lt at);
-}
+  pub begun-room : begun (front h k) n + 1 < 18446744073709551616
+  begun-room = omega (arith, short.fits n, begins_in-most (take k h.entries) n, length-take-le k h.entries (omega arith))
 
-pub count-done : (h : List Entry) (k : ℕ) (op : Op) (s b s' : List ℕ) → k < length h → get_or h k (Done op) ≡ Done op → AreCounts (take k h) s b → length s' ≡ length s
-    → ((n : ℕ) → n < length s → get_or s' n 0 ≡ (if op.item == n then 1 else 0) + get_or s n 0) → AreCounts (take (k + 1) h) s' b
-count-done h k op s b s' lt at are same more = record {
-  settled = λ n low. more n (omega (arith, same)) ∙ omega (arith, are.settled n (omega (arith, same)), settled-more h k n (Done op) lt at);
-  begun = λ n low. are.begun n low ∙ sym (begun-more h k n (Done op) lt at ∙ omega arith);
-}
+-- one entry more
+front-more : (h : History) (k : ℕ) (e : Entry) → k < length h.entries → get_or h.entries k e ≡ e → front h (k + 1) ≡ with_entries (front h k) (e ∷ [])
+front-more h k e lt at =
+    let more : take (k + 1) h.entries ≡ take k h.entries ++ e ∷ [] = take_more h.entries k e lt ∙ ap (λ x. take k h.entries ++ x ∷ []) at in
+    λ i. record { start = h.start; entries = more i }
+
+module _ (h : History) (k n : ℕ) (e : Entry) (lt : k < length h.entries) (at : get_or h.entries k e ≡ e) where
+  pub settled-more : settled (front h (k + 1)) n ≡ settled (front h k) n + dones_in (e ∷ []) n
+  settled-more = ap (λ g. settled g n) (front-more h k e lt at) ∙ settled-with (front h k) (e ∷ []) n
+
+  pub begun-more : begun (front h (k + 1)) n ≡ begun (front h k) n + begins_in (e ∷ []) n
+  begun-more = ap (λ g. begun g n) (front-more h k e lt at) ∙ begun-with (front h k) (e ∷ []) n
+
+-- the entry at a place, whatever stands behind the last one
+pub entry_at-is : (h : List Entry) (k : ℕ) (e : Entry) → k < length h → entry_at h k ≡ e → get_or h k e ≡ e
+entry_at-is h k e lt at = get_or_default h k e _ lt ∙ at
+
+pub count-begin : (h : History) (k : ℕ) (op : Op) (s b b' : List ℕ) → k < length h.entries → entry_at h.entries k ≡ Begin op → AreCounts (front h k) s b → length b' ≡ length b
+    → ((n : ℕ) → n < length b → get_or b' n 0 ≡ (if op.item == n then 1 else 0) + get_or b n 0) → AreCounts (front h (k + 1)) s b'
+count-begin h k op s b b' lt is are same more =
+    let at = entry_at-is h.entries k (Begin op) lt is in
+    record {
+      settled = λ n low. are.settled n low ∙ sym (settled-more h k n (Begin op) lt at ∙ omega arith);
+      begun = λ n low. more n (omega (arith, same)) ∙ omega (arith, are.begun n (omega (arith, same)), begun-more h k n (Begin op) lt at);
+    }
+
+pub count-done : (h : History) (k : ℕ) (op : Op) (s b s' : List ℕ) → k < length h.entries → entry_at h.entries k ≡ Done op → AreCounts (front h k) s b → length s' ≡ length s
+    → ((n : ℕ) → n < length s → get_or s' n 0 ≡ (if op.item == n then 1 else 0) + get_or s n 0) → AreCounts (front h (k + 1)) s' b
+count-done h k op s b s' lt is are same more =
+    let at = entry_at-is h.entries k (Done op) lt is in
+    record {
+      settled = λ n low. more n (omega (arith, same)) ∙ omega (arith, are.settled n (omega (arith, same)), settled-more h k n (Done op) lt at);
+      begun = λ n low. are.begun n low ∙ sym (begun-more h k n (Done op) lt at ∙ omega arith);
+    }

@@ -37,7 +37,7 @@ module _ (p : Problem) (plan : Plan) where
       let w2 = happens p plan w1 (event.Deliver (length w.sent)) in
       let answers : length w2.given ≡ length w.given + 1 = length-append w.given _ in
       let handing : allows p plan w2 (event.Hand (length w.given)) ≡ true = and_from _ _ up (lt-ltb (length w.given) (length w2.given) (omega arith)) in
-      rw (sending, delivering, handing) (record { up = up; writing = writing; durable = refl; sent = more; given = answers })
+      rw (sending, delivering, handing) (record { up = up; writing = writing; durable = refl {a = w.durable}; sent = more; given = answers })
 
   ends : (w v : World) (n : ℕ) → length v.sent ≡ length w.sent + n → length v.given ≡ length w.given + n
       → (event.Send n ∷ event.Deliver (length w.sent + n) ∷ event.Hand (length w.given + n) ∷ []) ≡ exchange_events v n

@@ -1,6 +1,7 @@
 pub mod Fullness
 pub mod Schedules
 pub mod Exchanges
+pub mod Hearing
 pub mod Batches
 pub mod Drafting
 pub mod Writable
@@ -11,7 +12,7 @@ pub mod Loading
 pub mod Idle
 pub mod Tallying
 pub mod Holding
-pub mod Zeros
+pub mod Starting
 pub mod Marking
 pub mod PeakLines
 pub mod Whole

@@ -6,18 +6,17 @@ use Rattle.rollout_rules.specs.Wan.{Problem, Plan}
 use Rattle.rollout_rules.specs.Network.{IsNetwork}
 use Rattle.rollout_rules.specs.Items.{item_count, item_at}
 use Rattle.rollout_rules.specs.Operations.{operations}
-use Rattle.rollout_rules.specs.History.{settled}
+use Rattle.rollout_rules.specs.History.{History, settled}
 use Rattle.rollout_rules.specs.Legal.{is_legal, is_finished}
 use Rattle.rollout_rules.specs.Valid.{is_valid_plan}
-use Rattle.rollout_rules.specs.World.{first_world, after_events}
-use Rattle.rollout_rules.specs.declared.op.Entry.{Entry}
+use Rattle.rollout_rules.specs.World.{new_world, after_events}
 use Rattle.rollout_rules.specs.declared.event.Act.{Act}
 use Rattle.rollout_rules.proofs.Below.{all_below-from}
 use Rattle.rollout_laws.specs.SafeWorlds.{NetworkAtTarget}
 use Rattle.rollout_laws.proofs.Histories.{is_counted}
-use Rattle.rollout_laws.proofs.SafeWorlds.{every_world_is_safe}
-use Rattle.rollout_laws.proofs.Targets.{every_network_at_target}
-use Rattle.rollout_laws.proofs.Worlds.{after_events-append, every_world_is_kept}
+use Rattle.rollout_laws.proofs.SafeWorlds.{new_world_is_safe}
+use Rattle.rollout_laws.proofs.Targets.{new_network_at_target}
+use Rattle.rollout_laws.proofs.Worlds.{after_events-append, every_new_world_is_kept}
 use Rattle.sim_run.specs.Acts.{Rehearsal, first_rehearsal, can_happen, events_of, after_act, after_acts}
 use Rattle.sim_run.specs.Rehearsed.{schedule_of, world_after, IsSafeRehearsal}
 use Rattle.sim_run.specs.Script.{unsettled}
@@ -33,13 +32,13 @@ sum-nothing (suc n) f e k lt = elim (cases_lt k n) as (λ c. f k ≡ 0) [
 
 module _ (p : Problem) (plan : Plan) where
   -- a history with nothing unsettled is finished
-  settled-finished : (h : List Entry) → is_legal p plan h ≡ true → unsettled p plan h ≡ 0 → is_finished p plan h ≡ true
+  settled-finished : (h : History) → is_legal p plan h ≡ true → unsettled p plan h ≡ 0 → is_finished p plan h ≡ true
   settled-finished h legal none =
       all_below-from (item_count p) _
       (λ n lt.
       let counted = is_counted p plan h legal n in
       let left = sum-nothing (item_count p) (λ n. operations p plan (item_at p n) - settled h n) none n lt in
-      eq-eqb (settled h n) (operations p plan (item_at p n)) (omega (arith, counted.settled_begun, counted.exist, left)))
+      eq-eqb (settled h n) (operations p plan (item_at p n)) (omega (arith, counted.settled_begun, counted.exist lt, left)))
 
   act-scheduled : (r : Rehearsal) (a : Act) → (after_act p plan r a).world ≡ after_events p plan r.world (if can_happen p r a then events_of p plan r a else [])
   act-scheduled r a = elim (cases_Bool (can_happen p r a)) as (λ c. (after_act p plan r a).world ≡ after_events p plan r.world (if can_happen p r a then events_of p plan r a else [])) [
@@ -55,22 +54,24 @@ module _ (p : Problem) (plan : Plan) where
       ∙ sym (after_events-append p plan r.world (if can_happen p r a then events_of p plan r a else []) (schedule_of p plan (after_act p plan r a) rest))
 
   module _ (script : List Act) where
-    script-scheduled : world_after p plan script ≡ after_events p plan (first_world p) (schedule_of p plan (first_rehearsal p) script)
-    script-scheduled = acts-scheduled (first_rehearsal p) script
+    script-scheduled : world_after p plan script ≡ after_events p plan (new_world p plan) (schedule_of p plan (first_rehearsal p plan) script)
+    script-scheduled = acts-scheduled (first_rehearsal p plan) script
 
-    script-legal : is_legal p plan (world_after p plan script).durable ≡ true
-    script-legal = subst (λ w. is_legal p plan w.durable ≡ true) (sym script-scheduled) (every_world_is_kept p plan (schedule_of p plan (first_rehearsal p) script)).legal
+    script-legal : is_valid_plan p plan ≡ true → is_legal p plan (world_after p plan script).durable ≡ true
+    script-legal valid =
+        subst (λ w. is_legal p plan w.durable ≡ true) (sym script-scheduled)
+        (every_new_world_is_kept p plan (schedule_of p plan (first_rehearsal p plan) script) valid).legal
 
     script-finished : IsNetwork p → is_valid_plan p plan ≡ true → is_finished p plan (world_after p plan script).durable ≡ true → NetworkAtTarget p plan (world_after p plan script)
     script-finished net valid =
         subst (λ w. is_finished p plan w.durable ≡ true → NetworkAtTarget p plan w) (sym script-scheduled)
-        (every_network_at_target p plan (schedule_of p plan (first_rehearsal p) script) net valid)
+        (new_network_at_target p plan (schedule_of p plan (first_rehearsal p plan) script) net valid)
 
     pub rehearsal-is_safe : IsNetwork p → is_valid_plan p plan ≡ true → IsSafeRehearsal p plan script
     rehearsal-is_safe net valid = record {
-      worlds = λ acts rest e. acts-scheduled (first_rehearsal p) acts;
-      safe = every_world_is_safe p plan (schedule_of p plan (first_rehearsal p) script) net valid;
-      links = link-fits p plan (world_after p plan script).durable net valid script-legal;
-      tables = table-fits p plan (world_after p plan script).durable net valid script-legal;
-      finished = λ none. script-finished net valid (settled-finished (world_after p plan script).durable script-legal none);
+      worlds = λ acts rest e. acts-scheduled (first_rehearsal p plan) acts;
+      safe = new_world_is_safe p plan (schedule_of p plan (first_rehearsal p plan) script) net valid;
+      links = link-fits p plan (world_after p plan script).durable net valid (script-legal valid);
+      tables = table-fits p plan (world_after p plan script).durable net valid (script-legal valid);
+      finished = λ none. script-finished net valid (settled-finished (world_after p plan script).durable (script-legal valid) none);
     }

@@ -1,23 +1,27 @@
--- An entry is marked or not, and with it the count of its table changes.
-use Rattle.std.proofs.Common.{◌≡◌, ℕ, ◌+◌, ◌-◌, ◌*◌, ◌<◌, ◌≤◌, Bool, true, false, ◌&&◌, ◌==◌, if◌then◌else◌, List, length, get_or, set, inl, inr, refl, sym, ap, ◌∙◌, subst, arith, eqb-true, eq-eqb, get_or-set_same, get_or-set_other}
+-- An entry is marked or not, and with it the sum of its table changes.
+use Rattle.std.proofs.Common.{◌≡◌, ℕ, ◌+◌, ◌-◌, ◌*◌, ◌<◌, ◌≤◌, Bool, true, false, ◌&&◌, ◌==◌, if◌then◌else◌, List, length, get_or, set, inl, inr, refl, sym, ap, ap₂, ◌∙◌, subst, arith, eqb-true, eq-eqb, get_or-set_same, get_or-set_other}
 use Rattle.std.proofs.lemmas.Bool.{cases_Bool}
 use Rattle.std.proofs.Math.ListN.{length-set}
-use Rattle.std.specs.Int.{from_bool}
 use Rattle.rollout_rules.specs.Sums.{sum_below}
-use Rattle.rollout_rules.specs.Wan.{Problem, tunnel_at, hops, switch_of}
+use Rattle.rollout_rules.specs.Wan.{Problem, hops, switch_of, width_of}
 use Rattle.rollout_rules.specs.Items.{the_table, takes, entries_at, is_item, item_at, item_count, number_of}
 use Rattle.rollout_rules.specs.Network.{IsNetwork}
 use Rattle.rollout_rules.specs.declared.item.Item.{Item}
 use Rattle.rollout_rules.specs.declared.item.Item.TheVariants as item
-use Rattle.rollout_rules.proofs.Below.{sum_below-mono}
 use Rattle.rollout_rules.proofs.Numbers.{number_of-below, item_at-number_of}
 use Rattle.rollout_rules.proofs.OverItems.{is_item-entry, entry-is_item, sum_items-but}
 use Rattle.rollout_rules.proofs.Totals.{sum_items-entries_at}
 use Rattle.sim_run.specs.Sums.{marked, AreTallies}
 use Rattle.sim_run.proofs.Adding.{term-below, sum-most}
 
-pub bit : Bool → ℕ
-bit b = if b then 1 else 0
+-- what an entry of a width takes, where it is marked
+pub taken_if : Bool → ℕ → ℕ
+taken_if b width = if b then width else 0
+
+taken_if-most : (b : Bool) (width most : ℕ) → width ≤ most → taken_if b width ≤ most
+unfolding taken_if
+taken_if-most true width most le = le
+taken_if-most false width most le = omega arith
 
 module _ (p : Problem) (t h : ℕ) (lt : t < length p.tunnels) (low : h < hops p t) where
   here : is_item p (item.Entry t h) ≡ true
@@ -44,33 +48,34 @@ module _ (p : Problem) (t h : ℕ) (lt : t < length p.tunnels) (low : h < hops p
     taken-other w (item.Flow f) there other = refl
     taken-other w (item.Entry u k) there other =
         let place = entry-is_item p u k there in
-        ap (λ b. if (switch_of p u k == w) && b then 1 else 0) (mark-other u k place.row place.hop (λ e. other (same_item (item.Entry u k) there e)))
+        ap (λ b. if (switch_of p u k == w) && b then width_of p u else 0) (mark-other u k place.row place.hop (λ e. other (same_item (item.Entry u k) there e)))
 
-    tally-set : (w : ℕ) → entries_at p (marked p (set marks (number_of p (item.Entry t h)) mark)) w + bit ((switch_of p t h == w) && marked p marks t h) ≡ entries_at p (marked p marks) w + bit ((switch_of p t h == w) && mark)
-    unfolding taken bit
+    tally-set : (w : ℕ) → entries_at p (marked p (set marks (number_of p (item.Entry t h)) mark)) w + taken_if ((switch_of p t h == w) && marked p marks t h) (width_of p t) ≡ entries_at p (marked p marks) w + taken_if ((switch_of p t h == w) && mark) (width_of p t)
+    unfolding taken taken_if
     tally-set w =
         let after = set marks (number_of p (item.Entry t h)) mark in
         let moved = sum_items-but p (taken after w) (taken marks w) (item.Entry t h) here (taken-other w) in
         let new = sum_items-entries_at p (λ _. 0) (marked p after) w in
         let old = sum_items-entries_at p (λ _. 0) (marked p marks) w in
-        let term = ap (λ b. bit ((switch_of p t h == w) && b)) mark-here in
+        let term = ap (λ b. taken_if ((switch_of p t h == w) && b) (width_of p t)) mark-here in
         omega (arith, moved, new, old, term)
 
-    pub holds-mark : bit (marked p marks t h) ≤ entries_at p (marked p marks) (switch_of p t h)
-    unfolding bit
+    pub holds-mark : taken_if (marked p marks t h) (width_of p t) ≤ entries_at p (marked p marks) (switch_of p t h)
+    unfolding taken_if
     holds-mark =
         let same : (switch_of p t h == switch_of p t h) ≡ true = eq-eqb (switch_of p t h) (switch_of p t h) refl in
-        let inner = term-below (hops p t) h (λ k. if (switch_of p t k == switch_of p t h) && marked p marks t k then 1 else 0) low in
-        let outer = term-below (length p.tunnels) t (λ u. sum_below (hops p u) (λ k. if (switch_of p u k == switch_of p t h) && marked p marks u k then 1 else 0)) lt in
-        let term : bit (marked p marks t h) ≡ (if (switch_of p t h == switch_of p t h) && marked p marks t h then 1 else 0) = rw same refl in
+        let inner = term-below (hops p t) h (λ k. if (switch_of p t k == switch_of p t h) && marked p marks t k then width_of p t else 0) low in
+        let outer = term-below (length p.tunnels) t (λ u. sum_below (hops p u) (λ k. if (switch_of p u k == switch_of p t h) && marked p marks u k then width_of p u else 0)) lt in
+        let term : taken_if (marked p marks t h) (width_of p t) ≡ (if (switch_of p t h == switch_of p t h) && marked p marks t h then width_of p t else 0) = rw same refl in
         omega (arith, inner, outer, term)
 
     pub tallied : (sums : List ℕ) → AreTallies p marks sums → switch_of p t h < length p.switches
-        → AreTallies p (set marks (number_of p (item.Entry t h)) mark) (set sums (switch_of p t h) (get_or sums (switch_of p t h) 0 - bit (marked p marks t h) + bit mark))
-    unfolding bit
+        → AreTallies p (set marks (number_of p (item.Entry t h)) mark) (set sums (switch_of p t h) (get_or sums (switch_of p t h) 0 - taken_if (marked p marks t h) (width_of p t) + taken_if mark (width_of p t)))
+    unfolding taken_if
     tallied sums are inside =
         let x = switch_of p t h in
-        let v = get_or sums x 0 - bit (marked p marks t h) + bit mark in
+        let width = width_of p t in
+        let v = get_or sums x 0 - taken_if (marked p marks t h) width + taken_if mark width in
         record {
           items = length-set marks (number_of p (item.Entry t h)) mark ∙ are.items;
           switches = length-set sums x v ∙ are.switches;
@@ -78,7 +83,7 @@ module _ (p : Problem) (t h : ℕ) (lt : t < length p.tunnels) (low : h < hops p
             | inl same ↦
                 let moved = rw same at (tally-set w) in
                 let is : x ≡ w = eqb-true x w same in
-                let holds : bit (marked p marks t h) ≤ entries_at p (marked p marks) w = subst (λ y. bit (marked p marks t h) ≤ entries_at p (marked p marks) y) is holds-mark in
+                let holds : taken_if (marked p marks t h) width ≤ entries_at p (marked p marks) w = subst (λ y. taken_if (marked p marks t h) width ≤ entries_at p (marked p marks) y) is holds-mark in
                 let sum : get_or sums x 0 ≡ entries_at p (marked p marks) w = ap (λ y. get_or sums y 0) is ∙ are.each w small in
                 let new : get_or (set sums x v) w 0 ≡ v = ap (λ y. get_or (set sums x v) y 0) (sym is) ∙ get_or-set_same sums x v 0 (omega (arith, are.switches, inside)) in
                 omega (arith, new, sum, holds, moved)
@@ -92,55 +97,51 @@ module _ (p : Problem) (t h : ℕ) (lt : t < length p.tunnels) (low : h < hops p
         clash : (m n : ℕ) → m ≡ n → (m == n) ≡ false → ⊥
         clash m n i q = grind arith
 
--- no table is asked to hold more entries than there are items
-entries-most : (p : Problem) (there : ℕ → ℕ → Bool) (w : ℕ) → entries_at p there w ≤ item_count p
-entries-most p there w =
-    let rows = sum_below-mono (length p.tunnels) (λ t. sum_below (hops p t) (λ h. if (switch_of p t h == w) && there t h then 1 else 0)) (hops p)
-    (λ t lt. omega (arith, sum-most (hops p t) 1 (λ h. if (switch_of p t h == w) && there t h then 1 else 0) (λ h low. one_most ((switch_of p t h == w) && there t h)))) in
-    omega (arith, rows)
-  where
-    one_most : (b : Bool) → (if b then 1 else 0) ≤ 1
-    one_most true = omega arith
-    one_most false = omega arith
+-- No table is asked for more than its paths at the largest width.
+entries-most : (p : Problem) → IsNetwork p → (there : ℕ → ℕ → Bool) (w : ℕ) → entries_at p there w ≤ 4096 * (17 * 16)
+unfolding taken_if
+entries-most p net there w =
+    omega (
+      arith,
+      net.few,
+      sum-most (length p.tunnels) (17 * 16) (λ t. sum_below (hops p t) (λ h. if (switch_of p t h == w) && there t h then width_of p t else 0)) (λ t lt.
+          omega (
+            arith,
+            (net.tunnels t lt).path.most,
+            sum-most (hops p t) 16 (λ h. if (switch_of p t h == w) && there t h then width_of p t else 0) (λ h low.
+                taken_if-most ((switch_of p t h == w) && there t h) (width_of p t) 16 (net.tunnels t lt).width.most),
+          )),
+    )
 
--- a network has few items
-items-most : (p : Problem) → IsNetwork p → item_count p ≤ 1024 + 4096 * 17
-items-most p net = omega (arith, net.flows.count, net.few, sum-most (length p.tunnels) 17 (hops p) (λ t lt. (net.tunnels t lt).path.most))
+-- the same in code: the switch and the width of the entry, and its number
+module _ (p : Problem) (t h : ℕ) (lt : t < length p.tunnels) (low : h < hops p t) (marks : List Bool) (sums : List ℕ) (are : AreTallies p marks sums) where
+  pub number-fits : (n : ℕ) → n ≡ number_of p (item.Entry t h) → n < length marks
+  number-fits n num = omega (arith, num, are.items, number-below p t h lt low)
 
-byte-is : (b : Bool) → from_bool b ≡ bit b
-unfolding bit
-byte-is true = refl
-byte-is false = refl
-
--- the same in code: the path of the tunnel, and the number of the entry
-module _ (p : Problem) (t h : ℕ) (lt : t < length p.tunnels) (low : h < hops p t) (marks : List Bool) (sums : List ℕ) (are : AreTallies p marks sums) (path : List ℕ) (is : path ≡ (tunnel_at p t).path) (n : ℕ) (num : n ≡ number_of p (item.Entry t h)) where
-  here-switch : get_or path h 0 ≡ switch_of p t h
-  here-switch = ap (λ l. get_or l h 0) is
-
-  pub number-fits : n < length marks
-  number-fits = omega (arith, num, are.items, number-below p t h lt low)
-
-  module _ (net : IsNetwork p) where
+  module _ (net : IsNetwork p) (w width n : ℕ) (here-switch : w ≡ switch_of p t h) (wide : width ≡ width_of p t) (num : n ≡ number_of p (item.Entry t h)) where
     inside : switch_of p t h < length p.switches
     inside = (net.tunnels t lt).path.switches h low
 
-    sum-there : get_or sums (get_or path h 0) 0 ≡ entries_at p (marked p marks) (switch_of p t h)
-    sum-there = ap (λ w. get_or sums w 0) here-switch ∙ are.each (switch_of p t h) inside
+    sum-there : get_or sums w 0 ≡ entries_at p (marked p marks) (switch_of p t h)
+    sum-there = ap (λ v. get_or sums v 0) here-switch ∙ are.each (switch_of p t h) inside
 
-    byte-there : from_bool (get_or marks n false) ≡ bit (marked p marks t h)
-    byte-there = byte-is (get_or marks n false) ∙ ap (λ k. bit (get_or marks k false)) num
+    was-there : (was : ℕ) → was ≡ (if get_or marks n false then width else 0) → was ≡ taken_if (marked p marks t h) (width_of p t)
+    unfolding taken_if
+    was-there was is = is ∙ ap₂ (λ k x. if get_or marks k false then x else 0) num wide
 
-    pub was-counted : from_bool (get_or marks n false) ≤ get_or sums (get_or path h 0) 0
-    was-counted = omega (arith, sum-there, byte-there, holds-mark p t h lt low marks true are.items)
+    pub was-counted : (was : ℕ) → was ≡ (if get_or marks n false then width else 0) → was ≤ get_or sums w 0
+    was-counted was is = omega (arith, sum-there, was-there was is, holds-mark p t h lt low marks true are.items)
 
-    pub sum-small : get_or sums (get_or path h 0) 0 ≤ 1024 + 4096 * 17
-    sum-small = omega (arith, sum-there, entries-most p (marked p marks) (switch_of p t h), items-most p net)
+    pub sum-small : get_or sums w 0 ≤ 4096 * (17 * 16)
+    sum-small = omega (arith, sum-there, entries-most p net (marked p marks) (switch_of p t h))
 
-    pub mark-counted : (mark : Bool) → AreTallies p (set marks n mark) (set sums (get_or path h 0) (get_or sums (get_or path h 0) 0 - from_bool (get_or marks n false) + from_bool mark))
-    mark-counted mark =
+    pub taken-small : (mark : Bool) (more : ℕ) → more ≡ (if mark then width else 0) → more ≤ 16
+    unfolding taken_if
+    taken-small mark more is = omega (arith, is, taken_if-most mark width 16 (omega (arith, wide, (net.tunnels t lt).width.most)))
+
+    pub mark-counted : (mark : Bool) (was more : ℕ) → was ≡ (if get_or marks n false then width else 0) → more ≡ (if mark then width else 0) → AreTallies p (set marks n mark) (set sums w (get_or sums w 0 - was + more))
+    unfolding taken_if
+    mark-counted mark was more is_was is_more =
+        let now : more ≡ taken_if mark (width_of p t) = is_more ∙ ap (λ x. if mark then x else 0) wide in
         let all = tallied p t h lt low marks mark are.items sums are inside in
-        rw (here-switch, num, byte-is (marked p marks t h), byte-is mark) all
-
-pub byte-small : (b : Bool) → from_bool b ≤ 1
-byte-small true = omega arith
-byte-small false = omega arith
+        rw (here-switch, num, was-there was is_was, now) all

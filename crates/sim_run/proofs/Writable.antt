@@ -4,8 +4,8 @@ use Rattle.std.proofs.lemmas.Bool.{and_parts, and_from}
 use Rattle.std.specs.List.{list_any}
 use Rattle.rollout_rules.specs.Wan.{Problem, Plan}
 use Rattle.rollout_rules.specs.Release.{batch}
-use Rattle.rollout_rules.specs.World.{World, is_writing, is_answered, all_answered, allows}
-use Rattle.rollout_rules.specs.declared.op.Op.{Op}
+use Rattle.rollout_rules.specs.World.{World, is_writing, is_answered, all_answered, answers_of, allows}
+use Rattle.rollout_rules.specs.declared.held.Given.{Given}
 use Rattle.rollout_rules.specs.declared.op.Entry.{Entry}
 use Rattle.rollout_rules.specs.declared.op.Entry.TheVariants.{Begin, Done}
 use Rattle.rollout_rules.specs.declared.event.Event.TheVariants as event
@@ -15,31 +15,36 @@ or-right : (a b : Bool) → b ≡ true → (a || b) ≡ true
 or-right true b e = refl
 or-right false b e = e
 
-any-drop : (test : Op → Bool) (k : ℕ) (xs : List Op) → list_any test (drop k xs) ≡ true → list_any test xs ≡ true
+any-drop : (test : Given → Bool) (k : ℕ) (xs : List Given) → list_any test (drop k xs) ≡ true → list_any test xs ≡ true
 any-drop test zero xs e = e
 any-drop test (suc k) [] e = e
 any-drop test (suc k) (x ∷ xs) e = or-right (test x) (list_any test xs) (any-drop test k xs e)
 
-answered-drop : (k : ℕ) (handed : List Op) (e : Entry) → is_answered (drop k handed) e ≡ true → is_answered handed e ≡ true
-answered-drop k handed (Begin op) a = refl
-answered-drop k handed (Done op) a = any-drop (λ a. (a.item == op.item) && nat_le op.number a.number) k handed a
+module _ (migration : ℕ) (k : ℕ) (handed : List Given) where
+  answered-drop : (e : Entry) → is_answered migration (drop k handed) e ≡ true → is_answered migration handed e ≡ true
+  answered-drop (Begin op) a = refl
+  answered-drop (Done op) a = any-drop (λ a. (a.item == op.item) && (a.held.migration == migration) && nat_le op.number a.held.number) k handed a
 
-all_answered-drop : (k : ℕ) (handed : List Op) (es : List Entry) → all_answered (drop k handed) es ≡ true → all_answered handed es ≡ true
-all_answered-drop k handed [] a = refl
-all_answered-drop k handed (e ∷ es) a =
-    let both = and_parts (is_answered (drop k handed) e) (all_answered (drop k handed) es) a in
-    and_from _ _ (answered-drop k handed e both.0) (all_answered-drop k handed es both.1)
+  all_answered-drop : (es : List Entry) → all_answered migration (drop k handed) es ≡ true → all_answered migration handed es ≡ true
+  all_answered-drop [] a = refl
+  all_answered-drop (e ∷ es) a =
+      let both = and_parts (is_answered migration (drop k handed) e) (all_answered migration (drop k handed) es) a in
+      and_from _ _ (answered-drop e both.0) (all_answered-drop es both.1)
 
-pub batch_may_be_written : (p : Problem) (plan : Plan) (w : World) (heard : ℕ) → w.up ≡ true → w.writing ≡ [] → 0 < length (batch p plan (λ v. 0) w.durable (drop heard w.handed))
-    → allows p plan w (event.Write (batch p plan (λ v. 0) w.durable (drop heard w.handed))) ≡ true
-batch_may_be_written p plan w heard up idle some =
-    and_from _ _
-    (and_from _ _ (and_from _ _ (and_from _ _ up (is_idle idle)) (lt-ltb 0 _ some)) (batch_follows p plan (λ v. 0) w.durable (drop heard w.handed)))
-    (all_answered-drop heard w.handed (batch p plan (λ v. 0) w.durable (drop heard w.handed)) (batch_is_answered p plan (λ v. 0) w.durable (drop heard w.handed)))
-  where
-    is_idle : w.writing ≡ [] → not (is_writing w) ≡ true
-    is_idle e = rw e
+module _ (p : Problem) (plan : Plan) (w : World) (heard : ℕ) where
+  -- the batch of a round that hears what was handed over from a place on
+  abbrev heard_batch : List Entry
+  heard_batch = batch p plan (λ v. 0) w.durable (answers_of w.migration (drop heard w.handed))
 
-pub may_write : (p : Problem) (plan : Plan) (w : World) (heard : ℕ) (b : List Entry) → b ≡ batch p plan (λ v. 0) w.durable (drop heard w.handed) → w.up ≡ true → w.writing ≡ [] → 0 < length b → allows p plan w (event.Write b) ≡ true
-may_write p plan w heard b e up idle some =
-    subst (λ x. allows p plan w (event.Write x) ≡ true) (sym e) (batch_may_be_written p plan w heard up idle (subst (λ x. 0 < length x) e some))
+  pub batch_may_be_written : w.up ≡ true → w.writing ≡ [] → 0 < length heard_batch → allows p plan w (event.Write heard_batch) ≡ true
+  batch_may_be_written up idle some =
+      and_from _ _
+      (and_from _ _ (and_from _ _ (and_from _ _ up (is_idle idle)) (lt-ltb 0 _ some)) (batch_follows p plan (λ v. 0) w.durable (answers_of w.migration (drop heard w.handed))))
+      (all_answered-drop w.migration heard w.handed heard_batch (batch_is_answered p plan (λ v. 0) w.durable w.migration (drop heard w.handed)))
+    where
+      is_idle : w.writing ≡ [] → not (is_writing w) ≡ true
+      is_idle e = rw e
+
+  pub may_write : (b : List Entry) → b ≡ batch p plan (λ v. 0) w.durable (answers_of w.migration (drop heard w.handed)) → w.up ≡ true → w.writing ≡ [] → 0 < length b → allows p plan w (event.Write b) ≡ true
+  may_write b e up idle some =
+      subst (λ x. allows p plan w (event.Write x) ≡ true) (sym e) (batch_may_be_written up idle (subst (λ x. 0 < length x) e some))

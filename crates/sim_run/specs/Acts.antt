@@ -2,7 +2,8 @@
 use Rattle.std.specs.Prelude.{ℕ, zero, suc, ◌+◌, Bool, not, ◌&&◌, List, [], ◌∷◌, ◌++◌, length, drop, nat_le, nat_lt, if◌then◌else◌}
 use Rattle.rollout_rules.specs.Wan.{Problem, Plan}
 use Rattle.rollout_rules.specs.Release.{batch}
-use Rattle.rollout_rules.specs.World.{World, first_world, in_flight, after_events}
+use Rattle.rollout_rules.specs.World.{World, new_world, in_flight, answers_of, after_events}
+use Rattle.rollout_rules.specs.declared.limits.TheConstants.{MOST_SENT}
 use Rattle.rollout_rules.specs.declared.op.Op.{Op}
 use Rattle.rollout_rules.specs.declared.op.Entry.{Entry}
 use Rattle.rollout_rules.specs.declared.event.Event.{Event}
@@ -15,22 +16,19 @@ pub record Rehearsal : Type 0 where
   pub world : World
   pub heard : ℕ
 
-abbrev pub first_rehearsal : Problem → Rehearsal
-first_rehearsal p = record { world = first_world p; heard = 0 }
-
--- how many commands a script may send
-abbrev pub most_sent : ℕ
-most_sent = 4000000
+-- A rehearsal begins at the network's first migration, where nothing was ever applied.
+abbrev pub first_rehearsal : Problem → Plan → Rehearsal
+first_rehearsal p plan = record { world = new_world p plan; heard = 0 }
 
 -- whether so many more commands may be sent
 abbrev pub may_send : World → ℕ → Bool
-may_send w more = nat_le (length w.sent + more) most_sent
+may_send w more = nat_le (length w.sent + more) MOST_SENT
 
--- the answers handed over since the last round
+-- the answers of this migration handed over since the last round
 abbrev pub unheard : Rehearsal → List Op
-unheard r = drop r.heard r.world.handed
+unheard r = answers_of r.world.migration (drop r.heard r.world.handed)
 
--- the batch of a round now; operations are released by item
+-- the batch of a round now; operations are released by item, and none is held back
 abbrev pub round_batch : Problem → Plan → Rehearsal → List Entry
 round_batch p plan r = batch p plan (λ v. 0) r.world.durable (unheard r)
 

@@ -1,30 +1,34 @@
 -- How full links and tables came to be: the greatest of what they had to hold, over a history.
-use Rattle.std.specs.Prelude.{ℕ, ◌+◌, max, Bool, ◌||◌, List, length, take}
+use Rattle.std.specs.Prelude.{ℕ, ◌+◌, max, Bool, ◌||◌, length, take}
 use Rattle.rollout_rules.specs.Wan.{Problem, Plan}
 use Rattle.rollout_rules.specs.Items.{load, entries_at}
-use Rattle.rollout_rules.specs.History.{places_of}
+use Rattle.rollout_rules.specs.History.{History, places_of}
 use Rattle.rollout_rules.specs.Safe.{settled_rate, next_rate, settled_mark, next_mark}
 use Rattle.rollout_rules.specs.Release.{most_below}
-use Rattle.rollout_rules.specs.declared.op.Entry.{Entry}
 
 -- the larger of a tunnel's settled and next rate
-abbrev pub larger_rate : Problem → Plan → List Entry → ℕ → ℕ
+abbrev pub larger_rate : Problem → Plan → History → ℕ → ℕ
 larger_rate p plan h t = max (settled_rate p plan (places_of p h) t) (next_rate p plan (places_of p h) t)
 
 -- whether an entry is there, settled or next
-abbrev pub either_there : Problem → Plan → List Entry → ℕ → ℕ → Bool
+abbrev pub either_there : Problem → Plan → History → ℕ → ℕ → Bool
 either_there p plan h t n = settled_mark p plan (places_of p h) t n || next_mark p plan (places_of p h) t n
 
--- what a link may have to carry after a history, and what a table may have to hold
-abbrev pub link_sum : Problem → Plan → List Entry → ℕ → ℕ
+-- what a link may have to carry after a history, and how much of a table its entries may take: the sum of the widths of
+-- those that are there
+abbrev pub link_sum : Problem → Plan → History → ℕ → ℕ
 link_sum p plan h l = load p (larger_rate p plan h) l
 
-abbrev pub table_sum : Problem → Plan → List Entry → ℕ → ℕ
+abbrev pub table_sum : Problem → Plan → History → ℕ → ℕ
 table_sum p plan h w = entries_at p (either_there p plan h) w
 
--- the greatest of these at the start and after each entry
-abbrev pub link_peak : Problem → Plan → List Entry → ℕ → ℕ
-link_peak p plan h l = most_below (length h + 1) (λ k. link_sum p plan (take k h) l)
+-- a history up to its first k entries
+abbrev pub front : History → ℕ → History
+front h k = record { start = h.start; entries = take k h.entries }
 
-abbrev pub table_peak : Problem → Plan → List Entry → ℕ → ℕ
-table_peak p plan h w = most_below (length h + 1) (λ k. table_sum p plan (take k h) w)
+-- the greatest of these at the start and after each entry
+abbrev pub link_peak : Problem → Plan → History → ℕ → ℕ
+link_peak p plan h l = most_below (length h.entries + 1) (λ k. link_sum p plan (front h k) l)
+
+abbrev pub table_peak : Problem → Plan → History → ℕ → ℕ
+table_peak p plan h w = most_below (length h.entries + 1) (λ k. table_sum p plan (front h k) w)

@@ -1,20 +1,17 @@
 ghost use Rattle.std.specs.Prelude.{◌≡◌, ◌+◌, [], IsTrue, IsFalse, IfOk, OnOk, nat_le};
 ghost use Rattle.rollout_rules.specs.declared.event.Act.TheVariants as act;
-ghost use Rattle.sim_run.specs.Acts.{first_rehearsal, can_happen, most_sent, may_send, acted, after_act};
-ghost use Rattle.sim_run.specs.Script.{said_of, said_acting};
+ghost use Rattle.sim_run.specs.Acts.{first_rehearsal, can_happen, may_send, acted, after_act};
+ghost use Rattle.sim_run.specs.Script.{line_of, line_acting};
 
+use crate::act_line::ActLine;
 use crate::round::{counted, round_batch};
-use crate::said::Said;
 use crate::steps::{deliver, exchange_all, hand, number_of, send, step, stop_in_write, write};
 use lists::Memory;
 use rollout_core::World;
-use rollout_rules::{Act, Event};
+use rollout_rules::{Act, Event, MOST_SENT};
 use std::alloc::Global;
 use std::marker::Model;
 use wan_model::CheckedPlan;
-
-/// How many commands a script may send.
-const MOST_SENT: usize = 4_000_000;
 
 /// Where a rehearsal stands: its world, and how many of the answers handed over a round has heard.
 #[derive(Drop)]
@@ -34,9 +31,9 @@ impl<'p> Model for Rehearsal<'p> {
 
 impl<'p> Rehearsal<'p> {
     pub(crate) fn new(alloc: Global, plan: &'p CheckedPlan) -> Result<Rehearsal<'p>, Memory>
-        ensures { IfOk result (λ r. r ≡ record { rollout = plan.now; state = first_rehearsal plan.now.problem }) }
+        ensures { IfOk result (λ r. r ≡ record { rollout = plan.now; state = first_rehearsal plan.now.problem plan.now.plan }) }
     {
-        let world = World::new(alloc, plan)?;
+        let world = World::fresh(alloc, plan)?;
         Ok(Rehearsal { world, heard: 0 })
     }
 
@@ -68,96 +65,96 @@ impl<'p> Rehearsal<'p> {
 
     /// Does an act that can happen, and answers what its line says. An act that can't happen is passed
     /// over. After want of memory the rehearsal is given up.
-    pub(crate) fn act(&mut self, alloc: Global, act: Act) -> Result<Said, Memory>
+    pub(crate) fn act(&mut self, alloc: Global, act: Act) -> Result<ActLine, Memory>
         requires { self.old.state.world.writing ≡ [] }
         ensures state { OnOk result (self.new ≡ record self.old { state = after_act self.old.rollout.problem self.old.rollout.plan self.old.state act }) }
-        ensures said { IfOk result (λ said. said ≡ said_of self.old.rollout.problem self.old.rollout.plan self.old.state act) }
+        ensures line { IfOk result (λ line. line ≡ line_of self.old.rollout.problem self.old.rollout.plan self.old.state act) }
     {
         if self.can_happen(act) {
             self.act_out(alloc, act)
         } else {
-            Ok(Said::Skipped)
+            Ok(ActLine::Skipped)
         }
     }
 
-    fn act_out(&mut self, alloc: Global, act: Act) -> Result<Said, Memory>
+    fn act_out(&mut self, alloc: Global, act: Act) -> Result<ActLine, Memory>
         requires can { IsTrue (can_happen self.old.rollout.problem self.old.state act) }
         requires idle { self.old.state.world.writing ≡ [] }
         ensures state { OnOk result (self.new ≡ record self.old { state = acted self.old.rollout.problem self.old.rollout.plan self.old.state act }) }
-        ensures said { IfOk result (λ said. said ≡ said_acting self.old.rollout.problem self.old.rollout.plan self.old.state act) }
+        ensures line { IfOk result (λ line. line ≡ line_acting self.old.rollout.problem self.old.rollout.plan self.old.state act) }
     {
         match act {
             Act::Round => self.round(alloc),
             Act::Send(place) => {
                 let op = send(&mut self.world, place)?;
-                Ok(Said::Sent { place, op })
+                Ok(ActLine::Sent { place, op })
             }
             Act::Deliver(place) => {
                 let answer = deliver(&mut self.world, place)?;
-                Ok(Said::Delivered { place, answer })
+                Ok(ActLine::Delivered { place, answer })
             }
             Act::Hand(place) => {
                 let answer = hand(&mut self.world, place)?;
-                Ok(Said::Handed { place, answer })
+                Ok(ActLine::Handed { place, answer })
             }
             Act::All => {
                 let count = self.world.flying_count();
                 exchange_all(&mut self.world)?;
-                Ok(Said::All { count })
+                Ok(ActLine::All { count })
             }
             Act::CrashLost => self.crash(alloc, false),
             Act::CrashKept => self.crash(alloc, true),
             Act::Stop => {
                 self.heard = 0;
                 step(&mut self.world, Event::Crash(0))?;
-                Ok(Said::Stop)
+                Ok(ActLine::Stop)
             }
             Act::Start => {
                 let entries = self.world.durable().as_slice().len();
                 step(&mut self.world, Event::Restart)?;
-                Ok(Said::Start { entries })
+                Ok(ActLine::Start { entries })
             }
         }
     }
 
-    fn round(&mut self, alloc: Global) -> Result<Said, Memory>
+    fn round(&mut self, alloc: Global) -> Result<ActLine, Memory>
         requires up { IsTrue self.old.state.world.up }
         requires idle { self.old.state.world.writing ≡ [] }
         ensures state { OnOk result (self.new ≡ record self.old { state = acted self.old.rollout.problem self.old.rollout.plan self.old.state act.Round }) }
-        ensures said { IfOk result (λ said. said ≡ said_acting self.old.rollout.problem self.old.rollout.plan self.old.state act.Round) }
+        ensures line { IfOk result (λ line. line ≡ line_acting self.old.rollout.problem self.old.rollout.plan self.old.state act.Round) }
     {
         let batch = round_batch(alloc, &self.world, self.heard)?;
         let (dones, begins) = counted(batch.as_slice());
         self.heard = self.world.handed().as_slice().len();
         write(&mut self.world, batch)?;
-        Ok(Said::Round { dones, begins })
+        Ok(ActLine::Round { dones, begins })
     }
 
     /// A round that stops inside its write, its batch kept or lost.
-    fn crash(&mut self, alloc: Global, kept: bool) -> Result<Said, Memory>
+    fn crash(&mut self, alloc: Global, kept: bool) -> Result<ActLine, Memory>
         requires up { IsTrue self.old.state.world.up }
         requires idle { self.old.state.world.writing ≡ [] }
         ensures kept_state { IsTrue kept → OnOk result (self.new ≡ record self.old { state = acted self.old.rollout.problem self.old.rollout.plan self.old.state act.CrashKept }) }
         ensures lost_state { IsFalse kept → OnOk result (self.new ≡ record self.old { state = acted self.old.rollout.problem self.old.rollout.plan self.old.state act.CrashLost }) }
-        ensures kept_said { IsTrue kept → IfOk result (λ said. said ≡ said_acting self.old.rollout.problem self.old.rollout.plan self.old.state act.CrashKept) }
-        ensures lost_said { IsFalse kept → IfOk result (λ said. said ≡ said_acting self.old.rollout.problem self.old.rollout.plan self.old.state act.CrashLost) }
+        ensures kept_line { IsTrue kept → IfOk result (λ line. line ≡ line_acting self.old.rollout.problem self.old.rollout.plan self.old.state act.CrashKept) }
+        ensures lost_line { IsFalse kept → IfOk result (λ line. line ≡ line_acting self.old.rollout.problem self.old.rollout.plan self.old.state act.CrashLost) }
     {
         let batch = round_batch(alloc, &self.world, self.heard)?;
         self.heard = 0;
         if kept {
             let whole = number_of(batch.as_slice().len())?;
             stop_in_write(&mut self.world, batch, whole)?;
-            Ok(Said::CrashKept)
+            Ok(ActLine::CrashKept)
         } else {
             stop_in_write(&mut self.world, batch, 0)?;
-            Ok(Said::CrashLost)
+            Ok(ActLine::CrashLost)
         }
     }
 }
 
 /// Whether a script that has sent so many commands may send so many more.
 pub(crate) fn is_within_sent(sent: usize, more: u32) -> bool
-    ensures { result ≡ nat_le (sent + more) most_sent }
+    ensures { result ≡ nat_le (sent + more) MOST_SENT }
 {
     sent <= MOST_SENT && more as usize <= MOST_SENT - sent
 }

@@ -1,15 +1,27 @@
-ghost use Rattle.std.specs.Prelude.{◌≡◌, ℕ, ◌+◌, ◌<◌, max, IfOk, length, replicate, slice_index, take, ◌==◌, if◌then◌else◌};
-ghost use Rattle.sim_run.specs.Sums.{entry_at, item_of, AreCounts};
+ghost use Rattle.std.specs.Prelude.{◌≡◌, ℕ, ◌+◌, ◌<◌, max, IfOk, length, replicate, slice_index, ◌==◌, if◌then◌else◌};
+ghost use Rattle.rollout_rules.specs.Items.{item_count};
+ghost use Rattle.sim_run.specs.Peaks.{front};
+ghost use Rattle.sim_run.specs.Sums.{AreAtStart, AreCounts};
 
+use crate::history::History;
 use lists::Memory;
 use rollout_rules::Entry;
 use std::alloc::Global;
 
-/// So many counts of 0.
-pub(crate) fn no_counts(alloc: Global, count: usize) -> Result<Vec<u64>, Memory>
-    ensures { IfOk result (λ v. v.items ≡ replicate count 0) }
+/// How many operations of each item were settled at the start of a history.
+pub(crate) fn counts_at_start(
+    alloc: Global,
+    history: &History,
+    items: usize,
+) -> Result<Vec<u64>, Memory>
+    ensures all { IfOk result (λ counts. length counts.items ≡ items) }
+    ensures each { IfOk result (λ counts. (n : ℕ) → n < items → slice_index counts.items n ≡ slice_index history.now.start n) }
 {
-    vec![in alloc; 0u64; count]
+    let mut counts = vec![in alloc; 0u64; items]?;
+    for item in 0..items {
+        counts[item] = u64::from(history.settled_at_start(item));
+    }
+    Ok(counts)
 }
 
 /// So many sums of 0.
@@ -20,26 +32,14 @@ pub(crate) fn no_sums(alloc: Global, count: usize) -> Result<Vec<u128>, Memory>
 }
 
 /// Counts the entry at a place: so many operations of each item are settled, and so many begun.
-pub(crate) fn count(history: &[Entry], place: usize, settled: &mut [u64], begun: &mut [u64])
-    requires few { length history.now < 18446744073709551616 }
-    requires place { place < length history.now }
-    requires counts { AreCounts (take place history.now) settled.old begun.old }
-    ensures counts { AreCounts (take (place + 1) history.now) settled.new begun.new }
+pub(crate) fn count(history: &History, place: usize, settled: &mut [u64], begun: &mut [u64])
+    requires place { place < length history.now.entries }
+    requires counts { AreCounts (front history.now place) settled.old begun.old }
+    ensures counts { AreCounts (front history.now (place + 1)) settled.new begun.new }
 {
-    match history[place] {
+    match history.entry(place) {
         Entry::Begin(op) => add_one(begun, op.item as usize),
         Entry::Done(op) => add_one(settled, op.item as usize),
-    }
-}
-
-/// The number of the item of the entry at a place.
-pub(crate) fn item_of(history: &[Entry], place: usize) -> u32
-    requires { place < length history.now }
-    ensures { result ≡ item_of (entry_at history.now place) }
-{
-    match history[place] {
-        Entry::Begin(op) => op.item,
-        Entry::Done(op) => op.item,
     }
 }
 

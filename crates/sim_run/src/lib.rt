@@ -7,14 +7,15 @@
 //! safe, that no peak is above its capacity, and that what ends finished is the new split.
 #![tactic(auto)]
 
+mod act_line;
 mod acts;
 mod counts;
+mod history;
 mod laws;
 mod lines;
 mod link_peaks;
 mod round;
 mod run;
-mod said;
 mod steps;
 mod table_peaks;
 

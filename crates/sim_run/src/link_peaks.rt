@@ -1,32 +1,33 @@
-ghost use Rattle.std.specs.Prelude.{◌≡◌, ℕ, [], ◌+◌, ◌<◌, IfOk, IsTrue, length, replicate, slice_index, slice_set, take};
-ghost use Rattle.sim_run.specs.Sums.{AreSums, AreLoads, AreLinkPeaks, AreRefreshed};
+ghost use Rattle.std.specs.Prelude.{◌≡◌, ℕ, ◌+◌, ◌<◌, IfOk, IsTrue, length, replicate, slice_index, slice_set};
+ghost use Rattle.sim_run.specs.Sums.{AreAtStart, AreSums, AreLoads, AreLinkPeaks, AreRefreshed};
 ghost use Rattle.sim_run.specs.Sums as sums;
-ghost use Rattle.sim_run.specs.Peaks.{larger_rate};
+ghost use Rattle.sim_run.specs.Peaks.{larger_rate, front};
 ghost use Rattle.rollout_rules.specs.Network.{IsNetwork};
 ghost use Rattle.rollout_rules.specs.Items.{is_item};
 
-use crate::counts::{count, item_of, no_counts, no_sums, raise};
+use crate::counts::{count, counts_at_start, no_sums, raise};
+use crate::history::History;
 use lists::Memory;
-use rollout_core::{links_of, rate_at, stand_after, tunnel_of, tunnels_of};
-use rollout_rules::{Entry, Item};
+use rollout_core::stand_after;
+use rollout_rules::Item;
 use std::alloc::Global;
-use wan_model::CheckedPlan;
+use wan_model::{CheckedPlan, item_count};
 
 /// For each link the greatest sum, at the start and after each entry of a history, of the larger of each
 /// tunnel's settled and next rate: one pass, in which an entry changes the sums of its own flow's tunnels.
 pub(crate) fn link_peaks(
     alloc: Global,
     plan: &CheckedPlan,
-    history: &[Entry],
+    history: &History,
 ) -> Result<Vec<u128>, Memory>
-    ensures { IfOk result (λ peaks. AreLinkPeaks plan.now.problem plan.now.plan history.now (length history.now) peaks.items) }
+    ensures { IfOk result (λ peaks. AreLinkPeaks plan.now.problem plan.now.plan history.now (length history.now.entries) peaks.items) }
 {
     let problem = plan.problem();
-    let flows = problem.flows().len();
+    let items = item_count(problem) as usize;
     let links = problem.links().len();
-    let mut settled = no_counts(alloc, flows)?;
-    let mut begun = no_counts(alloc, flows)?;
-    let mut rates = no_counts(alloc, problem.tunnels().len())?;
+    let mut settled = counts_at_start(alloc, history, items)?;
+    let mut begun = counts_at_start(alloc, history, items)?;
+    let mut rates = vec![in alloc; 0u64; problem.tunnels().len()]?;
     let mut sums = no_sums(alloc, links)?;
     let mut peaks = no_sums(alloc, links)?;
     pass(
@@ -41,10 +42,10 @@ pub(crate) fn link_peaks(
     Ok(peaks)
 }
 
-/// Goes over a history once, from counts, rates and sums of 0 on.
+/// Goes over a history once, from the counts of its start, and from rates and sums of 0 on.
 fn pass(
     plan: &CheckedPlan,
-    history: &[Entry],
+    history: &History,
     settled: &mut [u64],
     begun: &mut [u64],
     rates: &mut [u64],
@@ -52,14 +53,14 @@ fn pass(
     peaks: &mut [u128],
 )
     requires network { IsNetwork plan.now.problem }
-    requires settled { settled.old ≡ replicate (length plan.now.problem.flows) 0 }
-    requires begun { begun.old ≡ replicate (length plan.now.problem.flows) 0 }
+    requires settled { AreAtStart plan.now.problem history.now settled.old }
+    requires begun { AreAtStart plan.now.problem history.now begun.old }
     requires rates { rates.old ≡ replicate (length plan.now.problem.tunnels) 0 }
     requires sums { sums.old ≡ replicate (length plan.now.problem.links) 0 }
     requires peaks { peaks.old ≡ replicate (length plan.now.problem.links) 0 }
-    ensures { AreLinkPeaks plan.now.problem plan.now.plan history.now (length history.now) peaks.new }
+    ensures { AreLinkPeaks plan.now.problem plan.now.plan history.now (length history.now.entries) peaks.new }
 {
-    first_loads(plan, rates, sums);
+    first_loads(plan, history, settled, begun, rates, sums);
     raise(peaks, sums);
     for place in 0..history.len() {
         take_entry(plan, history, place, settled, begun, rates, sums);
@@ -68,21 +69,30 @@ fn pass(
 }
 
 /// The sums of links before any entry.
-fn first_loads(plan: &CheckedPlan, rates: &mut [u64], sums: &mut [u128])
+fn first_loads(
+    plan: &CheckedPlan,
+    history: &History,
+    settled: &[u64],
+    begun: &[u64],
+    rates: &mut [u64],
+    sums: &mut [u128],
+)
     requires network { IsNetwork plan.now.problem }
+    requires settled { AreAtStart plan.now.problem history.now settled.now }
+    requires begun { AreAtStart plan.now.problem history.now begun.now }
     requires sums { AreSums plan.now.problem rates.old sums.old }
     ensures sums { AreSums plan.now.problem rates.new sums.new }
-    ensures rates { (t : ℕ) → t < length plan.now.problem.tunnels → slice_index rates.new t ≡ larger_rate plan.now.problem plan.now.plan [] t }
+    ensures rates { (t : ℕ) → t < length plan.now.problem.tunnels → slice_index rates.new t ≡ larger_rate plan.now.problem plan.now.plan (front history.now 0) t }
 {
     for flow in 0..plan.problem().flows().len() {
-        refresh(plan, flow, 0, 0, rates, sums);
+        refresh(plan, flow, settled[flow], begun[flow], rates, sums);
     }
 }
 
 /// Counts an entry, and has the tunnels of its flow carry what they do behind it.
 fn take_entry(
     plan: &CheckedPlan,
-    history: &[Entry],
+    history: &History,
     place: usize,
     settled: &mut [u64],
     begun: &mut [u64],
@@ -90,14 +100,13 @@ fn take_entry(
     sums: &mut [u128],
 )
     requires network { IsNetwork plan.now.problem }
-    requires few { length history.now < 18446744073709551616 }
-    requires place { place < length history.now }
-    requires loads { AreLoads plan.now.problem plan.now.plan (take place history.now) settled.old begun.old rates.old sums.old }
-    ensures { AreLoads plan.now.problem plan.now.plan (take (place + 1) history.now) settled.new begun.new rates.new sums.new }
+    requires place { place < length history.now.entries }
+    requires loads { AreLoads plan.now.problem plan.now.plan (front history.now place) settled.old begun.old rates.old sums.old }
+    ensures { AreLoads plan.now.problem plan.now.plan (front history.now (place + 1)) settled.new begun.new rates.new sums.new }
 {
     count(history, place, settled, begun);
-    let item = item_of(history, place) as usize;
-    if item < settled.len() {
+    let item = history.item(place) as usize;
+    if item < plan.problem().flows().len() {
         refresh(plan, item, settled[item], begun[item], rates, sums);
     }
 }
@@ -120,9 +129,9 @@ fn refresh(
     let item = Item::Flow(flow as u32);
     let stand = stand_after(plan, item, settled) as usize;
     let next = next_stand(plan, item, settled, begun);
-    for place in 0..tunnels_of(plan, flow) {
-        let tunnel = tunnel_of(plan, flow, place);
-        let rate = rate_at(plan, stand, tunnel).max(rate_at(plan, next, tunnel));
+    for place in 0..plan.tunnel_count(flow) {
+        let tunnel = plan.tunnel_of(flow, place);
+        let rate = plan.rate(stand, tunnel).max(plan.rate(next, tunnel));
         set_rate(plan, rates, sums, tunnel, rate);
     }
 }
@@ -148,7 +157,7 @@ fn set_rate(plan: &CheckedPlan, rates: &mut [u64], sums: &mut [u128], tunnel: us
     ensures sums { AreSums plan.now.problem rates.new sums.new }
 {
     let carried = rates[tunnel];
-    let links = links_of(plan, tunnel);
+    let links = plan.links_of(tunnel);
     for link in links {
         let link = *link as usize;
         sums[link] = sums[link] - u128::from(carried) + u128::from(rate);

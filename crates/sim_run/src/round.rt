@@ -3,20 +3,21 @@ ghost use Rattle.rollout_rules.specs.Items.{item_count, item_at};
 ghost use Rattle.rollout_rules.specs.Operations as operations;
 ghost use Rattle.rollout_rules.specs.History as history;
 ghost use Rattle.rollout_rules.specs.Release.{dones, batch};
+ghost use Rattle.rollout_rules.specs.World.{answers_of};
 ghost use Rattle.rollout_core.specs.Drafts.{drafted};
 ghost use Rattle.sim_run.specs.Covering.{tells, AreTold, next_if_waiting};
 ghost use Rattle.sim_run.specs.Script.{count_done, count_begun};
 
 use lists::Memory;
 use rollout_core::{Draft, World};
-use rollout_rules::{Entry, EntryList, Op};
+use rollout_rules::{Entry, EntryList, Given, Op};
 use std::alloc::Global;
 
-/// The batch of a round that hears the answers handed over from the `heard`-th on: a Done for each
-/// operation in flight that one of them covers, and then each waiting item's next operation that may
+/// The batch of a round that hears the answers of this migration handed over from the `heard`-th on: a
+/// Done for each operation in flight that one of them covers, and then each waiting item's next operation that may
 /// begin behind those before it, both by item.
 pub(crate) fn round_batch(alloc: Global, world: &World, heard: usize) -> Result<EntryList, Memory>
-    ensures { IfOk result (λ b. b ≡ batch world.now.rollout.problem world.now.rollout.plan (λ v. 0) world.now.world.durable (drop heard world.now.world.handed)) }
+    ensures { IfOk result (λ b. b ≡ batch world.now.rollout.problem world.now.rollout.plan (λ v. 0) world.now.world.durable (answers_of world.now.world.migration (drop heard world.now.world.handed))) }
 {
     let told = told_items(alloc, world, heard)?;
     let mut draft = Draft::of(alloc, world)?;
@@ -25,9 +26,9 @@ pub(crate) fn round_batch(alloc: Global, world: &World, heard: usize) -> Result<
     Ok(draft.into_batch())
 }
 
-/// For each item whether an answer covers what was begun of it.
+/// For each item whether an answer of this migration covers what was begun of it.
 fn told_items(alloc: Global, world: &World, heard: usize) -> Result<Vec<bool>, Memory>
-    ensures { IfOk result (λ told. AreTold (item_count world.now.rollout.problem) world.now.world.durable (drop heard world.now.world.handed) told.items) }
+    ensures { IfOk result (λ told. AreTold (item_count world.now.rollout.problem) world.now.world.migration world.now.world.durable (drop heard world.now.world.handed) told.items) }
 {
     let mut told = vec![in alloc; false; world.items() as usize]?;
     let answers = world.handed().as_slice();
@@ -37,21 +38,22 @@ fn told_items(alloc: Global, world: &World, heard: usize) -> Result<Vec<bool>, M
     Ok(told)
 }
 
-/// Marks the item of an answer that covers what was begun of it.
-fn tell(world: &World, told: &mut [bool], answer: Op)
+/// Marks the item of an answer of this migration that covers what was begun of it.
+fn tell(world: &World, told: &mut [bool], answer: Given)
     requires all { length told.old ≡ item_count world.now.rollout.problem }
     requires item { answer.item < item_count world.now.rollout.problem }
-    ensures { (n : ℕ) → n < item_count world.now.rollout.problem → slice_index_or told.new n false ≡ (slice_index_or told.old n false || tells world.now.world.durable n answer) }
+    ensures { (n : ℕ) → n < item_count world.now.rollout.problem → slice_index_or told.new n false ≡ (slice_index_or told.old n false || tells world.now.world.migration world.now.world.durable n answer) }
 {
-    if world.begun(answer.item) <= answer.number {
-        told[answer.item as usize] = true;
+    let Given { item, held } = answer;
+    if held.migration == world.migration() && world.begun(item) <= held.number {
+        told[item as usize] = true;
     }
 }
 
 fn add_dones(world: &World, heard: usize, told: &[bool], draft: &mut Draft) -> Result<(), Memory>
     requires empty { draft.old ≡ drafted world.now [] }
-    requires told { AreTold (item_count world.now.rollout.problem) world.now.world.durable (drop heard world.now.world.handed) told.now }
-    ensures { OnOk result (draft.new ≡ drafted world.now (dones world.now.rollout.problem world.now.world.durable (drop heard world.now.world.handed))) }
+    requires told { AreTold (item_count world.now.rollout.problem) world.now.world.migration world.now.world.durable (drop heard world.now.world.handed) told.now }
+    ensures { OnOk result (draft.new ≡ drafted world.now (dones world.now.rollout.problem world.now.world.durable (answers_of world.now.world.migration (drop heard world.now.world.handed)))) }
 {
     for item in 0..world.items() {
         if flies(world, item) && told[item as usize] {
@@ -63,9 +65,9 @@ fn add_dones(world: &World, heard: usize, told: &[bool], draft: &mut Draft) -> R
 }
 
 fn add_begins(world: &World, heard: usize, told: &[bool], draft: &mut Draft) -> Result<(), Memory>
-    requires dones { draft.old ≡ drafted world.now (dones world.now.rollout.problem world.now.world.durable (drop heard world.now.world.handed)) }
-    requires told { AreTold (item_count world.now.rollout.problem) world.now.world.durable (drop heard world.now.world.handed) told.now }
-    ensures { OnOk result (draft.new ≡ drafted world.now (batch world.now.rollout.problem world.now.rollout.plan (λ v. 0) world.now.world.durable (drop heard world.now.world.handed))) }
+    requires dones { draft.old ≡ drafted world.now (dones world.now.rollout.problem world.now.world.durable (answers_of world.now.world.migration (drop heard world.now.world.handed))) }
+    requires told { AreTold (item_count world.now.rollout.problem) world.now.world.migration world.now.world.durable (drop heard world.now.world.handed) told.now }
+    ensures { OnOk result (draft.new ≡ drafted world.now (batch world.now.rollout.problem world.now.rollout.plan (λ v. 0) world.now.world.durable (answers_of world.now.world.migration (drop heard world.now.world.handed)))) }
 {
     for item in 0..world.items() {
         if let Some(op) = next_waiting(world, item, told[item as usize]) {

@@ -4,17 +4,19 @@ ghost use Rattle.sim_run.specs.Rehearsed.{IsSafeRehearsal};
 ghost use Rattle.sim_run.specs.Script.{act_lines, link_lines, table_lines, unsettled, end_lines, script_text};
 
 use crate::acts::Rehearsal;
-use crate::lines::{push_act_line, push_last_line, push_link_line, push_table_line};
+use crate::history::History;
+use crate::lines::{push_act_line, push_last_line};
 use crate::link_peaks::link_peaks;
 use crate::table_peaks::table_peaks;
 use lists::{Memory, Text};
 use rollout_core::World;
-use rollout_rules::{Act, Entry, Script};
+use rollout_rules::{Act, Script};
 use std::alloc::Global;
 use wan_model::CheckedPlan;
+use wan_text::{push_link_peak, push_table_peak};
 
 /// Rehearses a script over a plan, and gives its text: a line for each act, the peak of each link in
-/// units of 1/scale and of each table in entries, and whether every operation is settled. Whatever the
+/// units of 1/scale and of each table in the widths of its entries, and whether every operation is settled. Whatever the
 /// script, every world on the way is safe.
 pub fn run_script(alloc: Global, plan: CheckedPlan, script: &Script) -> Result<Text, Memory>
     ensures text { IfOk result (λ text. text ≡ script_text plan.problem plan.plan script.now) }
@@ -54,8 +56,8 @@ fn push_acts(
     ensures text { OnOk result (text.new ≡ text.old ++ act_lines rehearsal.old.rollout.problem rehearsal.old.rollout.plan 0 rehearsal.old.state script.now) }
 {
     for (number, act) in script.iter().enumerate() {
-        let said = rehearsal.act(alloc, *act)?;
-        push_act_line(alloc, text, number, &said)?;
+        let line = rehearsal.act(alloc, *act)?;
+        push_act_line(alloc, text, number, &line)?;
     }
     Ok(())
 }
@@ -65,16 +67,16 @@ fn push_end(alloc: Global, plan: &CheckedPlan, world: &World, text: &mut Text) -
     requires { world.now.rollout ≡ plan.now }
     ensures { OnOk result (text.new ≡ text.old ++ end_lines plan.now.problem plan.now.plan world.now.world.durable) }
 {
-    let history = world.durable().as_slice();
-    push_link_lines(alloc, plan, history, text)?;
-    push_table_lines(alloc, plan, history, text)?;
+    let history = History::durable(world);
+    push_link_lines(alloc, plan, &history, text)?;
+    push_table_lines(alloc, plan, &history, text)?;
     push_last_line(alloc, text, left(world))
 }
 
 fn push_link_lines(
     alloc: Global,
     plan: &CheckedPlan,
-    history: &[Entry],
+    history: &History,
     text: &mut Text,
 ) -> Result<(), Memory>
     ensures { OnOk result (text.new ≡ text.old ++ link_lines plan.now.problem plan.now.plan history.now (length plan.now.problem.links)) }
@@ -82,11 +84,9 @@ fn push_link_lines(
     let peaks = link_peaks(alloc, plan, history)?;
     let problem = plan.problem();
     let scale = u128::from(plan.plan().scale);
-    let links = problem.links();
-    for number in 0..links.len() {
-        let link = &links[number];
-        let capacity = u128::from(link.capacity) * scale;
-        push_link_line(alloc, text, problem, number, peaks[number], capacity)?;
+    for number in 0..problem.links().len() {
+        let capacity = u128::from(problem.capacity(number)) * scale;
+        push_link_peak(alloc, text, problem, number, peaks[number], capacity)?;
     }
     Ok(())
 }
@@ -94,24 +94,16 @@ fn push_link_lines(
 fn push_table_lines(
     alloc: Global,
     plan: &CheckedPlan,
-    history: &[Entry],
+    history: &History,
     text: &mut Text,
 ) -> Result<(), Memory>
     ensures { OnOk result (text.new ≡ text.old ++ table_lines plan.now.problem plan.now.plan history.now (length plan.now.problem.switches)) }
 {
     let peaks = table_peaks(alloc, plan, history)?;
     let problem = plan.problem();
-    let switches = problem.switches();
-    for number in 0..switches.len() {
-        let switch = &switches[number];
-        push_table_line(
-            alloc,
-            text,
-            problem,
-            number,
-            peaks[number],
-            u128::from(switch.table),
-        )?;
+    for number in 0..problem.switches().len() {
+        let size = u128::from(problem.table(number));
+        push_table_peak(alloc, text, problem, number, peaks[number], size)?;
     }
     Ok(())
 }

@@ -1,12 +1,12 @@
 ghost use Rattle.std.specs.Prelude.{◌≡◌, ◌<◌, ◌≤◌, [], ◌∷◌, IsTrue, IfOk, OnOk, length, slice_index_or};
-ghost use Rattle.rollout_rules.specs.World.{in_flight, no_op, allows, after_event, after_events};
+ghost use Rattle.rollout_rules.specs.World.{in_flight, no_op, no_answer, allows, after_event, after_events};
 ghost use Rattle.rollout_rules.specs.declared.event.Event.TheVariants as event;
 ghost use Rattle.sim_run.specs.Acts.{exchanges, stop_writing, write_whole};
 ghost use Rattle.sim_run.specs.Script.{newest_given};
 
 use lists::Memory;
 use rollout_core::World;
-use rollout_rules::{EntryList, Event, Op};
+use rollout_rules::{EntryList, Event, Given, Op};
 use std::alloc::AllocError;
 
 /// One allowed event.
@@ -29,7 +29,7 @@ pub(crate) fn send(world: &mut World, place: u32) -> Result<Op, Memory>
 }
 
 /// Brings a command sent to its switch, and answers what the switch answers.
-pub(crate) fn deliver(world: &mut World, place: u32) -> Result<Op, Memory>
+pub(crate) fn deliver(world: &mut World, place: u32) -> Result<Given, Memory>
     requires sent { place < length world.old.world.sent }
     ensures world { OnOk result (world.new ≡ record world.old { world = after_events world.old.rollout.problem world.old.rollout.plan world.old.world (event.Deliver place ∷ []) }) }
     ensures answer { IfOk result (λ answer. answer ≡ newest_given (world.new.world)) }
@@ -40,11 +40,11 @@ pub(crate) fn deliver(world: &mut World, place: u32) -> Result<Op, Memory>
 }
 
 /// Hands an answer over to the controller, and answers it.
-pub(crate) fn hand(world: &mut World, place: u32) -> Result<Op, Memory>
+pub(crate) fn hand(world: &mut World, place: u32) -> Result<Given, Memory>
     requires up { IsTrue world.old.world.up }
     requires given { place < length world.old.world.given }
     ensures world { OnOk result (world.new ≡ record world.old { world = after_events world.old.rollout.problem world.old.rollout.plan world.old.world (event.Hand place ∷ []) }) }
-    ensures answer { IfOk result (λ answer. answer ≡ slice_index_or world.old.world.given place no_op) }
+    ensures answer { IfOk result (λ answer. answer ≡ slice_index_or world.old.world.given place no_answer) }
 {
     let answer = world.given().as_slice()[place as usize];
     step(world, Event::Hand(place))?;

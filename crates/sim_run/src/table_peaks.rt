@@ -1,33 +1,35 @@
-ghost use Rattle.std.specs.Prelude.{◌≡◌, ℕ, [], ◌+◌, ◌<◌, false, IfOk, length, replicate, slice_set, take};
+ghost use Rattle.std.specs.Prelude.{◌≡◌, ℕ, ◌+◌, ◌<◌, false, IfOk, length, replicate, slice_set, if◌then◌else◌};
 ghost use Rattle.rollout_rules.specs.Wan.{hops};
 ghost use Rattle.rollout_rules.specs.Items.{item_count, number_of};
 ghost use Rattle.rollout_rules.specs.Network.{IsNetwork};
 ghost use Rattle.rollout_rules.specs.declared.item.Item.TheVariants as item;
-ghost use Rattle.sim_run.specs.Peaks.{either_there};
-ghost use Rattle.sim_run.specs.Sums.{marked, AreTallies, AreHeld, AreTablePeaks, IsRemarked};
+ghost use Rattle.sim_run.specs.Peaks.{either_there, front};
+ghost use Rattle.sim_run.specs.Sums.{AreAtStart, marked, AreTallies, AreHeld, AreTablePeaks, IsRemarked};
 
-use crate::counts::{count, item_of, no_counts, no_sums, raise};
+use crate::counts::{count, counts_at_start, no_sums, raise};
+use crate::history::History;
 use crate::link_peaks::next_stand;
 use lists::Memory;
-use rollout_core::{Index, mark_at, path_of, stand_after};
-use rollout_rules::{Entry, Item};
+use rollout_core::{Index, stand_after};
+use rollout_rules::Item;
 use std::alloc::Global;
 use wan_model::CheckedPlan;
 
-/// For each table the greatest number of entries, at the start and after each entry of a history, that
-/// are there as settled or as next: one pass, in which an entry changes the table of its own item.
+/// For each table the greatest sum, at the start and after each entry of a history, of the widths of its
+/// entries that are there as settled or as next: one pass, in which an entry of the history changes the
+/// table of its own item.
 pub(crate) fn table_peaks(
     alloc: Global,
     plan: &CheckedPlan,
-    history: &[Entry],
+    history: &History,
 ) -> Result<Vec<u128>, Memory>
-    ensures { IfOk result (λ peaks. AreTablePeaks plan.now.problem plan.now.plan history.now (length history.now) peaks.items) }
+    ensures { IfOk result (λ peaks. AreTablePeaks plan.now.problem plan.now.plan history.now (length history.now.entries) peaks.items) }
 {
     let index = Index::new(alloc, plan)?;
     let items = index.item_count() as usize;
     let switches = plan.problem().switches().len();
-    let mut settled = no_counts(alloc, items)?;
-    let mut begun = no_counts(alloc, items)?;
+    let mut settled = counts_at_start(alloc, history, items)?;
+    let mut begun = counts_at_start(alloc, history, items)?;
     let mut marks = vec![in alloc; false; items]?;
     let mut sums = no_sums(alloc, switches)?;
     let mut peaks = no_sums(alloc, switches)?;
@@ -44,11 +46,11 @@ pub(crate) fn table_peaks(
     Ok(peaks)
 }
 
-/// Goes over a history once, from counts and sums of 0 and without a mark.
+/// Goes over a history once, from the counts of its start, sums of 0 and without a mark.
 fn pass(
     plan: &CheckedPlan,
     index: &Index,
-    history: &[Entry],
+    history: &History,
     settled: &mut [u64],
     begun: &mut [u64],
     marks: &mut [bool],
@@ -57,14 +59,14 @@ fn pass(
 )
     requires network { IsNetwork plan.now.problem }
     requires index { index.now ≡ plan.now }
-    requires settled { settled.old ≡ replicate (item_count plan.now.problem) 0 }
-    requires begun { begun.old ≡ replicate (item_count plan.now.problem) 0 }
+    requires settled { AreAtStart plan.now.problem history.now settled.old }
+    requires begun { AreAtStart plan.now.problem history.now begun.old }
     requires marks { marks.old ≡ replicate (item_count plan.now.problem) false }
     requires sums { sums.old ≡ replicate (length plan.now.problem.switches) 0 }
     requires peaks { peaks.old ≡ replicate (length plan.now.problem.switches) 0 }
-    ensures { AreTablePeaks plan.now.problem plan.now.plan history.now (length history.now) peaks.new }
+    ensures { AreTablePeaks plan.now.problem plan.now.plan history.now (length history.now.entries) peaks.new }
 {
-    first_marks(plan, index, marks, sums);
+    first_marks(plan, index, history, settled, begun, marks, sums);
     raise(peaks, sums);
     for place in 0..history.len() {
         take_entry(plan, index, history, place, settled, begun, marks, sums);
@@ -73,15 +75,26 @@ fn pass(
 }
 
 /// The marks and the sums of tables before any entry.
-fn first_marks(plan: &CheckedPlan, index: &Index, marks: &mut [bool], sums: &mut [u128])
+fn first_marks(
+    plan: &CheckedPlan,
+    index: &Index,
+    history: &History,
+    settled: &[u64],
+    begun: &[u64],
+    marks: &mut [bool],
+    sums: &mut [u128],
+)
     requires network { IsNetwork plan.now.problem }
     requires index { index.now ≡ plan.now }
+    requires settled { AreAtStart plan.now.problem history.now settled.now }
+    requires begun { AreAtStart plan.now.problem history.now begun.now }
     requires tallies { AreTallies plan.now.problem marks.old sums.old }
     ensures tallies { AreTallies plan.now.problem marks.new sums.new }
-    ensures marks { (t n : ℕ) → t < length plan.now.problem.tunnels → n < hops plan.now.problem t → marked plan.now.problem marks.new t n ≡ either_there plan.now.problem plan.now.plan [] t n }
+    ensures marks { (t n : ℕ) → t < length plan.now.problem.tunnels → n < hops plan.now.problem t → marked plan.now.problem marks.new t n ≡ either_there plan.now.problem plan.now.plan (front history.now 0) t n }
 {
     for number in 0..index.item_count() {
-        remark(plan, index, number, 0, 0, marks, sums);
+        let item = number as usize;
+        remark(plan, index, number, settled[item], begun[item], marks, sums);
     }
 }
 
@@ -89,7 +102,7 @@ fn first_marks(plan: &CheckedPlan, index: &Index, marks: &mut [bool], sums: &mut
 fn take_entry(
     plan: &CheckedPlan,
     index: &Index,
-    history: &[Entry],
+    history: &History,
     place: usize,
     settled: &mut [u64],
     begun: &mut [u64],
@@ -98,13 +111,12 @@ fn take_entry(
 )
     requires network { IsNetwork plan.now.problem }
     requires index { index.now ≡ plan.now }
-    requires few { length history.now < 18446744073709551616 }
-    requires place { place < length history.now }
-    requires held { AreHeld plan.now.problem plan.now.plan (take place history.now) settled.old begun.old marks.old sums.old }
-    ensures { AreHeld plan.now.problem plan.now.plan (take (place + 1) history.now) settled.new begun.new marks.new sums.new }
+    requires place { place < length history.now.entries }
+    requires held { AreHeld plan.now.problem plan.now.plan (front history.now place) settled.old begun.old marks.old sums.old }
+    ensures { AreHeld plan.now.problem plan.now.plan (front history.now (place + 1)) settled.new begun.new marks.new sums.new }
 {
     count(history, place, settled, begun);
-    let number = item_of(history, place);
+    let number = history.item(place);
     if number < index.item_count() {
         let item = number as usize;
         remark(plan, index, number, settled[item], begun[item], marks, sums);
@@ -133,7 +145,7 @@ fn remark(
         let stand = stand_after(plan, item, settled) as usize;
         let next = next_stand(plan, item, settled, begun);
         let tunnel = tunnel as usize;
-        let mark = mark_at(plan, stand, tunnel) || mark_at(plan, next, tunnel);
+        let mark = plan.mark(stand, tunnel) || plan.mark(next, tunnel);
         set_mark(
             plan,
             marks,
@@ -146,7 +158,7 @@ fn remark(
     }
 }
 
-/// Marks an entry, or takes its mark away, and counts it in its table.
+/// Marks an entry, or takes its mark away, and counts its width in its table.
 fn set_mark(
     plan: &CheckedPlan,
     marks: &mut [bool],
@@ -156,6 +168,7 @@ fn set_mark(
     hop: usize,
     mark: bool,
 )
+    requires network { IsNetwork plan.now.problem }
     requires tunnel { tunnel < length plan.now.problem.tunnels }
     requires hop { hop < hops plan.now.problem tunnel }
     requires number { number ≡ number_of plan.now.problem (item.Entry tunnel hop) }
@@ -163,8 +176,16 @@ fn set_mark(
     ensures marks { marks.new ≡ slice_set marks.old number mark }
     ensures tallies { AreTallies plan.now.problem marks.new sums.new }
 {
-    let switch = path_of(plan, tunnel)[hop] as usize;
-    let was = u128::from(marks[number]);
-    sums[switch] = sums[switch] - was + u128::from(mark);
+    let switch = plan.switch_of(tunnel, hop);
+    let width = plan.width(tunnel);
+    let was = taken(marks[number], width);
+    sums[switch] = sums[switch] - was + taken(mark, width);
     marks[number] = mark;
+}
+
+/// What an entry of a width takes, where it is there.
+fn taken(mark: bool, width: u32) -> u128
+    ensures { result ≡ (if mark then width else 0) }
+{
+    if mark { u128::from(width) } else { 0 }
 }

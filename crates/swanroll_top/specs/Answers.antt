@@ -1,8 +1,8 @@
 -- What each command makes of its input: a text, or how the run ends without one.
-use Rattle.std.specs.Prelude.{◌≡◌, ℕ, ◌*◌, ◌<◌, ◌≤◌, List, [], ◌∷◌, ◌++◌, length, nat_lt, if◌then◌else◌, Result, Ok, Err}
-use Rattle.rollout_rules.specs.Wan.{Problem, Plan, link_at, switch_at}
-use Rattle.rollout_rules.specs.Network.{IsNetwork}
+use Rattle.std.specs.Prelude.{ℕ, List, [], ◌∷◌, ◌++◌, length, nat_lt, if◌then◌else◌, Result, Ok, Err}
+use Rattle.rollout_rules.specs.Wan.{Problem, Plan}
 use Rattle.rollout_rules.specs.Plans.{direct_plan}
+use Rattle.rollout_rules.specs.declared.limits.TheConstants.{MOST_INPUT}
 use Rattle.rollout_rules.specs.Valid.{is_valid_plan}
 use Rattle.problem_json.specs.Grammar.{problem_in}
 use Rattle.problem_json.specs.GrammarDocuments.{ScriptedRead, scripted_in}
@@ -15,10 +15,6 @@ use Rattle.swanroll_top.specs.declared.ending.Ending.{Ending}
 use Rattle.swanroll_top.specs.declared.ending.Ending.TheVariants.{AboveLimit, NotValid, NoPlan}
 use Rattle.swanroll_top.specs.declared.words.Command.{Command}
 use Rattle.swanroll_top.specs.declared.words.Command.TheVariants as command
-
--- how many bytes an input may have
-abbrev pub most_input : ℕ
-most_input = 16777216
 
 infixl 10 ◌>>=◌
 -- the next step at the value; an ending stays
@@ -52,4 +48,4 @@ answer_in command.Sim input = or_ending (scripted_in input) >>= rehearsed
 
 -- the answer of a command to an input
 unfoldable pub answer_to : Command → List ℕ → Result (List ℕ) Ending
-answer_to command input = if nat_lt most_input (length input) then Err AboveLimit else answer_in command input
+answer_to command input = if nat_lt MOST_INPUT (length input) then Err AboveLimit else answer_in command input

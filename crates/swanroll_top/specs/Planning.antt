@@ -1,16 +1,11 @@
 -- Which problems are planned in one step.
-use Rattle.std.specs.Prelude.{ℕ, Bool, not, ◌&&◌, Option, List, map, is_some, unwrap_or, ◌==◌}
+use Rattle.std.specs.Prelude.{Bool, not, ◌&&◌, List, map, is_some, unwrap_or, ◌==◌}
 use Rattle.std.specs.List.{list_all}
 use Rattle.rollout_rules.specs.Wan.{Problem, Tunnel, Stage, old_rate, new_rate}
 use Rattle.rollout_rules.specs.Plans.{direct_plan}
 use Rattle.rollout_rules.specs.Valid.{is_valid_plan}
-use Rattle.swanroll_top.specs.declared.planning.Side.{Side}
-use Rattle.swanroll_top.specs.declared.planning.Side.TheVariants.{Old, New}
-
--- a tunnel's rate in the old or the new split
-abbrev pub rate_on : Side → Tunnel → Option ℕ
-rate_on Old t = t.old
-rate_on New t = t.new
+use Rattle.wan_model.specs.Sides.{rate_on}
+use Rattle.wan_model.specs.declared.side.Side.{Side}
 
 -- a split as a stage at scale 1
 abbrev pub stage_on : Side → List Tunnel → Stage

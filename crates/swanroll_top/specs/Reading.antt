@@ -1,6 +1,6 @@
 -- What reading all of a source comes to.
-use Rattle.std.specs.Prelude.{◌≡◌, ℕ, ◌≤◌, List, length, Option, Result, Ok, Err}
-use Rattle.swanroll_top.specs.Answers.{most_input}
+use Rattle.std.specs.Prelude.{ℕ, ◌≤◌, List, length, Option, Result, Ok, Err}
+use Rattle.rollout_rules.specs.declared.limits.TheConstants.{MOST_INPUT}
 use Rattle.swanroll_top.specs.Runs.{IsInput}
 use Rattle.wan_edge.specs.ReadAll.{GoesBeyond}
 use Rattle.swanroll_top.specs.declared.ending.Ending.{Ending}
@@ -8,14 +8,14 @@ use Rattle.swanroll_top.specs.declared.ending.Ending.TheVariants.{Done, Usage, A
 
 -- the bytes are the input, and within the limit
 pub record IsShortInput (before now : Option (List ℕ)) (bytes : List ℕ) : Type 0 where
-  pub within : length bytes ≤ most_input
+  pub within : length bytes ≤ MOST_INPUT
   pub input : IsInput before now bytes
 
 -- a source that was not read to its end
 abbrev pub IsCut : Option (List ℕ) → Ending → Option (List ℕ) → Type 0
 IsCut before ReadFault now = Unit {0}
 IsCut before OutOfMemory now = Unit {0}
-IsCut before AboveLimit now = GoesBeyond most_input before now
+IsCut before AboveLimit now = GoesBeyond MOST_INPUT before now
 IsCut before NotJson now = ⊥
 IsCut before NotAProblem now = ⊥
 IsCut before NotValid now = ⊥

@@ -4,7 +4,8 @@ use Rattle.std.specs.List.{list_any}
 use Rattle.wan_edge.specs.Streams.{Appends, AppendsPart, IsAtEnd, Rose}
 use Rattle.wan_edge.specs.ReadAll.{GoesBeyond}
 use Rattle.swanroll_top.specs.Endings.{status_of, line_of}
-use Rattle.swanroll_top.specs.Answers.{most_input, answer_to}
+use Rattle.rollout_rules.specs.declared.limits.TheConstants.{MOST_INPUT}
+use Rattle.swanroll_top.specs.Answers.{answer_to}
 use Rattle.swanroll_top.specs.Safety.{DoesSafely}
 use Rattle.swanroll_top.specs.declared.ending.Ending.{Ending}
 use Rattle.swanroll_top.specs.declared.ending.Ending.TheVariants.{Done, ReadFault, WriteFault, OutOfMemory}
@@ -14,7 +15,7 @@ use Rattle.swanroll_top.specs.declared.words.Command.{Command}
 -- to its end, or above the limit of it.
 pub record IsInput (before now : Option (List ℕ)) (input : List ℕ) : Type 0 where
   pub whole : IfSome before (λ left. left ≡ input)
-  pub read : IsAtEnd now ⊎ GoesBeyond most_input before now
+  pub read : IsAtEnd now ⊎ GoesBeyond MOST_INPUT before now
 
 -- What a call answers is what the definition says; want of memory says nothing.
 abbrev pub Gives : {A : Type 0} → Result A Ending → Result A Ending → Type 0

@@ -2,7 +2,7 @@
 use Rattle.std.specs.Prelude.{◌≡◌, ℕ, List, Ok}
 use Rattle.rollout_rules.specs.Wan.{Problem, Plan}
 use Rattle.rollout_rules.specs.Plans.{direct_plan}
-use Rattle.rollout_rules.specs.World.{first_world}
+use Rattle.rollout_rules.specs.World.{new_world}
 use Rattle.rollout_rules.specs.declared.event.Event.{Event}
 use Rattle.rollout_laws.specs.SafeWorlds.{EveryWorldIsSafe}
 use Rattle.problem_json.specs.Grammar.{problem_in}
@@ -11,9 +11,9 @@ use Rattle.sim_run.specs.Rehearsed.{IsSafeRehearsal}
 use Rattle.swanroll_top.specs.declared.words.Command.{Command}
 use Rattle.swanroll_top.specs.declared.words.Command.TheVariants as command
 
--- whatever happens while the plan is rolled out, every world on the way is safe
+-- whatever happens while the plan is rolled out as a network's first migration, every world on the way is safe
 abbrev pub IsSafePlan : Problem → Plan → Type 0
-IsSafePlan p plan = (es : List Event) → EveryWorldIsSafe p plan (first_world p) es
+IsSafePlan p plan = (es : List Event) → EveryWorldIsSafe p plan (new_world p plan) es
 
 -- the problem that the input is, with a plan for it
 pub record PlansSafely (input : List ℕ) : Type 0 where

@@ -3,11 +3,9 @@ ghost use Rattle.wan_edge.specs.Streams.{Rose};
 ghost use Rattle.swanroll_top.specs.Reading.{ReadsInput};
 
 use crate::ending::Ending;
+use rollout_rules::MOST_INPUT;
 use std::alloc::Global;
 use wan_edge::{Nums8, Source, read_all};
-
-/// How many bytes an input may have.
-const MOST_INPUT: usize = 16_777_216;
 
 /// Reads all that the source has left.
 pub fn read_input<S: Source>(alloc: Global, source: &mut S) -> Result<Nums8, Ending>

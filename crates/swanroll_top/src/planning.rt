@@ -1,49 +1,33 @@
 ghost use Rattle.std.specs.Prelude.{◌≡◌, IfOk};
 ghost use Rattle.rollout_rules.specs.Plans.{direct_plan};
-ghost use Rattle.swanroll_top.specs.Planning.{has_every_rate, is_still, rate_on, stage_on};
+ghost use Rattle.swanroll_top.specs.Planning.{has_every_rate, is_still, stage_on};
 
 use lists::{Marks, Memory, Nums};
 use std::alloc::Global;
-use wan_model::{Plan, Problem, Stage, Tunnel};
-
-/// The old or the new split.
-#[derive(Clone, Copy, Debug, PartialEq, Eq)]
-pub enum Side {
-    Old,
-    New,
-}
+use wan_model::{Plan, Problem, Side, Stage, Tunnel};
 
 /// The plan of one step, at scale 1: the old split, then the new.
 pub fn direct_plan(alloc: Global, problem: &Problem) -> Result<Plan, Memory>
     ensures { IfOk result (λ plan. plan ≡ direct_plan problem.now) }
 {
     let mut plan = Plan::new(alloc, 1);
-    plan.add_stage(stage_of(alloc, problem.tunnels(), Side::Old)?)?;
-    plan.add_stage(stage_of(alloc, problem.tunnels(), Side::New)?)?;
+    plan.add_stage(stage_of(alloc, problem, Side::Old)?)?;
+    plan.add_stage(stage_of(alloc, problem, Side::New)?)?;
     Ok(plan)
 }
 
 // A split as a stage at scale 1.
-fn stage_of(alloc: Global, tunnels: &[Tunnel], side: Side) -> Result<Stage, Memory>
-    ensures { IfOk result (λ stage. stage ≡ stage_on side tunnels.now) }
+fn stage_of(alloc: Global, problem: &Problem, side: Side) -> Result<Stage, Memory>
+    ensures { IfOk result (λ stage. stage ≡ stage_on side problem.now.tunnels) }
 {
     let mut rates = Nums::new(alloc);
     let mut installed = Marks::new(alloc);
-    for tunnel in tunnels {
-        let rate = rate_of(tunnel, side);
+    for tunnel in 0..problem.tunnels().len() {
+        let rate = problem.rate_on(side, tunnel);
         rates.push(rate.unwrap_or(0))?;
         installed.push(rate.is_some())?;
     }
     Ok(Stage { rates, installed })
-}
-
-fn rate_of(tunnel: &Tunnel, side: Side) -> Option<u64>
-    ensures { result ≡ rate_on side tunnel.now }
-{
-    match side {
-        Side::Old => tunnel.old,
-        Side::New => tunnel.new,
-    }
 }
 
 /// Whether every tunnel has both rates.

@@ -1,6 +1,6 @@
-use Rattle.std.proofs.Common.{◌≡◌, ℕ, ◌<◌, [], length, get_or}
+use Rattle.std.proofs.Common.{◌≡◌, ℕ, ◌<◌, length, get_or}
 use Rattle.rollout_rules.specs.Wan.{tunnel_at}
-use Rattle.sim_run.specs.Peaks.{larger_rate}
+use Rattle.sim_run.specs.Peaks.{larger_rate, front}
 use Rattle.sim_run.specs.Sums.{AreSums}
 use Rattle.sim_run.proofs.link_peaks.first_loads.Given as goal
 
@@ -8,5 +8,5 @@ use Rattle.sim_run.proofs.link_peaks.first_loads.Given as goal
 abbrev pub invariant-loop-flow : goal.invariant-loop-flow
 invariant-loop-flow l = record {
   sums : AreSums l.plan.problem l.rates l.sums;
-  rates : (t : ℕ) → t < length l.plan.problem.tunnels → (tunnel_at l.plan.problem t).flow < l.flow → get_or l.rates t 0 ≡ larger_rate l.plan.problem l.plan.plan [] t;
+  rates : (t : ℕ) → t < length l.plan.problem.tunnels → (tunnel_at l.plan.problem t).flow < l.flow → get_or l.rates t 0 ≡ larger_rate l.plan.problem l.plan.plan (front l.history 0) t;
 }

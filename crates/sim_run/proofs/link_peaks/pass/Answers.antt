@@ -1,4 +1,4 @@
-use Rattle.sim_run.proofs.Zeros.{no_sums, first_loads, first_raised}
+use Rattle.sim_run.proofs.Starting.{no_sums, first_loads, first_raised}
 use Rattle.sim_run.proofs.Loading.{next_peaks}
 use Rattle.sim_run.proofs.link_peaks.pass.Goals as goal
 

@@ -8,5 +8,5 @@ use Rattle.sim_run.proofs.round.told_items.Given as goal
 abbrev pub invariant-loop-place : goal.invariant-loop-place
 invariant-loop-place l = record {
   all : length l.told.items ≡ item_count l.world.rollout.problem;
-  each : (n : ℕ) → n < item_count l.world.rollout.problem → (get_or l.told.items n false || list_any (tells l.world.world.durable n) (drop l.place l.world.world.handed)) ≡ list_any (tells l.world.world.durable n) (drop l.heard l.world.world.handed);
+  each : (n : ℕ) → n < item_count l.world.rollout.problem → (get_or l.told.items n false || list_any (tells l.world.world.migration l.world.world.durable n) (drop l.place l.world.world.handed)) ≡ list_any (tells l.world.world.migration l.world.world.durable n) (drop l.heard l.world.world.handed);
 }

@@ -15,5 +15,5 @@ loop-number-preserved c =
       text = c.loop-number.invariant.text;
     } in
     let on = goes_on c.args.rehearsal.now c.args.text.now c.args.script.now k c.loop-number.rehearsal c.loop-number.text was c.loop-number-test.true
-    a at c.in_ok-said.said c.in_ok-said.ensures.said c.act.new.self c.in_ok-said.ensures.state c.push_act_line.new.text c.in_ok-push_act_line.ensures in
+    a at c.in_ok-line.line c.in_ok-line.ensures.line c.act.new.self c.in_ok-line.ensures.state c.push_act_line.new.text c.in_ok-push_act_line.ensures in
     record { idle = on.idle; rollout = on.rollout; state = on.state; text = on.text }

@@ -1,4 +1,4 @@
-use Rattle.sim_run.proofs.Zeros.{no_tallies, first_held, first_held_raised}
+use Rattle.sim_run.proofs.Starting.{no_tallies, first_held, first_held_raised}
 use Rattle.sim_run.proofs.Holding.{next_table_peaks}
 use Rattle.sim_run.proofs.table_peaks.pass.Goals as goal
 

@@ -1,4 +1,3 @@
-use Rattle.std.proofs.Common.{◌≡◌}
 use Rattle.std.proofs.lemmas.Result.{err_from_is_err_and}
 use Rattle.swanroll_top.proofs.Outcomes.{plan-refuses, plan-answers, read-plans-safely}
 use Rattle.swanroll_top.proofs.plan.plan.Goals as goal

@@ -1,4 +1,3 @@
-use Rattle.std.proofs.Common.{◌≡◌}
 use Rattle.swanroll_top.proofs.Outcomes.{short-runs, cut-runs, no-read-fault, no-usage}
 use Rattle.swanroll_top.proofs.run.run.Goals as goal
 

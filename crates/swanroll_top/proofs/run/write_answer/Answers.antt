@@ -1,4 +1,3 @@
-use Rattle.std.proofs.Common.{◌≡◌}
 use Rattle.swanroll_top.proofs.Outcomes.{no-write-fault, no-done}
 use Rattle.swanroll_top.proofs.run.write_answer.Goals as goal
 

@@ -1,4 +1,4 @@
-use Rattle.std.proofs.Common.{◌≡◌, Ok, ap, sym, ◌∙◌}
+use Rattle.std.proofs.Common.{Ok, ap, sym, ◌∙◌}
 use Rattle.std.proofs.lemmas.Result.{err_from_is_err_and}
 use Rattle.swanroll_top.proofs.Outcomes.{sim-refuses, sim-answers, read-rehearses-safely}
 use Rattle.swanroll_top.proofs.sim.sim.Goals as goal

@@ -1,16 +1,16 @@
-use rollout_rules::Op;
+use rollout_rules::{Given, Op};
 
-/// What the line of an act says.
+/// The line of an act, without its number.
 #[derive(Clone, Copy, Debug, PartialEq, Eq)]
-pub(crate) enum Said {
+pub(crate) enum ActLine {
     /// A round's batch: so many entries Done, so many Begin.
     Round { dones: usize, begins: usize },
     /// The operation whose command was sent, by its number among those in flight.
     Sent { place: u32, op: Op },
     /// The answer to a command, by the command's number.
-    Delivered { place: u32, answer: Op },
+    Delivered { place: u32, answer: Given },
     /// The answer that was handed over, by its number.
-    Handed { place: u32, answer: Op },
+    Handed { place: u32, answer: Given },
     /// Every operation in flight was sent and answered: so many.
     All { count: u32 },
     CrashLost,
