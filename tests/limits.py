@@ -89,6 +89,17 @@ def cases():
     yield "a flow twice", over_three(flow("") + "," + flow("")), REFUSED
     yield "a flow named as a switch", over_three(flow("", "A")), NO_PLAN
 
+    def with_width(width, form="2"):
+        return over_three(flow(tunnel()[:-1] + f',"width":{width}}}')).replace("{", f'{{"format":{form},', 1)
+
+    for form, ending in (("1", PLANNED), ("2", REFUSED), ("0", REFUSED), ("3", REFUSED), ("null", REFUSED), ('"1"', REFUSED), ("1.0", REFUSED)):
+        yield f"format {form}, and no width", over_three(flow(tunnel())).replace("{", f'{{"format":{form},', 1), ending
+    for width, ending in (("1", PLANNED), ("16", PLANNED), ("17", REFUSED), ("0", REFUSED), ("null", REFUSED), ("1.5", REFUSED)):
+        yield f"a width of {width} in format 2", with_width(width), ending
+        yield f"a width of {width} in format 1", with_width(width, "1"), PLANNED
+    yield "a width that fits in no table", with_width("16").replace("100000", "15"), NO_PLAN
+    yield "a width that just fits", with_width("16").replace("100000", "16"), PLANNED
+
     there = '{"from":"A","to":"B","capacity":0}'
     yield "a link there and one back", over_three("", there + ',{"from":"B","to":"A","capacity":0}'), NO_PLAN
     yield "a link from a switch to itself", over_three("", '{"from":"A","to":"A","capacity":0}'), NO_PLAN
