@@ -8,3 +8,4 @@ pub mod BuildingTunnels
 pub mod Kept
 pub mod Counted
 pub mod Shapes
+mod Worked

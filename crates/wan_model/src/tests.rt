@@ -1,6 +1,9 @@
+ghost use Rattle.std.specs.Prelude.{◌<◌, length};
+
 use super::*;
 use lists::Memory;
 use rollout_rules::{LARGEST_CAPACITY, LARGEST_TABLE, LONGEST_NAME, MOST_LINKS, MOST_SWITCHES};
+use std::alloc::Global;
 use std::test::Fail;
 
 const LONG: &str =
@@ -79,5 +82,59 @@ fn a_plan_keeps_its_stages_in_order(rt: HostRuntime) -> Result<(), Fail> {
     assert_eq!(rt; last.rates.as_slice(), [3].as_slice());
     assert_eq!(rt; last.installed.as_slice(), [true].as_slice());
     assert_eq!(rt; plan.scale, 2);
+    Ok(())
+}
+
+// Two switches, the link from one to the other, and a flow with two tunnels along it.
+fn wide_network(alloc: Global) -> Result<Problem, Memory> {
+    let mut problem = Problem::new_wide(alloc);
+    problem.add_switch("A", 40)?;
+    problem.add_switch("B", 20)?;
+    problem.add_link(0, 1, 1000)?;
+    problem.add_flow("web")?;
+    problem.add_tunnel(&[0, 1], Some(3), Some(5), 2)?;
+    problem.add_tunnel(&[0, 1], None, Some(4), 16)?;
+    Ok(problem)
+}
+
+// What a tunnel has: its flow, width, hops, old and new rate, and whether it is installed.
+fn tunnel_readings(problem: &Problem, t: usize) -> (usize, u32, u32, u64, u64, bool, bool)
+    requires { t < length problem.now.tunnels }
+{
+    (
+        problem.flow_of(t),
+        problem.width(t),
+        problem.hops(t),
+        problem.old_rate(t),
+        problem.new_rate(t),
+        problem.was_installed(t),
+        problem.is_wanted(t),
+    )
+}
+
+// What a flow has: how many tunnels, and its totals.
+fn flow_readings(problem: &Problem, f: usize) -> (u32, u128, u128)
+    requires { f < length problem.now.flows }
+{
+    (
+        problem.tunnel_count(f),
+        problem.old_total(f),
+        problem.new_total(f),
+    )
+}
+
+#[test]
+fn rows_are_read_by_their_numbers(rt: HostRuntime) -> Result<(), Fail> {
+    let problem = wide_network(rt.alloc())?;
+    let wanted = [(0, 2, 2, 3, 5, true, true), (0, 16, 2, 0, 4, false, true)];
+    for (t, row) in wanted.iter().enumerate() {
+        if t < problem.tunnels().len() {
+            assert_eq!(rt; tunnel_readings(&problem, t), *row);
+        }
+    }
+    for f in 0..problem.flows().len() {
+        assert_eq!(rt; flow_readings(&problem, f), (2, 3, 9));
+    }
+    assert_eq!(rt; (problem.format(), problem.tunnels().len()), (2, 2));
     Ok(())
 }
