@@ -1,4 +1,4 @@
--- Rows added one by one.
+-- Elements added one by one.
 use Rattle.std.proofs.Common.{◌≡◌, ℕ, zero, suc, ◌+◌, ◌<◌, ◌≤◌, Bool, true, List, [], ◌∷◌, ◌++◌, map, length, take, get_or, Result, Ok, Err, refl, ap, sym, ◌∙◌, arith}
 use Rattle.std.proofs.lemmas.List.{take_more, take_all, map_push, length_push}
 use Rattle.rollout_rules.specs.Sums.{list_below}
@@ -48,7 +48,7 @@ take-below g xs d (suc n) le =
     ap (λ m. map g (take m xs)) more ∙ ap (map g) (take_more xs n d (omega arith)) ∙ map_push g (take n xs) (get_or xs n d)
     ∙ ap (λ ds. ds ++ g (get_or xs n d) ∷ []) (take-below g xs d n (omega arith))
 
--- a list of rows by their numbers
+-- a list by the numbers of its elements
 pub map-below : {X : Type 0} (g : X → Data) (xs : List X) (d : X) → map g xs ≡ list_below (length xs) (λ k. g (get_or xs k d))
 map-below g xs d = ap (map g) (sym (take_all (length xs) xs (omega arith))) ∙ take-below g xs d (length xs) (omega arith)
 

@@ -1,4 +1,4 @@
--- What was found stands among the rows.
+-- What was found stands among the switches.
 use Rattle.std.proofs.Common.{◌≡◌, ℕ, ◌<◌, List, length, Some}
 use Rattle.std.proofs.lemmas.List.Quantifiers.{position-Some}
 use Rattle.rollout_rules.specs.Wan.{Problem, no_switch}

@@ -14,4 +14,8 @@ mod Lookups
 mod ReadNetwork
 mod ReadPaths
 mod ReadTunnels
+mod ReadPlans
+mod Rows
+mod Words
+mod ReadText
 mod ReadAgain

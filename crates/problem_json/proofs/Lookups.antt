@@ -1,4 +1,4 @@
--- The rows of a network are found by their names and ends, and a row is new to those before it.
+-- Switches, flows and links are found by their names and ends, and each is new to those before it.
 use Rattle.std.proofs.Common.{◌≡◌, ℕ, ◌<◌, Bool, false, ◌&&◌, ◌==◌, length, take, Some, None, refl, ap, ◌∙◌, arith}
 use Rattle.std.proofs.lemmas.Bool.{and_parts, and_from, false_from_ne_true, eqb-true, eq-eqb}
 use Rattle.std.proofs.lemmas.List.{get_or-take, length-take-le}

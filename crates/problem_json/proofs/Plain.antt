@@ -59,7 +59,7 @@ of_format n format behind are = on (format == 1)
     on true = are
     on false = record { whole = are.whole; shallow = omega (arith, are.shallow) }
 
-of_tunnel : (p : Problem) (t : ℕ) → IsPlain 2 (tunnel_data p t)
+pub of_tunnel : (p : Problem) (t : ℕ) → IsPlain 2 (tunnel_data p t)
 of_tunnel p t =
     let new = of_rate (tunnel_at p t).new in
     let old = of_rate (tunnel_at p t).old in
@@ -72,7 +72,7 @@ of_flow p f =
     let tunnels = of_below 2 (λ j. tunnel_data p (tunnel_of p f j)) (λ j. of_tunnel p (tunnel_of p f j)) (flow_at p f).tunnels in
     record { whole = or_from _ _ tunnels.whole refl; shallow = omega arith }
 
-of_problem : (p : Problem) → IsPlain 6 (problem_data p)
+pub of_problem : (p : Problem) → IsPlain 6 (problem_data p)
 of_problem p =
     let flows = of_below 4 (flow_data p) (of_flow p) (length p.flows) in
     let links = of_map 1 (link_data p) (λ l. record { whole = refl; shallow = omega arith }) p.links in
@@ -88,7 +88,7 @@ of_stage s =
     let rates = of_map 0 number_data (λ n. record { whole = refl; shallow = omega arith }) s.rates in
     record { whole = or_from _ _ installed.whole (or_from _ _ rates.whole refl); shallow = omega arith }
 
-of_plan : (plan : Plan) → IsPlain 4 (plan_data plan)
+pub of_plan : (plan : Plan) → IsPlain 4 (plan_data plan)
 of_plan plan =
     let stages = of_map 2 stage_data of_stage plan.stages in
     record { whole = or_from _ _ stages.whole refl; shallow = omega arith }

@@ -1,5 +1,5 @@
 -- The path of a tunnel, read again switch by switch, and the links along it.
-use Rattle.std.proofs.Common.{◌≡◌, ℕ, zero, suc, ◌+◌, ◌-◌, ◌<◌, ◌≤◌, Bool, true, false, ◌==◌, List, [], ◌∷◌, length, map, take, slice_index, is_some, Some, unwrap_or, Ok, codes, refl, sym, ap, ap₂, ◌∙◌, arith}
+use Rattle.std.proofs.Common.{◌≡◌, ℕ, zero, suc, ◌+◌, ◌-◌, ◌<◌, ◌≤◌, Bool, true, false, ◌==◌, List, [], ◌∷◌, length, map, take, slice_index, is_some, Some, unwrap_or, Ok, refl, sym, ap, ap₂, ◌∙◌, arith}
 use Rattle.std.proofs.lemmas.Bool.{or_right, not_from_false, false_from_ne_true, eqb-true, le-leb}
 use Rattle.std.proofs.lemmas.List.{take_more, take_all, get_or-take, length-take-le, length-map}
 use Rattle.std.specs.List.{list_any}
@@ -12,9 +12,10 @@ use Rattle.serde_json.specs.Events.{items_len}
 use Rattle.serde_json.specs.View.{items_of}
 use Rattle.problem_json.specs.GrammarResults.{add_each}
 use Rattle.problem_json.specs.GrammarValues.{member_in, list_in, list_of}
-use Rattle.problem_json.specs.GrammarNetwork.{with_one_hop, leads_on, path_of}
+use Rattle.problem_json.specs.GrammarNetwork.{of_tunnel, with_one_hop, leads_on, path_of}
+use Rattle.problem_json.specs.declared.place.Part.TheVariants as part
+use Rattle.problem_json.specs.declared.key.Key.TheVariants as key
 use Rattle.problem_json.specs.Writing.{name_data, list_data}
-use Rattle.problem_json.specs.declared.fault.InputFault.TheVariants.{Bad}
 use Rattle.wan_model.proofs.Positions.{passes_nowhere}
 use Rattle.problem_json.proofs.Places.{found_nowhere}
 use Rattle.problem_json.proofs.Adding.{goes_on, held-true, add_each-below, map-below, items_len-items_of}
@@ -59,19 +60,19 @@ module _ (p q : Problem) (net : IsNetwork p) (has : HasNetwork p q) (path along 
   unfolding with_one_hop
   one_hop_more h lt =
       let next = slice_index path h in
-      goes_on _ next _ (name_is_found p net q next has.switches (is.switches h lt))
-      ∙ goes_on _ tt _ (held-true _ Bad (not_from_false _ (hop_is_new h lt)))
-      ∙ goes_on _ tt _ (held-true _ Bad (hop_leads_on h lt))
+      goes_on _ next _ (name_is_found p net _ q next has.switches (is.switches h lt))
+      ∙ goes_on _ tt _ (held-true _ _ (not_from_false _ (hop_is_new h lt)))
+      ∙ goes_on _ tt _ (held-true _ _ (hop_leads_on h lt))
       ∙ ap Ok (sym (take_more path h 0 lt))
 
-  pub path_is_read : (d : Data) → member_in (codes "path") d ≡ Ok (list_data (map (name_data p) path)) → path_of q d ≡ Ok path
+  pub path_is_read : (d : Data) → member_in (of_tunnel part.Tunnel q) key.Path d ≡ Ok (list_data (map (name_data p) path)) → path_of q d ≡ Ok path
   unfolding path_of list_of
   path_is_read d e =
       let names = items_of (map (name_data p) path) in
       let len : items_len names ≡ length path = items_len-items_of (map (name_data p) path) ∙ length-map path (name_data p) in
       let few : length (map (name_data p) path) ≤ MOST_HOPS = omega (arith, is.most, length-map path (name_data p)) in
-      goes_on _ names _ (goes_on _ _ (list_in MOST_HOPS) e ∙ list_in-list MOST_HOPS (map (name_data p) path) few)
-      ∙ goes_on _ tt _ (held-true _ Bad (le-leb 2 (items_len names) (omega (arith, is.least))))
+      goes_on _ names _ (goes_on _ _ (list_in _ MOST_HOPS) e ∙ list_in-list _ MOST_HOPS (map (name_data p) path) few)
+      ∙ goes_on _ tt _ (held-true _ _ (le-leb 2 (items_len names) (omega (arith, is.least))))
       ∙ ap (λ ds. add_each (with_one_hop q) (items_of ds) []) (map-below (name_data p) path 0)
       ∙ add_each-below (with_one_hop q) (λ k. name_data p (slice_index path k)) (λ k. take k path) (length path) one_hop_more
       ∙ ap Ok (take_all (length path) path (omega arith))

@@ -9,7 +9,6 @@ use Rattle.rollout_rules.proofs.Tunnels.{tunnels_of, tunnel_of-below, flow-tunne
 use Rattle.problem_json.specs.GrammarValues.{member_in, rate_of}
 use Rattle.problem_json.specs.GrammarNetwork.{with_one_tunnel}
 use Rattle.problem_json.specs.Writing.{rate_data, list_data, name_data, tunnel_data}
-use Rattle.problem_json.specs.declared.fault.InputFault.TheVariants.{Bad}
 use Rattle.problem_json.proofs.Adding.{goes_on, held-true}
 use Rattle.problem_json.proofs.ReadValues.{rate_in-rate}
 use Rattle.problem_json.proofs.Formats.{width_is_read}
@@ -73,8 +72,8 @@ module _ (p : Problem) (net : IsNetwork p) (f : ℕ) (lt : f < length p.flows) w
       let row = the_tunnel j few in
       let ends = ap (λ g. has_ends q g t.path) (last_is j) ∙ ends_are j few in
       goes_on _ t.path _ (path_is_read p q net (has j) t.path t.links row.path (tunnel_data p (tunnel_of p f j)) refl)
-      ∙ goes_on _ tt _ (held-true _ Bad ends)
-      ∙ goes_on _ t.old _ (rate_in-rate t.old row.old)
-      ∙ goes_on _ t.new _ (rate_in-rate t.new row.new)
-      ∙ goes_on _ t.width _ (width_is_read p (rate_data t.new) (rate_data t.old) (list_data (map (name_data p) t.path)) t.width row.width)
+      ∙ goes_on _ tt _ (held-true _ _ ends)
+      ∙ goes_on _ t.old _ (rate_in-rate _ t.old row.old)
+      ∙ goes_on _ t.new _ (rate_in-rate _ t.new row.new)
+      ∙ goes_on _ t.width _ (width_is_read _ _ p (rate_data t.new) (rate_data t.old) (list_data (map (name_data p) t.path)) t.width row.width)
       ∙ ap Ok (tunnel_is_added j few)

@@ -6,13 +6,27 @@ use Rattle.serde_json.specs.declared.value.Value.{Value}
 use Rattle.serde_json.proofs.Views.{items_len-items_view}
 use Rattle.problem_json.specs.GrammarResults.{◌>>=◌, add_each, Refuses}
 use Rattle.problem_json.specs.declared.fault.InputFault.{InputFault}
-use Rattle.problem_json.specs.declared.fault.InputFault.TheVariants.{NotJson, Bad, Memory}
+use Rattle.problem_json.specs.declared.fault.InputFault.TheVariants.{NotJson, Missing, WrongKind, NotWhole, TooMany, TooLarge, NameTwice, UnknownSwitch, LinkTwice, NoSuchLink, SwitchTwice, EndsDiffer, ShortPath, Memory, BadEvent, BadFormat, WidthZero}
 
 -- a fault stays the fault of all that follows
 pub Refuses-step : {A B : Type 0} (e : InputFault) (g : Result A InputFault) (next : A → Result B InputFault) → Refuses e g → Refuses e (g >>= next)
 Refuses-step NotJson g next h = rw h
-Refuses-step Bad g next h = rw h
+Refuses-step (Missing place key) g next h = rw h
+Refuses-step (WrongKind place) g next h = rw h
+Refuses-step (NotWhole place) g next h = rw h
+Refuses-step (TooMany place found limit) g next h = rw h
+Refuses-step (TooLarge place found limit) g next h = rw h
+Refuses-step (NameTwice place) g next h = rw h
+Refuses-step (UnknownSwitch place) g next h = rw h
+Refuses-step (LinkTwice place) g next h = rw h
+Refuses-step (NoSuchLink place) g next h = rw h
+Refuses-step (SwitchTwice place) g next h = rw h
+Refuses-step (EndsDiffer place) g next h = rw h
+Refuses-step (ShortPath place count) g next h = rw h
 Refuses-step Memory g next h = tt
+Refuses-step (BadEvent place) g next h = rw h
+Refuses-step (BadFormat place format) g next h = rw h
+Refuses-step (WidthZero place) g next h = rw h
 
 -- a fault of the step after a value
 pub Refuses-next : {A B : Type 0} (e : InputFault) (g : Result A InputFault) (a : A) (next : A → Result B InputFault) → g ≡ Ok a → Refuses e (next a) → Refuses e (g >>= next)

@@ -1,5 +1,5 @@
 -- Which bytes are a document, a problem with a plan, and which are one with a script.
-use Rattle.std.specs.Prelude.{ℕ, List, Result, Ok, codes}
+use Rattle.std.specs.Prelude.{ℕ, List, Result, Ok}
 use Rattle.serde_json.specs.Data.{Data}
 use Rattle.rollout_rules.specs.Wan.{Problem, Plan}
 use Rattle.rollout_rules.specs.declared.event.Act.{Act}
@@ -8,6 +8,9 @@ use Rattle.problem_json.specs.GrammarValues.{member_in}
 use Rattle.problem_json.specs.Grammar.{data_in, problem_of}
 use Rattle.problem_json.specs.GrammarPlans.{plan_of}
 use Rattle.problem_json.specs.GrammarScripts.{script_of}
+use Rattle.problem_json.specs.Places.{place_of}
+use Rattle.problem_json.specs.declared.place.Part.TheVariants as part
+use Rattle.problem_json.specs.declared.key.Key.TheVariants as key
 use Rattle.problem_json.specs.declared.fault.InputFault.{InputFault}
 
 pub record DocumentRead : Type 0 where
@@ -21,10 +24,10 @@ pub record ScriptedRead : Type 0 where
 -- the parts of a document, each at its key
 
 unfoldable pub problem_part : Data → Result Problem InputFault
-problem_part d = member_in (codes "problem") d >>= problem_of
+problem_part d = member_in (place_of part.Top) key.Problem d >>= problem_of (place_of part.Problem)
 
 unfoldable pub plan_part : Data → Result Plan InputFault
-plan_part d = member_in (codes "plan") d >>= plan_of
+plan_part d = member_in (place_of part.Top) key.Plan d >>= plan_of
 
 unfoldable pub document_of : Data → Result DocumentRead InputFault
 document_of d = do
@@ -38,6 +41,9 @@ scripted_of d = do
   document ← document_of d
   script ← script_of d
   Ok (record { document = document; script = script })
+
+unfoldable pub plan_in : List ℕ → Result Plan InputFault
+plan_in bytes = data_in bytes >>= plan_of
 
 unfoldable pub document_in : List ℕ → Result DocumentRead InputFault
 document_in bytes = data_in bytes >>= document_of

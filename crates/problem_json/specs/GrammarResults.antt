@@ -2,7 +2,7 @@
 use Rattle.std.specs.Prelude.{◌≡◌, Bool, true, false, Result, Ok, Err, ⊤}
 use Rattle.serde_json.specs.Data.{Data, Items, no_items, item}
 use Rattle.problem_json.specs.declared.fault.InputFault.{InputFault}
-use Rattle.problem_json.specs.declared.fault.InputFault.TheVariants.{NotJson, Bad, Memory}
+use Rattle.problem_json.specs.declared.fault.InputFault.TheVariants.{NotJson, Missing, WrongKind, NotWhole, TooMany, TooLarge, NameTwice, UnknownSwitch, LinkTwice, NoSuchLink, SwitchTwice, EndsDiffer, ShortPath, Memory, BadEvent, BadFormat, WidthZero}
 
 infixl 10 ◌>>=◌
 -- the next step at the value; a fault stays
@@ -23,8 +23,22 @@ add_each f (item d ds) a = f d a >>= λ b. add_each f ds b
 -- the fault that a reader answers is the grammar's; want of memory says nothing
 abbrev pub Refuses : {A : Type 0} → InputFault → Result A InputFault → Type 0
 Refuses NotJson grammar = grammar ≡ Err NotJson
-Refuses Bad grammar = grammar ≡ Err Bad
+Refuses (Missing place key) grammar = grammar ≡ Err (Missing place key)
+Refuses (WrongKind place) grammar = grammar ≡ Err (WrongKind place)
+Refuses (NotWhole place) grammar = grammar ≡ Err (NotWhole place)
+Refuses (TooMany place found limit) grammar = grammar ≡ Err (TooMany place found limit)
+Refuses (TooLarge place found limit) grammar = grammar ≡ Err (TooLarge place found limit)
+Refuses (NameTwice place) grammar = grammar ≡ Err (NameTwice place)
+Refuses (UnknownSwitch place) grammar = grammar ≡ Err (UnknownSwitch place)
+Refuses (LinkTwice place) grammar = grammar ≡ Err (LinkTwice place)
+Refuses (NoSuchLink place) grammar = grammar ≡ Err (NoSuchLink place)
+Refuses (SwitchTwice place) grammar = grammar ≡ Err (SwitchTwice place)
+Refuses (EndsDiffer place) grammar = grammar ≡ Err (EndsDiffer place)
+Refuses (ShortPath place count) grammar = grammar ≡ Err (ShortPath place count)
 Refuses Memory grammar = Unit {0}
+Refuses (BadEvent place) grammar = grammar ≡ Err (BadEvent place)
+Refuses (BadFormat place format) grammar = grammar ≡ Err (BadFormat place format)
+Refuses (WidthZero place) grammar = grammar ≡ Err (WidthZero place)
 
 -- what a reader answers, seen by f, is what the grammar says
 abbrev pub ReadsAs : {A B : Type 0} → (A → B) → Result A InputFault → Result B InputFault → Type 0

@@ -1,9 +1,14 @@
+pub mod Places
+pub mod PlaceTexts
+pub mod Keys
+pub mod Faults
 pub mod GrammarResults
 pub mod GrammarValues
-pub mod GrammarNetwork
 pub mod GrammarGrowth
+pub mod GrammarNetwork
 pub mod Grammar
 pub mod GrammarPlans
 pub mod GrammarScripts
 pub mod GrammarDocuments
+pub mod WithinLimits
 pub mod Writing

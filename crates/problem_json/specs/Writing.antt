@@ -1,13 +1,15 @@
 -- A document as data: a problem and a plan, and the text that they are written as.
-use Rattle.std.specs.Prelude.{◌≡◌, ℕ, List, map, length, codes, Option, Some, None, option_map, option_and_then, ◌==◌, if◌then◌else◌, Ok}
+use Rattle.std.specs.Prelude.{◌≡◌, ℕ, ◌^◌, ◌<◌, List, [], ◌++◌, decimal, slice_index, slice_index_or, map, length, codes, Option, Some, None, option_map, option_and_then, ◌==◌, if◌then◌else◌, Ok}
 use Rattle.rollout_rules.specs.Sums.{list_below}
-use Rattle.rollout_rules.specs.Wan.{Switch, Link, Problem, Plan, Stage, switch_at, tunnel_at, flow_at, tunnel_of}
+use Rattle.rollout_rules.specs.Wan.{Switch, Link, Problem, Plan, Stage, no_stage, switch_at, tunnel_at, flow_at, tunnel_of}
 use Rattle.serde_json.specs.Data.{Data, Members, null, boolean, number, string, array, object, unsigned, no_members, member}
 use Rattle.serde_json.specs.Find.{get}
 use Rattle.serde_json.specs.Read.{read}
 use Rattle.serde_json.specs.View.{items_of}
 use Rattle.serde_json.specs.Written.{compact_text}
 use Rattle.problem_json.specs.Grammar.{problem_of}
+use Rattle.problem_json.specs.Places.{place_of}
+use Rattle.problem_json.specs.declared.place.Part.TheVariants as part
 
 abbrev pub number_data : ℕ → Data
 number_data n = number (unsigned n)
@@ -42,7 +44,7 @@ tunnel_data p t =
     object (member (codes "new") (rate_data (tunnel_at p t).new) (member (codes "old") (rate_data (tunnel_at p t).old)
     (member (codes "path") (list_data (map (name_data p) (tunnel_at p t).path)) (width_member p.format (tunnel_at p t).width))))
 
--- the flow with a number, and the tunnels in its row
+-- the flow with a number, and its tunnels
 abbrev pub flow_data : Problem → ℕ → Data
 flow_data p f =
     object (member (codes "name") (string (flow_at p f).name)
@@ -71,10 +73,32 @@ unfoldable pub document_data : Problem → Plan → Data
 document_data p plan =
     object (member (codes "plan") (plan_data plan) (member (codes "problem") (problem_data p) no_members))
 
--- the bytes of a document: no blanks, the keys of each object in the order of their bytes, no line feed at the end
+-- their bytes: no blanks, the keys of each object in the order of their bytes, no line feed at the end
+
+unfoldable pub problem_text : Problem → List ℕ
+problem_text p = compact_text (problem_data p)
+
+unfoldable pub plan_text : Plan → List ℕ
+plan_text plan = compact_text (plan_data plan)
+
 unfoldable pub document_text : Problem → Plan → List ℕ
 document_text p plan = compact_text (document_data p plan)
 
+-- the text of the member of a format behind another, or nothing
+abbrev pub format_text : ℕ → List ℕ
+format_text format = if format == 1 then [] else codes ",\"format\":" ++ decimal format
+
+-- a plan of numbers of 64 bits
+abbrev pub AreWords : List ℕ → Type 0
+AreWords ns = (t : ℕ) → slice_index ns t < 2 ^ 64
+
+abbrev pub AreStagesOfWords : ℕ → List Stage → Type 0
+AreStagesOfWords n stages = (s : ℕ) → s < n → AreWords (slice_index_or stages s no_stage).rates
+
+pub record IsPlanOfWords (plan : Plan) : Type 0 where
+  pub scale : plan.scale < 2 ^ 64
+  pub rates : AreStagesOfWords (length plan.stages) plan.stages
+
 -- the value at the key `problem` of a text is, by the grammar, the problem
 abbrev pub HoldsProblem : List ℕ → Problem → Type 0
-HoldsProblem text p = option_map problem_of (option_and_then (get (codes "problem")) (read text)) ≡ Some (Ok p)
+HoldsProblem text p = option_map (problem_of (place_of part.Problem)) (option_and_then (get (codes "problem")) (read text)) ≡ Some (Ok p)

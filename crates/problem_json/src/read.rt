@@ -1,8 +1,11 @@
-ghost use Rattle.std.specs.Prelude.{◌≡◌, ◌+◌, ◌≤◌, length, IfOk, OnOk, codes};
+ghost use Rattle.std.specs.Prelude.{◌≡◌, ◌+◌, ◌≤◌, length, IfOk, OnOk};
 ghost use Rattle.serde_json.specs.View.{view, items_view};
 ghost use Rattle.rollout_rules.specs.declared.limits.TheConstants.{MOST_SWITCHES, MOST_LINKS, MOST_FLOWS};
 ghost use Rattle.problem_json.specs.GrammarResults.{Reads, ReadsAs, Leaves, add_each};
 ghost use Rattle.problem_json.specs.GrammarNetwork.{with_one_switch, with_one_link, with_one_flow};
+ghost use Rattle.problem_json.specs.Places.{place_of};
+ghost use Rattle.problem_json.specs.declared.key.Key.TheVariants as key;
+ghost use Rattle.problem_json.specs.declared.place.Part.TheVariants as part;
 ghost use Rattle.problem_json.specs.Grammar.{with_list, empty_in, empty_of, data_in, problem_of, problem_in};
 
 mod documents;
@@ -16,6 +19,8 @@ mod topology;
 mod values;
 
 use crate::fault::InputFault;
+use crate::key::Key;
+use crate::place::{Part, Place};
 use crate::read::flows::add_flow;
 use crate::read::topology::{add_link, add_switch};
 use crate::read::values::{list_of, whole};
@@ -31,14 +36,14 @@ use wan_model::Problem;
 ///
 /// # Errors
 ///
-/// [`InputFault::NotJson`] where the bytes aren't UTF-8 or aren't one JSON value, [`InputFault::Bad`]
-/// where that value is no problem, and [`InputFault::Memory`] where memory runs out.
+/// [`InputFault::NotJson`] where the bytes aren't UTF-8 or aren't one JSON value, [`InputFault::Memory`]
+/// where memory runs out, and else the fault of the first place that the grammar refuses.
 #[tactic(auto, using(crate::proofs::Steps::steps), unfolding(crate::specs::Grammar::problem_in))]
 pub fn read_problem(alloc: Global, bytes: &[u8]) -> Result<Problem, InputFault>
     ensures { Reads result (problem_in bytes.now) }
 {
     let value = read_value(alloc, bytes)?;
-    problem_of(alloc, &value)
+    problem_of(alloc, Place::of(Part::Top), &value)
 }
 
 #[tactic(auto, using(crate::proofs::Text::data_read, crate::proofs::Text::data_refused))]
@@ -53,17 +58,17 @@ fn read_value(alloc: Global, bytes: &[u8]) -> Result<Value, InputFault>
 }
 
 #[tactic(auto, using(crate::proofs::Steps::steps), unfolding(crate::specs::Grammar::problem_of))]
-fn problem_of(alloc: Global, value: &Value) -> Result<Problem, InputFault>
-    ensures { Reads result (problem_of (view value.now)) }
+fn problem_of(alloc: Global, object: Place, value: &Value) -> Result<Problem, InputFault>
+    ensures { Reads result (problem_of object (view value.now)) }
 {
     let mut problem = empty_of(alloc, value)?;
-    read_switches(&mut problem, value)?;
-    read_links(&mut problem, value)?;
-    read_flows(alloc, &mut problem, value)?;
+    read_switches(&mut problem, object, value)?;
+    read_links(&mut problem, object, value)?;
+    read_flows(alloc, &mut problem, object, value)?;
     Ok(problem)
 }
 
-/// The problem without rows, in the format that an object names, or in format 1.
+/// The problem without switches, links and flows, in the format that an object names, or in format 1.
 #[tactic(auto, using(crate::proofs::Steps::steps), unfolding(crate::specs::Grammar::empty_of, crate::specs::Grammar::empty_of_format))]
 fn empty_of(alloc: Global, value: &Value) -> Result<Problem, InputFault>
     ensures empty { Reads result (empty_of (view value.now)) }
@@ -71,10 +76,10 @@ fn empty_of(alloc: Global, value: &Value) -> Result<Problem, InputFault>
     ensures links { IfOk result (λ p. length p.links ≡ 0) }
     ensures flows { IfOk result (λ p. length p.flows ≡ 0) }
 {
-    let Some(format) = value.get("format") else {
+    let Some(format) = value.get(Key::Format.as_str()) else {
         return Ok(Problem::new(alloc));
     };
-    empty_in(alloc, whole(format)?)
+    empty_in(alloc, whole(Place::of(Part::Format), format)?)
 }
 
 #[tactic(auto, unfolding(crate::specs::Grammar::empty_in))]
@@ -87,19 +92,25 @@ fn empty_in(alloc: Global, format: u64) -> Result<Problem, InputFault>
     match format {
         1 => Ok(Problem::new(alloc)),
         2 => Ok(Problem::new_wide(alloc)),
-        _ => Err(InputFault::Bad),
+        _ => Err(InputFault::BadFormat(Place::of(Part::Format), format)),
     }
 }
 
 #[tactic(auto, using(crate::proofs::Steps::steps), unfolding(crate::specs::Grammar::with_list))]
-fn read_switches(problem: &mut Problem, value: &Value) -> Result<(), InputFault>
+fn read_switches(problem: &mut Problem, object: Place, value: &Value) -> Result<(), InputFault>
     requires { length problem.old.switches ≡ 0 }
     ensures added { Leaves result problem.new
-        (with_list (codes "switches") MOST_SWITCHES with_one_switch (view value.now) problem.old) }
+        (with_list object key.Switches (place_of part.Switches) MOST_SWITCHES with_one_switch (view value.now) problem.old) }
     ensures links { problem.new.links ≡ problem.old.links }
     ensures flows { problem.new.flows ≡ problem.old.flows }
 {
-    let switches = list_of(value, "switches", MOST_SWITCHES)?;
+    let switches = list_of(
+        object,
+        Key::Switches,
+        Place::of(Part::Switches),
+        MOST_SWITCHES,
+        value,
+    )?;
     add_switches(problem, switches)
 }
 
@@ -118,13 +129,19 @@ fn add_switches(problem: &mut Problem, switches: &[Value]) -> Result<(), InputFa
 }
 
 #[tactic(auto, using(crate::proofs::Steps::steps), unfolding(crate::specs::Grammar::with_list))]
-fn read_links(problem: &mut Problem, value: &Value) -> Result<(), InputFault>
+fn read_links(problem: &mut Problem, object: Place, value: &Value) -> Result<(), InputFault>
     requires { length problem.old.links ≡ 0 }
     ensures added { Leaves result problem.new
-        (with_list (codes "links") MOST_LINKS with_one_link (view value.now) problem.old) }
+        (with_list object key.Links (place_of part.Links) MOST_LINKS with_one_link (view value.now) problem.old) }
     ensures flows { problem.new.flows ≡ problem.old.flows }
 {
-    let links = list_of(value, "links", MOST_LINKS)?;
+    let links = list_of(
+        object,
+        Key::Links,
+        Place::of(Part::Links),
+        MOST_LINKS,
+        value,
+    )?;
     add_links(problem, links)
 }
 
@@ -142,12 +159,23 @@ fn add_links(problem: &mut Problem, links: &[Value]) -> Result<(), InputFault>
 }
 
 #[tactic(auto, using(crate::proofs::Steps::steps), unfolding(crate::specs::Grammar::with_list))]
-fn read_flows(alloc: Global, problem: &mut Problem, value: &Value) -> Result<(), InputFault>
+fn read_flows(
+    alloc: Global,
+    problem: &mut Problem,
+    object: Place,
+    value: &Value,
+) -> Result<(), InputFault>
     requires { length problem.old.flows ≡ 0 }
     ensures { Leaves result problem.new
-        (with_list (codes "flows") MOST_FLOWS with_one_flow (view value.now) problem.old) }
+        (with_list object key.Flows (place_of part.Flows) MOST_FLOWS with_one_flow (view value.now) problem.old) }
 {
-    let flows = list_of(value, "flows", MOST_FLOWS)?;
+    let flows = list_of(
+        object,
+        Key::Flows,
+        Place::of(Part::Flows),
+        MOST_FLOWS,
+        value,
+    )?;
     add_flows(alloc, problem, flows)
 }
 

@@ -1,41 +1,59 @@
+mod pieces;
 mod plan;
 mod problem;
 mod round_trip;
 #[cfg(test)]
 mod tests;
 
-ghost use Rattle.std.specs.Prelude.{◌≡◌, IfOk};
+ghost use Rattle.std.specs.Prelude.{◌≡◌, IfOk, Ok};
 ghost use Rattle.rollout_rules.specs.Network.{IsNetwork};
-ghost use Rattle.serde_json.specs.Read.{read};
-ghost use Rattle.serde_json.specs.View.{view};
-ghost use Rattle.problem_json.specs.Writing.{document_data, document_text, HoldsProblem};
+ghost use Rattle.problem_json.specs.Grammar.{problem_in};
+ghost use Rattle.problem_json.specs.GrammarDocuments.{plan_in, document_in};
+ghost use Rattle.problem_json.specs.WithinLimits.{IsPlanWithin};
+ghost use Rattle.problem_json.specs.Writing.{problem_text, plan_text, document_text, HoldsProblem};
 
 use lists::{Memory, Text};
-use plan::plan_value;
-use problem::problem_value;
+use pieces::finished;
+use plan::push_plan;
+use problem::push_problem;
 pub use round_trip::written_problem_is_read;
-use serde_json::{Value, json};
 use std::alloc::Global;
 use wan_model::{Plan, Problem};
 
-/// The text of a problem with a plan for it: JSON (RFC 8259) without blanks, the keys of each object in
-/// the order of their bytes, and no line feed at the end. A plan's rates are in units of 1/scale; a
-/// tunnel's rate is null where the tunnel isn't installed. It fails only for want of memory.
-pub fn write_document(alloc: Global, problem: &Problem, plan: &Plan) -> Result<Text, Memory>
-    ensures text { IfOk result (λ text. text ≡ document_text problem.now plan.now) }
-    ensures reads { IfOk result (λ text. read text ≡ Some (document_data problem.now plan.now)) }
-    ensures holds { IfOk result (λ text. HoldsProblem text problem.now) }
+/// The text of a problem: JSON (RFC 8259) without blanks, the keys of each object in the order of their
+/// bytes, and no line feed at the end. A tunnel's rate is null where the tunnel isn't installed. It fails
+/// only for want of memory.
+pub fn write_problem(alloc: Global, problem: &Problem) -> Result<Text, Memory>
+    ensures text { IfOk result (λ text. text ≡ problem_text problem.now) }
+    ensures reads { IfOk result (λ text. problem_in text ≡ Ok problem.now) }
 {
-    let document = document_value(alloc, problem, plan)?;
-    Ok(Text::from(document.to_string(alloc)?))
+    let mut text = Text::new(alloc);
+    push_problem(alloc, &mut text, problem)?;
+    Ok(finished(text))
 }
 
-#[tactic(auto, unfolding(crate::specs::Writing::document_data))]
-fn document_value(alloc: Global, problem: &Problem, plan: &Plan) -> Result<Value, Memory>
-    ensures data { IfOk result (λ v. view v ≡ document_data problem.now plan.now) }
-    ensures network { IfOk result (λ _. IsNetwork problem.now) }
+/// The text of a plan, likewise. Rates are in units of 1/scale.
+pub fn write_plan(alloc: Global, plan: &Plan) -> Result<Text, Memory>
+    ensures text { IfOk result (λ text. text ≡ plan_text plan.now) }
+    ensures reads { IfOk result (λ text. IsPlanWithin plan.now → plan_in text ≡ Ok plan.now) }
 {
-    let plan = plan_value(alloc, plan)?;
-    let problem = problem_value(alloc, problem)?;
-    json!(in alloc; {"plan": plan, "problem": problem})
+    let mut text = Text::new(alloc);
+    push_plan(&mut text, plan)?;
+    Ok(finished(text))
+}
+
+/// The text of a problem with a plan for it, likewise.
+pub fn write_document(alloc: Global, problem: &Problem, plan: &Plan) -> Result<Text, Memory>
+    ensures text { IfOk result (λ text. text ≡ document_text problem.now plan.now) }
+    ensures holds { IfOk result (λ text. HoldsProblem text problem.now) }
+    ensures reads { IfOk result (λ text. IsPlanWithin plan.now
+        → document_in text ≡ Ok (record { problem = problem.now; plan = plan.now })) }
+{
+    let mut text = Text::new(alloc);
+    text.push_str(r#"{"plan":"#)?;
+    push_plan(&mut text, plan)?;
+    text.push_str(r#","problem":"#)?;
+    push_problem(alloc, &mut text, problem)?;
+    text.push_str("}")?;
+    Ok(finished(text))
 }

@@ -7,6 +7,8 @@ mod tests;
 
 use super::{problem_of, read_value};
 use crate::fault::InputFault;
+use crate::key::Key;
+use crate::place::{Part, Place};
 use crate::read::plans::plan_of;
 use crate::read::scripts::script_of;
 use crate::read::values::member;
@@ -55,7 +57,7 @@ impl Model for Scripted {
 ///
 /// # Errors
 ///
-/// Those of [`read_problem`](crate::read_problem), with [`InputFault::Bad`] where the value is no document.
+/// Those of [`read_problem`](crate::read_problem), at the first refused place of the document.
 #[tactic(auto, using(crate::proofs::Steps::steps), unfolding(crate::specs::GrammarDocuments::document_in))]
 pub fn read_document(alloc: Global, bytes: &[u8]) -> Result<Document, InputFault>
     ensures { Reads result (document_in bytes.now) }
@@ -68,8 +70,8 @@ pub fn read_document(alloc: Global, bytes: &[u8]) -> Result<Document, InputFault
 ///
 /// # Errors
 ///
-/// Those of [`read_problem`](crate::read_problem), with [`InputFault::Bad`] where the value is no document
-/// with a script.
+/// Those of [`read_problem`](crate::read_problem), at the first refused place of the document or of the
+/// script, and [`InputFault::BadEvent`].
 #[tactic(auto, using(crate::proofs::Steps::steps), unfolding(crate::specs::GrammarDocuments::scripted_in))]
 pub fn read_script(alloc: Global, bytes: &[u8]) -> Result<Scripted, InputFault>
     ensures { Reads result (scripted_in bytes.now) }
@@ -91,14 +93,15 @@ fn document_of(alloc: Global, value: &Value) -> Result<Document, InputFault>
 fn problem_part(alloc: Global, value: &Value) -> Result<Problem, InputFault>
     ensures { Reads result (problem_part (view value.now)) }
 {
-    problem_of(alloc, member(value, "problem")?)
+    let problem = member(Place::of(Part::Top), Key::Problem, value)?;
+    problem_of(alloc, Place::of(Part::Problem), problem)
 }
 
 #[tactic(auto, using(crate::proofs::Steps::steps), unfolding(crate::specs::GrammarDocuments::plan_part))]
 fn plan_part(alloc: Global, value: &Value) -> Result<Plan, InputFault>
     ensures { Reads result (plan_part (view value.now)) }
 {
-    plan_of(alloc, member(value, "plan")?)
+    plan_of(alloc, member(Place::of(Part::Top), Key::Plan, value)?)
 }
 
 #[tactic(auto, using(crate::proofs::Steps::steps), unfolding(crate::specs::GrammarDocuments::scripted_of))]

@@ -7,7 +7,9 @@ ghost use Rattle.problem_json.specs.GrammarNetwork.{with_one_flow, with_one_tunn
 ghost use Rattle.problem_json.specs.GrammarGrowth.{tunnels_of_last, HasMoreTunnels};
 
 use crate::fault::InputFault;
-use crate::read::path::path_of;
+use crate::key::Key;
+use crate::place::{Part, Place};
+use crate::read::path::{of_tunnel, path_of};
 use crate::read::values::{list_of, name_of, rate_of, width_of};
 use lists::Ids;
 use rollout_rules::{MOST_TUNNELS, MOST_TUNNELS_OF_FLOW};
@@ -26,13 +28,19 @@ pub(super) fn add_flow(
     ensures added { Leaves result problem.new (with_one_flow (view value.now) problem.old) }
     ensures flows { OnOk result (length problem.new.flows ≡ length problem.old.flows + 1) }
 {
-    let name = name_of(value)?;
+    let number = problem.flows().len() as u32;
+    let object = Place::at(Part::Flow, number);
+    let named = Place::at(Part::FlowName, number);
+    let place = Place::at(Part::Tunnels, number);
+    let name = name_of(object, named, value)?;
     if problem.find_flow(name).is_some() {
-        return Err(InputFault::Bad);
+        return Err(InputFault::NameTwice(named));
     }
-    let tunnels = list_of(value, "tunnels", MOST_TUNNELS_OF_FLOW as usize)?;
-    if problem.tunnels().len() + tunnels.len() > MOST_TUNNELS {
-        return Err(InputFault::Bad);
+    let most = MOST_TUNNELS_OF_FLOW as usize;
+    let tunnels = list_of(object, Key::Tunnels, place, most, value)?;
+    let all = problem.tunnels().len() + tunnels.len();
+    if all > MOST_TUNNELS {
+        return Err(InputFault::TooMany(place, all as u64, MOST_TUNNELS as u64));
     }
     problem.add_flow(name)?;
     add_tunnels(alloc, problem, tunnels)
@@ -63,13 +71,15 @@ fn add_tunnel(alloc: Global, problem: &mut Problem, value: &Value) -> Result<(),
     ensures added { Leaves result problem.new (with_one_tunnel (view value.now) problem.old) }
     ensures grown { OnOk result (HasMoreTunnels problem.old problem.new 1) }
 {
+    let object = of_tunnel(Part::Tunnel, problem);
     let path = path_of(alloc, problem, value)?;
     if !has_ends(problem, &path) {
-        return Err(InputFault::Bad);
+        return Err(InputFault::EndsDiffer(object));
     }
-    let old = rate_of(value, "old")?;
-    let new = rate_of(value, "new")?;
-    let width = width_of(problem.format(), value)?;
+    let old = rate_of(object, Key::Old, of_tunnel(Part::Old, problem), value)?;
+    let new = rate_of(object, Key::New, of_tunnel(Part::New, problem), value)?;
+    let widened = of_tunnel(Part::Width, problem);
+    let width = width_of(object, widened, problem.format(), value)?;
     problem.add_tunnel(path.as_slice(), old, new, width)?;
     Ok(())
 }

@@ -1,8 +1,12 @@
+ghost use Rattle.std.specs.Prelude.{◌≡◌, ◌+◌, ◌<◌, ◌≤◌, length, OnOk};
 ghost use Rattle.serde_json.specs.View.{view, items_view};
+ghost use Rattle.rollout_rules.specs.declared.limits.TheConstants.{MOST_STAGES, MOST_TUNNELS};
 ghost use Rattle.problem_json.specs.GrammarResults.{Reads, Leaves, add_each};
 ghost use Rattle.problem_json.specs.GrammarPlans.{with_one_mark, marks_of, with_one_rate, rates_of, stage_of, with_one_stage, plan_of};
 
 use crate::fault::InputFault;
+use crate::key::Key;
+use crate::place::{Part, Place};
 use crate::read::values::{list_of, number, number_of};
 use lists::{Marks, Nums};
 use rollout_rules::{LARGEST_PLAN_RATE, LARGEST_SCALE, MOST_STAGES, MOST_TUNNELS};
@@ -15,8 +19,11 @@ use wan_model::{Plan, Stage};
 pub(super) fn plan_of(alloc: Global, value: &Value) -> Result<Plan, InputFault>
     ensures { Reads result (plan_of (view value.now)) }
 {
-    let scale = number_of(value, "scale", u64::from(LARGEST_SCALE))?;
-    let stages = list_of(value, "stages", MOST_STAGES)?;
+    let object = Place::of(Part::PlanTop);
+    let scaled = Place::of(Part::Scale);
+    let staged = Place::of(Part::Stages);
+    let scale = number_of(object, Key::Scale, scaled, u64::from(LARGEST_SCALE), value)?;
+    let stages = list_of(object, Key::Stages, staged, MOST_STAGES, value)?;
     let mut plan = Plan::new(alloc, scale as u32);
     add_stages(alloc, &mut plan, stages)?;
     Ok(plan)
@@ -24,6 +31,7 @@ pub(super) fn plan_of(alloc: Global, value: &Value) -> Result<Plan, InputFault>
 
 #[tactic(auto, using(crate::proofs::Steps::steps))]
 fn add_stages(alloc: Global, plan: &mut Plan, stages: &[Value]) -> Result<(), InputFault>
+    requires { length plan.old.stages + length stages.now ≤ MOST_STAGES }
     ensures { Leaves result plan.new (add_each with_one_stage (items_view stages.now) plan.old) }
 {
     for stage in stages {
@@ -34,76 +42,92 @@ fn add_stages(alloc: Global, plan: &mut Plan, stages: &[Value]) -> Result<(), In
 
 #[tactic(auto, using(crate::proofs::Steps::steps), unfolding(crate::specs::GrammarPlans::with_one_stage))]
 fn add_stage(alloc: Global, plan: &mut Plan, value: &Value) -> Result<(), InputFault>
-    ensures { Leaves result plan.new (with_one_stage (view value.now) plan.old) }
+    requires { length plan.old.stages < MOST_STAGES }
+    ensures added { Leaves result plan.new (with_one_stage (view value.now) plan.old) }
+    ensures longer { OnOk result (length plan.new.stages ≡ length plan.old.stages + 1) }
 {
-    let stage = stage_of(alloc, value)?;
+    let number = plan.stages.as_slice().len() as u32;
+    let stage = stage_of(alloc, number, value)?;
     plan.add_stage(stage)?;
     Ok(())
 }
 
 #[tactic(auto, using(crate::proofs::Steps::steps), unfolding(crate::specs::GrammarPlans::stage_of))]
-fn stage_of(alloc: Global, value: &Value) -> Result<Stage, InputFault>
-    ensures { Reads result (stage_of (view value.now)) }
+/// The stage with a number.
+fn stage_of(alloc: Global, stage: u32, value: &Value) -> Result<Stage, InputFault>
+    ensures { Reads result (stage_of stage (view value.now)) }
 {
-    let installed = marks_of(alloc, value)?;
-    let rates = rates_of(alloc, value)?;
+    let installed = marks_of(alloc, stage, value)?;
+    let rates = rates_of(alloc, stage, value)?;
     Ok(Stage { rates, installed })
 }
 
 #[tactic(auto, using(crate::proofs::Steps::steps), unfolding(crate::specs::GrammarPlans::marks_of))]
-fn marks_of(alloc: Global, value: &Value) -> Result<Marks, InputFault>
-    ensures { Reads result (marks_of (view value.now)) }
+fn marks_of(alloc: Global, stage: u32, value: &Value) -> Result<Marks, InputFault>
+    ensures { Reads result (marks_of stage (view value.now)) }
 {
-    let elements = list_of(value, "installed", MOST_TUNNELS)?;
+    let object = Place::at(Part::Stage, stage);
+    let place = Place::at(Part::Installed, stage);
+    let elements = list_of(object, Key::Installed, place, MOST_TUNNELS, value)?;
     let mut marks = Marks::new(alloc);
-    add_marks(&mut marks, elements)?;
+    add_marks(stage, &mut marks, elements)?;
     Ok(marks)
 }
 
 #[tactic(auto, using(crate::proofs::Steps::steps))]
-fn add_marks(marks: &mut Marks, elements: &[Value]) -> Result<(), InputFault>
-    ensures { Leaves result marks.new (add_each with_one_mark (items_view elements.now) marks.old) }
+fn add_marks(stage: u32, marks: &mut Marks, elements: &[Value]) -> Result<(), InputFault>
+    requires { length marks.old + length elements.now ≤ MOST_TUNNELS }
+    ensures { Leaves result marks.new (add_each (with_one_mark stage) (items_view elements.now) marks.old) }
 {
     for element in elements {
-        add_mark(marks, element)?;
+        add_mark(stage, marks, element)?;
     }
     Ok(())
 }
 
-#[tactic(auto, using(crate::proofs::Steps::steps), unfolding(crate::specs::GrammarPlans::with_one_mark, crate::specs::GrammarPlans::mark_in))]
-fn add_mark(marks: &mut Marks, value: &Value) -> Result<(), InputFault>
-    ensures { Leaves result marks.new (with_one_mark (view value.now) marks.old) }
+#[tactic(auto, using(crate::proofs::Steps::steps), unfolding(crate::specs::GrammarPlans::with_one_mark))]
+fn add_mark(stage: u32, marks: &mut Marks, value: &Value) -> Result<(), InputFault>
+    requires { length marks.old < MOST_TUNNELS }
+    ensures added { Leaves result marks.new (with_one_mark stage (view value.now) marks.old) }
+    ensures longer { OnOk result (length marks.new ≡ length marks.old + 1) }
 {
-    let mark = value.as_bool().ok_or(InputFault::Bad)?;
+    let place = Place::within(Part::Mark, stage, marks.as_slice().len() as u32);
+    let mark = value.as_bool().ok_or(InputFault::WrongKind(place))?;
     marks.push(mark)?;
     Ok(())
 }
 
 #[tactic(auto, using(crate::proofs::Steps::steps), unfolding(crate::specs::GrammarPlans::rates_of))]
-fn rates_of(alloc: Global, value: &Value) -> Result<Nums, InputFault>
-    ensures { Reads result (rates_of (view value.now)) }
+fn rates_of(alloc: Global, stage: u32, value: &Value) -> Result<Nums, InputFault>
+    ensures { Reads result (rates_of stage (view value.now)) }
 {
-    let elements = list_of(value, "rates", MOST_TUNNELS)?;
+    let object = Place::at(Part::Stage, stage);
+    let place = Place::at(Part::Rates, stage);
+    let elements = list_of(object, Key::Rates, place, MOST_TUNNELS, value)?;
     let mut rates = Nums::new(alloc);
-    add_rates(&mut rates, elements)?;
+    add_rates(stage, &mut rates, elements)?;
     Ok(rates)
 }
 
 #[tactic(auto, using(crate::proofs::Steps::steps))]
-fn add_rates(rates: &mut Nums, elements: &[Value]) -> Result<(), InputFault>
-    ensures { Leaves result rates.new (add_each with_one_rate (items_view elements.now) rates.old) }
+fn add_rates(stage: u32, rates: &mut Nums, elements: &[Value]) -> Result<(), InputFault>
+    requires { length rates.old + length elements.now ≤ MOST_TUNNELS }
+    ensures { Leaves result rates.new (add_each (with_one_rate stage) (items_view elements.now) rates.old) }
 {
     for element in elements {
-        add_rate(rates, element)?;
+        add_rate(stage, rates, element)?;
     }
     Ok(())
 }
 
 #[tactic(auto, using(crate::proofs::Steps::steps), unfolding(crate::specs::GrammarPlans::with_one_rate))]
-fn add_rate(rates: &mut Nums, value: &Value) -> Result<(), InputFault>
-    ensures { Leaves result rates.new (with_one_rate (view value.now) rates.old) }
+fn add_rate(stage: u32, rates: &mut Nums, value: &Value) -> Result<(), InputFault>
+    requires { length rates.old < MOST_TUNNELS }
+    ensures added { Leaves result rates.new (with_one_rate stage (view value.now) rates.old) }
+    ensures longer { OnOk result (length rates.new ≡ length rates.old + 1) }
 {
-    let rate = number(value, LARGEST_PLAN_RATE)?;
+    let place = Place::within(Part::Rate, stage, rates.as_slice().len() as u32);
+    let rate = number(place, LARGEST_PLAN_RATE, value)?;
     rates.push(rate)?;
     Ok(())
 }

@@ -1,20 +1,25 @@
-ghost use Rattle.std.specs.Prelude.{◌≡◌};
+ghost use Rattle.std.specs.Prelude.{◌≡◌, ◌+◌, ◌<◌, ◌≤◌, length, IfOk, OnOk};
 ghost use Rattle.serde_json.specs.View.{view, items_view};
-ghost use Rattle.problem_json.specs.GrammarResults.{Reads, Leaves, add_each};
-ghost use Rattle.problem_json.specs.GrammarScripts.{plain_act, numbered_act, crash_act, plain_event, crash_in, numbered_in, event_with, event_of_parts, event_in, with_one_event, script_of};
+ghost use Rattle.rollout_rules.specs.declared.limits.TheConstants.{MOST_ACTS};
+ghost use Rattle.problem_json.specs.GrammarResults.{Reads, ReadsAs, Leaves, add_each};
+ghost use Rattle.problem_json.specs.GrammarScripts.{largest_number, plain_act, numbered_act, crash_act, word_in, count_in, plain_event, crash_in, numbered_in, event_with, event_of_parts, event_in, with_one_event, script_of};
 
 use crate::fault::InputFault;
-use crate::read::values::{list_of, number, text_of};
+use crate::key::Key;
+use crate::place::{Part, Place};
+use crate::read::values::{list_of, number};
 use rollout_rules::{Act, MOST_ACTS, Script};
 use serde_json::Value;
 use std::alloc::Global;
 
-/// The script in an object.
+/// The script in the object of a document.
 #[tactic(auto, using(crate::proofs::Steps::steps), unfolding(crate::specs::GrammarScripts::script_of))]
 pub(super) fn script_of(alloc: Global, value: &Value) -> Result<Script, InputFault>
     ensures { Reads result (script_of (view value.now)) }
 {
-    let events = list_of(value, "script", MOST_ACTS)?;
+    let object = Place::of(Part::Top);
+    let place = Place::of(Part::ScriptTop);
+    let events = list_of(object, Key::Script, place, MOST_ACTS, value)?;
     let mut script = Script::new(alloc);
     add_events(&mut script, events)?;
     Ok(script)
@@ -22,6 +27,7 @@ pub(super) fn script_of(alloc: Global, value: &Value) -> Result<Script, InputFau
 
 #[tactic(auto, using(crate::proofs::Steps::steps))]
 fn add_events(script: &mut Script, events: &[Value]) -> Result<(), InputFault>
+    requires { length script.old + length events.now ≤ MOST_ACTS }
     ensures { Leaves result script.new (add_each with_one_event (items_view events.now) script.old) }
 {
     for event in events {
@@ -32,40 +38,63 @@ fn add_events(script: &mut Script, events: &[Value]) -> Result<(), InputFault>
 
 #[tactic(auto, using(crate::proofs::Steps::steps), unfolding(crate::specs::GrammarScripts::with_one_event))]
 fn add_event(script: &mut Script, value: &Value) -> Result<(), InputFault>
-    ensures { Leaves result script.new (with_one_event (view value.now) script.old) }
+    requires { length script.old < MOST_ACTS }
+    ensures added { Leaves result script.new (with_one_event (view value.now) script.old) }
+    ensures longer { OnOk result (length script.new ≡ length script.old + 1) }
 {
-    let act = event_of(value)?;
+    let event = Place::at(Part::Event, script.as_slice().len() as u32);
+    let act = event_of(event, value)?;
     script.push(act)?;
     Ok(())
 }
 
 /// The act that an event is.
 #[tactic(auto, using(crate::proofs::Steps::steps), unfolding(crate::specs::GrammarScripts::event_in))]
-fn event_of(value: &Value) -> Result<Act, InputFault>
-    ensures { Reads result (event_in (view value.now)) }
+fn event_of(event: Place, value: &Value) -> Result<Act, InputFault>
+    ensures { Reads result (event_in event (view value.now)) }
 {
-    let parts = value.as_array().ok_or(InputFault::Bad)?;
-    event_of_parts(parts.as_slice())
+    let parts = value.as_array().ok_or(InputFault::WrongKind(event))?;
+    event_of_parts(event, parts.as_slice())
 }
 
 #[tactic(auto, using(crate::proofs::Steps::steps, crate::proofs::Events::parts))]
-fn event_of_parts(parts: &[Value]) -> Result<Act, InputFault>
-    ensures { Reads result (event_of_parts (items_view parts.now)) }
+fn event_of_parts(event: Place, parts: &[Value]) -> Result<Act, InputFault>
+    ensures { Reads result (event_of_parts event (items_view parts.now)) }
 {
     match parts {
-        [name] => plain_event(name),
-        [name, part] => event_with(name, part),
-        _ => Err(InputFault::Bad),
+        [name] => plain_event(event, name),
+        [name, second] => event_with(event, name, second),
+        _ => Err(InputFault::BadEvent(event)),
     }
+}
+
+/// A part that is a text.
+#[tactic(auto, unfolding(crate::specs::GrammarScripts::word_in))]
+fn word(event: Place, value: &Value) -> Result<&str, InputFault>
+    ensures { ReadsAs (λ s. s.now) result (word_in event (view value.now)) }
+{
+    value.as_str().ok_or(InputFault::BadEvent(event))
+}
+
+/// A part that is the number of a command or an answer.
+#[tactic(auto, unfolding(crate::specs::GrammarScripts::count_in))]
+fn count(event: Place, value: &Value) -> Result<u64, InputFault>
+    ensures number { Reads result (count_in event (view value.now)) }
+    ensures most { IfOk result (λ n. n ≤ largest_number) }
+{
+    if !value.is_number() {
+        return Err(InputFault::BadEvent(event));
+    }
+    number(event, u64::from(u32::MAX), value)
 }
 
 /// An event that its name says alone.
 #[tactic(auto, using(crate::proofs::Steps::steps), unfolding(crate::specs::GrammarScripts::plain_event))]
-fn plain_event(name: &Value) -> Result<Act, InputFault>
-    ensures { Reads result (plain_event (view name.now)) }
+fn plain_event(event: Place, name: &Value) -> Result<Act, InputFault>
+    ensures { Reads result (plain_event event (view name.now)) }
 {
-    let name = text_of(name)?;
-    plain_act(name).ok_or(InputFault::Bad)
+    let name = word(event, name)?;
+    plain_act(name).ok_or(InputFault::BadEvent(event))
 }
 
 fn plain_act(name: &str) -> Option<Act>
@@ -82,22 +111,22 @@ fn plain_act(name: &str) -> Option<Act>
 
 /// An event of a name and one part more.
 #[tactic(auto, using(crate::proofs::Steps::steps), unfolding(crate::specs::GrammarScripts::event_with))]
-fn event_with(name: &Value, part: &Value) -> Result<Act, InputFault>
-    ensures { Reads result (event_with (view name.now) (view part.now)) }
+fn event_with(event: Place, name: &Value, second: &Value) -> Result<Act, InputFault>
+    ensures { Reads result (event_with event (view name.now) (view second.now)) }
 {
-    let name = text_of(name)?;
+    let name = word(event, name)?;
     if name == "crash" {
-        return crash_of(part);
+        return crash_of(event, second);
     }
-    numbered_of(name, part)
+    numbered_of(event, name, second)
 }
 
 #[tactic(auto, using(crate::proofs::Steps::steps), unfolding(crate::specs::GrammarScripts::crash_in))]
-fn crash_of(batch: &Value) -> Result<Act, InputFault>
-    ensures { Reads result (crash_in (view batch.now)) }
+fn crash_of(event: Place, batch: &Value) -> Result<Act, InputFault>
+    ensures { Reads result (crash_in event (view batch.now)) }
 {
-    let batch = text_of(batch)?;
-    crash_act(batch).ok_or(InputFault::Bad)
+    let batch = word(event, batch)?;
+    crash_act(batch).ok_or(InputFault::BadEvent(event))
 }
 
 fn crash_act(batch: &str) -> Option<Act>
@@ -111,11 +140,14 @@ fn crash_act(batch: &str) -> Option<Act>
 }
 
 #[tactic(auto, using(crate::proofs::Steps::steps), unfolding(crate::specs::GrammarScripts::numbered_in))]
-fn numbered_of(name: &str, value: &Value) -> Result<Act, InputFault>
-    ensures { Reads result (numbered_in name.now (view value.now)) }
+fn numbered_of(event: Place, name: &str, value: &Value) -> Result<Act, InputFault>
+    ensures { Reads result (numbered_in event name.now (view value.now)) }
 {
-    let number = number(value, u64::from(u32::MAX))?;
-    numbered_act(name, number as u32).ok_or(InputFault::Bad)
+    if numbered_act(name, 0).is_none() {
+        return Err(InputFault::BadEvent(event));
+    }
+    let number = count(event, value)?;
+    numbered_act(name, number as u32).ok_or(InputFault::BadEvent(event))
 }
 
 fn numbered_act(name: &str, number: u32) -> Option<Act>

@@ -1,54 +1,72 @@
-ghost use Rattle.std.specs.Prelude.{◌≡◌, IfOk, map};
+ghost use Rattle.std.specs.Prelude.{◌≡◌, ◌++◌, OnOk, length, map};
 ghost use Rattle.serde_json.specs.Data.{boolean};
-ghost use Rattle.serde_json.specs.View.{view};
-ghost use Rattle.problem_json.specs.Writing.{number_data, stage_data, plan_data};
+ghost use Rattle.serde_json.specs.Written.{compact_text};
+ghost use Rattle.problem_json.specs.Writing.{number_data, list_data, stage_data, plan_data, AreWords, AreStagesOfWords, IsPlanOfWords};
 
-use lists::Memory;
-use serde_json::{Value, json};
-use std::alloc::Global;
+use crate::writing::pieces::{push_comma, push_number};
+use lists::{Memory, Text};
 use wan_model::{Plan, Stage};
 
-pub fn plan_value(alloc: Global, plan: &Plan) -> Result<Value, Memory>
-    ensures { IfOk result (λ v. view v ≡ plan_data plan.now) }
+/// Adds a plan, stage by stage.
+pub fn push_plan(text: &mut Text, plan: &Plan) -> Result<(), Memory>
+    ensures text { OnOk result (text.new ≡ text.old ++ compact_text (plan_data plan.now)) }
+    ensures words { OnOk result (IsPlanOfWords plan.now) }
 {
-    let stages = stage_values(alloc, plan.stages.as_slice())?;
-    json!(in alloc; {"scale": plan.scale, "stages": stages})
+    text.push_str(r#"{"scale":"#)?;
+    push_number(text, u64::from(plan.scale))?;
+    text.push_str(r#","stages":"#)?;
+    push_stages(text, plan.stages.as_slice())?;
+    text.push_str("}")
 }
 
-fn stage_values(alloc: Global, stages: &[Stage]) -> Result<Vec<Value>, Memory>
-    ensures { IfOk result (λ vs. map view vs.items ≡ map stage_data stages.now) }
+fn push_stages(text: &mut Text, stages: &[Stage]) -> Result<(), Memory>
+    ensures text { OnOk result (text.new ≡ text.old ++ compact_text (list_data (map stage_data stages.now))) }
+    ensures words { OnOk result (AreStagesOfWords (length stages.now) stages.now) }
 {
-    let mut values = Vec::new(alloc);
-    for stage in stages {
-        values.push(stage_value(alloc, stage)?)?;
+    text.push_str("[")?;
+    for (number, stage) in stages.iter().enumerate() {
+        push_comma(text, number)?;
+        push_stage(text, stage)?;
     }
-    Ok(values)
+    text.push_str("]")
 }
 
-fn stage_value(alloc: Global, stage: &Stage) -> Result<Value, Memory>
-    ensures { IfOk result (λ v. view v ≡ stage_data stage.now) }
+fn push_stage(text: &mut Text, stage: &Stage) -> Result<(), Memory>
+    ensures text { OnOk result (text.new ≡ text.old ++ compact_text (stage_data stage.now)) }
+    ensures words { OnOk result (AreWords stage.now.rates) }
 {
-    let installed = mark_values(alloc, stage.installed.as_slice())?;
-    let rates = rate_values(alloc, stage.rates.as_slice())?;
-    json!(in alloc; {"installed": installed, "rates": rates})
+    text.push_str(r#"{"installed":"#)?;
+    push_marks(text, stage.installed.as_slice())?;
+    text.push_str(r#","rates":"#)?;
+    push_rates(text, stage.rates.as_slice())?;
+    text.push_str("}")
 }
 
-fn mark_values(alloc: Global, marks: &[bool]) -> Result<Vec<Value>, Memory>
-    ensures { IfOk result (λ vs. map view vs.items ≡ map boolean marks.now) }
+fn push_marks(text: &mut Text, marks: &[bool]) -> Result<(), Memory>
+    ensures { OnOk result (text.new ≡ text.old ++ compact_text (list_data (map boolean marks.now))) }
 {
-    let mut values = Vec::new(alloc);
-    for mark in marks {
-        values.push(Value::from(*mark))?;
+    text.push_str("[")?;
+    for (number, mark) in marks.iter().enumerate() {
+        push_comma(text, number)?;
+        push_mark(text, *mark)?;
     }
-    Ok(values)
+    text.push_str("]")
 }
 
-fn rate_values(alloc: Global, rates: &[u64]) -> Result<Vec<Value>, Memory>
-    ensures { IfOk result (λ vs. map view vs.items ≡ map number_data rates.now) }
+fn push_mark(text: &mut Text, mark: bool) -> Result<(), Memory>
+    ensures { OnOk result (text.new ≡ text.old ++ compact_text (boolean mark)) }
 {
-    let mut values = Vec::new(alloc);
-    for rate in rates {
-        values.push(Value::from(*rate))?;
+    text.push_str(if mark { "true" } else { "false" })
+}
+
+fn push_rates(text: &mut Text, rates: &[u64]) -> Result<(), Memory>
+    ensures text { OnOk result (text.new ≡ text.old ++ compact_text (list_data (map number_data rates.now))) }
+    ensures words { AreWords rates.now }
+{
+    text.push_str("[")?;
+    for (number, rate) in rates.iter().enumerate() {
+        push_comma(text, number)?;
+        push_number(text, *rate)?;
     }
-    Ok(values)
+    text.push_str("]")
 }

@@ -1,38 +1,60 @@
-ghost use Rattle.std.specs.Prelude.{◌≡◌, ◌<◌, ◌≤◌, ◌+◌, ◌-◌, ℕ, IfOk, map, length, slice_index, slice_index_or};
+ghost use Rattle.std.specs.Prelude.{◌≡◌, ◌<◌, ◌≤◌, ◌+◌, ◌-◌, ◌++◌, ℕ, IfOk, OnOk, map, length, slice_index, slice_index_or};
 ghost use Rattle.rollout_rules.specs.Sums.{list_below};
 ghost use Rattle.rollout_rules.specs.Wan.{flow_at};
 ghost use Rattle.rollout_rules.specs.Network.{IsNetwork};
 ghost use Rattle.serde_json.specs.Data.{string};
 ghost use Rattle.serde_json.specs.View.{view};
-ghost use Rattle.problem_json.specs.Writing.{switch_data, link_data, name_data, tunnel_data, flow_data, problem_data};
+ghost use Rattle.serde_json.specs.Written.{compact_text};
+ghost use Rattle.problem_json.specs.Writing.{switch_data, link_data, name_data, tunnel_data, flow_data, list_data, problem_data, format_text};
 
-use lists::Memory;
+use crate::writing::pieces::{push_comma, push_number, push_row};
+use lists::{Memory, Text};
 use serde_json::{Value, json};
 use std::alloc::Global;
 use wan_model::{Flow, Link, Problem, Switch, Tunnel};
 
-pub fn problem_value(alloc: Global, problem: &Problem) -> Result<Value, Memory>
-    ensures data { IfOk result (λ v. view v ≡ problem_data problem.now) }
-    ensures network { IfOk result (λ _. IsNetwork problem.now) }
+/// Adds a problem, row by row.
+pub fn push_problem(alloc: Global, text: &mut Text, problem: &Problem) -> Result<(), Memory>
+    ensures text { OnOk result (text.new ≡ text.old ++ compact_text (problem_data problem.now)) }
+    ensures network { OnOk result (IsNetwork problem.now) }
 {
-    let flows = flow_values(alloc, problem)?;
-    let links = link_values(alloc, problem)?;
-    let switches = switch_values(alloc, problem.switches())?;
-    let format = problem.format();
-    if format == 1 {
-        return json!(in alloc; {"flows": flows, "links": links, "switches": switches});
-    }
-    json!(in alloc; {"flows": flows, "format": format, "links": links, "switches": switches})
+    text.push_str(r#"{"flows":"#)?;
+    push_flows(alloc, text, problem)?;
+    push_format(text, problem.format())?;
+    text.push_str(r#","links":"#)?;
+    push_links(alloc, text, problem)?;
+    text.push_str(r#","switches":"#)?;
+    push_switches(alloc, text, problem.switches())?;
+    text.push_str("}")
 }
 
-fn switch_values(alloc: Global, switches: &[Switch]) -> Result<Vec<Value>, Memory>
-    ensures { IfOk result (λ vs. map view vs.items ≡ map switch_data switches.now) }
+/// Adds the member of the format, where it isn't 1.
+fn push_format(text: &mut Text, format: u32) -> Result<(), Memory>
+    ensures { OnOk result (text.new ≡ text.old ++ format_text format) }
 {
-    let mut values = Vec::new(alloc);
-    for switch in switches {
-        values.push(switch_value(alloc, switch)?)?;
+    if format == 1 {
+        return Ok(());
     }
-    Ok(values)
+    text.push_str(r#","format":"#)?;
+    push_number(text, u64::from(format))
+}
+
+fn push_switches(alloc: Global, text: &mut Text, switches: &[Switch]) -> Result<(), Memory>
+    ensures { OnOk result (text.new
+        ≡ text.old ++ compact_text (list_data (map switch_data switches.now))) }
+{
+    text.push_str("[")?;
+    for (number, switch) in switches.iter().enumerate() {
+        push_comma(text, number)?;
+        push_switch(alloc, text, switch)?;
+    }
+    text.push_str("]")
+}
+
+fn push_switch(alloc: Global, text: &mut Text, switch: &Switch) -> Result<(), Memory>
+    ensures { OnOk result (text.new ≡ text.old ++ compact_text (switch_data switch.now)) }
+{
+    push_row(alloc, text, switch_value(alloc, switch)?)
 }
 
 fn switch_value(alloc: Global, switch: &Switch) -> Result<Value, Memory>
@@ -41,14 +63,24 @@ fn switch_value(alloc: Global, switch: &Switch) -> Result<Value, Memory>
     json!(in alloc; {"name": switch.name.as_str(), "table": switch.table})
 }
 
-fn link_values(alloc: Global, problem: &Problem) -> Result<Vec<Value>, Memory>
-    ensures { IfOk result (λ vs. map view vs.items ≡ map (link_data problem.now) problem.now.links) }
+fn push_links(alloc: Global, text: &mut Text, problem: &Problem) -> Result<(), Memory>
+    ensures { OnOk result (text.new
+        ≡ text.old ++ compact_text (list_data (map (link_data problem.now) problem.now.links))) }
 {
-    let mut values = Vec::new(alloc);
-    for link in problem.links() {
-        values.push(link_value(alloc, problem, link)?)?;
+    text.push_str("[")?;
+    for (number, link) in problem.links().iter().enumerate() {
+        push_comma(text, number)?;
+        push_link(alloc, text, problem, link)?;
     }
-    Ok(values)
+    text.push_str("]")
+}
+
+fn push_link(alloc: Global, text: &mut Text, problem: &Problem, link: &Link) -> Result<(), Memory>
+    requires begins { link.now.from < length problem.now.switches }
+    requires ends { link.now.to < length problem.now.switches }
+    ensures { OnOk result (text.new ≡ text.old ++ compact_text (link_data problem.now link.now)) }
+{
+    push_row(alloc, text, link_value(alloc, problem, link)?)
 }
 
 fn link_value(alloc: Global, problem: &Problem, link: &Link) -> Result<Value, Memory>
@@ -61,44 +93,68 @@ fn link_value(alloc: Global, problem: &Problem, link: &Link) -> Result<Value, Me
     json!(in alloc; {"capacity": link.capacity, "from": from, "to": to})
 }
 
-fn flow_values(alloc: Global, problem: &Problem) -> Result<Vec<Value>, Memory>
-    ensures { IfOk result (λ vs. map view vs.items
-        ≡ list_below (length problem.now.flows) (flow_data problem.now)) }
+fn push_flows(alloc: Global, text: &mut Text, problem: &Problem) -> Result<(), Memory>
+    ensures { OnOk result (text.new ≡ text.old
+        ++ compact_text (list_data (list_below (length problem.now.flows) (flow_data problem.now)))) }
 {
-    let mut values = Vec::new(alloc);
+    text.push_str("[")?;
     for number in 0..problem.flows().len() {
-        values.push(flow_value(alloc, problem, number)?)?;
+        push_comma(text, number)?;
+        push_flow(alloc, text, problem, number)?;
     }
-    Ok(values)
+    text.push_str("]")
 }
 
-fn flow_value(alloc: Global, problem: &Problem, number: usize) -> Result<Value, Memory>
+fn push_flow(alloc: Global, text: &mut Text, problem: &Problem, number: usize) -> Result<(), Memory>
     requires { number < length problem.now.flows }
-    ensures { IfOk result (λ v. view v ≡ flow_data problem.now number) }
+    ensures { OnOk result (text.new ≡ text.old ++ compact_text (flow_data problem.now number)) }
 {
     let flow = &problem.flows()[number];
     let first = flow.first as usize;
-    let tunnels = tunnel_values(alloc, problem, first, first + flow.tunnels as usize)?;
-    json!(in alloc; {"name": flow.name.as_str(), "tunnels": tunnels})
+    text.push_str(r#"{"name":"#)?;
+    push_name(alloc, text, flow.name.as_str())?;
+    text.push_str(r#","tunnels":"#)?;
+    push_tunnels(alloc, text, problem, first, first + flow.tunnels as usize)?;
+    text.push_str("}")
 }
 
-/// The tunnels from one number to before another.
-fn tunnel_values(
+fn push_name(alloc: Global, text: &mut Text, name: &str) -> Result<(), Memory>
+    ensures { OnOk result (text.new ≡ text.old ++ compact_text (string name.now)) }
+{
+    push_row(alloc, text, Value::try_from_str(alloc, name)?)
+}
+
+/// Adds the tunnels from one number to before another.
+fn push_tunnels(
     alloc: Global,
+    text: &mut Text,
     problem: &Problem,
     begin: usize,
     end: usize,
-) -> Result<Vec<Value>, Memory>
+) -> Result<(), Memory>
     requires order { begin ≤ end }
     requires inside { end ≤ length problem.now.tunnels }
-    ensures { IfOk result (λ vs. map view vs.items
-        ≡ list_below (end - begin) (λ j. tunnel_data problem.now (begin + j))) }
+    ensures { OnOk result (text.new ≡ text.old ++ compact_text (list_data
+        (list_below (end - begin) (λ j. tunnel_data problem.now (begin + j))))) }
 {
-    let mut values = Vec::new(alloc);
+    text.push_str("[")?;
     for number in begin..end {
-        values.push(tunnel_value(alloc, problem, number)?)?;
+        push_comma(text, number - begin)?;
+        push_tunnel(alloc, text, problem, number)?;
     }
-    Ok(values)
+    text.push_str("]")
+}
+
+fn push_tunnel(
+    alloc: Global,
+    text: &mut Text,
+    problem: &Problem,
+    number: usize,
+) -> Result<(), Memory>
+    requires { number < length problem.now.tunnels }
+    ensures { OnOk result (text.new ≡ text.old ++ compact_text (tunnel_data problem.now number)) }
+{
+    push_row(alloc, text, tunnel_value(alloc, problem, number)?)
 }
 
 fn tunnel_value(alloc: Global, problem: &Problem, number: usize) -> Result<Value, Memory>

@@ -66,3 +66,22 @@ fn names_are_escaped(rt: HostRuntime) -> Result<(), Fail> {
     assert_eq!(rt; text.as_str(), ODD_NAMES);
     Ok(())
 }
+
+const WIDE: &str =
+    r#"{"flows":[{"name":"f","tunnels":[{"new":1,"old":null,"path":["A","B"],"width":16}]}],"format":2,"links":[{"capacity":10,"from":"A","to":"B"}],"switches":[{"name":"A","table":8},{"name":"B","table":8}]}"#;
+
+#[test]
+fn widths_are_written_in_format_2(rt: HostRuntime) -> Result<(), Fail> {
+    let alloc = rt.alloc();
+    let problem = read_problem(alloc, WIDE.as_bytes())?;
+    let text = write_problem(alloc, &problem)?;
+    assert_eq!(rt; text.as_str(), WIDE);
+    let mut plan = Plan::new(alloc, 3);
+    add_stage(alloc, &mut plan, &[4], &[false])?;
+    let text = write_plan(alloc, &plan)?;
+    assert_eq!(rt;
+        text.as_str(),
+        r#"{"scale":3,"stages":[{"installed":[false],"rates":[4]}]}"#
+    );
+    Ok(())
+}

@@ -33,6 +33,28 @@ fn a_document_is_read_as_its_problem_and_plan(rt: HostRuntime) -> Result<(), Fai
 }
 
 #[test]
+fn a_refused_event_is_named(rt: HostRuntime) -> Result<(), Fail> {
+    let cases = [
+        (r#"["round"],0"#, "input: script[1]: wrong kind"),
+        (r#"["send",1.5]"#, "input: script[0]: not a whole number"),
+        (r#"["go",1.5]"#, "input: script[0]: no event"),
+        (
+            r#"["send",4294967296]"#,
+            "input: script[0]: 4294967296 above 4294967295",
+        ),
+    ];
+    for (events, wanted) in cases {
+        let text = with_events(rt.alloc(), events)?;
+        let line = match read_script(rt.alloc(), text.as_bytes()) {
+            Ok(_) => None,
+            Err(fault) => Some(fault.to_string(rt.alloc())?),
+        };
+        assert_eq!(rt; line.as_deref(), Some(wanted), "at {events}");
+    }
+    Ok(())
+}
+
+#[test]
 fn each_event_is_read_as_its_act(rt: HostRuntime) -> Result<(), Fail> {
     let text = with_events(
         rt.alloc(),

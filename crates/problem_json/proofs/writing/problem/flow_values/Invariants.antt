@@ -1,8 +1,0 @@
-use Rattle.std.proofs.Common.{◌≡◌, map}
-use Rattle.serde_json.specs.View.{view}
-use Rattle.rollout_rules.specs.Sums.{list_below}
-use Rattle.problem_json.specs.Writing.{flow_data}
-use Rattle.problem_json.proofs.writing.problem.flow_values.Given as goal
-
-abbrev pub invariant-loop-number : goal.invariant-loop-number
-invariant-loop-number l = map view l.values.items ≡ list_below l.number (flow_data l.problem)
