@@ -4,11 +4,11 @@ use Rattle.std.specs.List.{list_any}
 use Rattle.std.proofs.lemmas.Bool.{cases_Bool, eqb-true}
 use Rattle.rollout_rules.specs.Sums.{sum_below}
 use Rattle.rollout_rules.specs.Wan.{Problem, Plan, tunnel_at, link_at, switch_of, hops, width_of, crosses}
-use Rattle.rollout_rules.specs.Items.{the_link, the_table, greater_rate, either_mark}
+use Rattle.rollout_rules.specs.Items.{the_link, the_table, either_mark}
 use Rattle.rollout_rules.specs.Network.{IsPath, IsNetwork}
 use Rattle.rollout_rules.proofs.Below.{sum_below-front, sum_below-zero, sum_below-same}
 use Rattle.rollout_rules.proofs.Totals.{step_total-load, step_total-entries_at}
-use Rattle.plan_check.specs.Parts.{GrownBy, AreTotals, added, largest_share, load_share, entry_share}
+use Rattle.plan_check.specs.Parts.{GrownBy, AreTotals, added, largest_share, rate_share, load_share, entry_share}
 
 -- a row of sums, each of what the first n tunnels add to it
 pub record AreSums (sums : List ℕ) (rows n : ℕ) (share : ℕ → ℕ → ℕ) : Type 0 where
@@ -69,15 +69,15 @@ left : (a b : Bool) (n : ℕ) → b ≡ false → (if a && b then n else 0) ≡ 
 left true b n fails = rw fails refl
 left false b n fails = refl
 
-pub load_grown : (p : Problem) (plan : Plan) (s t : ℕ) (old new row : List ℕ) (amount : ℕ) → IsNetwork p → t < length p.tunnels → row ≡ (tunnel_at p t).links → amount ≡ greater_rate plan s t → amount < 2 ^ 64 → GrownBy old new (added row amount) (length row * amount) → GrownBy old new (load_share p plan s t) largest_share
-load_grown p plan s t old new row amount net inside is rate small by =
+pub load_grown : (p : Problem) (rate : ℕ → ℕ) (t : ℕ) (old new row : List ℕ) (amount : ℕ) → IsNetwork p → t < length p.tunnels → row ≡ (tunnel_at p t).links → amount ≡ rate t → amount < 2 ^ 64 → GrownBy old new (added row amount) (length row * amount) → GrownBy old new (rate_share p rate t) largest_share
+load_grown p rate t old new row amount net inside is has small by =
     let path = (net.tunnels t inside).path in
     let few : length row ≤ 17 = omega (arith, ap length is, path.between, path.most) in
-    GrownBy_as old new (added row amount) (load_share p plan s t) (length row * amount) largest_share by
+    GrownBy_as old new (added row amount) (rate_share p rate t) (length row * amount) largest_share by
     (λ k.
     ap (λ r. added r amount k) is
     ∙ added_once (tunnel_at p t).links amount k (links_once p (tunnel_at p t).path (tunnel_at p t).links path)
-    ∙ ap (λ a. if crosses p t k then a else 0) rate)
+    ∙ ap (λ a. if crosses p t k then a else 0) has)
     (few_times (length row) amount few small)
 
 -- a tunnel with entries at either end of the step adds its width to the table of each switch on its path

@@ -1,34 +1,49 @@
 ghost use Rattle.std.specs.Prelude.{◌≡◌, IfOk};
 ghost use Rattle.rollout_rules.specs.Valid.{is_valid_plan};
+ghost use Rattle.plan_check.specs.FirstBroken as first;
+ghost use Rattle.plan_check.specs.Verdict.{IsVerdict, TellsValid};
 
-use crate::carried::carries_what_flows;
-use crate::ends::stands_on;
-use crate::shape::has_shape;
-use crate::steps::fits_each_step;
-use crate::totals::keeps_totals;
+use crate::broken::Broken;
+use crate::carried::first_bare;
+use crate::ends::off_side;
+use crate::fault::PlanFault;
+use crate::shape::misshapen;
+use crate::steps::first_over;
+use crate::totals::first_astray;
 use lists::Memory;
 use std::alloc::Global;
 use wan_model::{Plan, Problem, Side};
 
-/// Whether the plan is valid: clause by clause from P0 to P5, each only where the ones before it hold.
-/// Rates are in units of 1/scale, and sums don't wrap, however large the plan's rates are.
-pub fn check_plan(alloc: Global, problem: &Problem, plan: &Plan) -> Result<bool, Memory>
-    ensures { IfOk result (λ valid. valid ≡ is_valid_plan problem.now plan.now) }
+/// Whether the plan is valid, or else the first clause that it breaks, from P0 to P5, each tested only
+/// where the ones before it hold. Rates are in units of 1/scale, and sums don't wrap, however large the
+/// plan's rates are.
+pub fn check_plan(alloc: Global, problem: &Problem, plan: &Plan) -> Result<(), PlanFault>
+    ensures verdict { IsVerdict result (first.first_broken problem.now plan.now) }
+    ensures valid { TellsValid result (is_valid_plan problem.now plan.now) }
 {
-    if !has_shape(problem, plan) {
-        return Ok(false);
+    match first_broken(alloc, problem, plan)? {
+        Some(broken) => Err(PlanFault::Broken(broken)),
+        None => Ok(()),
     }
-    if !stands_on(problem, plan, Side::Old, 0) {
-        return Ok(false);
+}
+
+fn first_broken(alloc: Global, problem: &Problem, plan: &Plan) -> Result<Option<Broken>, Memory>
+    ensures { IfOk result (λ broken. broken ≡ first.first_broken problem.now plan.now) }
+{
+    if let Some(broken) = misshapen(problem, plan) {
+        return Ok(Some(broken));
     }
-    if !stands_on(problem, plan, Side::New, plan.last_stage()) {
-        return Ok(false);
+    if let Some(broken) = off_side(problem, plan, 1, 0, Side::Old) {
+        return Ok(Some(broken));
     }
-    if !fits_each_step(alloc, problem, plan)? {
-        return Ok(false);
+    if let Some(broken) = off_side(problem, plan, 2, plan.last_stage(), Side::New) {
+        return Ok(Some(broken));
     }
-    if !carries_what_flows(problem, plan) {
-        return Ok(false);
+    if let Some(broken) = first_over(alloc, problem, plan)? {
+        return Ok(Some(broken));
     }
-    Ok(keeps_totals(problem, plan))
+    if let Some(broken) = first_bare(problem, plan) {
+        return Ok(Some(broken));
+    }
+    Ok(first_astray(problem, plan))
 }

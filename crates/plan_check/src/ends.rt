@@ -1,34 +1,58 @@
 ghost use Rattle.std.specs.Prelude.{◌≡◌, ◌<◌, length};
-ghost use Rattle.rollout_rules.specs.Wan.{stage_at};
+ghost use Rattle.rollout_rules.specs.Wan.{tunnel_at};
+ghost use Rattle.rollout_rules.specs.Network.{IsNetwork};
 ghost use Rattle.wan_model.specs.Shaped.{IsShaped};
-ghost use Rattle.plan_check.specs.Parts as parts;
+ghost use Rattle.wan_model.specs.Sides.{rate_on};
+ghost use Rattle.plan_check.specs.FirstBroken as first;
 
-use wan_model::{Plan, Problem, Side};
+use crate::broken::{Broken, breaks};
+use wan_model::{Plan, Problem, Side, Spot};
 
-/// P1 of stage 0 and the old split, P2 of the last stage and the new one: whether the stage is scale
-/// times the split's rates, with its installed set.
-pub fn stands_on(problem: &Problem, plan: &Plan, side: Side, s: usize) -> bool
+/// P1 of stage 0 and the old split, P2 of the last stage and the new one: the first tunnel whose rate
+/// isn't scale times that of the split, or whose mark is another.
+pub fn off_side(problem: &Problem, plan: &Plan, clause: u8, s: usize, side: Side) -> Option<Broken>
     requires shape { IsShaped problem.now plan.now }
     requires stage { s < length plan.now.stages }
-    ensures { result ≡ parts.stands_on problem.now plan.now side s }
+    ensures { result ≡ first.off_side problem.now plan.now clause s side }
 {
     for t in 0..problem.tunnels().len() {
-        if !stands_at(plan, s, t, problem.rate_on(side, t)) {
-            return false;
+        if let Some(broken) = stands_off(problem, plan, clause, s, side, t) {
+            return Some(broken);
         }
     }
-    true
+    None
 }
 
-fn stands_at(plan: &Plan, s: usize, t: usize, split: Option<u64>) -> bool
+fn stands_off(
+    problem: &Problem,
+    plan: &Plan,
+    clause: u8,
+    s: usize,
+    side: Side,
+    t: usize,
+) -> Option<Broken>
+    requires shape { IsShaped problem.now plan.now }
     requires stage { s < length plan.now.stages }
-    requires rate { t < length (stage_at plan.now s).rates }
-    requires mark { t < length (stage_at plan.now s).installed }
-    ensures { result ≡ parts.stands_at plan.now s t split }
+    requires network { IsNetwork problem.now }
+    requires tunnel { t < length problem.now.tunnels }
+    ensures { result ≡ first.stands_off plan.now clause s t (rate_on side (tunnel_at problem.now t)) }
 {
+    let spot = Spot::Tunnel(t as u32);
+    let split = problem.rate_on(side, t);
+    let rate = u128::from(plan.rate(s, t));
     let wanted = u128::from(plan.scale) * u128::from(split.unwrap_or(0));
-    if u128::from(plan.rate(s, t)) != wanted {
-        return false;
+    if rate != wanted {
+        return Some(breaks(clause, s, spot, rate, wanted));
     }
-    plan.mark(s, t) == split.is_some()
+    let mark = plan.mark(s, t);
+    if mark != split.is_some() {
+        return Some(breaks(clause, s, spot, as_number(mark), as_number(split.is_some())));
+    }
+    None
+}
+
+fn as_number(mark: bool) -> u128
+    ensures { result ≡ first.as_number mark }
+{
+    if mark { 1 } else { 0 }
 }

@@ -1,77 +1,105 @@
-ghost use Rattle.std.specs.Prelude.{◌≡◌, ◌<◌, length, nat_le, IfOk};
-ghost use Rattle.rollout_rules.specs.Wan.{switch_at};
-ghost use Rattle.rollout_rules.specs.Items.{the_link, the_table, capacity_of};
-ghost use Rattle.rollout_rules.specs.Valid as valid;
+ghost use Rattle.std.specs.Prelude.{◌≡◌, ◌<◌, length, IfOk};
+ghost use Rattle.rollout_rules.specs.Items.{the_link, the_table};
+ghost use Rattle.rollout_rules.specs.Valid.{step_total};
+ghost use Rattle.rollout_rules.specs.declared.item.Spot.TheVariants as variants;
+ghost use Rattle.rollout_rules.specs.Network.{IsNetwork};
 ghost use Rattle.wan_model.specs.Shaped.{IsShaped};
+ghost use Rattle.plan_check.specs.First.{first_below};
+ghost use Rattle.plan_check.specs.FirstBroken as first;
 ghost use Rattle.plan_check.specs.Parts.{AreTotals};
-ghost use Rattle.plan_check.specs.Parts as parts;
 
-use crate::loads::{step_entries, step_loads};
+use crate::broken::{Broken, breaks};
+use crate::sums::{step_entries, step_loads};
 use lists::Memory;
 use std::alloc::Global;
-use wan_model::{Plan, Problem};
+use wan_model::{Plan, Problem, Spot};
 
-/// P3: whether at each stage the larger rates of the step from it fit on every link, and the widths of
-/// the entries that are there at either end fit in every table (SWAN's step rule).
-pub fn fits_each_step(alloc: Global, problem: &Problem, plan: &Plan) -> Result<bool, Memory>
+/// P3: the first stage at which the larger rates of the step from it don't fit on a link, or the widths
+/// of the entries that are there at either end don't fit in a table (SWAN's step rule).
+pub fn first_over(alloc: Global, problem: &Problem, plan: &Plan) -> Result<Option<Broken>, Memory>
     requires { IsShaped problem.now plan.now }
-    ensures { IfOk result (λ fits. fits ≡ valid.fits_each_step problem.now plan.now) }
+    ensures { IfOk result (λ broken. broken ≡ first_below (length plan.now.stages) (first.over_step problem.now plan.now)) }
 {
     for s in 0..plan.stages.as_slice().len() {
-        if !fits_step(alloc, problem, plan, s)? {
-            return Ok(false);
+        if let Some(broken) = over_step(alloc, problem, plan, s)? {
+            return Ok(Some(broken));
         }
     }
-    Ok(true)
+    Ok(None)
 }
 
-fn fits_step(alloc: Global, problem: &Problem, plan: &Plan, s: usize) -> Result<bool, Memory>
+fn over_step(
+    alloc: Global,
+    problem: &Problem,
+    plan: &Plan,
+    s: usize,
+) -> Result<Option<Broken>, Memory>
     requires shape { IsShaped problem.now plan.now }
     requires stage { s < length plan.now.stages }
-    ensures { IfOk result (λ fits. fits ≡ parts.fits_step problem.now plan.now s) }
+    ensures { IfOk result (λ broken. broken ≡ first.over_step problem.now plan.now s) }
 {
     let loads = step_loads(alloc, problem, plan, s)?;
-    if !links_hold(problem, plan, s, loads.as_slice()) {
-        return Ok(false);
+    if let Some(broken) = over_link(problem, plan, s, loads.as_slice()) {
+        return Ok(Some(broken));
     }
     let entries = step_entries(alloc, problem, plan, s)?;
-    Ok(tables_hold(problem, plan, s, entries.as_slice()))
+    Ok(over_table(problem, plan, s, entries.as_slice()))
 }
 
-fn links_hold(problem: &Problem, plan: &Plan, s: usize, loads: &[u128]) -> bool
-    requires { AreTotals problem.now plan.now s (length problem.now.links) the_link loads.now }
-    ensures { result ≡ parts.links_hold problem.now plan.now s }
+fn over_link(problem: &Problem, plan: &Plan, s: usize, loads: &[u128]) -> Option<Broken>
+    requires shape { IsShaped problem.now plan.now }
+    requires stage { s < length plan.now.stages }
+    requires totals { AreTotals problem.now plan.now s (length problem.now.links) the_link loads.now }
+    ensures { result ≡ first.over_link problem.now plan.now s }
 {
     for l in 0..problem.links().len() {
-        if !link_holds(problem, plan, l, loads[l]) {
-            return false;
+        if let Some(broken) = over_capacity(problem, plan, s, l, loads[l]) {
+            return Some(broken);
         }
     }
-    true
+    None
 }
 
-fn tables_hold(problem: &Problem, plan: &Plan, s: usize, entries: &[u128]) -> bool
-    requires { AreTotals problem.now plan.now s (length problem.now.switches) the_table entries.now }
-    ensures { result ≡ parts.tables_hold problem.now plan.now s }
+fn over_table(problem: &Problem, plan: &Plan, s: usize, entries: &[u128]) -> Option<Broken>
+    requires shape { IsShaped problem.now plan.now }
+    requires stage { s < length plan.now.stages }
+    requires totals { AreTotals problem.now plan.now s (length problem.now.switches) the_table entries.now }
+    ensures { result ≡ first.over_table problem.now plan.now s }
 {
     for w in 0..problem.switches().len() {
-        if !table_holds(problem, w, entries[w]) {
-            return false;
+        if let Some(broken) = over_size(problem, plan, s, w, entries[w]) {
+            return Some(broken);
         }
     }
-    true
+    None
 }
 
-fn link_holds(problem: &Problem, plan: &Plan, l: usize, load: u128) -> bool
-    requires { l < length problem.now.links }
-    ensures { result ≡ nat_le load (capacity_of problem.now plan.now (the_link l)) }
+fn over_capacity(problem: &Problem, plan: &Plan, s: usize, l: usize, load: u128) -> Option<Broken>
+    requires shape { IsShaped problem.now plan.now }
+    requires stage { s < length plan.now.stages }
+    requires network { IsNetwork problem.now }
+    requires link { l < length problem.now.links }
+    requires load { load ≡ step_total problem.now plan.now s (the_link l) }
+    ensures { result ≡ first.over problem.now plan.now s (the_link l) (variants.Link l) }
 {
-    load <= u128::from(problem.capacity(l)) * u128::from(plan.scale)
+    let capacity = u128::from(problem.capacity(l)) * u128::from(plan.scale);
+    if load > capacity {
+        return Some(breaks(3, s, Spot::Link(l as u32), load, capacity));
+    }
+    None
 }
 
-fn table_holds(problem: &Problem, w: usize, entries: u128) -> bool
-    requires { w < length problem.now.switches }
-    ensures { result ≡ nat_le entries (switch_at problem.now w).table }
+fn over_size(problem: &Problem, plan: &Plan, s: usize, w: usize, entries: u128) -> Option<Broken>
+    requires shape { IsShaped problem.now plan.now }
+    requires stage { s < length plan.now.stages }
+    requires network { IsNetwork problem.now }
+    requires switch { w < length problem.now.switches }
+    requires entries { entries ≡ step_total problem.now plan.now s (the_table w) }
+    ensures { result ≡ first.over problem.now plan.now s (the_table w) (variants.Table w) }
 {
-    entries <= u128::from(problem.table(w))
+    let size = u128::from(problem.table(w));
+    if entries > size {
+        return Some(breaks(3, s, Spot::Table(w as u32), entries, size));
+    }
+    None
 }

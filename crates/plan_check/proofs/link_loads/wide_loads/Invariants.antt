@@ -1,0 +1,7 @@
+use Rattle.std.proofs.Common.{length, slice_index}
+use Rattle.plan_check.specs.Parts.{rate_share}
+use Rattle.plan_check.proofs.Shares.{AreSums}
+use Rattle.plan_check.proofs.link_loads.wide_loads.Given as goal
+
+abbrev pub invariant-loop-t : goal.invariant-loop-t
+invariant-loop-t l = AreSums l.sums.items (length l.problem.links) l.t (rate_share l.problem (slice_index l.rates))
