@@ -1,0 +1,9 @@
+pub mod Marks
+pub mod Groups
+pub mod Frame
+pub mod Building
+pub mod Steps
+pub mod Refusals
+pub mod Tables
+pub mod Lacks
+pub mod Scratch

@@ -1,0 +1,78 @@
+ghost use Rattle.std.specs.Prelude.{◌≡◌, ◌+◌, ◌-◌, ◌≤◌, None, IsTrue, IfOk};
+ghost use Rattle.rollout_rules.specs.Valid.{is_valid_plan};
+ghost use Rattle.plan_check.specs.LeastSlack as slack;
+ghost use Rattle.scratch_plan.specs.Refusals as refusals;
+ghost use Rattle.scratch_plan.specs.Scratch as spec;
+
+use crate::framing::frame;
+use crate::links::{Rule, first_lack};
+use crate::no_plan::NoPlan;
+use crate::refusing::refusal;
+use lists::{Many, Memory, Nums};
+use plan_check::least_slack;
+use std::alloc::Global;
+use wan_model::{Plan, Problem};
+
+/// The scratch plan: where a share 1/k of every link is free in both splits, for the least such k from 2
+/// to 64, it moves all rates in k - 1 equal steps. A problem that is refused has none, and where there is
+/// no such k the cause is a link without slack.
+pub fn scratch(alloc: Global, problem: &Problem) -> Result<Plan, NoPlan>
+    ensures value { refusals.Answers result (spec.scratch_of problem.now) }
+    ensures valid { IfOk result (λ plan. IsTrue (is_valid_plan problem.now plan)) }
+{
+    if let Some(cause) = refusal(alloc, problem)? {
+        return Err(cause);
+    }
+    match least_slack(alloc, problem)? {
+        Some(k) => Ok(by_slack(alloc, problem, k as u32)?),
+        None => Err(no_slack(alloc, problem)?),
+    }
+}
+
+fn by_slack(alloc: Global, problem: &Problem, k: u32) -> Result<Plan, Memory>
+    requires least { 2 ≤ k }
+    requires most { k ≤ 64 }
+    ensures { IfOk result (λ plan. plan ≡ spec.by_slack problem.now k) }
+{
+    let rows = blended_rows(alloc, problem, k - 1)?;
+    frame(alloc, problem, k - 1, rows.as_slice())
+}
+
+// The rates after 1 to n - 1 of n equal steps.
+fn blended_rows(alloc: Global, problem: &Problem, n: u32) -> Result<Many<Nums>, Memory>
+    requires least { 1 ≤ n }
+    requires most { n ≤ 64 }
+    ensures { IfOk result (λ rows. rows ≡ spec.blended_rows problem.now n) }
+{
+    let mut rows = Many::new(alloc);
+    for a in 0..n - 1 {
+        rows.push(blended_row(alloc, problem, n, a + 1)?)?;
+    }
+    Ok(rows)
+}
+
+// The rates after a of n equal steps, in units of 1/n.
+fn blended_row(alloc: Global, problem: &Problem, n: u32, a: u32) -> Result<Nums, Memory>
+    requires part { a ≤ n }
+    requires most { n ≤ 64 }
+    ensures { IfOk result (λ row. row ≡ spec.blended_row problem.now n a) }
+{
+    let mut row = Nums::new(alloc);
+    for t in 0..problem.tunnels().len() {
+        let old = u64::from(n - a) * problem.old_rate(t);
+        let new = u64::from(a) * problem.new_rate(t);
+        row.push(old + new)?;
+    }
+    Ok(row)
+}
+
+// The first link without slack 1/64.
+fn no_slack(alloc: Global, problem: &Problem) -> Result<NoPlan, Memory>
+    requires { slack.least_slack problem.now ≡ None }
+    ensures { IfOk result (λ cause. cause ≡ refusals.no_slack problem.now) }
+{
+    match first_lack(alloc, problem, Rule::Slack)? {
+        Some(cause) => Ok(cause),
+        None => unreachable!(),
+    }
+}
