@@ -6,7 +6,7 @@ use Rattle.std.proofs.lemmas.List.{length-map, get_or-map}
 use Rattle.std.proofs.lemmas.List.Elements.{All-from_get_or, All-head, All-tail}
 use Rattle.std.proofs.lemmas.Option.{get_or_from_slice_get, slice_get_within, slice_get-get_or}
 use Rattle.fraction_lp.specs.declared.term.Term.{Term}
-use Rattle.fraction_lp.specs.declared.rows.Row.{Row}
+use Rattle.fraction_lp.specs.Dictionary.{Row}
 use Rattle.fraction_lp.specs.Ratio.{Ratio, sum, product, negated, zero_ratio, one_ratio, is_above_zero, is_below_zero}
 use Rattle.fraction_lp.specs.Dictionary.{Program, IsWhole, Line, Dictionary, leaving, entering, coefficient_at, line_at, line_in, negated_or_zero, multiplier, multipliers, negated_terms, slack_line, first_dictionary}
 use Rattle.fraction_lp.specs.Program.{IsNotNegative, IsNegative, IsCertificate, dot, added, combined}

@@ -3,7 +3,7 @@ use Rattle.std.proofs.Common.{◌≡◌, ℕ, ◌+◌, List, [], ◌∷◌, ◌+
 use Rattle.std.specs.Prelude.{slice_set}
 use Rattle.std.proofs.Math.ListN.{length-set}
 use Rattle.fraction_lp.specs.declared.term.Term.{Term}
-use Rattle.fraction_lp.specs.declared.rows.Row.{Row}
+use Rattle.fraction_lp.specs.Dictionary.{Row}
 use Rattle.fraction_lp.specs.Ratio.{Ratio}
 use Rattle.fraction_lp.specs.Dictionary.{Program, Line, Dictionary, with_first, slot_of, no_lines, slack_line, first_dictionary, put_in_where, put_in_each, coefficient_at, with_line, with_solved, solved_for, line_at, exchanged}
 

@@ -3,7 +3,7 @@ use Rattle.std.proofs.Common.{◌≡◌, ℕ, ◌+◌, ◌*◌, ◌<◌, ◌≤�
 use Rattle.std.specs.Prelude.{All}
 use Rattle.std.proofs.lemmas.Int.{ints}
 use Rattle.std.proofs.lemmas.List.Elements.{All-head, All-tail}
-use Rattle.fraction_lp.specs.declared.rows.Row.{Row}
+use Rattle.fraction_lp.specs.Dictionary.{Row}
 use Rattle.fraction_lp.specs.Ratio.{Ratio, sum, product, negated, zero_ratio}
 use Rattle.fraction_lp.specs.Dictionary.{Program}
 use Rattle.fraction_lp.specs.Program.{IsNotNegative, IsNegative, RowHolds, IsFeasible, IsCertificate, dot, combined}

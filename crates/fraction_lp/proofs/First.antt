@@ -4,7 +4,7 @@ use Rattle.std.specs.Prelude.{slice_get, All, if◌then◌else◌, ◌==◌, nat
 use Rattle.std.proofs.lemmas.Option.{get_or_from_slice_get, slice_get_within}
 use Rattle.std.proofs.lemmas.Bool.{eqb-true, eqb-false, ltb-true, ltb-false}
 use Rattle.fraction_lp.specs.declared.term.Term.{Term}
-use Rattle.fraction_lp.specs.declared.rows.Row.{Row}
+use Rattle.fraction_lp.specs.Dictionary.{Row}
 use Rattle.fraction_lp.specs.Ratio.{Ratio, sum, product, negated, is_zero, zero_ratio}
 use Rattle.fraction_lp.specs.Dictionary.{Program, IsWhole, Line, Dictionary, negated_terms, slack_line, no_lines, first_dictionary}
 use Rattle.fraction_lp.specs.Program.{dot}

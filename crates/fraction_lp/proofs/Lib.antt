@@ -11,5 +11,6 @@ pub mod Numbers
 pub mod Points
 pub mod Signs
 pub mod Sound
+pub mod Sparse
 pub mod Sums
 pub mod Values

@@ -7,7 +7,7 @@ use Rattle.std.specs.List.{position_or_len}
 use Rattle.std.proofs.lemmas.Bool.{ltb-false}
 use Rattle.std.proofs.lemmas.Option.{get_or_from_slice_get, slice_get_within, slice_get-get_or}
 use Rattle.fraction_lp.specs.declared.term.Term.{Term}
-use Rattle.fraction_lp.specs.declared.rows.Row.{Row}
+use Rattle.fraction_lp.specs.Dictionary.{Row}
 use Rattle.fraction_lp.specs.Ratio.{Ratio, sum, product, zero_ratio, is_below_zero}
 use Rattle.fraction_lp.specs.Dictionary.{Program, IsWhole, Line, Dictionary, is_lacking, leaving, constant_of, point_of, negated_terms, slack_line, first_dictionary}
 use Rattle.fraction_lp.specs.Program.{IsNotNegative, RowHolds, IsFeasible, dot}

@@ -2,7 +2,7 @@
 use Rattle.std.proofs.Common.{◌≡◌, ◌≢◌, ℕ, zero, suc, ◌+◌, ◌<◌, ◌≤◌, Bool, true, false, List, [], ◌∷◌, ◌++◌, length, map, get_or, ap, ◌∙◌, sym, subst, refl, arith, add-one, add-zero, zero-add}
 use Rattle.std.specs.Prelude.{if◌then◌else◌, ◌==◌}
 use Rattle.std.proofs.lemmas.Bool.{eqb-true, eqb-false, eq-eqb}
-use Rattle.fraction_lp.specs.declared.rows.Row.{Row}
+use Rattle.fraction_lp.specs.Dictionary.{Row}
 use Rattle.fraction_lp.specs.Ratio.{Ratio, sum, product, negated, zero_ratio, one_ratio}
 use Rattle.fraction_lp.specs.Program.{dot, added, combined}
 use Rattle.fraction_lp.proofs.Arithmetic.{Told, itself, summed, multiplied, turned_round, nothing, unit, alike, sum_assoc, sum_comm, sum-zero, product-sum, product_assoc, product_comm, product-zero, product-one}

@@ -3,10 +3,14 @@
 use Rattle.std.specs.Prelude.{◌≡◌, ℕ, zero, suc, ◌+◌, ◌-◌, Bool, true, false, ◌&&◌, ◌==◌, nat_lt, List, [], ◌∷◌, ◌++◌, map, length, take, slice_get, slice_set, position, All, Option, Some, None, if◌then◌else◌}
 use Rattle.std.specs.Option.{option_and_then}
 use Rattle.fraction_lp.specs.declared.term.Term.{Term}
-use Rattle.fraction_lp.specs.declared.rows.Row.{Row}
 use Rattle.fraction_lp.specs.declared.answer.LpAnswer.{LpAnswer}
 use Rattle.fraction_lp.specs.declared.answer.LpAnswer.TheVariants.{Point, Infeasible, Overflow, Spent, Memory}
 use Rattle.fraction_lp.specs.Ratio.{Ratio, zero_ratio, one_ratio, negated, is_zero, is_below_zero, is_above_zero, plus, times, over}
+
+-- a row: its coefficients, and what they times the unknowns may be at most
+pub record Row : Type 0 where
+  pub coefficients : List Ratio
+  pub bound : Ratio
 
 -- a program: how many unknowns, and the rows, each of which times the unknowns is at most its bound
 pub record Program : Type 0 where
@@ -66,6 +70,15 @@ negated_terms k (x ∷ xs) =
     if is_zero x
     then negated_terms (k + 1) xs
     else record { number = k; coefficient = negated x } ∷ negated_terms (k + 1) xs
+
+-- so many coefficients from a number on, of which these are the terms negated; one without a term is 0
+abbrev pub coefficients_of : ℕ → ℕ → List Term → List Ratio
+coefficients_of k zero ts = []
+coefficients_of k (suc n) [] = zero_ratio ∷ coefficients_of (k + 1) n []
+coefficients_of k (suc n) (t ∷ ts) =
+    if t.number == k
+    then negated t.coefficient ∷ coefficients_of (k + 1) n ts
+    else zero_ratio ∷ coefficients_of (k + 1) n (t ∷ ts)
 
 abbrev pub slack_line : Row → Option Line
 slack_line row = Some (record { constant = row.bound; terms = negated_terms 0 row.coefficients })

@@ -1,7 +1,7 @@
 -- What a linear program asks, and what shows that nothing meets it.
 use Rattle.std.specs.Prelude.{◌≡◌, ℕ, ◌*◌, ℤ, pos, ◌*ℤ◌, ◌≤ℤ◌, ◌<ℤ◌, List, [], ◌∷◌, length, map}
 use Rattle.std.specs.Prelude.{All}
-use Rattle.fraction_lp.specs.declared.rows.Row.{Row}
+use Rattle.fraction_lp.specs.Dictionary.{Row}
 use Rattle.fraction_lp.specs.declared.answer.LpAnswer.{LpAnswer}
 use Rattle.fraction_lp.specs.declared.answer.LpAnswer.TheVariants.{Point, Infeasible, Overflow, Spent, Memory}
 use Rattle.fraction_lp.specs.Ratio.{Ratio, zero_ratio, sum, product}

@@ -1,6 +1,6 @@
 -- Programs whose ends are worked out.
 use Rattle.std.specs.Prelude.{ℕ, ◌^◌, ℤ, pos, negsuc, List, [], ◌∷◌, map}
-use Rattle.fraction_lp.specs.declared.rows.Row.{Row}
+use Rattle.fraction_lp.specs.Dictionary.{Row}
 use Rattle.fraction_lp.specs.Ratio.{Ratio, ratio}
 use Rattle.fraction_lp.specs.Dictionary.{Program}
 

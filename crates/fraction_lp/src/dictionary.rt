@@ -5,7 +5,7 @@ ghost use Rattle.fraction_lp.specs.Steps.{Leaves};
 use crate::line::Line;
 use crate::rows::Row;
 use crate::term::Term;
-use crate::terms::{coefficient_at, negated_terms};
+use crate::terms::coefficient_at;
 use crate::unfinished::Unfinished;
 use crate::{Fraction, FractionList};
 use std::alloc::{AllocError, Global};
@@ -188,8 +188,7 @@ fn add_slack_lines(
     ensures { OnOk result (lines.new.items ≡ lines.old.items ++ map slack_line rows.now) }
 {
     for row in rows {
-        let terms = negated_terms(alloc, row.coefficients.as_slice())?;
-        lines.push(Some(Line::new(row.bound, terms)))?;
+        lines.push(Some(row.slack_line(alloc)?))?;
     }
     Ok(())
 }

@@ -3,7 +3,7 @@ ghost use Rattle.fraction_lp.specs.Divisors.{gcd};
 
 /// The greatest common divisor, by Euclid's algorithm: at full width only while both numbers need it,
 /// and at once for a whole number.
-pub(crate) fn greatest_common_divisor(a: u128, b: u128) -> u128
+pub fn greatest_common_divisor(a: u128, b: u128) -> u128
     ensures { result ≡ gcd a b }
 {
     if b == 1 {

@@ -13,6 +13,7 @@ mod terms;
 mod unfinished;
 
 pub use answer::{FractionList, LpAnswer};
+pub use divisor::greatest_common_divisor;
 pub use fraction::Fraction;
 pub use rows::Rows;
 pub use simplex::{MOST_EXCHANGES, solve};

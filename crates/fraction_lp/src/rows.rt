@@ -1,19 +1,56 @@
-ghost use Rattle.std.specs.Prelude.{◌≡◌, [], ◌∷◌, ◌++◌, length, OnOk, OnErr};
-ghost use Rattle.fraction_lp.specs.Dictionary.{IsWhole};
+ghost use Rattle.std.specs.Prelude.{◌≡◌, [], ◌∷◌, ◌++◌, length, Some, IfOk, OnOk, OnErr};
+ghost use Rattle.fraction_lp.specs.Dictionary.{IsWhole, slack_line};
 
-use crate::{Fraction, FractionList};
+use crate::Fraction;
+use crate::line::Line;
+use crate::term::Term;
+use crate::terms::negated_terms;
 use lists::Memory;
 use std::alloc::Global;
 use std::marker::Model;
 
-/// Coefficients, and what they times the unknowns may be at most.
+/// Coefficients, and what they times the unknowns may be at most. Kept are the coefficients that aren't
+/// 0, negated, as the slack's line has them.
 #[derive(Debug, Drop)]
 pub(crate) struct Row {
-    pub(crate) coefficients: FractionList,
-    pub(crate) bound: Fraction,
+    unknowns: usize,
+    terms: Vec<Term>,
+    bound: Fraction,
 }
 
-/// The rows of a linear program over unknowns that are not negative.
+impl Model for Row {
+    ghost use Rattle.std.specs.Prelude.{◌≡◌};
+    ghost use Rattle.fraction_lp.specs.Dictionary.{Row as TheRow, coefficients_of, negated_terms};
+
+    ghost Value = { TheRow };
+
+    ghost view = { λ r. record { coefficients = coefficients_of 0 r.unknowns r.terms.items; bound = r.bound } };
+
+    ghost invariant = { λ r. negated_terms 0 (coefficients_of 0 r.unknowns r.terms.items) ≡ r.terms.items };
+}
+
+impl Row {
+    fn new(alloc: Global, coefficients: &[Fraction], bound: Fraction) -> Result<Row, Memory>
+        ensures { IfOk result (λ row. row ≡ record { coefficients = coefficients.now; bound = bound }) }
+    {
+        Ok(Row {
+            unknowns: coefficients.len(),
+            terms: negated_terms(alloc, coefficients)?,
+            bound,
+        })
+    }
+
+    /// The line of the row's slack.
+    pub(crate) fn slack_line(&self, alloc: Global) -> Result<Line, Memory>
+        ensures { IfOk result (λ line. Some line ≡ slack_line self.now) }
+    {
+        let mut terms = Vec::new(alloc);
+        terms.extend_from_slice(self.terms.as_slice())?;
+        Ok(Line::new(self.bound, terms))
+    }
+}
+
+/// The rows of a linear program over unknowns that are not negative. A zero takes no memory.
 #[derive(Debug, Drop)]
 pub struct Rows {
     unknowns: u32,
@@ -46,12 +83,8 @@ impl Rows {
         ensures ok { OnOk result (self.new ≡ record self.old { rows = self.old.rows ++ record { coefficients = row.now; bound = bound } ∷ [] }) }
         ensures err { OnErr result (self.new ≡ self.old) }
     {
-        let mut coefficients = FractionList::new(*self.rows.allocator());
-        coefficients.extend_from_slice(row)?;
-        self.rows.push(Row {
-            coefficients,
-            bound,
-        })?;
+        let row = Row::new(*self.rows.allocator(), row, bound)?;
+        self.rows.push(row)?;
         Ok(())
     }
 

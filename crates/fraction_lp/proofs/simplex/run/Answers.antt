@@ -1,7 +1,7 @@
 use Rattle.std.proofs.Common.{◌≡◌, ℕ, zero, suc, ◌+◌, ◌-◌, ◌<◌, ◌≤◌, length, List, Option, Some, None, ap, ◌∙◌, sym, subst, arith}
 use Rattle.fraction_lp.specs.declared.answer.LpAnswer.{LpAnswer}
 use Rattle.fraction_lp.specs.declared.answer.LpAnswer.TheVariants.{Overflow, Spent}
-use Rattle.fraction_lp.specs.declared.rows.Row.{Row}
+use Rattle.fraction_lp.specs.Dictionary.{Row}
 use Rattle.fraction_lp.specs.declared.term.Term.{Term}
 use Rattle.fraction_lp.specs.declared.simplex.Choice.{Choice}
 use Rattle.fraction_lp.specs.declared.simplex.Choice.TheVariants.{End, Exchange}

@@ -1,0 +1,12 @@
+pub mod Lists
+pub mod Sizes
+pub mod Speaking
+pub mod Multiples
+pub mod Rates
+pub mod Sums
+pub mod Tellings
+pub mod Standing
+pub mod Families
+pub mod Both
+pub mod Fitting
+pub mod Trading

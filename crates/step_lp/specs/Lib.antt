@@ -1,0 +1,4 @@
+pub mod Program
+pub mod Moves
+pub mod Points
+pub mod Words
