@@ -1,17 +1,22 @@
-"""Compares the program with an independent reference on generated inputs and command lines: status, output and notes have to be
-the same byte for byte.
+"""Compares the program with an independent reference on generated inputs and command lines, and on good inputs of which a few bytes were
+changed: status, output and notes have to be the same byte for byte.
 
     python3 tests/against_reference.py REFERENCE PROGRAM [COUNT]
 
-REFERENCE is the folder with the reference's `diff.py`. Prints what each kind met, and fails where one differs.
+REFERENCE is the folder with the reference's `diff.py`. COUNT is that of each kind; without it each has its own. Prints what each kind met,
+and fails where one differs.
 """
 
 import os
+import random
+import subprocess
 import sys
 import tempfile
 
-KINDS = ("plan", "sim", "bad", "words")
-STAGE = "a2"
+KINDS = {"plan": 3000, "bad": 3000, "check": 2000, "sim": 2000, "words": 2000, "mutated": 2000}
+# What the program does by now. Rounds release by item, while no command names a policy.
+FEATURES = "none,places,planner,lp,widths,marks,crashes,sim,check"
+PIECES = [b"null", b"true", b"-", b"1", b"1.5", b"99999999999", b'"A"', b"[]", b"{}", b",", b":", b"[", b"}", b'"', b"\\", b"\xff", b" "]
 
 
 def spoil_without_names(gen):
@@ -27,25 +32,62 @@ def spoil_without_names(gen):
     gen.spoil_words = spoil_words
 
 
+def mutated(rng, data):
+    """The bytes with one to three places changed: a byte, a piece that goes, comes twice, or is put in."""
+    for _ in range(rng.choice((1, 1, 2, 3))):
+        at = rng.randrange(len(data) + 1)
+        end = min(len(data), at + rng.choice((1, 1, 2, 8, 40)))
+        change = rng.randrange(4)
+        if change == 0:
+            data = data[:at] + bytes([rng.randrange(256)]) + data[at + 1:]
+        elif change == 1:
+            data = data[:at] + data[end:]
+        elif change == 2:
+            data = data[:end] + data[at:end] + data[end:]
+        else:
+            data = data[:at] + rng.choice(PIECES) + data[at:]
+    return data
+
+
+def mutations(gen, cli, features, program, count):
+    """How many good inputs with changes the program ends otherwise on than the reference, or with neither status 0 nor a refusal."""
+    rng, met, wrong = random.Random(1), {}, 0
+    for number in range(count):
+        case = gen.make(rng.choice(("plan", "check", "sim")), "m", number, features)
+        data = mutated(rng, case.data)
+        status, out, notes = cli.run(case.words, data, {}, None, features)
+        done = subprocess.run([program] + case.words, input=data, capture_output=True)
+        if (done.returncode, done.stdout, done.stderr) != (status, out, notes) or status not in (0, 2, 3, 4):
+            wrong += 1
+            print(f"MISMATCH mutated {number} {case.words}: wanted {status} {notes!r}, got {done.returncode} {done.stderr!r}\n  {data!r}")
+        met[status] = met.get(status, 0) + 1
+    print(f"kind mutated: {count} cases, {wrong} mismatches, by status {dict(sorted(met.items()))}")
+    return wrong
+
+
 def main():
     reference, program = os.path.abspath(sys.argv[1]), os.path.abspath(sys.argv[2])
-    count = sys.argv[3] if len(sys.argv) > 3 else "1000"
     sys.dont_write_bytecode = True
-    # The program rehearses every plan and every event, those that the reference would keep for later commands too.
-    os.environ["ORACLE_WHOLE_WORLD"] = "1"
     sys.path.insert(0, reference)
     import diff
     import gen
+    from oracle import cli, features
 
     spoil_without_names(gen)
     failed = False
     with tempfile.TemporaryDirectory() as found:
-        for kind in KINDS:
-            sys.argv = ["diff.py", "--bin", program, "--kind", kind, "--count", count, "--seed", "1", "--stage", STAGE, "--out", found]
+        for kind, count in KINDS.items():
+            count = int(sys.argv[3]) if len(sys.argv) > 3 else count
+            if kind == "mutated":
+                failed = bool(mutations(gen, cli, features.from_env({}, None, FEATURES), program, count)) or failed
+                continue
+            arguments = ["--bin", program, "--kind", kind, "--count", str(count), "--seed", "1", "--features", FEATURES, "--out", found]
+            sys.argv[1:], given = arguments, sys.argv[1:]
             try:
                 failed = bool(diff.main()) or failed
             except SystemExit as end:
                 failed = bool(end.code) or failed
+            sys.argv[1:] = given
     sys.exit(1 if failed else 0)
 
 

@@ -8,18 +8,20 @@ use Rattle.wan_edge.specs.declared.reading.ReadFault.TheVariants as reading
 use Rattle.swanroll_top.specs.Endings.{ending_of_reading}
 use Rattle.rollout_rules.specs.declared.limits.TheConstants.{MOST_INPUT}
 use Rattle.swanroll_top.specs.Answers.{answer_in, answer_to}
-use Rattle.swanroll_top.specs.Runs.{FollowsInput}
+use Rattle.swanroll_top.specs.Runs.{IsInput, FollowsInput}
+use Rattle.swanroll_top.specs.Taken.{IsTaken}
 use Rattle.swanroll_top.specs.Reading.{IsShortInput, IsCut}
 use Rattle.swanroll_top.specs.declared.ending.Ending.TheVariants.{AboveLimit}
 use Rattle.swanroll_top.specs.declared.words.Command.{Command}
+use Rattle.swanroll_top.specs.declared.words.Command.TheVariants as command
 
-pub long-refused : (command : Command) (input : List ℕ) → MOST_INPUT < length input → answer_to command input ≡ Err AboveLimit
+pub long-refused : (c : Command) (input : List ℕ) → MOST_INPUT < length input → answer_to c input ≡ Err AboveLimit
 unfolding answer_to
-long-refused command input long = rw (lt-ltb MOST_INPUT (length input) long) refl
+long-refused c input long = rw (lt-ltb MOST_INPUT (length input) long) refl
 
-pub short-answered : (command : Command) (input : List ℕ) → length input ≤ MOST_INPUT → answer_to command input ≡ answer_in command input
+pub short-answered : (c : Command) (input : List ℕ) → length input ≤ MOST_INPUT → answer_to c input ≡ answer_in c input
 unfolding answer_to
-short-answered command input short = rw (le-ltb MOST_INPUT (length input) short) refl
+short-answered c input short = rw (le-ltb MOST_INPUT (length input) short) refl
 
 -- a source that was read to its end
 pub read-short : (before now : Option (List ℕ)) (bytes : List ℕ) → ReadsToEnd MOST_INPUT before (Ok bytes) now → IsShortInput before now bytes
@@ -31,20 +33,25 @@ read-cut before now reading.Failed r = tt
 read-cut before now reading.TooLong r = r
 read-cut before now reading.Memory r = tt
 
+-- an input above the limit is taken by no command
+pub long-untaken : (c : Command) (input : List ℕ) → MOST_INPUT < length input → IsTaken c input → ⊥
+long-untaken command.Plan input long t = omega (arith, long, t.within)
+long-untaken command.Check input long t = omega (arith, long, t.within)
+long-untaken command.Sim input long t = omega (arith, long, t.within)
+
 -- where more than the limit was read, the answer to the input is that it is too long
-pub beyond-follows : (command : Command) (before now out : Option (List ℕ)) → GoesBeyond MOST_INPUT before now → FollowsInput command before now AboveLimit out out
-beyond-follows command None now out g = record {
-  input = g.bytes;
-  read = record { whole = tt; read = inr g };
-  answer = rw (long-refused command g.bytes (omega (arith, g.beyond))) (refl, refl);
+long-follows : (c : Command) (before now out : Option (List ℕ)) (input : List ℕ) → IsInput before now input → MOST_INPUT < length input → FollowsInput c before now AboveLimit out out
+long-follows c before now out input read long = record {
+  input = input;
+  read = read;
+  answer = rw (long-refused c input long) (refl, refl);
+  refused = (λ _. long-untaken c input long, λ _. refl);
   safe = λ e. cc;
 }
-beyond-follows command (Some left) (Some rest) out g =
+
+pub beyond-follows : (c : Command) (before now out : Option (List ℕ)) → GoesBeyond MOST_INPUT before now → FollowsInput c before now AboveLimit out out
+beyond-follows c None now out g = long-follows c None now out g.bytes (record { whole = tt; read = inr g }) (omega (arith, g.beyond))
+beyond-follows c (Some left) (Some rest) out g =
     let same : left ≡ g.bytes ++ rest = cc (g.taken) in
-    record {
-      input = left;
-      read = record { whole = refl; read = inr g };
-      answer = rw (long-refused command left (omega (arith, g.beyond, ap length same, length-append g.bytes rest))) (refl, refl);
-      safe = λ e. cc;
-    }
-beyond-follows command (Some left) None out g = absurd (cc (g.taken))
+    long-follows c (Some left) (Some rest) out left (record { whole = refl; read = inr g }) (omega (arith, g.beyond, ap length same, length-append g.bytes rest))
+beyond-follows c (Some left) None out g = absurd (cc (g.taken))

@@ -1,3 +1,12 @@
+pub mod Steps
+pub mod Planned
+pub mod Documents
+pub mod Commands
+pub mod Answering
+pub mod Refused
 pub mod Inputs
-pub mod Outcomes
-pub mod Texts
+pub mod Following
+pub mod Statuses
+pub mod Programs
+pub mod ComparedTexts
+pub mod Complete

@@ -1,18 +1,19 @@
 -- What each command makes of its input: a text, or how the run ends without one.
-use Rattle.std.specs.Prelude.{ℕ, List, [], ◌∷◌, ◌++◌, length, nat_lt, if◌then◌else◌, Result, Ok, Err}
-use Rattle.rollout_rules.specs.Wan.{Problem, Plan}
-use Rattle.rollout_rules.specs.Plans.{direct_plan}
+use Rattle.std.specs.Prelude.{ℕ, List, [], ◌∷◌, ◌++◌, length, codes, decimal, nat_lt, if◌then◌else◌, Option, Some, None, Result, Ok, Err}
+use Rattle.rollout_rules.specs.Wan.{Problem, Plan, Rollout, last_stage}
 use Rattle.rollout_rules.specs.declared.limits.TheConstants.{MOST_INPUT}
-use Rattle.rollout_rules.specs.Valid.{is_valid_plan}
+use Rattle.plan_check.specs.FirstBroken.{first_broken}
+use Rattle.plan_check.specs.declared.broken.Broken.{Broken}
+use Rattle.plan_choose.specs.Choice.{Choice, chosen}
+use Rattle.scratch_plan.specs.declared.no_plan.NoPlan.{NoPlan}
 use Rattle.problem_json.specs.Grammar.{problem_in}
-use Rattle.problem_json.specs.GrammarDocuments.{ScriptedRead, scripted_in}
+use Rattle.problem_json.specs.GrammarDocuments.{DocumentRead, ScriptedRead, document_in, scripted_in}
 use Rattle.problem_json.specs.Writing.{document_text}
 use Rattle.problem_json.specs.declared.fault.InputFault.{InputFault}
 use Rattle.sim_run.specs.Script.{script_text}
-use Rattle.swanroll_top.specs.Planning.{goes_directly}
-use Rattle.swanroll_top.specs.Endings.{ending_of}
+use Rattle.swanroll_top.specs.Endings.{ending_of, ending_without}
 use Rattle.swanroll_top.specs.declared.ending.Ending.{Ending}
-use Rattle.swanroll_top.specs.declared.ending.Ending.TheVariants.{AboveLimit, NotValid, NoPlan}
+use Rattle.swanroll_top.specs.declared.ending.Ending.TheVariants.{AboveLimit, NotValid}
 use Rattle.swanroll_top.specs.declared.words.Command.{Command}
 use Rattle.swanroll_top.specs.declared.words.Command.TheVariants as command
 
@@ -26,24 +27,41 @@ abbrev pub or_ending : {A : Type 0} → Result A InputFault → Result A Ending
 or_ending (Ok a) = Ok a
 or_ending (Err e) = Err (ending_of e)
 
--- the plan of a problem that goes in one step
-unfoldable pub plan_of : Problem → Result Plan Ending
-plan_of p = if goes_directly p then Ok (direct_plan p) else Err NoPlan
+-- the document of a problem with the plan chosen for it, and a line feed
+abbrev pub with_choice : Problem → Result Choice NoPlan → Result (List ℕ) Ending
+with_choice p (Ok choice) = Ok (document_text p choice.plan ++ 10 ∷ [])
+with_choice p (Err cause) = Err (ending_without p cause)
 
--- the document of a problem with its plan, and a line feed
 unfoldable pub planned : Problem → Result (List ℕ) Ending
-planned p = plan_of p >>= λ plan. Ok (document_text p plan ++ 10 ∷ [])
+planned p = with_choice p (chosen p)
+
+-- a document as a rollout, unless its plan breaks a clause
+abbrev pub unless_broken : DocumentRead → Option Broken → Result Rollout Ending
+unless_broken d None = Ok (record { problem = d.problem; plan = d.plan })
+unless_broken d (Some b) = Err (NotValid d.problem b)
+
+unfoldable pub checked : DocumentRead → Result Rollout Ending
+checked d = unless_broken d (first_broken d.problem d.plan)
+
+-- how many steps a valid plan has, and its scale
+abbrev pub valid_text : ℕ → ℕ → List ℕ
+valid_text steps scale = codes "valid: steps " ++ decimal steps ++ codes ", scale " ++ decimal scale ++ codes "\n"
+
+abbrev pub valid_line : Plan → List ℕ
+valid_line plan = valid_text (last_stage plan) plan.scale
+
+-- the line of a document whose plan is valid
+unfoldable pub judged : DocumentRead → Result (List ℕ) Ending
+judged d = checked d >>= λ o. Ok (valid_line o.plan)
 
 -- the text of a script over the plan of its document, where that is valid
 unfoldable pub rehearsed : ScriptedRead → Result (List ℕ) Ending
-rehearsed s =
-    if is_valid_plan s.document.problem s.document.plan
-    then Ok (script_text s.document.problem s.document.plan s.script)
-    else Err NotValid
+rehearsed s = checked s.document >>= λ o. Ok (script_text o.problem o.plan s.script)
 
 -- the answer of a command to an input within the limit
 unfoldable pub answer_in : Command → List ℕ → Result (List ℕ) Ending
 answer_in command.Plan input = or_ending (problem_in input) >>= planned
+answer_in command.Check input = or_ending (document_in input) >>= judged
 answer_in command.Sim input = or_ending (scripted_in input) >>= rehearsed
 
 -- the answer of a command to an input

@@ -1,7 +1,11 @@
+pub mod FaultLines
+pub mod NoPlanLines
 pub mod Endings
-pub mod Planning
+pub mod Lines
 pub mod Words
 pub mod Answers
 pub mod Safety
+pub mod Taken
 pub mod Reading
 pub mod Runs
+pub mod Program

@@ -4,7 +4,7 @@ use Rattle.rollout_rules.specs.declared.limits.TheConstants.{MOST_INPUT}
 use Rattle.swanroll_top.specs.Runs.{IsInput}
 use Rattle.wan_edge.specs.ReadAll.{GoesBeyond}
 use Rattle.swanroll_top.specs.declared.ending.Ending.{Ending}
-use Rattle.swanroll_top.specs.declared.ending.Ending.TheVariants.{Done, Usage, AboveLimit, NotJson, NotAProblem, NotValid, NoPlan, ReadFault, WriteFault, OutOfMemory}
+use Rattle.swanroll_top.specs.declared.ending.Ending.TheVariants.{AboveLimit, ReadFault, OutOfMemory}
 
 -- the bytes are the input, and within the limit
 pub record IsShortInput (before now : Option (List ℕ)) (bytes : List ℕ) : Type 0 where
@@ -16,13 +16,7 @@ abbrev pub IsCut : Option (List ℕ) → Ending → Option (List ℕ) → Type 0
 IsCut before ReadFault now = Unit {0}
 IsCut before OutOfMemory now = Unit {0}
 IsCut before AboveLimit now = GoesBeyond MOST_INPUT before now
-IsCut before NotJson now = ⊥
-IsCut before NotAProblem now = ⊥
-IsCut before NotValid now = ⊥
-IsCut before NoPlan now = ⊥
-IsCut before Done now = ⊥
-IsCut before Usage now = ⊥
-IsCut before WriteFault now = ⊥
+IsCut before ending now = ⊥
 
 abbrev pub ReadsInput : Option (List ℕ) → Result (List ℕ) Ending → Option (List ℕ) → Type 0
 ReadsInput before (Ok bytes) now = IsShortInput before now bytes

@@ -1,12 +1,13 @@
 -- What a run reads, writes and notes.
-use Rattle.std.specs.Prelude.{◌≡◌, ◌⊎◌, ◌==◌, ℕ, List, [], ◌∷◌, Option, Some, None, Result, Ok, Err, IfSome, IsTrue}
-use Rattle.std.specs.List.{list_any}
+use Rattle.std.specs.Prelude.{◌≡◌, ◌⊎◌, ◌↔◌, ℕ, List, Option, Result, Ok, Err, IfSome}
+use Rattle.rollout_rules.specs.declared.limits.TheConstants.{MOST_INPUT}
 use Rattle.wan_edge.specs.Streams.{Appends, AppendsPart, IsAtEnd, Rose}
 use Rattle.wan_edge.specs.ReadAll.{GoesBeyond}
 use Rattle.swanroll_top.specs.Endings.{status_of, line_of}
-use Rattle.rollout_rules.specs.declared.limits.TheConstants.{MOST_INPUT}
+use Rattle.swanroll_top.specs.Lines.{IsToldAs}
 use Rattle.swanroll_top.specs.Answers.{answer_to}
 use Rattle.swanroll_top.specs.Safety.{DoesSafely}
+use Rattle.swanroll_top.specs.Taken.{IsTaken}
 use Rattle.swanroll_top.specs.declared.ending.Ending.{Ending}
 use Rattle.swanroll_top.specs.declared.ending.Ending.TheVariants.{Done, ReadFault, WriteFault, OutOfMemory}
 use Rattle.swanroll_top.specs.declared.words.Command.{Command}
@@ -34,11 +35,13 @@ abbrev pub Follows : Result (List ℕ) Ending → Ending → Option (List ℕ) �
 Follows answer OutOfMemory before now = now ≡ before
 Follows answer ending before now = EndsWith answer ending before now
 
--- the input of a command's run, and how the run follows from it; where the text was written, its rollout is safe
+-- The input of a command's run, and how the run follows from it. It is refused exactly where the command doesn't take it;
+-- where the text was written, its rollout is safe.
 pub record FollowsInput (command : Command) (left left_now : Option (List ℕ)) (ending : Ending) (out out_now : Option (List ℕ)) : Type 0 where
   pub input : List ℕ
   pub read : IsInput left left_now input
   pub answer : EndsWith (answer_to command input) ending out out_now
+  pub refused : (status_of ending ≡ 3) ↔ (IsTaken command input → ⊥)
   pub safe : ending ≡ Done → DoesSafely command input
 
 -- what an ending of a run says: after a fault of the source, and for want of memory, that nothing was written
@@ -51,24 +54,9 @@ Runs command left left_now ending out out_now = FollowsInput command left left_n
 abbrev pub Notes : Ending → Option (List ℕ) → Option (List ℕ) → ℕ → ℕ → Type 0
 Notes ending before now faults faults_now = Appends before (line_of ending) now ⊎ (AppendsPart before (line_of ending) now × Rose faults faults_now)
 
--- a status that `swanroll` may have
-abbrev pub IsStatus : ℕ → Type 0
-IsStatus status = IsTrue (list_any (λ s. s == status) (0 ∷ 2 ∷ 3 ∷ 4 ∷ 6 ∷ 7 ∷ 12 ∷ []))
-
--- the notes have the line of an ending with this status
-pub record IsNoted (exit : ℕ) (before now : Option (List ℕ)) (faults faults_now : ℕ) : Type 0 where
-  pub ending : Ending
-  pub status : exit ≡ status_of ending
-  pub line : Notes ending before now faults faults_now
-
--- The whole of a run that read its input: the status, what was written and the line of the notes follow from it.
-pub record RunsAndNotes (command : Command) (left left_now out out_now notes notes_now : Option (List ℕ)) (faults faults_now status : ℕ) : Type 0 where
-  pub ending : Ending
-  pub is_status : status ≡ status_of ending
-  pub follows : FollowsInput command left left_now ending out out_now
-  pub line : Notes ending notes notes_now faults faults_now
-
--- the same of whichever command the words ask for
-abbrev pub DoesCommand : Option Command → (left left_now out out_now notes notes_now : Option (List ℕ)) → (faults faults_now status : ℕ) → Type 0
-DoesCommand None left left_now out out_now notes notes_now faults faults_now status = ⊥
-DoesCommand (Some command) left left_now out out_now notes notes_now faults faults_now status = RunsAndNotes command left left_now out out_now notes notes_now faults faults_now status
+-- the status and the line are those of the ending, or of want of memory for its line
+pub record IsTold (ending : Ending) (status : ℕ) (before now : Option (List ℕ)) (faults faults_now : ℕ) : Type 0 where
+  pub told : Ending
+  pub is : IsToldAs ending told
+  pub is_status : status ≡ status_of told
+  pub line : Notes told before now faults faults_now

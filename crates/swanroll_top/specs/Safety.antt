@@ -1,25 +1,49 @@
--- What is known of the rollout that the text of a command speaks of.
-use Rattle.std.specs.Prelude.{◌≡◌, ℕ, List, Ok}
-use Rattle.rollout_rules.specs.Wan.{Problem, Plan}
-use Rattle.rollout_rules.specs.Plans.{direct_plan}
+-- What is known of the input of a command that made a text of it, and of the rollout that its text speaks of.
+use Rattle.std.specs.Prelude.{◌≡◌, ℕ, true, List, Ok}
+use Rattle.rollout_rules.specs.Wan.{Problem, Plan, Rollout}
+use Rattle.rollout_rules.specs.Valid.{is_valid_plan}
 use Rattle.rollout_rules.specs.World.{new_world}
 use Rattle.rollout_rules.specs.declared.event.Event.{Event}
 use Rattle.rollout_laws.specs.SafeWorlds.{EveryWorldIsSafe}
+use Rattle.plan_choose.specs.Choice.{Choice, chosen}
 use Rattle.problem_json.specs.Grammar.{problem_in}
-use Rattle.problem_json.specs.GrammarDocuments.{ScriptedRead, scripted_in}
+use Rattle.problem_json.specs.GrammarDocuments.{DocumentRead, ScriptedRead, document_in, scripted_in}
 use Rattle.sim_run.specs.Rehearsed.{IsSafeRehearsal}
 use Rattle.swanroll_top.specs.declared.words.Command.{Command}
 use Rattle.swanroll_top.specs.declared.words.Command.TheVariants as command
 
--- whatever happens while the plan is rolled out as a network's first migration, every world on the way is safe
+abbrev pub IsValid : Problem → Plan → Type 0
+IsValid p plan = is_valid_plan p plan ≡ true
+
+-- the rollout is that of a document, and its plan is valid
+pub record IsSealed (d : DocumentRead) (o : Rollout) : Type 0 where
+  pub same : o ≡ record { problem = d.problem; plan = d.plan }
+  pub valid : IsValid d.problem d.plan
+
+-- ---- where a text was made
+
+-- whatever happens while the plan is rolled out, every world on the way is safe
 abbrev pub IsSafePlan : Problem → Plan → Type 0
 IsSafePlan p plan = (es : List Event) → EveryWorldIsSafe p plan (new_world p plan) es
 
--- the problem that the input is, with a plan for it
+-- a problem for which a plan is chosen: it is valid, and its rollout safe
+pub record IsPlanned (p : Problem) : Type 0 where
+  pub choice : Choice
+  pub is_chosen : chosen p ≡ Ok choice
+  pub valid : IsValid p choice.plan
+  pub safe : IsSafePlan p choice.plan
+
+-- the problem that the input is, and what is known of the plan chosen for it
 pub record PlansSafely (input : List ℕ) : Type 0 where
   pub problem : Problem
   pub read : problem_in input ≡ Ok problem
-  pub safe : IsSafePlan problem (direct_plan problem)
+  pub planned : IsPlanned problem
+
+-- the document that the input is, whose plan is valid
+pub record ChecksValid (input : List ℕ) : Type 0 where
+  pub document : DocumentRead
+  pub read : document_in input ≡ Ok document
+  pub valid : IsValid document.problem document.plan
 
 -- the script that the input is, over the plan of its document
 pub record RehearsesSafely (input : List ℕ) : Type 0 where
@@ -29,4 +53,5 @@ pub record RehearsesSafely (input : List ℕ) : Type 0 where
 
 abbrev pub DoesSafely : Command → List ℕ → Type 0
 DoesSafely command.Plan input = PlansSafely input
+DoesSafely command.Check input = ChecksValid input
 DoesSafely command.Sim input = RehearsesSafely input

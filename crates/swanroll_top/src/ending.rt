@@ -1,62 +1,72 @@
 ghost use Rattle.std.specs.Prelude.{◌≡◌};
 
+use crate::fault_lines::{broken_line, input_line};
+use crate::line::{Line, out_of_memory};
+use crate::no_plan_line::no_plan_line;
 use lists::Memory;
+use plan_check::Broken;
+use plan_choose::Unplanned;
 use problem_json::InputFault;
+use scratch_plan::NoPlan;
+use std::alloc::Global;
 use wan_edge::ReadFault;
+use wan_model::Problem;
 
 /// How a run ends: done, or why not.
-#[derive(Clone, Copy, Debug, PartialEq, Eq)]
+#[derive(Debug, Drop)]
 pub enum Ending {
     Done,
     /// The words aren't a command line.
     Usage,
     /// The input has more bytes than the limit.
     AboveLimit,
-    NotJson,
-    /// The input is JSON, and not what the command reads.
-    NotAProblem,
-    /// The plan of a document isn't valid.
-    NotValid,
-    /// No plan of one step can be had.
-    NoPlan,
+    /// The input isn't what the command reads.
+    Input(InputFault),
+    /// The plan of a document isn't valid: its problem, and the first clause that the plan breaks.
+    NotValid(Problem, Broken),
+    /// No plan is chosen for the problem.
+    NoPlan(Unplanned),
     ReadFault,
     WriteFault,
     OutOfMemory,
 }
 
 impl Ending {
-    ghost use Rattle.swanroll_top.specs.Endings.{status_of, line_of};
+    ghost use Rattle.std.specs.Prelude.{IfErr, IfOk, IsTrue};
+    ghost use Rattle.swanroll_top.specs.Endings.{status_of, line_of, tells_place};
+    ghost use Rattle.swanroll_top.specs.Lines.{bytes_of};
 
     /// The exit status.
-    pub fn status(self) -> u8
-        ensures { result ≡ status_of self }
+    pub fn status(&self) -> u8
+        ensures { result ≡ status_of self.now }
     {
         match self {
             Ending::Done => 0,
             Ending::Usage => 2,
-            Ending::AboveLimit | Ending::NotJson | Ending::NotAProblem | Ending::NotValid => 3,
-            Ending::NoPlan => 4,
+            Ending::AboveLimit | Ending::Input(_) | Ending::NotValid(..) => 3,
+            Ending::NoPlan(_) => 4,
             Ending::ReadFault => 6,
             Ending::WriteFault => 7,
             Ending::OutOfMemory => 12,
         }
     }
 
-    /// The line of the notes, with its line feed; nothing where the run is done.
-    pub fn line(self) -> &'static str
-        ensures { result.now ≡ line_of self }
+    /// The line of the notes, with its line feed; nothing where the run is done. Only a line that tells
+    /// a place takes memory.
+    pub fn line(&self, alloc: Global) -> Result<Line, Memory>
+        ensures ok { IfOk result (λ line. bytes_of line ≡ line_of self.now) }
+        ensures err { IfErr result (λ _. IsTrue (tells_place self.now)) }
     {
         match self {
-            Ending::Done => "",
-            Ending::Usage => "usage: swanroll COMMAND [--NAME VALUE]\n",
-            Ending::AboveLimit => "input: above 16777216 bytes\n",
-            Ending::NotJson => "input: not JSON\n",
-            Ending::NotAProblem => "input: not a problem\n",
-            Ending::NotValid => "input: plan: not valid\n",
-            Ending::NoPlan => "no plan: not built yet\n",
-            Ending::ReadFault => "read fault\n",
-            Ending::WriteFault => "write fault\n",
-            Ending::OutOfMemory => "out of memory\n",
+            Ending::Done => Ok(Line::Known("")),
+            Ending::Usage => Ok(Line::Known("usage: swanroll COMMAND [--NAME VALUE]\n")),
+            Ending::AboveLimit => Ok(Line::Known("input: above 16777216 bytes\n")),
+            Ending::Input(fault) => input_line(alloc, fault),
+            Ending::NotValid(problem, broken) => broken_line(alloc, problem, broken),
+            Ending::NoPlan(unplanned) => no_plan_line(alloc, unplanned),
+            Ending::ReadFault => Ok(Line::Known("read fault\n")),
+            Ending::WriteFault => Ok(Line::Known("write fault\n")),
+            Ending::OutOfMemory => Ok(out_of_memory()),
         }
     }
 }
@@ -84,9 +94,22 @@ impl From<InputFault> for Ending {
 
     fn from(fault: InputFault) -> Ending {
         match fault {
-            InputFault::NotJson => Ending::NotJson,
-            InputFault::Bad => Ending::NotAProblem,
             InputFault::Memory => Ending::OutOfMemory,
+            _ => Ending::Input(fault),
+        }
+    }
+}
+
+impl From<Unplanned> for Ending {
+    ghost use Rattle.std.specs.Prelude.{◌≡◌};
+    ghost use Rattle.swanroll_top.specs.Endings.{ending_without};
+
+    ghost from_gives = { λ unplanned ending. ending ≡ ending_without unplanned.problem unplanned.cause };
+
+    fn from(unplanned: Unplanned) -> Ending {
+        match unplanned.cause {
+            NoPlan::Memory => Ending::OutOfMemory,
+            _ => Ending::NoPlan(unplanned),
         }
     }
 }

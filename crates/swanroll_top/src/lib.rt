@@ -1,22 +1,28 @@
 //! The whole program as one call, [`swanroll`]: it reads its input from a source, does the command that
-//! its words name, writes the result to a sink and says in the notes why it didn't.
+//! its words name, writes the result to a sink and says in the notes why it didn't. [`start`] is the same
+//! from the arguments of the program on.
 //!
-//! A module a concern: the words, the input, planning, the output, how a run ends and the notes. Its
-//! contract speaks from the bytes read to the bytes written.
+//! A module a concern: the words, reading all of the source, writing all of the text, how a run ends and
+//! the notes. The commands that make a text of their input stand in `texts`, a module each; none of them
+//! needs a device. The contract speaks from the bytes read to the bytes written.
 #![tactic(auto)]
 
+mod arguments;
 mod ending;
-mod input;
+mod fault_lines;
+pub mod laws;
+mod line;
+mod no_plan_line;
 mod notes;
-mod output;
-mod plan;
-mod planning;
+mod reading;
 mod run;
-mod sim;
 #[cfg(test)]
 mod tests;
+mod texts;
 mod top;
 mod words;
+mod writing;
 
+pub use arguments::{Unread, start};
 pub use ending::Ending;
 pub use top::swanroll;

@@ -1,20 +1,18 @@
-ghost use Rattle.std.specs.Prelude.{◌≡◌, ◌≢◌, IfOk};
+ghost use Rattle.std.specs.Prelude.{◌≡◌, ◌≢◌};
 ghost use Rattle.wan_edge.specs.Streams.{Rose};
 ghost use Rattle.swanroll_top.specs.Answers.{answer_in};
-ghost use Rattle.swanroll_top.specs.Runs.{Follows, Gives, Runs};
+ghost use Rattle.swanroll_top.specs.Runs.{Follows, Runs};
 ghost use Rattle.swanroll_top.specs.Safety.{DoesSafely};
 
 use crate::ending::Ending;
-use crate::input::read_input;
-use crate::output::write_text;
-use crate::plan::plan;
-use crate::sim::sim;
+use crate::reading::read_input;
+use crate::texts::text_of;
 use crate::words::Command;
-use lists::Text;
+use crate::writing::write_text;
 use std::alloc::Global;
-use wan_edge::{Sink, Source};
+use wan_edge::{Nums8, Sink, Source};
 
-/// Reads all of the source, and writes the command's answer to it.
+/// Reads all of the source, and writes the command's text of it.
 pub fn run<S: Source, K: Sink>(
     alloc: Global,
     command: Command,
@@ -27,28 +25,18 @@ pub fn run<S: Source, K: Sink>(
     ensures ran { result ≢ Ending.Usage }
 {
     match read_input(alloc, source) {
-        Ok(input) => write_answer(alloc, command, input.as_slice(), sink),
+        Ok(input) => write_answer(alloc, command, input, sink),
         Err(ending) => ending,
     }
 }
 
-fn write_answer<K: Sink>(alloc: Global, command: Command, input: &[u8], sink: &mut K) -> Ending
-    ensures follows { Follows (answer_in command input.now) result (K.written sink.old) (K.written sink.new) }
+fn write_answer<K: Sink>(alloc: Global, command: Command, input: Nums8, sink: &mut K) -> Ending
+    ensures follows { Follows (answer_in command input) result (K.written sink.old) (K.written sink.new) }
     ensures cause { result ≡ Ending.WriteFault → Rose (K.faults sink.old) (K.faults sink.new) }
-    ensures safe { result ≡ Ending.Done → DoesSafely command input.now }
+    ensures safe { result ≡ Ending.Done → DoesSafely command input }
 {
-    match answer(alloc, command, input) {
+    match text_of(alloc, command, input) {
         Ok(text) => write_text(sink, text.as_str()),
         Err(ending) => ending,
-    }
-}
-
-fn answer(alloc: Global, command: Command, input: &[u8]) -> Result<Text, Ending>
-    ensures gives { Gives result (answer_in command input.now) }
-    ensures safe { IfOk result (λ text. DoesSafely command input.now) }
-{
-    match command {
-        Command::Plan => plan(alloc, input),
-        Command::Sim => sim(alloc, input),
     }
 }

@@ -5,11 +5,12 @@ ghost use Rattle.swanroll_top.specs.Words.{command_of, command_named};
 #[derive(Clone, Copy, Debug, PartialEq, Eq)]
 pub enum Command {
     Plan,
+    Check,
     Sim,
 }
 
-/// The command that the words ask for, if they are a command line. The program's own name isn't among
-/// them.
+/// The command that the words ask for, if they are a command line: the name of a command, and behind it
+/// pairs of a name and a value, of which no command has any. The program's own name isn't among them.
 pub fn command_of(words: &[String]) -> Option<Command>
     ensures { result ≡ command_of words.now }
 {
@@ -24,6 +25,9 @@ fn command_named(word: &str) -> Option<Command>
 {
     if word == "plan" {
         return Some(Command::Plan);
+    }
+    if word == "check" {
+        return Some(Command::Check);
     }
     if word == "sim" {
         return Some(Command::Sim);

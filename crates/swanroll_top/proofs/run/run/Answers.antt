@@ -1,11 +1,9 @@
-use Rattle.swanroll_top.proofs.Outcomes.{short-runs, cut-runs, no-read-fault, no-usage}
+use Rattle.swanroll_top.proofs.Answering.{no-read-fault, no-usage}
+use Rattle.swanroll_top.proofs.Following.{short-runs, cut-runs}
 use Rattle.swanroll_top.proofs.run.run.Goals as goal
 
 pub returns-in-Ok-clause-runs : goal.returns-in-Ok-clause-runs
-returns-in-Ok-clause-runs g c =
-    let follows = rw c.as_slice.ensures at c.write_answer.ensures.follows in
-    let safe = rw c.as_slice.ensures at c.write_answer.ensures.safe in
-    short-runs _ _ _ _ _ _ _ c.in-Ok.ensures.read follows safe
+returns-in-Ok-clause-runs g c = short-runs _ _ _ _ _ _ _ c.in-Ok.ensures.read c.write_answer.ensures.follows c.write_answer.ensures.safe
 
 pub returns-in-Ok-clause-read_fault : goal.returns-in-Ok-clause-read_fault
 returns-in-Ok-clause-read_fault g c = λ e. absurd (no-read-fault _ _ _ _ (rw e at c.write_answer.ensures.follows))

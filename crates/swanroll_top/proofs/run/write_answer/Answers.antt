@@ -1,4 +1,4 @@
-use Rattle.swanroll_top.proofs.Outcomes.{no-write-fault, no-done}
+use Rattle.swanroll_top.proofs.Answering.{no-write-fault, no-done}
 use Rattle.swanroll_top.proofs.run.write_answer.Goals as goal
 
 pub returns-in-Err-clause-cause : goal.returns-in-Err-clause-cause

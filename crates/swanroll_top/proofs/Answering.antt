@@ -1,0 +1,86 @@
+-- No command answers with an ending that isn't one of its input.
+use Rattle.std.proofs.Common.{◌≡◌, ◌⊎◌, ℕ, List, Bool, true, false, Option, Some, None, Result, Ok, Err, refl, ap, ◌∙◌, inl, inr}
+use Rattle.rollout_rules.specs.Wan.{Problem, Rollout}
+use Rattle.plan_check.specs.FirstBroken.{first_broken}
+use Rattle.plan_check.specs.declared.broken.Broken.{Broken}
+use Rattle.plan_choose.specs.Choice.{Choice, chosen}
+use Rattle.scratch_plan.specs.declared.no_plan.NoPlan.{NoPlan as Cause}
+use Rattle.scratch_plan.specs.declared.no_plan.NoPlan.TheVariants as cause
+use Rattle.problem_json.specs.Grammar.{problem_in}
+use Rattle.problem_json.specs.GrammarDocuments.{DocumentRead, ScriptedRead, document_in, scripted_in}
+use Rattle.problem_json.specs.declared.fault.InputFault.{InputFault}
+use Rattle.sim_run.specs.Script.{script_text}
+use Rattle.swanroll_top.specs.Answers.{◌>>=◌, or_ending, with_choice, planned, checked, valid_line, judged, rehearsed, answer_in}
+use Rattle.swanroll_top.specs.Endings.{ending_of}
+use Rattle.swanroll_top.specs.Runs.{EndsWith, Follows, Gives}
+use Rattle.swanroll_top.specs.declared.ending.Ending.{Ending}
+use Rattle.swanroll_top.specs.declared.ending.Ending.TheVariants.{Done, Usage, ReadFault, WriteFault}
+use Rattle.swanroll_top.specs.declared.words.Command.{Command}
+use Rattle.swanroll_top.specs.declared.words.Command.TheVariants as command
+use Rattle.swanroll_top.proofs.Documents.{as_rollout, checked-by}
+use Rattle.swanroll_top.proofs.Steps.{fault-ends}
+
+-- whether an ending can be the answer to an input
+abbrev pub is_answer : Ending → Bool
+is_answer Done = false
+is_answer Usage = false
+is_answer ReadFault = false
+is_answer WriteFault = false
+is_answer ending = true
+
+abbrev pub HasAnswer : Result (List ℕ) Ending → Type 0
+HasAnswer (Ok text) = Unit {0}
+HasAnswer (Err e) = is_answer e ≡ true
+
+fault-answers : (e : InputFault) → is_answer (ending_of e) ≡ true
+fault-answers e = elim (fault-ends e) [ inl is ↦ ap is_answer is | inr is ↦ ap is_answer is ]
+
+step-answers : {A : Type 0} (read : Result A InputFault) (next : A → Result (List ℕ) Ending) → ((a : A) → HasAnswer (next a)) → HasAnswer (or_ending read >>= next)
+step-answers (Ok a) next h = h a
+step-answers (Err e) next h = fault-answers e
+
+with-choice-answers : (p : Problem) (choice : Result Choice Cause) → HasAnswer (with_choice p choice)
+with-choice-answers p (Ok choice) = tt
+with-choice-answers p (Err (cause.OverCapacity l side load capacity)) = refl
+with-choice-answers p (Err (cause.TableFull w entries size)) = refl
+with-choice-answers p (Err (cause.NoSlack l side load capacity)) = refl
+with-choice-answers p (Err cause.Memory) = refl
+
+planned-answers : (p : Problem) → HasAnswer (planned p)
+unfolding planned
+planned-answers p = with-choice-answers p (chosen p)
+
+checked-step-by : (d : DocumentRead) (next : Rollout → Result (List ℕ) Ending) (broken : Option Broken) → first_broken d.problem d.plan ≡ broken → ((o : Rollout) → HasAnswer (next o)) → HasAnswer (checked d >>= next)
+checked-step-by d next None e h = rw (checked-by d None e) (h (as_rollout d))
+checked-step-by d next (Some b) e h = rw (checked-by d (Some b) e) refl
+
+judged-answers : (d : DocumentRead) → HasAnswer (judged d)
+unfolding judged
+judged-answers d = checked-step-by d (λ o. Ok (valid_line o.plan)) (first_broken d.problem d.plan) refl (λ o. tt)
+
+rehearsed-answers : (s : ScriptedRead) → HasAnswer (rehearsed s)
+unfolding rehearsed
+rehearsed-answers s = checked-step-by s.document (λ o. Ok (script_text o.problem o.plan s.script)) (first_broken s.document.problem s.document.plan) refl (λ o. tt)
+
+pub command-answers : (c : Command) (input : List ℕ) → HasAnswer (answer_in c input)
+unfolding answer_in
+command-answers command.Plan input = step-answers (problem_in input) planned planned-answers
+command-answers command.Check input = step-answers (document_in input) judged judged-answers
+command-answers command.Sim input = step-answers (scripted_in input) rehearsed rehearsed-answers
+
+ends-only : (answer : Result (List ℕ) Ending) (e : Ending) (out now : Option (List ℕ)) → HasAnswer answer → EndsWith answer e out now → (e ≡ Done) ⊎ ((e ≡ WriteFault) ⊎ (is_answer e ≡ true))
+ends-only (Ok text) e out now h (inl done) = inl done.0
+ends-only (Ok text) e out now h (inr cut) = inr (inl cut.0)
+ends-only (Err d) e out now h w = inr (inr (ap is_answer w.0 ∙ h))
+
+pub no-read-fault : (c : Command) (input : List ℕ) (out now : Option (List ℕ)) → Follows (answer_in c input) ReadFault out now → ⊥
+no-read-fault c input out now h = elim (ends-only _ ReadFault out now (command-answers c input) h) [ inl e ↦ cc | inr e ↦ elim e [ inl f ↦ cc | inr f ↦ cc ] ]
+
+pub no-usage : (c : Command) (input : List ℕ) (out now : Option (List ℕ)) → Follows (answer_in c input) Usage out now → ⊥
+no-usage c input out now h = elim (ends-only _ Usage out now (command-answers c input) h) [ inl e ↦ cc | inr e ↦ elim e [ inl f ↦ cc | inr f ↦ cc ] ]
+
+pub no-done : (c : Command) (input : List ℕ) → Gives {A = List ℕ} (Err Done) (answer_in c input) → ⊥
+no-done c input h = let e : is_answer Done ≡ true = (rw h at (command-answers c input)) in cc
+
+pub no-write-fault : (c : Command) (input : List ℕ) → Gives {A = List ℕ} (Err WriteFault) (answer_in c input) → ⊥
+no-write-fault c input h = let e : is_answer WriteFault ≡ true = (rw h at (command-answers c input)) in cc

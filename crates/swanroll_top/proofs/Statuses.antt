@@ -1,0 +1,61 @@
+-- The ending of a status.
+use Rattle.std.proofs.Common.{◌≡◌, refl, arith}
+use Rattle.swanroll_top.specs.Endings.{status_of}
+use Rattle.swanroll_top.specs.Program.{IsStatus}
+use Rattle.swanroll_top.specs.declared.ending.Ending.{Ending}
+use Rattle.swanroll_top.specs.declared.ending.Ending.TheVariants.{Done, Usage, AboveLimit, Input, NotValid, NoPlan, ReadFault, WriteFault, OutOfMemory}
+
+pub is-done : (t : Ending) → status_of t ≡ 0 → t ≡ Done
+is-done Done h = refl
+is-done Usage h = absurd (omega (arith, h))
+is-done AboveLimit h = absurd (omega (arith, h))
+is-done (Input f) h = absurd (omega (arith, h))
+is-done (NotValid p b) h = absurd (omega (arith, h))
+is-done (NoPlan u) h = absurd (omega (arith, h))
+is-done ReadFault h = absurd (omega (arith, h))
+is-done WriteFault h = absurd (omega (arith, h))
+is-done OutOfMemory h = absurd (omega (arith, h))
+
+pub is-usage : (t : Ending) → status_of t ≡ 2 → t ≡ Usage
+is-usage Done h = absurd (omega (arith, h))
+is-usage Usage h = refl
+is-usage AboveLimit h = absurd (omega (arith, h))
+is-usage (Input f) h = absurd (omega (arith, h))
+is-usage (NotValid p b) h = absurd (omega (arith, h))
+is-usage (NoPlan u) h = absurd (omega (arith, h))
+is-usage ReadFault h = absurd (omega (arith, h))
+is-usage WriteFault h = absurd (omega (arith, h))
+is-usage OutOfMemory h = absurd (omega (arith, h))
+
+pub is-read-fault : (t : Ending) → status_of t ≡ 6 → t ≡ ReadFault
+is-read-fault Done h = absurd (omega (arith, h))
+is-read-fault Usage h = absurd (omega (arith, h))
+is-read-fault AboveLimit h = absurd (omega (arith, h))
+is-read-fault (Input f) h = absurd (omega (arith, h))
+is-read-fault (NotValid p b) h = absurd (omega (arith, h))
+is-read-fault (NoPlan u) h = absurd (omega (arith, h))
+is-read-fault ReadFault h = refl
+is-read-fault WriteFault h = absurd (omega (arith, h))
+is-read-fault OutOfMemory h = absurd (omega (arith, h))
+
+pub is-write-fault : (t : Ending) → status_of t ≡ 7 → t ≡ WriteFault
+is-write-fault Done h = absurd (omega (arith, h))
+is-write-fault Usage h = absurd (omega (arith, h))
+is-write-fault AboveLimit h = absurd (omega (arith, h))
+is-write-fault (Input f) h = absurd (omega (arith, h))
+is-write-fault (NotValid p b) h = absurd (omega (arith, h))
+is-write-fault (NoPlan u) h = absurd (omega (arith, h))
+is-write-fault ReadFault h = absurd (omega (arith, h))
+is-write-fault WriteFault h = refl
+is-write-fault OutOfMemory h = absurd (omega (arith, h))
+
+pub is-status : (t : Ending) → IsStatus (status_of t)
+is-status Done = refl
+is-status Usage = refl
+is-status AboveLimit = refl
+is-status (Input f) = refl
+is-status (NotValid p b) = refl
+is-status (NoPlan u) = refl
+is-status ReadFault = refl
+is-status WriteFault = refl
+is-status OutOfMemory = refl

@@ -1,0 +1,22 @@
+use Rattle.std.proofs.lemmas.Result.{err_from_is_err_and}
+use Rattle.swanroll_top.proofs.Planned.{chosen-document, chosen-safe, unplanned-gives}
+use Rattle.swanroll_top.proofs.texts.plan.planned.Goals as goal
+
+pub returns-in_err-chosen-clause-gives : goal.returns-in_err-chosen-clause-gives
+returns-in_err-chosen-clause-gives c =
+    let p = err_from_is_err_and c.from_residual.result c.from_residual.ensures.1 in
+    rw (p.1, p.2) (unplanned-gives _ _ _ c.in_err-chosen.ensures.0 c.in_err-chosen.ensures.1)
+
+pub returns-in_err-document_of-clause-gives : goal.returns-in_err-document_of-clause-gives
+returns-in_err-document_of-clause-gives c =
+    let p = err_from_is_err_and c.from_residual-in_err-document_of.result c.from_residual-in_err-document_of.ensures.1 in
+    rw (p.1, p.2) tt
+
+pub returns-clause-gives : goal.returns-clause-gives
+returns-clause-gives c =
+    chosen-document _ _ _ _ (record { same = c.in_ok-chosen.ensures.0; is_chosen = c.in_ok-chosen.ensures.1 }) c.in_ok-document_of.ensures
+
+pub returns-clause-safe : goal.returns-clause-safe
+returns-clause-safe c =
+    chosen-safe _ _ _ (record { same = c.in_ok-chosen.ensures.0; is_chosen = c.in_ok-chosen.ensures.1 })
+    c.every_rollout_is_safe.ensures.valid c.every_rollout_is_safe.ensures.safe

@@ -1,0 +1,13 @@
+use Rattle.std.proofs.Common.{Ok, ap, sym, ◌∙◌}
+use Rattle.std.proofs.lemmas.Result.{err_from_is_err_and}
+use Rattle.swanroll_top.proofs.Commands.{sim-refuses, sim-answers, read-rehearses-safely}
+use Rattle.swanroll_top.proofs.texts.sim.sim.Goals as goal
+
+pub returns-in_err-document-clause-gives : goal.returns-in_err-document-clause-gives
+returns-in_err-document-clause-gives c = let p = err_from_is_err_and c.from_residual.result c.from_residual.ensures.1 in rw (p.1, p.2) (sim-refuses _ _ c.in_err-document.ensures)
+
+pub returns-clause-gives : goal.returns-clause-gives
+returns-clause-gives c = rw (sim-answers _ _ (c.in_ok-document.ensures ∙ ap Ok (sym c.document.view_is))) c.rehearsed.ensures.gives
+
+pub returns-clause-safe : goal.returns-clause-safe
+returns-clause-safe c = read-rehearses-safely _ _ c.rehearsed.result (c.in_ok-document.ensures ∙ ap Ok (sym c.document.view_is)) c.rehearsed.ensures.safe

@@ -1,0 +1,31 @@
+-- The inputs that a command doesn't refuse: within the limit, what it reads, and with a valid plan.
+use Rattle.std.specs.Prelude.{◌≡◌, ℕ, ◌≤◌, List, length, Ok}
+use Rattle.rollout_rules.specs.Wan.{Problem}
+use Rattle.rollout_rules.specs.declared.limits.TheConstants.{MOST_INPUT}
+use Rattle.problem_json.specs.Grammar.{problem_in}
+use Rattle.problem_json.specs.GrammarDocuments.{DocumentRead, ScriptedRead, document_in, scripted_in}
+use Rattle.swanroll_top.specs.Safety.{IsValid}
+use Rattle.swanroll_top.specs.declared.words.Command.{Command}
+use Rattle.swanroll_top.specs.declared.words.Command.TheVariants as command
+
+pub record IsProblem (input : List ℕ) : Type 0 where
+  pub within : length input ≤ MOST_INPUT
+  pub problem : Problem
+  pub read : problem_in input ≡ Ok problem
+
+pub record IsValidDocument (input : List ℕ) : Type 0 where
+  pub within : length input ≤ MOST_INPUT
+  pub document : DocumentRead
+  pub read : document_in input ≡ Ok document
+  pub valid : IsValid document.problem document.plan
+
+pub record IsValidScript (input : List ℕ) : Type 0 where
+  pub within : length input ≤ MOST_INPUT
+  pub scripted : ScriptedRead
+  pub read : scripted_in input ≡ Ok scripted
+  pub valid : IsValid scripted.document.problem scripted.document.plan
+
+abbrev pub IsTaken : Command → List ℕ → Type 0
+IsTaken command.Plan input = IsProblem input
+IsTaken command.Check input = IsValidDocument input
+IsTaken command.Sim input = IsValidScript input

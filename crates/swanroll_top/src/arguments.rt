@@ -1,0 +1,51 @@
+ghost use Rattle.std.specs.Prelude.{◌≡◌, drop};
+ghost use Rattle.swanroll_top.specs.Program.{IsStarted};
+
+use crate::ending::Ending;
+use crate::notes::note;
+use crate::top::swanroll;
+use std::alloc::Global;
+use wan_edge::{Sink, Source};
+
+/// Why the arguments of a program couldn't be read.
+#[derive(Clone, Copy, Debug, PartialEq, Eq)]
+pub enum Unread {
+    /// One of them isn't UTF-8.
+    NotText,
+    /// No memory was found.
+    Memory,
+}
+
+/// Does what the program's arguments ask for, of which the first is its own name, and answers its exit
+/// status. Arguments that aren't text are no command line.
+#[tactic(auto, using(crate::proofs::Programs::running))]
+pub fn start<S: Source, K: Sink>(
+    alloc: Global,
+    arguments: Result<Vec<String>, Unread>,
+    source: &mut S,
+    sink: &mut K,
+    notes: &mut K,
+) -> u8
+    ensures started { IsStarted arguments (λ all. all.items)
+        (record { left = S.left source.old; written = K.written sink.old; noted = K.written notes.old; source_faults = S.faults source.old; sink_faults = K.faults sink.old; notes_faults = K.faults notes.old })
+        (record { left = S.left source.new; written = K.written sink.new; noted = K.written notes.new; source_faults = S.faults source.new; sink_faults = K.faults sink.new; notes_faults = K.faults notes.new })
+        result }
+    ensures untouched { result ≡ 2 → source.new ≡ source.old }
+    ensures quiet { result ≡ 0 → notes.new ≡ notes.old }
+{
+    match arguments {
+        Ok(arguments) => swanroll(alloc, words_of(arguments.as_slice()), source, sink, notes),
+        Err(Unread::NotText) => note(alloc, notes, Ending::Usage),
+        Err(Unread::Memory) => note(alloc, notes, Ending::OutOfMemory),
+    }
+}
+
+/// The words behind the program's own name.
+fn words_of(arguments: &[String]) -> &[String]
+    ensures { result.now ≡ drop 1 arguments.now }
+{
+    match arguments {
+        [_, words @ ..] => words,
+        [] => &[],
+    }
+}

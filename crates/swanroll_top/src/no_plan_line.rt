@@ -1,0 +1,114 @@
+ghost use Rattle.std.specs.Prelude.{◌≡◌, ◌++◌, IfOk, OnOk};
+ghost use Rattle.swanroll_top.specs.Lines.{bytes_of};
+ghost use Rattle.swanroll_top.specs.NoPlanLines.{side_text, load_on, link_load, above, leaves_no_slack, wants, no_plan_line};
+
+use crate::line::Line;
+use lists::{Memory, Text};
+use plan_choose::Unplanned;
+use scratch_plan::NoPlan;
+use std::alloc::Global;
+use wan_model::{Problem, Side};
+use wan_text::{push_link, push_switch};
+
+/// The line of a problem for which no plan is chosen.
+pub fn no_plan_line(alloc: Global, unplanned: &Unplanned) -> Result<Line, Memory>
+    ensures { IfOk result (λ line. bytes_of line ≡ no_plan_line unplanned.now.problem unplanned.now.cause) }
+{
+    let mut line = Text::new(alloc);
+    push_cause(alloc, &mut line, &unplanned.problem, unplanned.cause)?;
+    Ok(Line::Made(line))
+}
+
+fn push_cause(
+    alloc: Global,
+    line: &mut Text,
+    problem: &Problem,
+    cause: NoPlan,
+) -> Result<(), Memory>
+    ensures { OnOk result (line.new ≡ line.old ++ no_plan_line problem.now cause) }
+{
+    match cause {
+        NoPlan::OverCapacity {
+            link,
+            side,
+            load,
+            capacity,
+        } => {
+            push_link_load(alloc, line, problem, link, side, load)?;
+            push_above(alloc, line, capacity)
+        }
+        NoPlan::TableFull {
+            switch,
+            wanted,
+            size,
+        } => {
+            line.push_str("no plan: table ")?;
+            push_switch(alloc, line, problem, switch as usize)?;
+            push_wants(alloc, line, wanted)?;
+            push_above(alloc, line, size)
+        }
+        NoPlan::NoSlack {
+            link,
+            side,
+            load,
+            capacity,
+        } => {
+            push_link_load(alloc, line, problem, link, side, load)?;
+            push_leaves_no_slack(alloc, line, capacity)
+        }
+        NoPlan::Memory => line.push_str("out of memory\n"),
+    }
+}
+
+fn push_link_load(
+    alloc: Global,
+    line: &mut Text,
+    problem: &Problem,
+    link: u32,
+    side: Side,
+    load: u64,
+) -> Result<(), Memory>
+    ensures { OnOk result (line.new ≡ line.old ++ link_load problem.now link side load) }
+{
+    line.push_str("no plan: link ")?;
+    push_link(alloc, line, problem, link as usize)?;
+    push_load(alloc, line, side, load)
+}
+
+fn push_load(alloc: Global, line: &mut Text, side: Side, load: u64) -> Result<(), Memory>
+    ensures { OnOk result (line.new ≡ line.old ++ load_on side load) }
+{
+    let side = side_text(side);
+    let load = format!(in alloc; " {side} load {load}")?;
+    line.push_str(&load)
+}
+
+fn side_text(side: Side) -> &'static str
+    ensures { result.now ≡ side_text side }
+{
+    match side {
+        Side::Old => "old",
+        Side::New => "new",
+    }
+}
+
+fn push_above(alloc: Global, line: &mut Text, limit: u64) -> Result<(), Memory>
+    ensures { OnOk result (line.new ≡ line.old ++ above limit) }
+{
+    let end = format!(in alloc; " above {limit}\n")?;
+    line.push_str(&end)
+}
+
+fn push_leaves_no_slack(alloc: Global, line: &mut Text, capacity: u64) -> Result<(), Memory>
+    ensures { OnOk result (line.new ≡ line.old ++ leaves_no_slack capacity) }
+{
+    let end = format!(in alloc; " of {capacity} leaves no slack\n")?;
+    line.push_str(&end)
+}
+
+fn push_wants(alloc: Global, line: &mut Text, wanted: u64) -> Result<(), Memory>
+    ensures { OnOk result (line.new ≡ line.old ++ wants wanted) }
+{
+    let part = format!(in alloc; " wants {wanted}")?;
+    line.push_str(&part)
+}

@@ -1,0 +1,30 @@
+//! The commands that make a text of their input: none of them needs a device.
+
+mod check;
+mod checking;
+mod plan;
+mod sim;
+
+ghost use Rattle.std.specs.Prelude.{IfOk};
+ghost use Rattle.swanroll_top.specs.Answers.{answer_in};
+ghost use Rattle.swanroll_top.specs.Runs.{Gives};
+ghost use Rattle.swanroll_top.specs.Safety.{DoesSafely};
+
+use crate::ending::Ending;
+use crate::words::Command;
+use lists::Text;
+use std::alloc::Global;
+use wan_edge::Nums8;
+
+/// The text that a command makes of its input, or how the run ends without one. The bytes are given up as
+/// soon as they are read.
+pub fn text_of(alloc: Global, command: Command, input: Nums8) -> Result<Text, Ending>
+    ensures gives { Gives result (answer_in command input) }
+    ensures safe { IfOk result (λ text. DoesSafely command input) }
+{
+    match command {
+        Command::Plan => plan::plan(alloc, input),
+        Command::Check => check::check(alloc, input),
+        Command::Sim => sim::sim(alloc, input),
+    }
+}
