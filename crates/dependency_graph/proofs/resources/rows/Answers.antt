@@ -1,0 +1,20 @@
+use Rattle.std.proofs.Common.{◌+◌, ◌<◌, ◌∙◌, sym, ap, subst, arith}
+use Rattle.rollout_rules.specs.Wan.{Rollout}
+use Rattle.rollout_rules.specs.Items.{item_count, item_at}
+use Rattle.dependency_graph.specs.Cells.{AreTouched}
+use Rattle.dependency_graph.specs.Touched.{AreRows}
+use Rattle.dependency_graph.proofs.Reached.{rows-push}
+use Rattle.dependency_graph.proofs.Standings.{is_item-read}
+use Rattle.dependency_graph.proofs.resources.rows.Goals as goal
+
+pub row-requires : goal.row-requires
+row-requires c =
+    let lt : c.loop-item.item < item_count c.args.plan.now.problem = omega (arith, c.loop-item-test.true, c.item_count-item-end.ensures, ap (λ (q : Rollout). item_count q.problem) c.requires) in
+    is_item-read c.args.plan.now c.args.index.now c.loop-item.item c.item.result (sym c.requires) lt c.item.ensures
+
+pub loop-item-preserved : goal.loop-item-preserved
+loop-item-preserved c =
+    let p = c.args.plan.now.problem in
+    let is = c.item.ensures ∙ ap (λ (q : Rollout). item_at q.problem c.loop-item.item) c.requires in
+    let here = subst (λ i. AreTouched p i c.in_ok-row.field-0) is c.in_ok-row.ensures in
+    subst (λ rows. AreRows p rows (c.loop-item.item + 1)) (sym c.in_ok-push.ensures.ok) (rows-push p c.loop-item.rows c.loop-item.item c.in_ok-row.field-0 c.loop-item.invariant here)

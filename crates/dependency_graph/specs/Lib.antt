@@ -1,0 +1,12 @@
+pub mod Progress
+pub mod Ahead
+pub mod Fits
+pub mod Index
+pub mod StageCounts
+pub mod Following
+pub mod Past
+pub mod Cells
+pub mod Touched
+pub mod Graph
+pub mod Soundness
+pub mod Chains

@@ -1,0 +1,6 @@
+mod Offered
+mod Rising
+mod Ordered
+mod Going
+mod Whole
+mod Still

@@ -1,0 +1,3 @@
+pub mod Benches
+pub mod Candidates
+pub mod Tried
