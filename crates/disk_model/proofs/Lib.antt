@@ -1,0 +1,7 @@
+pub mod Agreeing
+pub mod Parting
+pub mod Passing
+pub mod Reaching
+pub mod Running
+pub mod Telling
+pub mod Tearing

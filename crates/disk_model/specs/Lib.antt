@@ -1,0 +1,6 @@
+pub mod Crashes
+pub mod Memory
+pub mod Moments
+pub mod Past
+pub mod Places
+pub mod Writes

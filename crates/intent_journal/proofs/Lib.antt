@@ -1,0 +1,10 @@
+pub mod Alone
+pub mod Appends
+pub mod Batches
+pub mod Committing
+pub mod Fronts
+pub mod Headers
+pub mod Heads
+pub mod NewParts
+pub mod Rows
+pub mod Runs

@@ -1,0 +1,29 @@
+ghost use Rattle.std.specs.Prelude.{◌≡◌, ◌<◌, ◌≤◌, ◌^◌, ℕ, List, IfSome, OnErr, OnOk};
+ghost use Rattle.disk_model.specs.Crashes.{IsDurable, Only};
+ghost use Rattle.disk_model.specs.Moments.{LeavesOnly};
+ghost use Rattle.intent_journal.specs.Images.{journal_in};
+ghost use Rattle.intent_journal.specs.States.{Home, IsAtRest, IsBeforeOrAfter, IsBody, IsCommitted};
+ghost use Rattle.wan_edge.specs.Streams.{KeepsTelling, Rose};
+
+use disk_model::{Disk, put};
+use wan_edge::Failed;
+
+// A gate behind which a batch stands.
+const OPEN_BATCH: u8 = 0x47;
+
+/// Puts a batch behind a closed gate, with a closed gate behind it, and then opens the gate. A crash at
+/// any moment leaves what was kept, or that with the batch; after `Ok` the batch is there.
+pub(crate) fn commit<D: Disk>(disk: &mut D, gate: u64, body: &[u8]) -> Result<(), Failed>
+    requires { gate < 2 ^ 63 }
+    ensures any_moment { IfSome (D.bytes disk.old) (λ image. (home : Home) (batch : List (List ℕ)) → IsAtRest home gate image → IsBody home gate batch body.now
+        → Only image (D.may_leave disk.old) → LeavesOnly D.moment D.left_since disk.old disk.new (IsBeforeOrAfter (journal_in image) batch)) }
+    ensures done { OnOk result (IfSome (D.bytes disk.old) (λ image. (home : Home) (batch : List (List ℕ)) → IsAtRest home gate image → IsBody home gate batch body.now
+        → IsCommitted home gate batch body.now image (D.bytes disk.new) (D.may_leave disk.new))) }
+    ensures durable { OnOk result (IsDurable (D.bytes disk.new) (D.may_leave disk.new)) }
+    ensures told { KeepsTelling (D.bytes disk.old) (D.bytes disk.new) }
+    ensures cause { OnErr result (Rose (D.faults disk.old) (D.faults disk.new)) }
+    ensures count { D.faults disk.old ≤ D.faults disk.new }
+{
+    put(disk, gate + 1, body)?;
+    put(disk, gate, &[OPEN_BATCH])
+}

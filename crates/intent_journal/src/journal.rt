@@ -1,0 +1,113 @@
+ghost use Rattle.std.specs.Prelude.{◌≡◌, ◌+◌, ◌<◌, ◌≤◌, true, false, length, vec_capacity, is_ok, IfSome, OnErr, OnOk};
+ghost use Rattle.disk_model.specs.Moments.{LeavesOnly};
+ghost use Rattle.intent_journal.specs.Entries.{entry_rows};
+ghost use Rattle.intent_journal.specs.Images.{journal_in};
+ghost use Rattle.intent_journal.specs.Opened.{HasAdded, HasRoom, IsKept};
+ghost use Rattle.intent_journal.specs.States.{IsBeforeOrAfter};
+ghost use Rattle.wan_edge.specs.Streams.{KeepsTelling, Rose};
+
+use crate::appending::commit;
+use crate::body::fill;
+use disk_model::Disk;
+use rollout_rules::Entry;
+use std::marker::Model;
+use wan_edge::Failed;
+
+/// A journal that is open for appends. It owns its disk.
+#[derive(Drop)]
+pub struct Journal<D: Disk> {
+    disk: D,
+    // The closed gate behind the list, and where its part ends.
+    gate: u64,
+    end: u64,
+    entries: u32,
+    most: u32,
+    // Room for the bytes of a batch.
+    body: Vec<u8>,
+    live: bool,
+}
+
+impl<D: Disk> Model for Journal<D> {
+    ghost use Rattle.std.specs.Prelude.{vec_capacity};
+    ghost use Rattle.std.specs.Bool.{OnTrue};
+    ghost use Rattle.intent_journal.specs.Opened.{HasRoom, IsKept, Opened};
+
+    ghost Value = { Opened D };
+
+    ghost view = { λ j. record { disk = j.disk; live = j.live; entries = j.entries; most = j.most } };
+
+    ghost invariant = { λ j. OnTrue j.live (IsKept j.gate j.end (D.bytes j.disk) (D.may_leave j.disk)) × HasRoom j.gate j.end j.entries j.most (vec_capacity j.body) };
+}
+
+impl<D: Disk> Journal<D> {
+    /// A journal whose disk is at rest with this gate, in a part with this end. Its list has this many
+    /// entries and may come to this many.
+    pub(crate) fn at_rest(
+        disk: D,
+        gate: u64,
+        end: u64,
+        entries: u32,
+        most: u32,
+        body: Vec<u8>,
+    ) -> Self
+        requires kept { IsKept gate end (D.bytes disk) (D.may_leave disk) }
+        requires room { HasRoom gate end entries most (vec_capacity body) }
+        ensures { result ≡ record { disk = disk; live = true; entries = entries; most = most } }
+    {
+        Journal {
+            disk,
+            gate,
+            end,
+            entries,
+            most,
+            body,
+            live: true,
+        }
+    }
+
+    /// Whether no append has failed.
+    pub fn live(&self) -> bool
+        ensures { result ≡ self.now.live }
+    {
+        self.live
+    }
+
+    /// How many entries the list has.
+    pub fn entries(&self) -> u32
+        ensures { result ≡ self.now.entries }
+    {
+        self.entries
+    }
+
+    /// Gives the disk back.
+    pub fn into_disk(self) -> D
+        ensures { result ≡ self.disk }
+    {
+        self.disk
+    }
+
+    /// Puts a batch behind the list. A crash at any moment leaves the list as it was, or with the whole
+    /// batch; after `Ok` the batch is there. After a failure the journal takes no other. It takes no
+    /// memory.
+    pub fn append(&mut self, batch: &[Entry]) -> Result<(), Failed>
+        requires live { self.old.live ≡ true }
+        requires some { 0 < length batch.now }
+        requires room { self.old.entries + length batch.now ≤ self.old.most }
+        ensures any_moment { IfSome (D.bytes self.old.disk) (λ image. LeavesOnly D.moment D.left_since self.old.disk self.new.disk (IsBeforeOrAfter (journal_in image) (entry_rows batch.now))) }
+        ensures done { OnOk result (IfSome (D.bytes self.old.disk) (λ image. HasAdded batch.now image (D.bytes self.new.disk) (D.may_leave self.new.disk))) }
+        ensures told { KeepsTelling (D.bytes self.old.disk) (D.bytes self.new.disk) }
+        ensures live { self.new.live ≡ is_ok result }
+        ensures entries { OnOk result (self.new.entries ≡ self.old.entries + length batch.now) }
+        ensures most { self.new.most ≡ self.old.most }
+        ensures cause { OnErr result (Rose (D.faults self.old.disk) (D.faults self.new.disk)) }
+        ensures count { D.faults self.old.disk ≤ D.faults self.new.disk }
+    {
+        self.live = false;
+        fill(&mut self.body, batch);
+        commit(&mut self.disk, self.gate, self.body.as_slice())?;
+        self.gate += self.body.len() as u64;
+        self.entries += batch.len() as u32;
+        self.live = true;
+        Ok(())
+    }
+}
