@@ -1,9 +1,10 @@
-"""Writes a problem of a given size, that goes in one step, to standard output.
+"""Writes a problem of a given size, that goes in one step, to standard output, or a document of it.
 
-    python3 bench/generate.py [--share N]
+    python3 bench/generate.py [--share N] [--stages N]
 
 The largest has every count at its limit: 1,024 switches, 2,048 links, 1,024 flows, 4,096 tunnels, 16 links a path, names of
-128 bytes. With --share N each count of rows is an N-th of that.
+128 bytes. With --share N each count of rows is an N-th of that. With --stages it is a document whose plan has so many stages, which go from the
+old rates to the new ones in equal steps.
 """
 
 import argparse
@@ -48,10 +49,22 @@ def problem(share):
     }
 
 
+def plan(moved, stages):
+    """Stage s of so many has, at the scale of the steps, each rate a step nearer to the new one."""
+    steps = stages - 1
+    splits = [(tunnel["old"], tunnel["new"]) for flow in moved["flows"] for tunnel in flow["tunnels"]]
+    return {"scale": steps, "stages": [
+        {"installed": [True] * len(splits), "rates": [(steps - s) * old + s * new for old, new in splits]} for s in range(stages)
+    ]}
+
+
 def main():
     words = argparse.ArgumentParser(description=__doc__, formatter_class=argparse.RawDescriptionHelpFormatter)
     words.add_argument("--share", type=int, default=1)
-    json.dump(problem(words.parse_args().share), sys.stdout)
+    words.add_argument("--stages", type=int)
+    given = words.parse_args()
+    moved = problem(given.share)
+    json.dump(moved if given.stages is None else {"problem": moved, "plan": plan(moved, given.stages)}, sys.stdout)
 
 
 if __name__ == "__main__":

@@ -1,5 +1,5 @@
-"""Times `swanroll plan` on the largest problem and on a quarter of it, and shows the time that passes, the processor time and
-the peak memory.
+"""Times `swanroll plan` on the largest problem and on a quarter of it, and `swanroll check` on their documents of 64 stages, and shows the
+time that passes, the processor time and the peak memory.
 
     python3 bench/measure.py [--check] [--runs N]
 
@@ -43,11 +43,30 @@ def peak_memory(command, path):
     return f"{int(run.stderr.split()[-1]) / 1024:.0f} MB"
 
 
-def generate(folder, share):
-    path = os.path.join(folder, f"problem-{share}.json")
+def generate(folder, share, more):
+    path = os.path.join(folder, f"input-{share}.json")
     with open(path, "wb") as file:
-        subprocess.run([sys.executable, "-B", os.path.join(HERE, "generate.py"), "--share", str(share)], stdout=file, check=True)
+        subprocess.run([sys.executable, "-B", os.path.join(HERE, "generate.py"), "--share", str(share)] + more, stdout=file, check=True)
     return path
+
+
+def growth_of(command, more, runs):
+    """Prints what the command takes for a quarter and for the whole, and answers how many times the processor time the whole takes."""
+    with tempfile.TemporaryDirectory() as folder:
+        inputs = {title: generate(folder, share, more) for title, share in (("a quarter", 4), ("the largest", 1))}
+        sizes = {title: os.path.getsize(path) / 1e6 for title, path in inputs.items()}
+        results = {title: [] for title in inputs}
+        for _ in range(runs):
+            for title, path in inputs.items():
+                results[title].append(run_once(command, path))
+        peaks = {title: peak_memory(command, path) for title, path in inputs.items()}
+    times = []
+    for title, found in results.items():
+        passed, busy = min(run[0] for run in found), min(run[1] for run in found)
+        times.append(busy)
+        print(f"measure: {command} of {title}: {sizes[title]:.1f} MB of text, {passed:.3f} s, {busy:.3f} s of the processor, {peaks[title]} at the most")
+    print(f"measure: {command} of the largest takes {times[1] / times[0]:.1f} times the processor time of a quarter of it")
+    return times[1] / times[0]
 
 
 def main():
@@ -55,22 +74,8 @@ def main():
     words.add_argument("--check", action="store_true")
     words.add_argument("--runs", type=int, default=15)
     given = words.parse_args()
-    with tempfile.TemporaryDirectory() as folder:
-        inputs = {title: generate(folder, share) for title, share in (("a quarter", 4), ("the largest", 1))}
-        sizes = {title: os.path.getsize(path) / 1e6 for title, path in inputs.items()}
-        results = {title: [] for title in inputs}
-        for _ in range(given.runs):
-            for title, path in inputs.items():
-                results[title].append(run_once("plan", path))
-        peaks = {title: peak_memory("plan", path) for title, path in inputs.items()}
-    times = []
-    for title, runs in results.items():
-        passed, busy = min(run[0] for run in runs), min(run[1] for run in runs)
-        times.append(busy)
-        print(f"measure: {title}: {sizes[title]:.1f} MB of text, {passed:.3f} s, {busy:.3f} s of the processor, {peaks[title]} at the most")
-    growth = times[1] / times[0]
-    print(f"measure: the largest takes {growth:.1f} times the processor time of a quarter of it")
-    if given.check and growth > MOST_TIMES:
+    growths = [growth_of(command, more, given.runs) for command, more in (("plan", []), ("check", ["--stages", "64"]))]
+    if given.check and max(growths) > MOST_TIMES:
         sys.exit(f"measure: that is more than {MOST_TIMES} times")
 
 
