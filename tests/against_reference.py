@@ -14,6 +14,8 @@ import sys
 import tempfile
 
 KINDS = {"plan": 3000, "bad": 3000, "check": 2000, "sim": 2000, "words": 2000, "mutated": 2000}
+# Problems whose plan comes from a program with thirds or quarters, by seed and number: among the first thousands there are only halves.
+FRACTIONS = [("2", 1), ("2", 347), ("3", 249), ("5", 467)]
 # What the program does by now. Rounds release by item, while no command names a policy.
 FEATURES = "none,places,planner,lp,widths,marks,crashes,sim,check"
 PIECES = [b"null", b"true", b"-", b"1", b"1.5", b"99999999999", b'"A"', b"[]", b"{}", b",", b":", b"[", b"}", b'"', b"\\", b"\xff", b" "]
@@ -76,18 +78,18 @@ def main():
     spoil_without_names(gen)
     failed = False
     with tempfile.TemporaryDirectory() as found:
-        for kind, count in KINDS.items():
-            count = int(sys.argv[3]) if len(sys.argv) > 3 else count
+        given = sys.argv[3:]
+        rows = [(kind, "1", 0, int(given[0]) if given else count) for kind, count in KINDS.items()]
+        for kind, seed, start, count in rows + [("plan", seed, number, 1) for seed, number in FRACTIONS]:
             if kind == "mutated":
                 failed = bool(mutations(gen, cli, features.from_env({}, None, FEATURES), program, count)) or failed
                 continue
-            arguments = ["--bin", program, "--kind", kind, "--count", str(count), "--seed", "1", "--features", FEATURES, "--out", found]
-            sys.argv[1:], given = arguments, sys.argv[1:]
+            sys.argv[1:] = ["--bin", program, "--kind", kind, "--count", str(count), "--start", str(start), "--seed", seed, "--features", FEATURES,
+                            "--out", found]
             try:
                 failed = bool(diff.main()) or failed
             except SystemExit as end:
                 failed = bool(end.code) or failed
-            sys.argv[1:] = given
     sys.exit(1 if failed else 0)
 
 
