@@ -25,7 +25,7 @@ module _ (c : Counts) (h : History) (ahead : List Entry) (so : AreCountsOf c h) 
   pub begun-ahead : (n : ℕ) → n < item_count p → begun_with c ahead n ≡ begun (with_entries h ahead) n
   begun-ahead n lt = omega (arith, so.begun n lt, begun-with h ahead n)
 
-  flies-ahead : (n : ℕ) → n < item_count p → flies_with c ahead n ≡ flies (with_entries h ahead) n
+  pub flies-ahead : (n : ℕ) → n < item_count p → flies_with c ahead n ≡ flies (with_entries h ahead) n
   flies-ahead n lt = ap₂ (λ a b. a == b + 1) (begun-ahead n lt) (settled-ahead n lt)
 
   pub with-agree : Agree p (places_with c.rollout c ahead) (places_of p (with_entries h ahead))

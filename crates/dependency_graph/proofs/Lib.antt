@@ -26,3 +26,11 @@ pub mod EnoughTurns
 pub mod LongestFrom
 pub mod Chained
 pub mod StageRows
+pub mod Rows
+pub mod Keepings
+pub mod Orders
+pub mod Waking
+pub mod Blocked
+pub mod Roused
+pub mod Lacking
+pub mod Relatives

@@ -7,6 +7,8 @@ pub mod Following
 pub mod Past
 pub mod Cells
 pub mod Touched
+pub mod Wakes
 pub mod Graph
+pub mod Waiting
 pub mod Soundness
 pub mod Chains

@@ -152,8 +152,8 @@ fn rate_on(plan: &CheckedPlan, s: usize, t: usize, l: u32) -> u64
     }
 }
 
-/// How much there is of a resource.
-pub(crate) fn capacity(plan: &CheckedPlan, resource: usize) -> u128
+/// How much there is of a resource, by number: of a link in units of 1/scale, of a table as it is.
+pub fn capacity(plan: &CheckedPlan, resource: usize) -> u128
     requires { resource < cells.resource_count plan.now.problem }
     ensures { result ≡ items.capacity_of plan.now.problem plan.now.plan (cells.resource_at plan.now.problem resource) }
 {

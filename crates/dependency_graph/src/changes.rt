@@ -9,7 +9,7 @@ use wan_model::CheckedPlan;
 
 /// How many operations an item has: one for each stage at which its content differs from that of the
 /// stage before.
-pub(crate) fn operations(plan: &CheckedPlan, item: Item) -> u32
+pub fn operations(plan: &CheckedPlan, item: Item) -> u32
     requires { IsTrue (is_item plan.now.problem item) }
     ensures { result ≡ operation.operations plan.now.problem plan.now.plan item }
 {
@@ -41,7 +41,9 @@ pub fn stand_after(plan: &CheckedPlan, item: Item, settled: u64) -> u32
     stand
 }
 
-pub(crate) fn changes_behind(plan: &CheckedPlan, item: Item, s: usize) -> bool
+/// Whether the content of an item at the stage behind stage `s` differs from that at `s`: whether an
+/// operation takes the item there.
+pub fn changes_behind(plan: &CheckedPlan, item: Item, s: usize) -> bool
     requires item { IsTrue (is_item plan.now.problem item) }
     requires stage { s < wan.last_stage plan.now.plan }
     ensures { result ≡ operation.changes_behind plan.now.problem plan.now.plan item s }

@@ -1,8 +1,9 @@
-ghost use Rattle.std.specs.Prelude.{◌≡◌, ℕ, ◌+◌, ◌<◌, ◌≤◌, ◌^◌, length, slice_index, IsTrue};
+ghost use Rattle.std.specs.Prelude.{◌≡◌, ℕ, ◌+◌, ◌<◌, ◌≤◌, ◌^◌, length, slice_index, is_none, IfSome, IsTrue};
 ghost use Rattle.rollout_rules.specs.Sums.{all_below};
 ghost use Rattle.rollout_rules.specs.Wan.{last_stage};
 ghost use Rattle.rollout_rules.specs.Items.{is_item};
 ghost use Rattle.dependency_graph.specs.Cells.{cell, resource_count, rises, falls, AreCells, AreTouched, AreRaised, cell_holds};
+ghost use Rattle.dependency_graph.specs.Waiting.{Fails};
 ghost use Rattle.dependency_graph.specs.Cells as rooms;
 
 use crate::amounts::{capacity, fall, rise};
@@ -59,30 +60,32 @@ pub(crate) fn lower_row(
     }
 }
 
-/// Whether the resources of a row have room for what the step takes more than the content at its stage,
-/// at the stages from `low` on and before `x`.
-pub(crate) fn row_holds(
+/// The first resource of a row without room for what the step takes more than the content at its stage, at
+/// the stages from `low` on and before `x`.
+pub(crate) fn first_lacking(
     cells: &Cells,
     plan: &CheckedPlan,
     item: Item,
     x: usize,
     low: usize,
     row: &[u32],
-) -> bool
+) -> Option<u32>
     requires item { IsTrue (is_item plan.now.problem item) }
     requires stage { x ≤ last_stage plan.now.plan }
     requires order { low ≤ x }
     requires row { AreTouched plan.now.problem item row.now }
     requires cells { AreCells plan.now cells.now }
-    ensures { result ≡ rooms.row_holds plan.now cells.now low x (rises plan.now item x) row.now }
+    ensures none { is_none result ≡ rooms.row_holds plan.now cells.now low x (rises plan.now item x) row.now }
+    ensures lacking { IfSome result (λ q. Fails plan.now cells.now low x (rises plan.now item x) q) }
 {
     for k in 0..row.len() {
-        let resource = row[k] as usize;
-        if !holds(cells, plan, resource, low, x, rise(plan, item, x, resource)) {
-            return false;
+        let resource = row[k];
+        let amount = rise(plan, item, x, resource as usize);
+        if !holds(cells, plan, resource as usize, low, x, amount) {
+            return Some(resource);
         }
     }
-    true
+    None
 }
 
 fn holds(

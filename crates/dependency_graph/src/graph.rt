@@ -1,5 +1,6 @@
-ghost use Rattle.std.specs.Prelude.{◌≡◌, ◌<◌, ◌≤◌, [], length, IfOk, IfErr, IsTrue};
+ghost use Rattle.std.specs.Prelude.{◌≡◌, ◌<◌, ◌≤◌, ◌&&◌, [], length, is_none, IfOk, IfErr, IfSome, IsTrue, IsFalse};
 ghost use Rattle.rollout_rules.specs.Wan.{last_stage};
+ghost use Rattle.rollout_rules.specs.Network.{IsNetwork};
 ghost use Rattle.rollout_rules.specs.Items.{item_count, item_at};
 ghost use Rattle.rollout_rules.specs.History.{started, from_nothing};
 ghost use Rattle.rollout_rules.specs.History as history;
@@ -7,15 +8,17 @@ ghost use Rattle.rollout_rules.specs.Legal as legal;
 ghost use Rattle.rollout_rules.specs.Release.{view_of};
 ghost use Rattle.rollout_rules.specs.Room as rooms;
 ghost use Rattle.dependency_graph.specs.Cells.{resource_count, resource_at};
-ghost use Rattle.dependency_graph.specs.Graph.{IsGraph};
 ghost use Rattle.dependency_graph.specs.Graph as graph;
+ghost use Rattle.dependency_graph.specs.Waiting.{is_admissible, Lacks, AreWoken, IsWakefulGraph};
 
 use crate::cells::Cells;
 use crate::chains::Chains;
-use crate::changing::{lower_row, raise_row, row_holds};
+use crate::changing::{first_lacking, lower_row, raise_row};
 use crate::checked::checked_plan_is_valid;
 use crate::course::Course;
 use crate::resources::Touched;
+use crate::rousing::{rouse, rouse_each};
+use crate::wakes::Wakes;
 use crate::zeros::zeros;
 use lists::Memory;
 use std::alloc::Global;
@@ -33,16 +36,18 @@ pub struct Graph {
     touched: Touched,
     chains: Chains,
     cells: Cells,
+    wakes: Wakes,
 }
 
 impl Model for Graph {
-    ghost use Rattle.dependency_graph.specs.Graph.{Followed, IsGraph};
+    ghost use Rattle.dependency_graph.specs.Graph.{Followed};
+    ghost use Rattle.dependency_graph.specs.Waiting.{IsWakefulGraph};
 
     ghost Value = { Followed };
 
     ghost view = { λ g. g.course };
 
-    ghost invariant = { λ g. IsGraph g.plan g.touched g.chains g.course g.cells };
+    ghost invariant = { λ g. IsWakefulGraph g.plan g.touched g.chains g.course g.cells g.wakes };
 }
 
 impl Graph {
@@ -79,6 +84,8 @@ impl Graph {
     {
         self.course.restart(&self.plan, start);
         self.course.fill(&mut self.cells, &self.plan);
+        self.wakes.clear();
+        rouse_each(&mut self.wakes, &self.course);
     }
 
     /// Gives the plan back.
@@ -170,19 +177,38 @@ impl Graph {
         requires next { IsTrue (graph.has_next self.now item) }
         ensures { result ≡ graph.has_room self.now item }
     {
+        self.lacking(item).is_none()
+    }
+
+    /// The items that are woken: of no other item the next operation may begin.
+    pub fn woken(&self) -> &[u32]
+        ensures woken { AreWoken self.now result.now }
+        ensures network { IsNetwork self.now.rollout.problem }
+        ensures legal { IsTrue (legal.is_legal self.now.rollout.problem self.now.rollout.plan self.now.history) }
+    {
         self.course.history_is_legal();
         checked_plan_is_valid(&self.plan);
-        let low = self.course.least_stage(&self.plan) as usize;
-        let stage = self.course.stands(&self.plan, item) as usize;
-        let row = self.touched.row(item);
-        row_holds(
-            &self.cells,
-            &self.plan,
-            self.course.item(item),
-            stage,
-            low,
-            row,
-        )
+        self.wakes.row()
+    }
+
+    /// Whether an item has a next operation and that may begin. One that may not is let go: it isn't woken
+    /// again but by a Done.
+    pub fn admits(&mut self, item: u32) -> bool
+        requires { item < item_count self.old.rollout.problem }
+        ensures told { result ≡ is_admissible self.old item }
+        ensures same { self.new ≡ self.old }
+    {
+        if !self.is_ready(item) {
+            self.rest(item);
+            return false;
+        }
+        match self.lacking(item) {
+            Some(resource) => {
+                self.keep(item, resource);
+                false
+            }
+            None => true,
+        }
     }
 
     /// What a policy sees of an item's next operation.
@@ -224,6 +250,7 @@ impl Graph {
             row,
         );
         self.course.begin(&self.plan, item);
+        self.wakes.rest(item);
     }
 
     /// Settles the operation that is in flight of an item. It takes no memory.
@@ -233,6 +260,7 @@ impl Graph {
         ensures { self.new ≡ graph.with_done self.old item }
     {
         self.course.history_is_legal();
+        checked_plan_is_valid(&self.plan);
         let low = self.course.least_stage(&self.plan) as usize;
         let stage = self.course.stands(&self.plan, item) as usize;
         let row = self.touched.row(item);
@@ -245,6 +273,15 @@ impl Graph {
             row,
         );
         self.course.done(&self.plan, item);
+        let after = self.course.least_stage(&self.plan) as usize;
+        rouse(
+            &mut self.wakes,
+            &self.plan,
+            &self.course,
+            item,
+            row,
+            after != low,
+        );
     }
 
     /// How much is taken of a resource at a stage, from the least stage at which an item stands on. The
@@ -257,6 +294,58 @@ impl Graph {
     {
         self.cells.cell(resource as usize, stage as usize)
     }
+
+    /// Whether an item has a next operation and its needs are met.
+    fn is_ready(&self, item: u32) -> bool
+        requires { item < item_count self.now.rollout.problem }
+        ensures { result ≡ graph.has_next self.now item && graph.are_needs_met self.now item }
+    {
+        self.has_next(item) && self.needs_met(item)
+    }
+
+    /// A resource of which there isn't enough for an item's next operation.
+    fn lacking(&self, item: u32) -> Option<u32>
+        requires item { item < item_count self.now.rollout.problem }
+        requires next { IsTrue (graph.has_next self.now item) }
+        ensures none { is_none result ≡ graph.has_room self.now item }
+        ensures lacks { IfSome result (Lacks self.now item) }
+    {
+        self.course.history_is_legal();
+        checked_plan_is_valid(&self.plan);
+        let low = self.course.least_stage(&self.plan) as usize;
+        let stage = self.course.stands(&self.plan, item) as usize;
+        let row = self.touched.row(item);
+        first_lacking(
+            &self.cells,
+            &self.plan,
+            self.course.item(item),
+            stage,
+            low,
+            row,
+        )
+    }
+
+    /// Lets an item go that has no next operation, or one whose needs aren't met.
+    fn rest(&mut self, item: u32)
+        requires item { item < item_count self.old.rollout.problem }
+        requires idle { IsFalse (graph.has_next self.old item && graph.are_needs_met self.old item) }
+        ensures { self.new ≡ self.old }
+    {
+        if self.wakes.has(item) {
+            self.wakes.rest(item);
+        }
+    }
+
+    /// Keeps an item at a resource that it lacks.
+    fn keep(&mut self, item: u32, resource: u32)
+        requires item { item < item_count self.old.rollout.problem }
+        requires lacks { Lacks self.old item resource }
+        ensures { self.new ≡ self.old }
+    {
+        if self.wakes.has(item) {
+            self.wakes.keep(item, resource);
+        }
+    }
 }
 
 /// All that a graph takes memory for.
@@ -266,10 +355,11 @@ struct Parts {
     touched: Touched,
     chains: Chains,
     cells: Cells,
+    wakes: Wakes,
 }
 
 fn of_parts(plan: CheckedPlan, parts: Parts) -> Graph
-    requires { IsGraph plan parts.touched parts.chains parts.course parts.cells }
+    requires { IsWakefulGraph plan parts.touched parts.chains parts.course parts.cells parts.wakes }
     ensures { result ≡ parts.course }
 {
     Graph {
@@ -278,12 +368,13 @@ fn of_parts(plan: CheckedPlan, parts: Parts) -> Graph
         touched: parts.touched,
         chains: parts.chains,
         cells: parts.cells,
+        wakes: parts.wakes,
     }
 }
 
 fn first_parts(alloc: Global, plan: &CheckedPlan) -> Result<Parts, Memory>
     ensures course { IfOk result (λ parts. parts.course ≡ record { rollout = plan.now; history = from_nothing plan.now.problem [] }) }
-    ensures graph { IfOk result (λ parts. IsGraph plan.now parts.touched parts.chains parts.course parts.cells) }
+    ensures graph { IfOk result (λ parts. IsWakefulGraph plan.now parts.touched parts.chains parts.course parts.cells parts.wakes) }
 {
     let start = zeros(alloc, plan)?;
     parts_at(alloc, plan, &start)
@@ -293,17 +384,21 @@ fn parts_at(alloc: Global, plan: &CheckedPlan, start: &[u32]) -> Result<Parts, M
     requires numbers { length start.now ≡ item_count plan.now.problem }
     requires sound { IsTrue (legal.is_sound plan.now.problem plan.now.plan start.now) }
     ensures course { IfOk result (λ parts. parts.course ≡ record { rollout = plan.now; history = started start.now }) }
-    ensures graph { IfOk result (λ parts. IsGraph plan.now parts.touched parts.chains parts.course parts.cells) }
+    ensures graph { IfOk result (λ parts. IsWakefulGraph plan.now parts.touched parts.chains parts.course parts.cells parts.wakes) }
 {
     let course = Course::new(alloc, plan, start)?;
     let touched = Touched::new(alloc, plan, course.lookup())?;
     let chains = Chains::new(alloc, plan)?;
     let mut cells = Cells::new(alloc, plan)?;
     course.fill(&mut cells, plan);
+    let resources = plan.problem().links().len() + plan.problem().switches().len();
+    let mut wakes = Wakes::new(alloc, course.item_count(), resources as u32)?;
+    rouse_each(&mut wakes, &course);
     Ok(Parts {
         course,
         touched,
         chains,
         cells,
+        wakes,
     })
 }

@@ -12,7 +12,8 @@ mod tables;
 
 pub(crate) use crate::index::links::crosses;
 use crate::index::links::crossings;
-use crate::index::numbers::{first_entries, items, operations_of_all};
+pub use crate::index::numbers::items;
+use crate::index::numbers::{first_entries, operations_of_all};
 pub(crate) use crate::index::table_place::TablePlace;
 use crate::index::tables::{TablePlaces, tables};
 use lists::{Ids, Many, Memory};

@@ -8,6 +8,11 @@
 //! alone, at the stages that change, and a test of room looks at these alone. What a policy sees of an
 //! item's next operation is told with the longest chain from it on; the chains are worked out once, stage
 //! by stage from the last on down. [`sound`] says whether a rollout may begin at a start.
+//!
+//! A graph keeps the items that are woken ([`Graph::woken`]): of no other item the next operation may
+//! begin. A Done wakes its own item, those whose needs it may meet, those that lack a resource that it may
+//! give back, and where the least stage rises all that lack any; a Begin wakes none. What was tried and may
+//! not begin is let go ([`Graph::admits`]) until such a Done.
 #![tactic(auto)]
 
 mod amounts;
@@ -20,18 +25,24 @@ mod course;
 mod filling;
 mod graph;
 mod index;
+mod kept;
 mod longest;
 mod past;
-mod progress;
+pub mod progress;
 mod resources;
+mod rousing;
 mod soundness;
 mod stage_counts;
 #[cfg(test)]
 mod tests;
+mod wakes;
+mod woken;
 mod zeros;
 
-pub use changes::stand_after;
+pub use amounts::capacity;
+pub use changes::{changes_behind, operations, stand_after};
+pub use checked::checked_plan_is_valid;
 pub use graph::Graph;
-pub use index::Index;
+pub use index::{Index, items};
 pub use progress::Progress;
 pub use soundness::sound;

@@ -14,9 +14,9 @@ ghost use Rattle.dependency_graph.specs.Fits.{least_stand};
 ghost use Rattle.dependency_graph.specs.StageCounts.{AreStands};
 ghost use Rattle.dependency_graph.specs.Graph as graph;
 
-mod ahead;
-mod needs;
-mod room;
+pub mod ahead;
+pub mod needs;
+pub mod room;
 
 use crate::changes::stand_after;
 use crate::checked::checked_plan_is_valid;

@@ -1,26 +1,44 @@
 ghost use Rattle.std.specs.Prelude.{◌≡◌, [], ◌∷◌, ◌++◌, OnOk, OnErr, find, option_map, bytes_eq};
+ghost use Rattle.order_policy.specs.Named.{policy_named};
 
-use crate::policy::Policy;
 use lists::{Memory, Text};
 use std::alloc::Global;
+use std::marker::Model;
 
 /// A policy under a name.
 #[derive(Drop)]
-struct Named {
+struct Named<P> {
     name: Text,
-    policy: Policy,
+    policy: P,
 }
 
-/// Policies by name, in the order in which they were added.
+impl<P> Model for Named<P> {
+    ghost use Rattle.std.specs.Prelude.{List, ℕ};
+
+    ghost Value = { List ℕ × P };
+
+    ghost view = { λ n. (n.name, n.policy) };
+}
+
+/// Policies by name, in the order in which they were added: a list of names with what stands under each.
 #[derive(Drop)]
-pub struct Policies {
+pub struct Policies<P> {
     alloc: Global,
-    all: Vec<Named>,
+    all: Vec<Named<P>>,
 }
 
-impl Policies {
-    pub fn new(alloc: Global) -> Policies
-        ensures { result.all.items ≡ [] }
+impl<P> Model for Policies<P> {
+    ghost use Rattle.std.specs.Prelude.{List, ℕ};
+
+    ghost Value = { List (List ℕ × P) };
+
+    ghost view = { λ p. p.all.items };
+}
+
+impl<P> Policies<P> {
+    /// No policies.
+    pub fn new(alloc: Global) -> Self
+        ensures { result ≡ [] }
     {
         Policies {
             alloc,
@@ -29,9 +47,11 @@ impl Policies {
     }
 
     /// Adds a policy under a name. Want of memory changes nothing.
-    pub fn add(&mut self, name: &str, policy: Policy) -> Result<(), Memory>
-        ensures ok { OnOk result (self.new.all.items ≡ self.old.all.items ++ record { name = name.now; policy = policy } ∷ []) }
-        ensures err { OnErr result (self.new.all.items ≡ self.old.all.items) }
+    pub fn add(&mut self, name: &str, policy: P) -> Result<(), Memory>
+    where
+        P: Drop,
+        ensures ok { OnOk result (self.new ≡ self.old ++ (name.now, policy) ∷ []) }
+        ensures err { OnErr result (self.new ≡ self.old) }
     {
         let mut text = Text::new(self.alloc);
         text.push_str(name)?;
@@ -40,8 +60,8 @@ impl Policies {
     }
 
     /// The policy that was added first under a name; None where no policy has it.
-    pub fn find(&self, name: &str) -> Option<&Policy>
-        ensures { option_map (λ policy. policy.now) result ≡ option_map (λ named. named.policy) (find (λ named. bytes_eq named.name name.now) self.now.all.items) }
+    pub fn find(&self, name: &str) -> Option<&P>
+        ensures { option_map (λ policy. policy.now) result ≡ policy_named name.now self.now }
     {
         match first_named(self.all.as_slice(), name) {
             Some(named) => Some(&named.policy),
@@ -50,8 +70,8 @@ impl Policies {
     }
 }
 
-fn first_named<'a>(all: &'a [Named], name: &str) -> Option<&'a Named>
-    ensures { option_map (λ named. named.now) result ≡ find (λ named. bytes_eq named.name name.now) all.now }
+fn first_named<'a, P>(all: &'a [Named<P>], name: &str) -> Option<&'a Named<P>>
+    ensures { option_map (λ named. named.now) result ≡ find (λ named. bytes_eq named.0 name.now) all.now }
 {
     for named in all {
         if named.name.as_str() == name {

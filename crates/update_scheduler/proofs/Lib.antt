@@ -1,6 +1,8 @@
 mod Offered
 mod Rising
 mod Ordered
+mod Refused
+mod Among
 mod Going
 mod Whole
 mod Still

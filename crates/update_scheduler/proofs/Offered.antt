@@ -1,44 +1,20 @@
 -- Items that are offered one by one.
-use Rattle.std.proofs.Common.{◌≡◌, ℕ, zero, suc, ◌+◌, ◌≤◌, Bool, true, false, not, ◌&&◌, List, [], ◌∷◌, ◌++◌, map, filter, cond, if◌then◌else◌, length, length-append, append-nil, Option, Some, None, refl, sym, ap, ap₂, ◌∙◌, subst, arith}
-use Rattle.std.proofs.lemmas.List.{map-append}
-use Rattle.std.proofs.lemmas.List.Elements.{filter-append}
+use Rattle.std.proofs.Common.{◌≡◌, ℕ, zero, suc, ◌+◌, ◌≤◌, ◌<◌, Bool, true, false, not, ◌&&◌, List, [], ◌∷◌, ◌++◌, map, filter, take, slice_index, cond, if◌then◌else◌, length, length-append, append-nil, Option, Some, None, refl, sym, ap, ap₂, ◌∙◌, subst, arith}
+use Rattle.std.proofs.lemmas.List.{map-append, take_all}
+use Rattle.std.proofs.lemmas.List.Elements.{filter_more}
 use Rattle.rollout_rules.specs.Sums.{list_below}
 use Rattle.rollout_rules.specs.Items.{item_count}
 use Rattle.rollout_rules.specs.Release.{is_held_back}
 use Rattle.rollout_rules.specs.declared.op.OpView.{OpView}
 use Rattle.dependency_graph.specs.Graph.{Followed, has_next}
 use Rattle.update_scheduler.specs.declared.candidate.Candidate.{Candidate}
-use Rattle.update_scheduler.specs.Candidates.{seen, rank_of, rank_if_free, is_offered, offered, all_offered, candidate_of, candidates_of}
-
--- one element that passes two tests
-filtered-one : {X : Type 0} (p q : X → Bool) (x : X) → filter q (filter p (x ∷ [])) ≡ (if p x && q x then x ∷ [] else [])
-filtered-one {X} p q x = one (p x)
-  where
-    one : (b : Bool) → filter q (cond b (x ∷ []) []) ≡ (if b && q x then x ∷ [] else [])
-    one true = refl
-    one false = refl
-
-at-most-one : {X : Type 0} (b : Bool) (x : X) → length (if b then x ∷ [] else []) ≤ 1
-at-most-one true x = omega arith
-at-most-one false x = omega arith
+use Rattle.update_scheduler.specs.Candidates.{seen, rank_of, rank_if_free, is_offered, offered, offered_among, candidate_of, candidates_of}
 
 module _ (g : Followed) (policy : OpView → ℕ) where
-  -- the items below k that are offered
-  abbrev pub offered_below : ℕ → List ℕ
-  offered_below k = filter (λ n. not (is_held_back policy (seen g n))) (filter (has_next g) (list_below k (λ n. n)))
-
-  -- These candidates are they.
-  pub record IsOffered (k : ℕ) (cs : List Candidate) : Type 0 where
-    pub all : cs ≡ candidates_of (rank_of g policy) (offered_below k)
+  -- These candidates are the first k of a row that are offered.
+  pub record IsOffered (row : List ℕ) (k : ℕ) (cs : List Candidate) : Type 0 where
+    pub all : cs ≡ candidates_of (rank_of g policy) (offered_among g policy (take k row))
     pub few : length cs ≤ k
-
-  offered-next : (k : ℕ) → offered_below (k + 1) ≡ offered_below k ++ offered g policy k
-  offered-next k =
-      let more : k + 1 ≡ suc k = omega arith in
-      ap offered_below more
-      ∙ ap (filter (λ n. not (is_held_back policy (seen g n)))) (filter-append (has_next g) (list_below k (λ n. n)) (k ∷ []))
-      ∙ filter-append (λ n. not (is_held_back policy (seen g n))) (filter (has_next g) (list_below k (λ n. n))) (filter (has_next g) (k ∷ []))
-      ∙ ap (λ ns. offered_below k ++ ns) (filtered-one (has_next g) (λ n. not (is_held_back policy (seen g n))) k)
 
   few-offered : (rank : ℕ → ℕ) (n : ℕ) → length (candidates_of rank (offered g policy n)) ≤ 1
   few-offered rank n = few (is_offered g policy n)
@@ -47,14 +23,17 @@ module _ (g : Followed) (policy : OpView → ℕ) where
       few true = omega arith
       few false = omega arith
 
-  pub offers-next : (k : ℕ) (cs new : List Candidate) → IsOffered k cs → new ≡ cs ++ candidates_of (rank_of g policy) (offered g policy k) → IsOffered (k + 1) new
-  offers-next k cs new so is = record {
+  pub offers-next : (row : List ℕ) (k : ℕ) (cs new : List Candidate) → IsOffered row k cs → k < length row → new ≡ cs ++ candidates_of (rank_of g policy) (offered g policy (slice_index row k)) → IsOffered row (k + 1) new
+  offers-next row k cs new so lt is = record {
     all =
-        is ∙ ap (λ xs. xs ++ candidates_of (rank_of g policy) (offered g policy k)) so.all
-        ∙ sym (map-append (candidate_of (rank_of g policy)) (offered_below k) (offered g policy k))
-        ∙ ap (candidates_of (rank_of g policy)) (sym (offered-next k));
-    few = omega (arith, ap length is, length-append cs (candidates_of (rank_of g policy) (offered g policy k)), so.few, few-offered (rank_of g policy) k);
+        is ∙ ap (λ xs. xs ++ candidates_of (rank_of g policy) (offered g policy (slice_index row k))) so.all
+        ∙ sym (map-append (candidate_of (rank_of g policy)) (offered_among g policy (take k row)) (offered g policy (slice_index row k)))
+        ∙ ap (candidates_of (rank_of g policy)) (sym (filter_more (is_offered g policy) row k 0 lt));
+    few = omega (arith, ap length is, length-append cs (candidates_of (rank_of g policy) (offered g policy (slice_index row k))), so.few, few-offered (rank_of g policy) (slice_index row k));
   }
+
+  pub offers-all : (row : List ℕ) (k : ℕ) (cs : List Candidate) → length row ≤ k → IsOffered row k cs → cs ≡ candidates_of (rank_of g policy) (offered_among g policy row)
+  offers-all row k cs le so = so.all ∙ ap (λ ns. candidates_of (rank_of g policy) (offered_among g policy ns)) (take_all k row le)
 
   module _ (n : ℕ) (cs new : List Candidate) (view : OpView) (waits : Bool) (found : Option ℕ) (has : waits ≡ has_next g n) (here : waits ≡ true) (see : view ≡ seen g n) (told : found ≡ rank_if_free policy view) where
     held-none : found ≡ None → is_held_back policy view ≡ true

@@ -38,11 +38,11 @@ module _ (rank : ℕ → ℕ) where
     | inr later ↦ rw later (omega (arith, inserted-total f n ms))
   ]
 
-  in-order-rises : (ns : List ℕ) → Rises (candidates_of rank (in_order_of rank ns))
+  pub in-order-rises : (ns : List ℕ) → Rises (candidates_of rank (in_order_of rank ns))
   in-order-rises [] = tt
   in-order-rises (n ∷ ns) = inserted-rises n (in_order_of rank ns) (in-order-rises ns)
 
-  in-order-total : (f : Candidate → ℕ) (ns : List ℕ) → total f (candidates_of rank (in_order_of rank ns)) ≡ total f (candidates_of rank ns)
+  pub in-order-total : (f : Candidate → ℕ) (ns : List ℕ) → total f (candidates_of rank (in_order_of rank ns)) ≡ total f (candidates_of rank ns)
   in-order-total f [] = refl
   in-order-total f (n ∷ ns) = omega (arith, inserted-total f n (in_order_of rank ns), in-order-total f ns)
 

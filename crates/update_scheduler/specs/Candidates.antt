@@ -2,6 +2,7 @@
 use Rattle.std.specs.Prelude.{ℕ, Bool, not, ◌&&◌, List, [], ◌∷◌, map, if◌then◌else◌, Option, Some, None}
 use Rattle.std.specs.declared.cmp.Ordering.{Ordering}
 use Rattle.std.specs.Ordering.{nat_cmp, ordering_then}
+use Rattle.std.specs.List.{filter}
 use Rattle.rollout_rules.specs.Release.{view_of, is_held_back, released}
 use Rattle.rollout_rules.specs.declared.op.OpView.{OpView}
 use Rattle.dependency_graph.specs.Graph.{Followed, has_next}
@@ -29,6 +30,10 @@ offered g policy n = if is_offered g policy n then n ∷ [] else []
 -- all that are
 abbrev pub all_offered : Followed → (OpView → ℕ) → List ℕ
 all_offered g policy = released g.rollout.problem g.rollout.plan policy g.history
+
+-- those of a row that are
+abbrev pub offered_among : Followed → (OpView → ℕ) → List ℕ → List ℕ
+offered_among g policy row = filter (is_offered g policy) row
 
 -- items with their ranks, and the items alone
 abbrev pub candidate_of : (ℕ → ℕ) → ℕ → Candidate

@@ -6,6 +6,9 @@
 //! gives, and the [`Bench`] has those operations in order. It takes no memory: the bench has the room.
 //! A release begins nothing exactly where the policy holds back each operation that may begin, and in a
 //! legal history that isn't finished and has nothing in flight some may.
+//!
+//! It looks at the graph's woken items alone, of which those that are held back stay woken and those that may
+//! not begin don't: a release behind which nothing was done tries again only what is held back.
 #![tactic(auto)]
 
 mod bench;

@@ -1,29 +1,29 @@
-ghost use Rattle.std.specs.Prelude.{◌≡◌, ◌<◌, ◌≤◌, [], ◌++◌, vec_len, vec_capacity};
+ghost use Rattle.std.specs.Prelude.{◌≡◌, ℕ, ◌<◌, ◌≤◌, [], ◌++◌, length, slice_index, vec_len, vec_capacity};
 ghost use Rattle.rollout_rules.specs.Items.{item_count};
 ghost use Rattle.order_policy.specs.Answers.{rank_by};
-ghost use Rattle.update_scheduler.specs.Candidates.{candidates_of, rank_of, rank_if_free, offered, all_offered};
+ghost use Rattle.update_scheduler.specs.Candidates.{candidates_of, rank_of, rank_if_free, offered, offered_among};
 
 use crate::candidate::Candidate;
 use dependency_graph::Graph;
 use order_policy::Policy;
 use rollout_rules::OpView;
 
-/// The items that wait and aren't held back, with their ranks, by item.
+/// Those of a row that wait and aren't held back, with their ranks.
 pub(crate) fn offer_each(
     graph: &Graph,
     policy: &Policy,
-    items: u32,
+    row: &[u32],
     candidates: &mut Vec<Candidate>,
 )
-    requires own { items ≡ item_count graph.now.rollout.problem }
+    requires inside { (j : ℕ) → j < length row.now → slice_index row.now j < item_count graph.now.rollout.problem }
     requires empty { candidates.old.items ≡ [] }
-    requires room { items ≤ vec_capacity candidates.old }
-    ensures offered { candidates.new.items ≡ candidates_of (rank_of graph.now (rank_by policy.now.answers)) (all_offered graph.now (rank_by policy.now.answers)) }
-    ensures few { vec_len candidates.new ≤ items }
+    requires room { length row.now ≤ vec_capacity candidates.old }
+    ensures offered { candidates.new.items ≡ candidates_of (rank_of graph.now (rank_by policy.now.answers)) (offered_among graph.now (rank_by policy.now.answers) row.now) }
+    ensures few { vec_len candidates.new ≤ length row.now }
     ensures capacity { vec_capacity candidates.new ≡ vec_capacity candidates.old }
 {
-    for item in 0..items {
-        offer(graph, policy, item, candidates);
+    for k in 0..row.len() {
+        offer(graph, policy, row[k], candidates);
     }
 }
 

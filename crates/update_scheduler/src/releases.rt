@@ -24,25 +24,17 @@ pub fn release(graph: &mut Graph, policy: &Policy, bench: &mut Bench)
     ensures held { bench.new.begun ≡ [] → IsAllHeld graph.old (rank_by policy.now.answers) }
     ensures none { IsAllHeld graph.old (rank_by policy.now.answers) → bench.new.begun ≡ [] }
 {
-    release_into(
-        graph,
-        policy,
-        bench.items,
-        &mut bench.candidates,
-        &mut bench.begun,
-    );
+    release_into(graph, policy, &mut bench.candidates, &mut bench.begun);
 }
 
 fn release_into(
     graph: &mut Graph,
     policy: &Policy,
-    items: u32,
     candidates: &mut Vec<Candidate>,
     begun: &mut Vec<Op>,
 )
-    requires own { items ≡ item_count graph.old.rollout.problem }
-    requires candidates { items ≤ vec_capacity candidates.old }
-    requires begun { items ≤ vec_capacity begun.old }
+    requires candidates { item_count graph.old.rollout.problem ≤ vec_capacity candidates.old }
+    requires begun { item_count graph.old.rollout.problem ≤ vec_capacity begun.old }
     ensures graph { graph.new ≡ with_release graph.old (rank_by policy.now.answers) }
     ensures begun { begun.new.items ≡ ops_of (released_by graph.old (rank_by policy.now.answers)) }
     ensures candidates { vec_capacity candidates.new ≡ vec_capacity candidates.old }
@@ -50,7 +42,7 @@ fn release_into(
 {
     candidates.clear();
     begun.clear();
-    offer_each(graph, policy, items, candidates);
+    offer_each(graph, policy, graph.woken(), candidates);
     put_in_order(candidates);
     try_each(graph, candidates.as_slice(), begun);
 }

@@ -29,7 +29,7 @@ fn try_next(graph: &mut Graph, item: u32, begun: &mut Vec<Op>)
     ensures begun { begun.new.items ≡ begun.old.items ++ ops_of (begun_by graph.old (item ∷ [])) }
     ensures capacity { vec_capacity begun.new ≡ vec_capacity begun.old }
 {
-    if graph.has_next(item) && graph.needs_met(item) && graph.room_for(item) {
+    if graph.admits(item) {
         let number = graph.view(item).number;
         graph.begin(item);
         begun.push_reserved(Op { item, number });

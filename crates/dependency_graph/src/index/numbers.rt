@@ -11,8 +11,8 @@ use rollout_rules::Item;
 use std::alloc::Global;
 use wan_model::CheckedPlan;
 
-/// All items by number.
-pub(crate) fn items(alloc: Global, plan: &CheckedPlan) -> Result<Many<Item>, Memory>
+/// All items by number. An Err is want of memory.
+pub fn items(alloc: Global, plan: &CheckedPlan) -> Result<Many<Item>, Memory>
     ensures list { IfOk result (λ row. AreItems plan.now.problem (item_count plan.now.problem) row) }
     ensures network { IfOk result (λ row. IsNetwork plan.now.problem) }
 {

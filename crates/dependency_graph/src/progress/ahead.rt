@@ -25,7 +25,7 @@ pub(crate) fn stand(progress: &Progress, plan: &CheckedPlan, ahead: &[Entry], it
 }
 
 /// How many of an item's operations are settled with the entries ahead.
-pub(crate) fn settled(progress: &Progress, ahead: &[Entry], item: u32) -> u64
+pub fn settled(progress: &Progress, ahead: &[Entry], item: u32) -> u64
     requires { item < item_count progress.now.rollout.problem }
     ensures value { result ≡ places.settled_with progress.now ahead.now item }
     ensures few { result < 2 ^ 63 + 2 ^ 32 }
@@ -33,8 +33,8 @@ pub(crate) fn settled(progress: &Progress, ahead: &[Entry], item: u32) -> u64
     u64::from(progress.settled[item as usize]) + dones(ahead, item)
 }
 
-/// How many were begun.
-pub(crate) fn begun(progress: &Progress, ahead: &[Entry], item: u32) -> u64
+/// How many of them were begun with the entries ahead.
+pub fn begun(progress: &Progress, ahead: &[Entry], item: u32) -> u64
     requires { item < item_count progress.now.rollout.problem }
     ensures value { result ≡ places.begun_with progress.now ahead.now item }
     ensures few { result < 2 ^ 63 + 2 ^ 32 }

@@ -15,7 +15,7 @@ use rollout_rules::{Entry, Item};
 use wan_model::CheckedPlan;
 
 /// Whether the needs of an item's next operation are met with the entries ahead.
-pub(crate) fn needs_met(progress: &Progress, plan: &CheckedPlan, ahead: &[Entry], item: u32) -> bool
+pub fn needs_met(progress: &Progress, plan: &CheckedPlan, ahead: &[Entry], item: u32) -> bool
     requires own { plan.now ≡ progress.now.rollout }
     requires item { item < item_count plan.now.problem }
     requires left { stand_with plan.now progress.now ahead.now item < wan.last_stage plan.now.plan }

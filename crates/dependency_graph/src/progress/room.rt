@@ -15,7 +15,8 @@ use crate::progress::ahead::{flies_begun, stand};
 use rollout_rules::{Entry, Op};
 use wan_model::CheckedPlan;
 
-pub(crate) fn least_stage(progress: &Progress, plan: &CheckedPlan, ahead: &[Entry]) -> usize
+/// The least stage at which an item stands with the entries ahead, or the last where there is no item.
+pub fn least_stage(progress: &Progress, plan: &CheckedPlan, ahead: &[Entry]) -> usize
     requires own { plan.now ≡ progress.now.rollout }
     ensures { result ≡ parts.least_stand plan.now progress.now ahead.now }
 {
@@ -48,8 +49,9 @@ pub(crate) fn room(progress: &Progress, plan: &CheckedPlan, resource: usize, s: 
     entries(progress, plan, &[], nobodys, s, resource - links)
 }
 
-/// What is taken of link `l` at stage `s`, in units of 1/scale.
-fn load(
+/// What is taken of link `l` at stage `s` once `op` has begun behind the entries ahead, in units of 1/scale:
+/// a sum over the tunnels that cross it.
+pub fn load(
     progress: &Progress,
     plan: &CheckedPlan,
     ahead: &[Entry],
@@ -70,8 +72,8 @@ fn load(
     sum
 }
 
-/// How much is taken of the table of switch `w` at stage `s`: the widths of the entries there.
-fn entries(
+/// How much is taken of the table of switch `w` then: the widths of the entries there.
+pub fn entries(
     progress: &Progress,
     plan: &CheckedPlan,
     ahead: &[Entry],

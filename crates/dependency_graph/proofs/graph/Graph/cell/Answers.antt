@@ -9,7 +9,7 @@ use Rattle.dependency_graph.proofs.graph.Graph.cell.Goals as goal
 pub cell-requires : goal.cell-requires
 cell-requires c =
     let s = c.self.inside in
-    cell-inside s.course.rollout s.cells (places s.course) c.self.invariant.rooms c.args.resource c.args.stage
+    cell-inside s.course.rollout s.cells (places s.course) c.self.invariant.graph.rooms c.args.resource c.args.stage
     (subst (λ (g : Followed). c.args.resource < resource_count g.rollout.problem) (sym c.self.view_is) c.requires.resource)
     (subst (λ (g : Followed). c.args.stage < last_stage g.rollout.plan) (sym c.self.view_is) c.requires.stage)
 
@@ -17,7 +17,7 @@ pub returns : goal.returns
 returns c =
     let s = c.self.inside in
     c.cell.ensures
-    ∙ cell-room s.course.rollout s.cells (places s.course) c.self.invariant.rooms c.args.resource c.args.stage
+    ∙ cell-room s.course.rollout s.cells (places s.course) c.self.invariant.graph.rooms c.args.resource c.args.stage
     (subst (λ (g : Followed). c.args.resource < resource_count g.rollout.problem) (sym c.self.view_is) c.requires.resource)
     (subst (λ (g : Followed). rooms.least_stage g.rollout.problem g.rollout.plan (places g) ≤ c.args.stage) (sym c.self.view_is) c.requires.least)
     (subst (λ (g : Followed). c.args.stage < last_stage g.rollout.plan) (sym c.self.view_is) c.requires.stage)

@@ -1,0 +1,13 @@
+pub mod Adding
+pub mod Counting
+pub mod Walking
+pub mod Marking
+pub mod Refreshing
+pub mod Loading
+pub mod Tallying
+pub mod Holding
+pub mod Starting
+pub mod Fullness
+pub mod PeakLines
+pub mod Peaked
+pub mod Looking

@@ -1,0 +1,21 @@
+//! Worked examples: which answers tell of an operation in flight, and how what is in flight is put
+//! together.
+ghost use Rattle.std.specs.Prelude.{◌≡◌, [], ◌∷◌};
+ghost use Rattle.rollout_rounds.specs.Endings.{with_told};
+ghost use Rattle.rollout_rounds.specs.Flights.{merged};
+ghost use Rattle.rollout_rounds.specs.Worked.{op, one_flies};
+
+/// An answer tells of the operation in flight of its item where its number is at least that one, and once.
+pub fn an_answer_tells_once_of_what_is_in_flight()
+    ensures told { with_told one_flies [] (op 0 1) ≡ 0 ∷ [] }
+    ensures again { with_told one_flies (0 ∷ []) (op 0 2) ≡ 0 ∷ [] }
+    ensures below { with_told one_flies [] (op 0 0) ≡ [] }
+    ensures idle { with_told one_flies [] (op 1 1) ≡ [] }
+    ensures done { with_told one_flies [] (op 2 1) ≡ [] }
+{}
+
+/// Of what was in flight only what isn't settled stays, and what was begun comes in by its item.
+pub fn what_is_in_flight_is_put_together_by_item()
+    ensures stays { merged one_flies (op 0 1 ∷ op 2 1 ∷ []) (op 1 1 ∷ op 3 1 ∷ []) ≡ op 0 1 ∷ op 1 1 ∷ op 3 1 ∷ [] }
+    ensures next { merged one_flies (op 2 1 ∷ []) (op 2 2 ∷ []) ≡ op 2 2 ∷ [] }
+{}
