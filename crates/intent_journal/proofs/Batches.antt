@@ -62,7 +62,7 @@ batches_closed mark (suc k) tail closed =
     rw shut refl
 
 -- a batch that is whole, with a byte behind it, and then those behind
-batches_step : (rest : List ℕ) → 4 + 9 * number_4 rest < length rest
+pub batches_step : (rest : List ℕ) → 4 + 9 * number_4 rest < length rest
     → batches_of (open_batch ∷ rest) ≡ rows (number_4 rest) (drop 4 rest) ++ batches_of (drop (4 + 9 * number_4 rest) rest)
 batches_step rest whole =
     let behind = drop (4 + 9 * number_4 rest) rest in

@@ -8,7 +8,7 @@ use Rattle.intent_journal.specs.Parts.{Slot, batches_of, count_of, count_place, 
 use Rattle.intent_journal.specs.States.{Stands, with_more}
 
 -- a number within the front of the bytes is that of the front
-number_4-front : (front tail : List ℕ) → 4 ≤ length front → number_4 (front ++ tail) ≡ number_4 front
+pub number_4-front : (front tail : List ℕ) → 4 ≤ length front → number_4 (front ++ tail) ≡ number_4 front
 unfolding number_4
 number_4-front front tail long =
     ap (λ (l : List ℕ). from_be_bytes w32 (take 4 l)) (append_assoc front tail (replicate 4 0))
@@ -28,7 +28,7 @@ numbers-in (suc n) place front tail long =
     ∙ ap (λ (l : List ℕ). number_4 (drop place front) ∷ l) later
     ∙ ap (λ (l : List ℕ). number_4 (drop place front) ∷ numbers n l) (sym (drop-drop 4 place front))
 
-rows-in : (n place : ℕ) (front tail : List ℕ) → place + 9 * n ≤ length front → rows n (drop place (front ++ tail)) ≡ rows n (drop place front)
+pub rows-in : (n place : ℕ) (front tail : List ℕ) → place + 9 * n ≤ length front → rows n (drop place (front ++ tail)) ≡ rows n (drop place front)
 rows-in zero place front tail long = refl
 rows-in (suc n) place front tail long =
     let inside : drop place (front ++ tail) ≡ drop place front ++ tail = drop-append-le place front tail (omega (arith, long)) in
@@ -117,7 +117,7 @@ module _ (slot : Slot) (front s t : List ℕ) (ends : length front ≡ first_gat
       λ k. record { digest = same_digest k; migration = same_migration k; starts = same_starts k; rows = same_rows k ++ behind k }
 
 -- both tests of two that hold together
-both : (a b : Bool) → (a && b) ≡ true → (a ≡ true) × (b ≡ true)
+pub both : (a b : Bool) → (a && b) ≡ true → (a ≡ true) × (b ≡ true)
 both true b holds = (refl, holds)
 both false b holds = absurd (cc holds)
 

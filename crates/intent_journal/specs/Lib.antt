@@ -1,8 +1,15 @@
 pub mod Digests
 pub mod Entries
+pub mod Faults
 pub mod Images
+pub mod Judging
+pub mod Makings
 pub mod Numbers
 pub mod Opened
 pub mod Parts
+pub mod Phases
+pub mod Reading
+pub mod Renewals
 pub mod States
+pub mod Verdicts
 pub mod Worked

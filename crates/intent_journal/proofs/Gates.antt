@@ -1,0 +1,74 @@
+-- One byte of an image that is written over, and the slots and parts that stand elsewhere.
+use Rattle.std.proofs.Common.{◌≡◌, ⊎_elim, ℕ, ◌-◌, ◌+◌, ◌<◌, ◌≤◌, List, [], ◌∷◌, ◌++◌, length, take, drop, get_or, replicate, sym, ◌∙◌, ap, arith, length-drop}
+use Rattle.std.proofs.lemmas.Bool.{cases_lt}
+use Rattle.std.proofs.lemmas.List.{drop-drop, drop_more, get_or-drop, length-take-le, take-append-drop, take-append-le, take-take}
+use Rattle.std.specs.Int.{w64, from_be_bytes}
+use Rattle.disk_model.specs.Places.{AgreesOn}
+use Rattle.disk_model.specs.Writes.{Torn, written}
+use Rattle.disk_model.proofs.Agreeing.{same_range}
+use Rattle.disk_model.proofs.Parting.{Torn-byte}
+use Rattle.disk_model.proofs.Tearing.{drop-written}
+use Rattle.intent_journal.specs.Numbers.{byte_at, number_8}
+use Rattle.intent_journal.specs.Images.{slot_at}
+
+-- the image in front of a byte, that byte and what stands behind it
+around : (at : ℕ) (image : List ℕ) → at < length image → image ≡ take at image ++ (byte_at at image ∷ drop (at + 1) image)
+around at image inside = sym (take-append-drop at image) ∙ ap (λ (l : List ℕ). take at image ++ l) (drop_more image at 0 inside)
+
+-- a byte that is torn over stands between what stood around it
+pub torn_one : (at : ℕ) (image c : List ℕ) → at < length image → Torn at 1 image c → c ≡ take at image ++ (byte_at at c ∷ drop (at + 1) image)
+torn_one at image c inside torn =
+    Torn-byte (take at image) (drop (at + 1) image) c (byte_at at image) at (sym (length-take-le at image (omega (arith, inside))))
+    (rw (← around at image inside) torn)
+
+-- if it is the same byte, it is the same image
+pub torn_same : (at : ℕ) (image c : List ℕ) → at < length image → Torn at 1 image c → byte_at at c ≡ byte_at at image → c ≡ image
+torn_same at image c inside torn same =
+    torn_one at image c inside torn ∙ ap (λ (b : ℕ). take at image ++ (b ∷ drop (at + 1) image)) same ∙ sym (around at image inside)
+
+-- the byte that was written
+pub written_one : (at byte : ℕ) (image : List ℕ) → byte_at at (written at (byte ∷ []) image) ≡ byte
+written_one at byte image =
+    let is : at + 0 ≡ at = omega arith in
+    ap (λ (i : ℕ). get_or (written at (byte ∷ []) image) i 0) (sym is)
+    ∙ sym (get_or-drop at (written at (byte ∷ []) image) 0 0)
+    ∙ ap (λ (l : List ℕ). get_or l 0 0) (drop-written at (byte ∷ []) image)
+
+-- bytes in the first eight of which alone the number is
+number_8-of : (bytes : List ℕ) → 8 ≤ length bytes → number_8 bytes ≡ from_be_bytes w64 (take 8 bytes)
+unfolding number_8
+number_8-of bytes long = ap (from_be_bytes w64) (take-append-le 8 bytes (replicate 8 0) long)
+
+-- images that agree on a slot have the same
+pub agreed_slot : (places : ℕ → Type 0) (side : ℕ) (old new : List ℕ) → AgreesOn places old new → side + 17 ≤ length old → ((i : ℕ) → side ≤ i → i < side + 17 → places i) → slot_at side new ≡ slot_at side old
+agreed_slot places side old new agrees long among =
+    let gate = agrees.same side (among side (omega arith) (omega arith)) (omega (arith, long)) in
+    let start = number_agreed (side + 1) (omega arith) (omega arith) in
+    let field = number_agreed (side + 9) (omega arith) (omega arith) in
+    λ i. record { gate = gate i; start = start i; field = field i }
+  where
+    number_agreed : (place : ℕ) → side ≤ place → place + 8 ≤ side + 17 → number_8 (drop place new) ≡ number_8 (drop place old)
+    number_agreed place behind before =
+        number_8-of (drop place new) (omega (arith, length-drop place new, agrees.no_shorter, long, before))
+        ∙ ap (from_be_bytes w64) (same_range places old new place 8 agrees (omega (arith, long, before)) (λ i low high. among i (omega (arith, low, behind)) (omega (arith, high, before))))
+        ∙ sym (number_8-of (drop place old) (omega (arith, length-drop place old, long, before)))
+
+-- a write that is torn within a wider range
+pub torn_wider : (at n from k : ℕ) (old new : List ℕ) → from ≤ at → at + n ≤ from + k → Torn at n old new → Torn from k old new
+torn_wider at n from k old new low high torn = record {
+  no_shorter = torn.no_shorter;
+  no_longer = omega (arith, torn.no_longer, low, high);
+  before = λ inside. ⊎_elim
+      (λ reaches. sym (take-take from at new low) ∙ ap (take from) (torn.before (omega (arith, reaches))) ∙ take-take from at old low)
+      (λ shorter. sym (take-take from (length old) new inside) ∙ ap (take from) (torn.beyond (omega (arith, shorter))))
+      (cases_lt at (length old));
+  beyond = λ outside. torn.beyond (omega (arith, outside, low));
+  after =
+      let is : at + n + (from + k - (at + n)) ≡ from + k = omega (arith, high) in
+      ap (λ (i : ℕ). drop i new) (sym is) ∙ sym (drop-drop (from + k - (at + n)) (at + n) new) ∙ ap (drop (from + k - (at + n))) torn.after
+      ∙ drop-drop (from + k - (at + n)) (at + n) old ∙ ap (λ (i : ℕ). drop i old) is;
+}
+
+-- a torn write within an image, behind its slots, leaves them
+pub torn_front : (at n : ℕ) (image c : List ℕ) → 35 ≤ at → at ≤ length image → Torn at n image c → take 35 c ≡ take 35 image
+torn_front at n image c behind inside torn = sym (take-take 35 at c behind) ∙ ap (take 35) (torn.before inside) ∙ take-take 35 at image behind

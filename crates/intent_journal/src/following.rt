@@ -1,0 +1,93 @@
+ghost use Rattle.std.specs.Prelude.{◌≡◌, ◌<◌, [], ◌∷◌, length, if◌then◌else◌, IfNone, IsTrue, MatchOption};
+ghost use Rattle.rollout_rules.specs.History.{with_entries};
+ghost use Rattle.rollout_rules.specs.Items.{item_count};
+ghost use Rattle.rollout_rules.specs.Legal as legal;
+ghost use Rattle.rollout_rules.specs.declared.op.Entry.TheVariants as entry;
+ghost use Rattle.intent_journal.specs.Verdicts.{legal_count};
+
+use dependency_graph::Graph;
+use rollout_rules::{Entry, Op};
+use wan_model::item_count;
+
+/// Brings a graph along entries. The place of the first that may not follow, if there is one; then the
+/// graph has followed those before it.
+pub(crate) fn follow_all(graph: &mut Graph, entries: &[Entry]) -> Option<usize>
+    requires legal { IsTrue (legal.is_legal graph.old.rollout.problem graph.old.rollout.plan graph.old.history) }
+    ensures place { MatchOption result (legal_count graph.old.rollout.problem graph.old.rollout.plan graph.old.history entries.now ≡ length entries.now)
+        (λ n. (legal_count graph.old.rollout.problem graph.old.rollout.plan graph.old.history entries.now ≡ n) × (n < length entries.now)) }
+    ensures all { IfNone result (graph.new ≡ record graph.old { history = with_entries graph.old.history entries.now }) }
+{
+    for place in 0..entries.len() {
+        if !follow(graph, &entries[place]) {
+            return Some(place);
+        }
+    }
+    None
+}
+
+// Brings a graph along an entry, where it may follow.
+fn follow(graph: &mut Graph, entry: &Entry) -> bool
+    requires legal { IsTrue (legal.is_legal graph.old.rollout.problem graph.old.rollout.plan graph.old.history) }
+    ensures may { result ≡ legal.may_add graph.old.rollout.problem graph.old.rollout.plan graph.old.history entry.now }
+    ensures graph { graph.new ≡ (if result then record graph.old { history = with_entries graph.old.history (entry.now ∷ []) } else graph.old) }
+{
+    match entry {
+        Entry::Begin(op) => begin(graph, *op),
+        Entry::Done(op) => end(graph, *op),
+    }
+}
+
+fn begin(graph: &mut Graph, op: Op) -> bool
+    ensures may { result ≡ legal.may_begin graph.old.rollout.problem graph.old.rollout.plan graph.old.history op }
+    ensures graph { graph.new ≡ (if result then record graph.old { history = with_entries graph.old.history (entry.Begin op ∷ []) } else graph.old) }
+{
+    if !may_begin(graph, op) {
+        return false;
+    }
+    graph.begin(op.item);
+    true
+}
+
+fn may_begin(graph: &Graph, op: Op) -> bool
+    ensures { result ≡ legal.may_begin graph.now.rollout.problem graph.now.rollout.plan graph.now.history op }
+{
+    if op.item >= item_count(graph.plan().problem()) {
+        return false;
+    }
+    if !graph.has_next(op.item) {
+        return false;
+    }
+    if u64::from(op.number) != u64::from(graph.settled(op.item)) + 1 {
+        return false;
+    }
+    if !graph.needs_met(op.item) {
+        return false;
+    }
+    graph.room_for(op.item)
+}
+
+fn end(graph: &mut Graph, op: Op) -> bool
+    requires legal { IsTrue (legal.is_legal graph.old.rollout.problem graph.old.rollout.plan graph.old.history) }
+    ensures may { result ≡ legal.may_end graph.old.history op }
+    ensures graph { graph.new ≡ (if result then record graph.old { history = with_entries graph.old.history (entry.Done op ∷ []) } else graph.old) }
+{
+    if !may_end(graph, op) {
+        return false;
+    }
+    graph.done(op.item);
+    true
+}
+
+fn may_end(graph: &Graph, op: Op) -> bool
+    requires legal { IsTrue (legal.is_legal graph.now.rollout.problem graph.now.rollout.plan graph.now.history) }
+    ensures may { result ≡ legal.may_end graph.now.history op }
+    ensures item { IsTrue result → op.item < item_count graph.now.rollout.problem }
+{
+    if op.item >= item_count(graph.plan().problem()) {
+        return false;
+    }
+    if !graph.flying(op.item) {
+        return false;
+    }
+    u64::from(op.number) == u64::from(graph.settled(op.item)) + 1
+}
