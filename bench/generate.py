@@ -1,10 +1,12 @@
 """Writes a problem of a given size, that goes in one step, to standard output, or a document of it.
 
-    python3 bench/generate.py [--share N] [--stages N]
+    python3 bench/generate.py [--share N] [--stages N] [--slack K] [--refused]
 
 The largest has every count at its limit: 1,024 switches, 2,048 links, 1,024 flows, 4,096 tunnels, 16 links a path, names of
 128 bytes. With --share N each count of rows is an N-th of that. With --stages it is a document whose plan has so many stages, which go from the
-old rates to the new ones in equal steps.
+old rates to the new ones in equal steps. With --slack K the rates are large and each link has the least capacity of which both loads leave
+a K-th free, so that it takes K - 1 steps where no linear program is small enough. With --refused the first link has no capacity, so that the
+problem is refused right behind reading.
 """
 
 import argparse
@@ -49,6 +51,20 @@ def problem(share):
     }
 
 
+def tighten(moved, share):
+    """Large rates, and of each link the least capacity with that share free of the old and of the new load."""
+    loads = {}
+    for flow in moved["flows"]:
+        for tunnel in flow["tunnels"]:
+            for side in ("old", "new"):
+                tunnel[side] *= 300000000
+                for ends in zip(tunnel["path"], tunnel["path"][1:]):
+                    loads[ends, side] = loads.get((ends, side), 0) + tunnel[side]
+    for link in moved["links"]:
+        most = max(loads.get(((link["from"], link["to"]), side), 0) for side in ("old", "new"))
+        link["capacity"] = -(-share * most // (share - 1))
+
+
 def plan(moved, stages):
     """Stage s of so many has, at the scale of the steps, each rate a step nearer to the new one."""
     steps = stages - 1
@@ -62,8 +78,14 @@ def main():
     words = argparse.ArgumentParser(description=__doc__, formatter_class=argparse.RawDescriptionHelpFormatter)
     words.add_argument("--share", type=int, default=1)
     words.add_argument("--stages", type=int)
+    words.add_argument("--slack", type=int)
+    words.add_argument("--refused", action="store_true")
     given = words.parse_args()
     moved = problem(given.share)
+    if given.slack is not None:
+        tighten(moved, given.slack)
+    if given.refused:
+        moved["links"][0]["capacity"] = 0
     json.dump(moved if given.stages is None else {"problem": moved, "plan": plan(moved, given.stages)}, sys.stdout)
 
 

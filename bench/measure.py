@@ -21,25 +21,25 @@ GNU_TIME = "/usr/bin/time"
 MOST_TIMES = 5
 
 
-def run_once(command, path):
+def run_once(words, path, program=PROGRAM, statuses=(0,)):
     """The seconds that passed and the processor's seconds of one run."""
     with open(path, "rb") as source, open(os.devnull, "wb") as sink:
         begun = time.perf_counter()
-        child = subprocess.Popen([PROGRAM, command], stdin=source, stdout=sink)
+        child = subprocess.Popen([program] + words, stdin=source, stdout=sink, stderr=subprocess.DEVNULL)
         _, status, used = os.wait4(child.pid, 0)
         seconds = time.perf_counter() - begun
-    if status != 0:
-        sys.exit(f"measure: the program ended with {status} on {path}")
+    if os.waitstatus_to_exitcode(status) not in statuses:
+        sys.exit(f"measure: the program ended with {os.waitstatus_to_exitcode(status)} on {path}")
     return seconds, used.ru_utime + used.ru_stime
 
 
-def peak_memory(command, path):
+def peak_memory(words, path, program=PROGRAM):
     """The peak memory of one run in megabytes, as text. The system counts as a child's peak what its parent had before, so the
     run has to be the child of a small program: GNU time (Debian's package time)."""
     if not os.path.exists(GNU_TIME):
         return "unknown"
     with open(path, "rb") as source, open(os.devnull, "wb") as sink:
-        run = subprocess.run([GNU_TIME, "-f", "%M", PROGRAM, command], stdin=source, stdout=sink, stderr=subprocess.PIPE, check=True)
+        run = subprocess.run([GNU_TIME, "-f", "%M", program] + words, stdin=source, stdout=sink, stderr=subprocess.PIPE, check=True)
     return f"{int(run.stderr.split()[-1]) / 1024:.0f} MB"
 
 
@@ -58,8 +58,8 @@ def growth_of(command, more, runs):
         results = {title: [] for title in inputs}
         for _ in range(runs):
             for title, path in inputs.items():
-                results[title].append(run_once(command, path))
-        peaks = {title: peak_memory(command, path) for title, path in inputs.items()}
+                results[title].append(run_once([command], path))
+        peaks = {title: peak_memory([command], path) for title, path in inputs.items()}
     times = []
     for title, found in results.items():
         passed, busy = min(run[0] for run in found), min(run[1] for run in found)

@@ -1,7 +1,11 @@
-"""Writes a document with a script of a given size to standard output: flows that move in 200 steps from one path to another, and
-a script of rounds, commands, deliveries, answers, crashes and restarts, drawn with a fixed seed.
+"""Writes a document with a script of a given size to standard output: flows that move in equal steps from one path to another, all along
+the same two paths, and a script over it.
 
-    python3 bench/rehearsal.py [--flows N] [--events N]
+    python3 bench/rehearsal.py [--flows N] [--events N] [--steps N] [--tunnels N] [--links N] [--script mixture|straggler|lockstep]
+
+`mixture` draws rounds, commands, deliveries, answers, crashes and restarts with a fixed seed; `straggler` never sends the first operation in
+flight, as by one slow switch, while every other one goes on; `lockstep` is a round and all that it begins, again and again. Of more than two
+tunnels a flow's further ones carry nothing.
 """
 
 import argparse
@@ -9,29 +13,30 @@ import json
 import random
 import sys
 
-HOPS, STEPS = 4, 200
 ACTS = {"send": 45, "deliver": 38, "hand": 9, "round": 3, "all": 3, "crash": 1, "stop": 1}
 
 
-def network(flows):
-    """Two rows of switches; each flow goes along either row, from the same first switch to the same last one."""
-    rows = [["A"] + [f"{row}{at}" for at in range(HOPS - 1)] + ["B"] for row in "XY"]
+def network(flows, steps, tunnels, links):
+    """Rows of switches; each flow goes along every row, from the same first switch to the same last one."""
+    rows = [["A"] + [f"r{row}s{at}" for at in range(links - 1)] + ["B"] for row in range(tunnels)]
     names = sorted({name for row in rows for name in row})
+    splits = [(steps, 0), (0, steps)] + [(0, 0)] * (tunnels - 2)
     return {
         "switches": [{"name": name, "table": 1000000} for name in names],
         "links": [{"from": a, "to": b, "capacity": 1000000000} for row in rows for a, b in zip(row, row[1:])],
         "flows": [
-            {"name": f"f{at}", "tunnels": [{"path": rows[0], "old": STEPS, "new": 0}, {"path": rows[1], "old": 0, "new": STEPS}]}
+            {"name": f"f{at}", "tunnels": [{"path": row, "old": old, "new": new} for row, (old, new) in zip(rows, splits)]}
             for at in range(flows)
         ],
     }
 
 
-def plan(flows):
-    return {"scale": 1, "stages": [{"installed": [True] * 2 * flows, "rates": [STEPS - at, at] * flows} for at in range(STEPS + 1)]}
+def plan(flows, steps, tunnels):
+    rest = [0] * (tunnels - 2)
+    return {"scale": 1, "stages": [{"installed": [True] * tunnels * flows, "rates": ([steps - at, at] + rest) * flows} for at in range(steps + 1)]}
 
 
-def script(flows, events):
+def mixture(flows, events):
     """Mostly commands and deliveries; a controller that stopped starts at once."""
     draws = random.Random(1)
     written = [["round"]]
@@ -48,15 +53,36 @@ def script(flows, events):
             written.append(["start"])
         else:
             written.append([act])
-    return written[:events]
+    return written
+
+
+def straggler(flows, events):
+    written, sent = [], 0
+    while len(written) < events:
+        written.append(["round"])
+        for place in range(1, flows):
+            written += [["send", place], ["deliver", sent], ["hand", sent]]
+            sent += 1
+    return written
+
+
+def lockstep(_flows, events):
+    return [["round"], ["all"]] * (events // 2 + 1)
+
+
+SCRIPTS = {"mixture": mixture, "straggler": straggler, "lockstep": lockstep}
+
+
+def document(flows, events, steps=200, tunnels=2, links=4, script="mixture"):
+    return {"problem": network(flows, steps, tunnels, links), "plan": plan(flows, steps, tunnels), "script": SCRIPTS[script](flows, events)[:events]}
 
 
 def main():
     words = argparse.ArgumentParser(description=__doc__, formatter_class=argparse.RawDescriptionHelpFormatter)
-    words.add_argument("--flows", type=int, default=20)
-    words.add_argument("--events", type=int, default=10000)
-    given = words.parse_args()
-    json.dump({"problem": network(given.flows), "plan": plan(given.flows), "script": script(given.flows, given.events)}, sys.stdout)
+    for name, value in (("flows", 20), ("events", 10000), ("steps", 200), ("tunnels", 2), ("links", 4)):
+        words.add_argument(f"--{name}", type=int, default=value)
+    words.add_argument("--script", choices=SCRIPTS, default="mixture")
+    json.dump(document(**vars(words.parse_args())), sys.stdout)
 
 
 if __name__ == "__main__":

@@ -29,9 +29,9 @@ def main():
     with tempfile.TemporaryDirectory() as folder:
         for flows, events in CASES:
             path = generate(folder, flows, events)
-            runs = [run_once("sim", path) for _ in range(given.runs)]
+            runs = [run_once(["sim"], path) for _ in range(given.runs)]
             busy = min(run[1] for run in runs)
-            print(f"rehearse: {flows} flows, {events} events: {busy:.3f} s of the processor, {peak_memory('sim', path)} at the most")
+            print(f"rehearse: {flows} flows, {events} events: {busy:.3f} s of the processor, {peak_memory(['sim'], path)} at the most")
 
 
 if __name__ == "__main__":

@@ -16,22 +16,9 @@ import tempfile
 KINDS = {"plan": 3000, "bad": 3000, "check": 2000, "sim": 2000, "words": 2000, "mutated": 2000}
 # Problems whose plan comes from a program with thirds or quarters, by seed and number: among the first thousands there are only halves.
 FRACTIONS = [("2", 1), ("2", 347), ("3", 249), ("5", 467)]
-# What the program does by now. Rounds release by item, while no command names a policy.
-FEATURES = "none,places,planner,lp,widths,marks,crashes,sim,check"
+# What the program does by now.
+FEATURES = "none,places,planner,lp,widths,marks,crashes,sim,check,policies"
 PIECES = [b"null", b"true", b"-", b"1", b"1.5", b"99999999999", b'"A"', b"[]", b"{}", b",", b":", b"[", b"}", b'"', b"\\", b"\xff", b" "]
-
-
-def spoil_without_names(gen):
-    """While no command takes names, the generator has none to pick a wrong one from: then a name of later commands is given."""
-    spoil = gen.spoil_words
-
-    def spoil_words(rng, words, known):
-        try:
-            spoil(rng, words, known)
-        except IndexError:
-            words += ["--k", "3"]
-
-    gen.spoil_words = spoil_words
 
 
 def mutated(rng, data):
@@ -75,7 +62,6 @@ def main():
     import gen
     from oracle import cli, features
 
-    spoil_without_names(gen)
     failed = False
     with tempfile.TemporaryDirectory() as found:
         given = sys.argv[3:]

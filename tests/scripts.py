@@ -1,4 +1,4 @@
-"""What `swanroll sim` reads, to its limits: documents and their plans, each event, how many a script may have and
+"""What `swanroll sim` reads, to its limits: its words, documents and their plans, each event, how many a script may have and
 how many commands it may send. Runs the program on each input and compares its status and its lines.
 
     python3 tests/scripts.py PROGRAM
@@ -36,9 +36,21 @@ def document(flows, script):
     }).encode()
 
 
-def run(program, data):
-    done = subprocess.run([program, "sim"], input=data, capture_output=True)
+def run(program, data, words=("sim",)):
+    done = subprocess.run([program, *words], input=data, capture_output=True)
     return done.returncode, done.stdout, done.stderr
+
+
+def words_with_a_policy(program):
+    """Words that name a policy, and words that only look like it."""
+    for words in ("sim", "sim --policy critical", "sim --policy order"):
+        yield words, run(program, document(1, [["round"]]), words.split(" "))[0] == 0
+    for words in (
+        "sim --policy", "sim --policy none", "sim --policy Order", "sim --policy ", "sim --policy -", "sim --policy --policy", "sim --policy=order",
+        "sim -policy order", "sim policy order", "sim --Policy order", "sim -- order", "sim order --policy", "sim --policy order --policy order",
+        "sim --policy order critical", "sim --policy order --k 3", "sim --k 3", "plan --policy order", "check --policy order", "--policy order sim",
+    ):
+        yield words, run(program, document(1, []), words.split(" ")) == (2, b"", b"usage: swanroll COMMAND [--NAME VALUE]\n")
 
 
 def documents(program):
@@ -99,7 +111,7 @@ def counts_of_commands(program):
 
 
 def outcomes(program):
-    for cases in (documents, events_of_any_kind, counts_of_events, counts_of_commands):
+    for cases in (words_with_a_policy, documents, events_of_any_kind, counts_of_events, counts_of_commands):
         for name, passed in cases(program):
             yield name, None if passed else "another answer than wanted"
 

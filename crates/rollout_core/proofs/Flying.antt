@@ -11,8 +11,8 @@ use Rattle.rollout_rules.specs.Release.{next_op}
 use Rattle.rollout_rules.specs.World.{in_flight, no_op}
 use Rattle.rollout_rules.specs.declared.op.Op.{Op}
 use Rattle.rollout_laws.proofs.Histories.{flies-started}
-use Rattle.rollout_core.specs.Progress.{Counts, AreCountsOf}
-use Rattle.rollout_core.specs.Flights.{passing, flies_by, Noted, AreFlying}
+use Rattle.dependency_graph.specs.Progress.{Counts, AreCountsOf, flies_by}
+use Rattle.rollout_core.specs.Flights.{passing, Noted, AreFlying}
 
 -- ---- the numbers below n that pass a test
 module _ (test : ℕ → Bool) where

@@ -1,6 +1,5 @@
 -- A batch that follows a history, entry by entry.
-use Rattle.std.proofs.Common.{◌≡◌, ℕ, ◌+◌, ◌<◌, ◌≤◌, true, false, ◌&&◌, ◌==◌, List, [], ◌∷◌, ◌++◌, length, get_or, take, drop, sym, ap, ◌∙◌, subst, arith, eqb-true, ne_eqb, take-append-drop}
-use Rattle.std.proofs.lemmas.Bool.{and_parts, eqb-false}
+use Rattle.std.proofs.Common.{◌≡◌, ℕ, ◌+◌, ◌<◌, ◌≤◌, true, false, ◌&&◌, ◌==◌, List, [], ◌∷◌, ◌++◌, length, get_or, take, drop, sym, ap, ◌∙◌, subst, arith, ne_eqb, take-append-drop}
 use Rattle.std.proofs.Math.Bool.{and-true}
 use Rattle.std.proofs.lemmas.List.{take_more}
 use Rattle.rollout_rules.specs.Wan.{Problem, Plan}
@@ -9,9 +8,7 @@ use Rattle.rollout_rules.specs.History.{History, with_entries, begun, settled}
 use Rattle.rollout_rules.specs.Legal.{may_end, may_add, may_follow, is_legal}
 use Rattle.rollout_rules.specs.declared.op.Op.{Op}
 use Rattle.rollout_rules.specs.declared.op.Entry.{Entry}
-use Rattle.rollout_rules.specs.declared.op.Entry.TheVariants.{Begin, Done}
-use Rattle.rollout_laws.proofs.Histories.{with_both, begins, ends, may_follow-append, take_follows, front_is_legal, rest_follows, is_legal-append, is_counted}
-use Rattle.rollout_core.specs.Progress.{Counts, AreCountsOf, MayCount}
+use Rattle.rollout_laws.proofs.Histories.{with_both, may_follow-append, take_follows, is_legal-append, is_counted}
 
 module _ (p : Problem) (plan : Plan) (h : History) where
   -- an operation of no item is never done
@@ -45,25 +42,3 @@ module _ (p : Problem) (plan : Plan) (h : History) where
 
     pub may_follow-stops : may_add p plan (with_entries h (take i b)) (get_or b i d) ≡ false → may_follow p plan h b ≡ false
     may_follow-stops may = ap (may_follow p plan h) (sym (take-append-drop (i + 1) b)) ∙ may_follow-fails (take (i + 1) b) (drop (i + 1) b) (upto_next ∙ may)
-
--- an entry behind a history that is counted may be counted where the history with it is legal
-pub counted_next : (c : Counts) (h : History) (e : Entry) → AreCountsOf c h → is_legal c.rollout.problem c.rollout.plan (with_entries h (e ∷ [])) ≡ true → MayCount c e
-counted_next c h (Begin op) counts legal =
-    let may = (and_parts _ _ (rest_follows c.rollout.problem c.rollout.plan h (Begin op ∷ []) legal)).0 in
-    let next = (begins c.rollout.problem c.rollout.plan h op may).next in
-    let idle = eqb-false (begun h op.item) (settled h op.item + 1) next.idle in
-    let number = next.number in
-    let high = (is_counted c.rollout.problem c.rollout.plan h (front_is_legal c.rollout.problem c.rollout.plan h (Begin op ∷ []) legal) op.item).one_flies in
-    let same = counts.begun op.item next.within in
-    (next.within, omega arith)
-counted_next c h (Done op) counts legal =
-    let may = (and_parts _ _ (rest_follows c.rollout.problem c.rollout.plan h (Done op ∷ []) legal)).0 in
-    let flying = eqb-true (begun h op.item) (settled h op.item + 1) (ends h op may).flying in
-    let number = (ends h op may).number in
-    let inside = (is_counted c.rollout.problem c.rollout.plan h (front_is_legal c.rollout.problem c.rollout.plan h (Done op ∷ []) legal) op.item).within (omega (arith, flying)) in
-    let same = counts.settled op.item inside in
-    (inside, omega arith)
-
--- an entry that may be added behind entries that follow a legal history keeps the whole legal
-pub drafted_next : (p : Problem) (plan : Plan) (h : History) (ahead : List Entry) (e : Entry) → is_legal p plan h ≡ true → may_follow p plan h ahead ≡ true → may_add p plan (with_entries h ahead) e ≡ true → is_legal p plan (with_entries (with_entries h ahead) (e ∷ [])) ≡ true
-drafted_next p plan h ahead e legal follows may = is_legal-append p plan (with_entries h ahead) (e ∷ []) (is_legal-append p plan h ahead legal follows) (ap (λ b. b && true) may)

@@ -1,15 +1,5 @@
-pub mod Contents
-pub mod Elements
-pub mod Growing
-pub mod Agreement
-pub mod Needed
-pub mod Counted
-pub mod Touched
-pub mod Changed
-pub mod Begun
-pub mod Standings
-pub mod StageCounts
-pub mod Flying
 pub mod Following
+pub mod Counted
+pub mod Flying
 pub mod HeldPairs
 pub mod Schedules

@@ -1,19 +1,14 @@
 -- The items of which an operation is in flight, kept in a row.
-use Rattle.std.specs.Prelude.{◌≡◌, ℕ, ◌+◌, ◌<◌, ◌≤◌, ◌^◌, Bool, List, length, slice_index, ◌==◌}
+use Rattle.std.specs.Prelude.{◌≡◌, ℕ, ◌<◌, ◌≤◌, ◌^◌, Bool, List, length}
 use Rattle.std.specs.List.{filter}
 use Rattle.rollout_rules.specs.Sums.{list_below}
 use Rattle.rollout_rules.specs.Wan.{Problem}
 use Rattle.rollout_rules.specs.Items.{item_count}
 use Rattle.rollout_rules.specs.History.{History, flies}
-use Rattle.rollout_core.specs.Progress.{Counts}
 
 -- the numbers below n that pass a test, in order
 abbrev pub passing : (ℕ → Bool) → ℕ → List ℕ
 passing test n = filter test (list_below n (λ k. k))
-
--- whether an operation of item n flies, by the counts
-abbrev pub flies_by : Counts → ℕ → Bool
-flies_by c n = slice_index c.begun n == slice_index c.settled n + 1
 
 -- the items noted, and for how many there is room
 pub record Noted : Type 0 where

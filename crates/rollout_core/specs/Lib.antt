@@ -1,8 +1,3 @@
-pub mod Progress
-pub mod Ahead
-pub mod Fits
-pub mod Index
-pub mod StageCounts
+pub mod Adding
 pub mod Flights
 pub mod Worlds
-pub mod Drafts

@@ -12,7 +12,7 @@ use Rattle.rollout_rules.specs.declared.held.Held.{Held}
 use Rattle.rollout_rules.specs.declared.held.Given.{Given}
 use Rattle.rollout_rules.specs.declared.op.Op.{Op}
 use Rattle.rollout_rules.specs.declared.op.Entry.{Entry}
-use Rattle.rollout_core.specs.Progress.{Counts, AreCountsOf}
+use Rattle.dependency_graph.specs.Progress.{Counts, AreCountsOf}
 use Rattle.rollout_core.specs.Flights.{Noted, AreFlying}
 
 -- the history of a rollout

@@ -1,8 +1,9 @@
 ghost use Rattle.std.specs.Prelude.{◌≡◌, ◌<◌, [], ◌∷◌, ◌++◌, IfOk, length, slice_index};
 ghost use Rattle.rollout_rules.specs.Items.{item_count};
-ghost use Rattle.rollout_core.specs.Flights.{passing, flies_by};
+ghost use Rattle.dependency_graph.specs.Progress.{flies_by};
+ghost use Rattle.rollout_core.specs.Flights.{passing};
 
-use crate::progress::Progress;
+use dependency_graph::Progress;
 use lists::Memory;
 use std::alloc::Global;
 use std::marker::Model;

@@ -1,16 +1,16 @@
 ghost use Rattle.std.specs.Prelude.{◌≡◌, ◌<◌, IfOk, OnOk, OnErr, IsTrue, length, slice_index_or};
-ghost use Rattle.rollout_rules.specs.Items.{item_count, item_at};
-ghost use Rattle.rollout_rules.specs.Operations.{operations};
+ghost use Rattle.rollout_rules.specs.Items.{item_count};
 ghost use Rattle.rollout_rules.specs.History.{started, with_entries};
 ghost use Rattle.rollout_rules.specs.History as counts;
 ghost use Rattle.rollout_rules.specs.Legal as legal;
 ghost use Rattle.rollout_rules.specs.World.{in_flight, no_op};
-ghost use Rattle.rollout_core.specs.Progress.{AreCountsOf};
+ghost use Rattle.dependency_graph.specs.Progress.{AreCountsOf};
 ghost use Rattle.rollout_core.specs.Worlds.{GoesOn};
 
+use crate::adding::{may_begin, may_end};
+use crate::copying::copied;
 use crate::flights::Flights;
-use crate::progress::Progress;
-use crate::stage_counts::copied;
+use dependency_graph::{Progress, checked_plan_is_valid};
 use lists::Memory;
 use rollout_rules::{Entry, EntryList, Op};
 use std::alloc::Global;
@@ -60,20 +60,6 @@ impl<'p> History<'p> {
         })
     }
 
-    pub(crate) fn plan(&self) -> &'p CheckedPlan
-        ensures { result.now ≡ self.now.rollout }
-    {
-        self.plan
-    }
-
-    /// How far each item has come, once more.
-    pub(crate) fn copied_progress(&self, alloc: Global) -> Result<Progress, Memory>
-        ensures rollout { IfOk result (λ progress. progress.rollout ≡ self.now.rollout) }
-        ensures counts { IfOk result (λ progress. AreCountsOf progress self.now.history) }
-    {
-        self.progress.copied(alloc)
-    }
-
     /// How many items there are.
     pub(crate) fn items(&self) -> u32
         ensures { result ≡ item_count self.now.rollout.problem }
@@ -96,24 +82,8 @@ impl<'p> History<'p> {
         &self.entries
     }
 
-    /// How many operations the item has.
-    pub(crate) fn operations(&self, item: u32) -> u32
-        requires { item < item_count self.now.rollout.problem }
-        ensures { result ≡ operations self.now.rollout.problem self.now.rollout.plan (item_at self.now.rollout.problem item) }
-    {
-        self.progress.operations(item)
-    }
-
-    /// How many operations of the item are settled.
-    pub(crate) fn settled(&self, item: u32) -> u32
-        requires { item < item_count self.now.rollout.problem }
-        ensures { result ≡ counts.settled self.now.history item }
-    {
-        self.progress.settled(item)
-    }
-
     /// How many operations of the item were begun.
-    pub(crate) fn begun(&self, item: u32) -> u32
+    fn begun(&self, item: u32) -> u32
         requires { item < item_count self.now.rollout.problem }
         ensures { result ≡ counts.begun self.now.history item }
     {
@@ -138,13 +108,6 @@ impl<'p> History<'p> {
         Op { item, number }
     }
 
-    pub(crate) fn may_begin(&self, ahead: &[Entry], op: Op) -> bool
-        requires { IsTrue (legal.may_follow self.now.rollout.problem self.now.rollout.plan self.now.history ahead.now) }
-        ensures { result ≡ legal.may_begin self.now.rollout.problem self.now.rollout.plan (with_entries self.now.history ahead.now) op }
-    {
-        self.progress.may_begin(self.plan, ahead, op)
-    }
-
     /// Whether a batch may follow the history, entry by entry.
     pub(crate) fn may_follow(&self, batch: &[Entry]) -> bool
         ensures { result ≡ legal.may_follow self.now.rollout.problem self.now.rollout.plan self.now.history batch.now }
@@ -161,9 +124,10 @@ impl<'p> History<'p> {
         requires { IsTrue (legal.may_follow self.now.rollout.problem self.now.rollout.plan self.now.history ahead.now) }
         ensures { result ≡ legal.may_add self.now.rollout.problem self.now.rollout.plan (with_entries self.now.history ahead.now) entry }
     {
+        checked_plan_is_valid(self.plan);
         match entry {
-            Entry::Begin(op) => self.may_begin(ahead, op),
-            Entry::Done(op) => self.progress.may_end(ahead, op),
+            Entry::Begin(op) => may_begin(&self.progress, self.plan, ahead, op),
+            Entry::Done(op) => may_end(&self.progress, ahead, op),
         }
     }
 

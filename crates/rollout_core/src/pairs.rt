@@ -1,9 +1,7 @@
-ghost use Rattle.std.specs.Prelude.{◌≡◌, IfOk, if◌then◌else◌};
+ghost use Rattle.std.specs.Prelude.{◌≡◌, if◌then◌else◌};
 ghost use Rattle.rollout_rules.specs.Agent as agent;
 
-use lists::Memory;
 use rollout_rules::Held;
-use std::alloc::Global;
 
 /// The pair that every switch holds of every item at first.
 pub(crate) const FIRST_PAIR: Held = Held {
@@ -36,12 +34,4 @@ pub(crate) fn is_at_most(a: Held, b: Held) -> bool
     ensures { result ≡ agent.is_at_most a b }
 {
     a.migration < b.migration || (a.migration == b.migration && a.number <= b.number)
-}
-
-pub(crate) fn copied(alloc: Global, pairs: &[Held]) -> Result<Vec<Held>, Memory>
-    ensures { IfOk result (λ copy. copy.items ≡ pairs.now) }
-{
-    let mut copy = Vec::new(alloc);
-    copy.extend_from_slice(pairs)?;
-    Ok(copy)
 }

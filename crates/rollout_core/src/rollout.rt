@@ -4,8 +4,8 @@ ghost use Rattle.rollout_rules.specs.Legal.{is_sound};
 ghost use Rattle.rollout_rules.specs.World.{first_world, are_first_pairs, after_events};
 ghost use Rattle.rollout_laws.specs.SafeWorlds.{IsSafeWorld, EveryWorldIsSafe};
 
-use crate::checked::checked_plan_is_valid;
 use crate::world::World;
+use dependency_graph::checked_plan_is_valid;
 use lists::Memory;
 use rollout_rules::{EntryList, Event, EventList, Held};
 use std::alloc::Global;

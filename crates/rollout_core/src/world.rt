@@ -1,17 +1,16 @@
-ghost use Rattle.std.specs.Prelude.{◌≡◌, ◌<◌, ◌≤◌, IfOk, OnOk, OnErr, IsTrue, length, slice_index_or};
-ghost use Rattle.rollout_rules.specs.Items.{item_count, item_at};
-ghost use Rattle.rollout_rules.specs.Operations.{operations};
-ghost use Rattle.rollout_rules.specs.History as counts;
+ghost use Rattle.std.specs.Prelude.{◌≡◌, ◌<◌, ◌≤◌, IfOk, OnOk, OnErr, IsTrue, length};
+ghost use Rattle.rollout_rules.specs.Items.{item_count};
 ghost use Rattle.rollout_rules.specs.Legal as legal;
-ghost use Rattle.rollout_rules.specs.World.{first_world, are_first_pairs, new_world, held_of, in_flight, no_op, is_writing, allows, happens, delivered, comes_late};
+ghost use Rattle.rollout_rules.specs.World.{first_world, are_first_pairs, new_world, held_of, in_flight, is_writing, allows, happens, delivered, comes_late};
 ghost use Rattle.rollout_rules.specs.World as world;
 ghost use Rattle.rollout_rules.specs.declared.event.Event.TheVariants as event;
 ghost use Rattle.rollout_core.specs.Worlds.{AreOfItems, AreAnswersOfItems, with_held, with_answer};
 
 use crate::answers::all_answered;
-use crate::checked::checked_plan_is_valid;
+use crate::copying::copied;
 use crate::history::History;
-use crate::pairs::{FIRST_PAIR, copied, is_at_most, pair_after};
+use crate::pairs::{FIRST_PAIR, is_at_most, pair_after};
+use dependency_graph::checked_plan_is_valid;
 use lists::Memory;
 use rollout_rules::{Entry, EntryList, Event, Given, GivenList, Held, Op, OpList};
 use std::alloc::Global;
@@ -95,7 +94,7 @@ impl<'p> World<'p> {
         match event {
             Event::Write(batch) => self.may_write(batch.as_slice()),
             Event::EndWrite => self.is_writing(),
-            Event::Send(n) => self.is_up && !self.is_writing() && *n < self.flying_count(),
+            Event::Send(n) => self.is_up && !self.is_writing() && *n < self.history.flying_count(),
             Event::Deliver(n) => (*n as usize) < self.sent.as_slice().len(),
             Event::Hand(n) => self.is_up && (*n as usize) < self.given.as_slice().len(),
             Event::Old {
@@ -180,7 +179,7 @@ impl<'p> World<'p> {
         ensures ok { OnOk result (self.new ≡ record self.old { world = happens self.old.rollout.problem self.old.rollout.plan self.old.world (event.Send n) }) }
         ensures err { OnErr result (self.new ≡ self.old) }
     {
-        let command = self.flying(n);
+        let command = self.history.flying(n);
         self.sent.push(command)?;
         Ok(())
     }
@@ -253,13 +252,6 @@ impl<'p> World<'p> {
 }
 
 impl<'p> World<'p> {
-    pub(crate) fn history(&self) -> &History<'p>
-        ensures rollout { result.now.rollout ≡ self.now.rollout }
-        ensures history { result.now.history ≡ self.now.world.durable }
-    {
-        &self.history
-    }
-
     /// The entries that every restart finds behind the start, which with it are a legal history.
     pub fn durable(&self) -> &EntryList
         ensures list { result.now ≡ self.now.world.durable.entries }
@@ -339,45 +331,5 @@ impl<'p> World<'p> {
         } else {
             self.start()[item as usize]
         }
-    }
-
-    /// How many operations the item has.
-    pub fn operations(&self, item: u32) -> u32
-        requires { item < item_count self.now.rollout.problem }
-        ensures { result ≡ operations self.now.rollout.problem self.now.rollout.plan (item_at self.now.rollout.problem item) }
-    {
-        self.history.operations(item)
-    }
-
-    /// How many operations of the item are settled in the durable history.
-    pub fn settled(&self, item: u32) -> u32
-        requires { item < item_count self.now.rollout.problem }
-        ensures { result ≡ counts.settled self.now.world.durable item }
-    {
-        self.history.settled(item)
-    }
-
-    /// How many operations of the item were begun in the durable history.
-    pub fn begun(&self, item: u32) -> u32
-        requires { item < item_count self.now.rollout.problem }
-        ensures { result ≡ counts.begun self.now.world.durable item }
-    {
-        self.history.begun(item)
-    }
-
-    /// How many operations are in flight.
-    pub fn flying_count(&self) -> u32
-        ensures { result ≡ length (in_flight self.now.rollout.problem self.now.world.durable) }
-    {
-        self.history.flying_count()
-    }
-
-    /// The n-th operation in flight, by item.
-    pub fn flying(&self, n: u32) -> Op
-        requires { n < length (in_flight self.now.rollout.problem self.now.world.durable) }
-        ensures operation { result ≡ slice_index_or (in_flight self.now.rollout.problem self.now.world.durable) n no_op }
-        ensures item { result.item < item_count self.now.rollout.problem }
-    {
-        self.history.flying(n)
     }
 }

@@ -6,8 +6,8 @@ use Rattle.rollout_rules.specs.World.{World, in_flight, is_writing, allows, happ
 use Rattle.rollout_rules.specs.declared.event.Event.{Event}
 use Rattle.rollout_rules.specs.declared.event.Event.TheVariants as event
 use Rattle.rollout_laws.proofs.Worlds.{after_events-append}
-use Rattle.rollout_core.specs.Worlds.{Standing}
 use Rattle.sim_run.specs.Acts.{exchanges}
+use Rattle.sim_run.specs.Rehearsing.{Rehearsing, moved}
 
 -- n commands, answers and answers handed over more
 pub record IsExchanged (w v : World) (n : ℕ) : Type 0 where
@@ -18,11 +18,8 @@ pub record IsExchanged (w v : World) (n : ℕ) : Type 0 where
   pub given : length v.given ≡ length w.given + n
 
 module _ (p : Problem) (plan : Plan) where
-  pub allowed-happens : (w : World) (e : Event) → allows p plan w e ≡ true → after_event p plan w e ≡ happens p plan w e
-  allowed-happens w e may = rw may
-
   -- one operation in flight
-  abbrev pub exchange_events : World → ℕ → List Event
+  abbrev exchange_events : World → ℕ → List Event
   exchange_events w k = event.Send k ∷ event.Deliver (length w.sent) ∷ event.Hand (length w.given) ∷ []
 
   idle : (w : World) → w.writing ≡ [] → not (is_writing w) ≡ true
@@ -48,7 +45,7 @@ module _ (p : Problem) (plan : Plan) where
       let v = after_events p plan w (exchanges w n) in
       after_events-append p plan w (exchanges w n) _ ∙ ap (λ es. after_events p plan v es) (ends w v n before.sent before.given)
 
-  pub exchanges-keep : (w : World) (n : ℕ) → w.up ≡ true → w.writing ≡ [] → n ≤ length (in_flight p w.durable) → IsExchanged w (after_events p plan w (exchanges w n)) n
+  exchanges-keep : (w : World) (n : ℕ) → w.up ≡ true → w.writing ≡ [] → n ≤ length (in_flight p w.durable) → IsExchanged w (after_events p plan w (exchanges w n)) n
   exchanges-keep w zero up writing le = record { up = up; writing = writing; durable = refl; sent = omega arith; given = omega arith }
   exchanges-keep w (suc n) up writing le =
       let before = exchanges-keep w n up writing (omega arith) in
@@ -57,32 +54,24 @@ module _ (p : Problem) (plan : Plan) where
       let one = exchange-keeps v n before.up before.writing fits in
       rw (more_exchanges w n before) (record { up = one.up; writing = one.writing; durable = one.durable ∙ before.durable; sent = omega (arith, one.sent, before.sent); given = omega (arith, one.given, before.given) })
 
-  -- a world so many exchanges on
-  pub exchanged : (w v : World) (n : ℕ) → v ≡ after_events p plan w (exchanges w n) → w.up ≡ true → w.writing ≡ [] → n ≤ length (in_flight p w.durable) → IsExchanged w v n
-  exchanged w v n e up writing le = subst (λ u. IsExchanged w u n) (sym e) (exchanges-keep w n up writing le)
-
-  pub one_more : (w : World) (n : ℕ) → w.up ≡ true → w.writing ≡ [] → n ≤ length (in_flight p w.durable) → after_events p plan (after_events p plan w (exchanges w n)) (exchange_events (after_events p plan w (exchanges w n)) n) ≡ after_events p plan w (exchanges w (n + 1))
+  one_more : (w : World) (n : ℕ) → w.up ≡ true → w.writing ≡ [] → n ≤ length (in_flight p w.durable) → after_events p plan (after_events p plan w (exchanges w n)) (exchange_events (after_events p plan w (exchanges w n)) n) ≡ after_events p plan w (exchanges w (n + 1))
   one_more w n up writing le =
       let e : n + 1 ≡ suc n = omega arith in
       sym (more_exchanges w n (exchanges-keep w n up writing le)) ∙ ap (λ k. after_events p plan w (exchanges w k)) (sym e)
 
--- the same, of a world with its rollout
-pub standing_on : (s t : Standing) (n : ℕ) → t ≡ record s { world = after_events s.rollout.problem s.rollout.plan s.world (exchanges s.world n) }
-    → s.world.up ≡ true → s.world.writing ≡ [] → n ≤ length (in_flight s.rollout.problem s.world.durable)
-    → record t { world = after_events t.rollout.problem t.rollout.plan t.world (exchange_events t.rollout.problem t.rollout.plan t.world n) } ≡ record s { world = after_events s.rollout.problem s.rollout.plan s.world (exchanges s.world (n + 1)) }
-standing_on s t n e up writing le =
-    subst (λ u. record u { world = after_events u.rollout.problem u.rollout.plan u.world (exchange_events u.rollout.problem u.rollout.plan u.world n) } ≡ record s { world = after_events s.rollout.problem s.rollout.plan s.world (exchanges s.world (n + 1)) }) (sym e)
-    (ap (λ w. record s { world = w }) (one_more s.rollout.problem s.rollout.plan s.world n up writing le))
+-- the same, of a rehearsal
+pub exchanges-on : (r s : Rehearsing) (n : ℕ) → s ≡ moved r (exchanges r.state.world n) → r.state.world.up ≡ true → r.state.world.writing ≡ [] → n ≤ length (in_flight r.rollout.problem r.state.world.durable)
+    → moved s (event.Send n ∷ event.Deliver (length s.state.world.sent) ∷ event.Hand (length s.state.world.given) ∷ []) ≡ moved r (exchanges r.state.world (n + 1))
+exchanges-on r s n e up writing le =
+    subst (λ u. moved u (exchange_events u.rollout.problem u.rollout.plan u.state.world n) ≡ moved r (exchanges r.state.world (n + 1))) (sym e)
+    (ap (λ w. record r { state = record r.state { world = w } }) (one_more r.rollout.problem r.rollout.plan r.state.world n up writing le))
 
--- where the next operation is in flight, and the controller is up and idle
-pub record MayExchange (t : Standing) (n : ℕ) : Type 0 where
-  pub up : t.world.up ≡ true
-  pub idle : t.world.writing ≡ []
-  pub place : n < length (in_flight t.rollout.problem t.world.durable)
+-- where the next operation is in flight, and the controller is up
+pub record MayExchange (r : Rehearsing) (n : ℕ) : Type 0 where
+  pub up : r.state.world.up ≡ true
+  pub flying : n < length (in_flight r.rollout.problem r.state.world.durable)
 
-pub may_exchange : (s t : Standing) (n : ℕ) → t ≡ record s { world = after_events s.rollout.problem s.rollout.plan s.world (exchanges s.world n) }
-    → s.world.up ≡ true → s.world.writing ≡ [] → n < length (in_flight s.rollout.problem s.world.durable) → MayExchange t n
-may_exchange s t n e up writing lt =
-    let there = exchanges-keep s.rollout.problem s.rollout.plan s.world n up writing (omega arith) in
-    subst (λ u. MayExchange u n) (sym e)
-    (record { up = there.up; idle = there.writing; place = subst (λ h. n < length (in_flight s.rollout.problem h)) (sym there.durable) lt })
+pub may_exchange : (r s : Rehearsing) (n : ℕ) → s ≡ moved r (exchanges r.state.world n) → r.state.world.up ≡ true → r.state.world.writing ≡ [] → n < length (in_flight r.rollout.problem r.state.world.durable) → MayExchange s n
+may_exchange r s n e up writing lt =
+    let there = exchanges-keep r.rollout.problem r.rollout.plan r.state.world n up writing (omega arith) in
+    subst (λ u. MayExchange u n) (sym e) (record { up = there.up; flying = subst (λ h. n < length (in_flight r.rollout.problem h)) (sym there.durable) lt })

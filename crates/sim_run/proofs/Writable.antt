@@ -6,6 +6,7 @@ use Rattle.rollout_rules.specs.Wan.{Problem, Plan}
 use Rattle.rollout_rules.specs.Release.{batch}
 use Rattle.rollout_rules.specs.World.{World, is_writing, is_answered, all_answered, answers_of, allows}
 use Rattle.rollout_rules.specs.declared.held.Given.{Given}
+use Rattle.rollout_rules.specs.declared.op.OpView.{OpView}
 use Rattle.rollout_rules.specs.declared.op.Entry.{Entry}
 use Rattle.rollout_rules.specs.declared.op.Entry.TheVariants.{Begin, Done}
 use Rattle.rollout_rules.specs.declared.event.Event.TheVariants as event
@@ -31,20 +32,16 @@ module _ (migration : ℕ) (k : ℕ) (handed : List Given) where
       let both = and_parts (is_answered migration (drop k handed) e) (all_answered migration (drop k handed) es) a in
       and_from _ _ (answered-drop e both.0) (all_answered-drop es both.1)
 
-module _ (p : Problem) (plan : Plan) (w : World) (heard : ℕ) where
+module _ (p : Problem) (plan : Plan) (policy : OpView → ℕ) (w : World) (heard : ℕ) where
   -- the batch of a round that hears what was handed over from a place on
   abbrev heard_batch : List Entry
-  heard_batch = batch p plan (λ v. 0) w.durable (answers_of w.migration (drop heard w.handed))
+  heard_batch = batch p plan policy w.durable (answers_of w.migration (drop heard w.handed))
 
   pub batch_may_be_written : w.up ≡ true → w.writing ≡ [] → 0 < length heard_batch → allows p plan w (event.Write heard_batch) ≡ true
   batch_may_be_written up idle some =
       and_from _ _
-      (and_from _ _ (and_from _ _ (and_from _ _ up (is_idle idle)) (lt-ltb 0 _ some)) (batch_follows p plan (λ v. 0) w.durable (answers_of w.migration (drop heard w.handed))))
-      (all_answered-drop w.migration heard w.handed heard_batch (batch_is_answered p plan (λ v. 0) w.durable w.migration (drop heard w.handed)))
+      (and_from _ _ (and_from _ _ (and_from _ _ up (is_idle idle)) (lt-ltb 0 _ some)) (batch_follows p plan policy w.durable (answers_of w.migration (drop heard w.handed))))
+      (all_answered-drop w.migration heard w.handed heard_batch (batch_is_answered p plan policy w.durable w.migration (drop heard w.handed)))
     where
       is_idle : w.writing ≡ [] → not (is_writing w) ≡ true
       is_idle e = rw e
-
-  pub may_write : (b : List Entry) → b ≡ batch p plan (λ v. 0) w.durable (answers_of w.migration (drop heard w.handed)) → w.up ≡ true → w.writing ≡ [] → 0 < length b → allows p plan w (event.Write b) ≡ true
-  may_write b e up idle some =
-      subst (λ x. allows p plan w (event.Write x) ≡ true) (sym e) (batch_may_be_written up idle (subst (λ x. 0 < length x) e some))

@@ -5,6 +5,7 @@ use Rattle.rollout_rules.specs.Release.{batch}
 use Rattle.rollout_rules.specs.World.{World, new_world, in_flight, answers_of, after_events}
 use Rattle.rollout_rules.specs.declared.limits.TheConstants.{MOST_SENT}
 use Rattle.rollout_rules.specs.declared.op.Op.{Op}
+use Rattle.rollout_rules.specs.declared.op.OpView.{OpView}
 use Rattle.rollout_rules.specs.declared.op.Entry.{Entry}
 use Rattle.rollout_rules.specs.declared.event.Event.{Event}
 use Rattle.rollout_rules.specs.declared.event.Event.TheVariants as event
@@ -28,9 +29,9 @@ may_send w more = nat_le (length w.sent + more) MOST_SENT
 abbrev pub unheard : Rehearsal → List Op
 unheard r = answers_of r.world.migration (drop r.heard r.world.handed)
 
--- the batch of a round now; operations are released by item, and none is held back
-abbrev pub round_batch : Problem → Plan → Rehearsal → List Entry
-round_batch p plan r = batch p plan (λ v. 0) r.world.durable (unheard r)
+-- the batch of a round now, under a policy
+abbrev pub round_batch : Problem → Plan → (OpView → ℕ) → Rehearsal → List Entry
+round_batch p plan policy r = batch p plan policy r.world.durable (unheard r)
 
 -- whether an act can happen
 abbrev pub can_happen : Problem → Rehearsal → Act → Bool
@@ -60,16 +61,16 @@ exchanges w zero = []
 exchanges w (suc n) = exchanges w n ++ event.Send n ∷ event.Deliver (length w.sent + n) ∷ event.Hand (length w.given + n) ∷ []
 
 -- an act as events
-abbrev pub events_of : Problem → Plan → Rehearsal → Act → List Event
-events_of p plan r act.Round = write_whole (round_batch p plan r)
-events_of p plan r (act.Send n) = event.Send n ∷ []
-events_of p plan r (act.Deliver n) = event.Deliver n ∷ []
-events_of p plan r (act.Hand n) = event.Hand n ∷ []
-events_of p plan r act.All = exchanges r.world (length (in_flight p r.world.durable))
-events_of p plan r act.CrashLost = stop_writing (round_batch p plan r) 0
-events_of p plan r act.CrashKept = stop_writing (round_batch p plan r) (length (round_batch p plan r))
-events_of p plan r act.Stop = event.Crash 0 ∷ []
-events_of p plan r act.Start = event.Restart ∷ []
+abbrev pub events_of : Problem → Plan → (OpView → ℕ) → Rehearsal → Act → List Event
+events_of p plan policy r act.Round = write_whole (round_batch p plan policy r)
+events_of p plan policy r (act.Send n) = event.Send n ∷ []
+events_of p plan policy r (act.Deliver n) = event.Deliver n ∷ []
+events_of p plan policy r (act.Hand n) = event.Hand n ∷ []
+events_of p plan policy r act.All = exchanges r.world (length (in_flight p r.world.durable))
+events_of p plan policy r act.CrashLost = stop_writing (round_batch p plan policy r) 0
+events_of p plan policy r act.CrashKept = stop_writing (round_batch p plan policy r) (length (round_batch p plan policy r))
+events_of p plan policy r act.Stop = event.Crash 0 ∷ []
+events_of p plan policy r act.Start = event.Restart ∷ []
 
 -- A round hears what was handed over; a crash and a stop forget it.
 abbrev pub heard_after : Rehearsal → Act → ℕ
@@ -84,13 +85,13 @@ heard_after r act.Stop = 0
 heard_after r act.Start = r.heard
 
 -- an act that can happen
-abbrev pub acted : Problem → Plan → Rehearsal → Act → Rehearsal
-acted p plan r a = record { world = after_events p plan r.world (events_of p plan r a); heard = heard_after r a }
+abbrev pub acted : Problem → Plan → (OpView → ℕ) → Rehearsal → Act → Rehearsal
+acted p plan policy r a = record { world = after_events p plan r.world (events_of p plan policy r a); heard = heard_after r a }
 
 -- an act that can't happen is passed over
-abbrev pub after_act : Problem → Plan → Rehearsal → Act → Rehearsal
-after_act p plan r a = if can_happen p r a then acted p plan r a else r
+abbrev pub after_act : Problem → Plan → (OpView → ℕ) → Rehearsal → Act → Rehearsal
+after_act p plan policy r a = if can_happen p r a then acted p plan policy r a else r
 
-abbrev pub after_acts : Problem → Plan → Rehearsal → List Act → Rehearsal
-after_acts p plan r [] = r
-after_acts p plan r (a ∷ rest) = after_acts p plan (after_act p plan r a) rest
+abbrev pub after_acts : Problem → Plan → (OpView → ℕ) → Rehearsal → List Act → Rehearsal
+after_acts p plan policy r [] = r
+after_acts p plan policy r (a ∷ rest) = after_acts p plan policy (after_act p plan policy r a) rest

@@ -4,7 +4,7 @@ use rollout_rules::{Given, Op};
 #[derive(Clone, Copy, Debug, PartialEq, Eq)]
 pub(crate) enum ActLine {
     /// A round's batch: so many entries Done, so many Begin.
-    Round { dones: usize, begins: usize },
+    Round { dones: u32, begins: u32 },
     /// The operation whose command was sent, by its number among those in flight.
     Sent { place: u32, op: Op },
     /// The answer to a command, by the command's number.
@@ -12,7 +12,7 @@ pub(crate) enum ActLine {
     /// The answer that was handed over, by its number.
     Handed { place: u32, answer: Given },
     /// Every operation in flight was sent and answered: so many.
-    All { count: u32 },
+    All { count: usize },
     CrashLost,
     CrashKept,
     Stop,

@@ -1,5 +1,5 @@
 ghost use Rattle.std.specs.Prelude.{◌≡◌, ◌++◌, codes, decimal, OnOk};
-ghost use Rattle.sim_run.specs.Script.{item_text, line_text, last_line};
+ghost use Rattle.sim_run.specs.Script.{item_text, line_text};
 
 use crate::act_line::ActLine;
 use lists::{Memory, Text};
@@ -69,16 +69,5 @@ fn push_item(
     ensures { OnOk result (text.new ≡ text.old ++ item_text name.now place item word.now number) }
 {
     let line = format!(in alloc; "{name}{place}: item {item}{word}{number}")?;
-    text.push_str(&line)
-}
-
-/// Adds the last line: whether operations are left unsettled, and how many.
-pub(crate) fn push_last_line(alloc: Global, text: &mut Text, left: u64) -> Result<(), Memory>
-    ensures { OnOk result (text.new ≡ text.old ++ last_line left) }
-{
-    if left == 0 {
-        return text.push_str("finished\n");
-    }
-    let line = format!(in alloc; "unfinished: {left}\n")?;
     text.push_str(&line)
 }

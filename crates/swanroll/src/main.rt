@@ -1,29 +1,61 @@
-//! The program: hands the arguments, the standard streams and the allocator to the call that does
-//! everything, and ends with its status.
+//! The program: hands the arguments, the standard streams, the allocator and its policies to the call that
+//! does everything, and ends with its status.
 #![tactic(auto)]
 
 ghost use Rattle.std.specs.Prelude.{◌≡◌, ◌≢◌};
 ghost use Rattle.std.specs.IoError.{error_kind};
+ghost use Rattle.swanroll.specs.Policies as spec;
 
+use host_edge::{StdSink, StdSource};
+use lists::Memory;
+use order_policy::{Policies, Policy};
+use policies::{critical, order, policies_of};
 use std::env;
 use std::io::{Error, ErrorKind};
 use std::process::ExitCode;
-use streams::{InputStream, OutputStream};
 use swanroll_top::{Unread, start};
+use wan_model::OpView;
 
-mod streams;
+mod policies;
 
 fn main(rt: HostRuntime) -> ExitCode {
-    let mut source = InputStream::new(rt.stdin());
-    let mut sink = OutputStream::standard(rt.stdout());
-    let mut notes = OutputStream::error(rt.stderr());
-    ExitCode::from(start(
+    let mut source = StdSource::new(rt.stdin());
+    let mut sink = StdSink::output(rt.stdout());
+    let mut notes = StdSink::error(rt.stderr());
+    match run(&rt, &mut source, &mut sink, &mut notes) {
+        Ok(status) => ExitCode::from(status),
+        Err(_) => ExitCode::from(start(
+            rt.alloc(),
+            Err(Unread::Memory),
+            &mut source,
+            &mut sink,
+            &mut notes,
+            &Policies::new(rt.alloc()),
+        )),
+    }
+}
+
+/// Does what the arguments ask for, with the policies `critical` and `order`, and answers the exit status.
+fn run(
+    rt: &HostRuntime,
+    source: &mut StdSource,
+    sink: &mut StdSink,
+    notes: &mut StdSink,
+) -> Result<u8, Memory> {
+    let by_chain: Box<dyn Fn(OpView) -> u64 + Send + Sync> = Box::new(
         rt.alloc(),
-        arguments(&rt),
-        &mut source,
-        &mut sink,
-        &mut notes,
-    ))
+        |view: OpView| -> u64
+            ensures { result ≡ spec.critical view }
+        { critical(view) },
+    )?;
+    let by_item: Box<dyn Fn(OpView) -> u64 + Send + Sync> = Box::new(
+        rt.alloc(),
+        |view: OpView| -> u64
+            ensures { result ≡ spec.order view }
+        { order(view) },
+    )?;
+    let policies = policies_of(rt.alloc(), Policy::new(by_chain), Policy::new(by_item))?;
+    Ok(start(rt.alloc(), arguments(rt), source, sink, notes, &policies))
 }
 
 fn arguments(rt: &HostRuntime) -> Result<Vec<String>, Unread> {

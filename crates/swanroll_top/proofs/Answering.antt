@@ -1,6 +1,7 @@
 -- No command answers with an ending that isn't one of its input.
 use Rattle.std.proofs.Common.{◌≡◌, ◌⊎◌, ℕ, List, Bool, true, false, Option, Some, None, Result, Ok, Err, refl, ap, ◌∙◌, inl, inr}
 use Rattle.rollout_rules.specs.Wan.{Problem, Rollout}
+use Rattle.rollout_rules.specs.declared.op.OpView.{OpView}
 use Rattle.plan_check.specs.FirstBroken.{first_broken}
 use Rattle.plan_check.specs.declared.broken.Broken.{Broken}
 use Rattle.plan_choose.specs.Choice.{Choice, chosen}
@@ -15,8 +16,7 @@ use Rattle.swanroll_top.specs.Endings.{ending_of}
 use Rattle.swanroll_top.specs.Runs.{EndsWith, Follows, Gives}
 use Rattle.swanroll_top.specs.declared.ending.Ending.{Ending}
 use Rattle.swanroll_top.specs.declared.ending.Ending.TheVariants.{Done, Usage, ReadFault, WriteFault}
-use Rattle.swanroll_top.specs.declared.words.Command.{Command}
-use Rattle.swanroll_top.specs.declared.words.Command.TheVariants as command
+use Rattle.swanroll_top.specs.Words.{Asked, a_plan, a_check, a_rehearsal}
 use Rattle.swanroll_top.proofs.Documents.{as_rollout, checked-by}
 use Rattle.swanroll_top.proofs.Steps.{fault-ends}
 
@@ -58,29 +58,29 @@ judged-answers : (d : DocumentRead) → HasAnswer (judged d)
 unfolding judged
 judged-answers d = checked-step-by d (λ o. Ok (valid_line o.plan)) (first_broken d.problem d.plan) refl (λ o. tt)
 
-rehearsed-answers : (s : ScriptedRead) → HasAnswer (rehearsed s)
+rehearsed-answers : (policy : OpView → ℕ) (s : ScriptedRead) → HasAnswer (rehearsed policy s)
 unfolding rehearsed
-rehearsed-answers s = checked-step-by s.document (λ o. Ok (script_text o.problem o.plan s.script)) (first_broken s.document.problem s.document.plan) refl (λ o. tt)
+rehearsed-answers policy s = checked-step-by s.document (λ o. Ok (script_text o.problem o.plan policy s.script)) (first_broken s.document.problem s.document.plan) refl (λ o. tt)
 
-pub command-answers : (c : Command) (input : List ℕ) → HasAnswer (answer_in c input)
+pub command-answers : (c : Asked) (input : List ℕ) → HasAnswer (answer_in c input)
 unfolding answer_in
-command-answers command.Plan input = step-answers (problem_in input) planned planned-answers
-command-answers command.Check input = step-answers (document_in input) judged judged-answers
-command-answers command.Sim input = step-answers (scripted_in input) rehearsed rehearsed-answers
+command-answers a_plan input = step-answers (problem_in input) planned planned-answers
+command-answers a_check input = step-answers (document_in input) judged judged-answers
+command-answers (a_rehearsal policy) input = step-answers (scripted_in input) (rehearsed policy) (rehearsed-answers policy)
 
 ends-only : (answer : Result (List ℕ) Ending) (e : Ending) (out now : Option (List ℕ)) → HasAnswer answer → EndsWith answer e out now → (e ≡ Done) ⊎ ((e ≡ WriteFault) ⊎ (is_answer e ≡ true))
 ends-only (Ok text) e out now h (inl done) = inl done.0
 ends-only (Ok text) e out now h (inr cut) = inr (inl cut.0)
 ends-only (Err d) e out now h w = inr (inr (ap is_answer w.0 ∙ h))
 
-pub no-read-fault : (c : Command) (input : List ℕ) (out now : Option (List ℕ)) → Follows (answer_in c input) ReadFault out now → ⊥
+pub no-read-fault : (c : Asked) (input : List ℕ) (out now : Option (List ℕ)) → Follows (answer_in c input) ReadFault out now → ⊥
 no-read-fault c input out now h = elim (ends-only _ ReadFault out now (command-answers c input) h) [ inl e ↦ cc | inr e ↦ elim e [ inl f ↦ cc | inr f ↦ cc ] ]
 
-pub no-usage : (c : Command) (input : List ℕ) (out now : Option (List ℕ)) → Follows (answer_in c input) Usage out now → ⊥
+pub no-usage : (c : Asked) (input : List ℕ) (out now : Option (List ℕ)) → Follows (answer_in c input) Usage out now → ⊥
 no-usage c input out now h = elim (ends-only _ Usage out now (command-answers c input) h) [ inl e ↦ cc | inr e ↦ elim e [ inl f ↦ cc | inr f ↦ cc ] ]
 
-pub no-done : (c : Command) (input : List ℕ) → Gives {A = List ℕ} (Err Done) (answer_in c input) → ⊥
+pub no-done : (c : Asked) (input : List ℕ) → Gives {A = List ℕ} (Err Done) (answer_in c input) → ⊥
 no-done c input h = let e : is_answer Done ≡ true = (rw h at (command-answers c input)) in cc
 
-pub no-write-fault : (c : Command) (input : List ℕ) → Gives {A = List ℕ} (Err WriteFault) (answer_in c input) → ⊥
+pub no-write-fault : (c : Asked) (input : List ℕ) → Gives {A = List ℕ} (Err WriteFault) (answer_in c input) → ⊥
 no-write-fault c input h = let e : is_answer WriteFault ≡ true = (rw h at (command-answers c input)) in cc

@@ -1,6 +1,7 @@
 -- The answer of each command, from what it read, and what is known of the input behind it.
 use Rattle.std.proofs.Common.{◌≡◌, ℕ, List, Result, Ok, Err, IfOk}
 use Rattle.rollout_rules.specs.Wan.{Problem}
+use Rattle.rollout_rules.specs.declared.op.OpView.{OpView}
 use Rattle.problem_json.specs.Grammar.{problem_in}
 use Rattle.problem_json.specs.GrammarDocuments.{DocumentRead, ScriptedRead, document_in, scripted_in}
 use Rattle.problem_json.specs.GrammarResults as grammar
@@ -11,32 +12,32 @@ use Rattle.swanroll_top.specs.Endings.{ending_of}
 use Rattle.swanroll_top.specs.Runs.{Gives}
 use Rattle.swanroll_top.specs.Safety.{IsPlanned, PlansSafely, ChecksValid, RehearsesSafely, IsValid}
 use Rattle.swanroll_top.specs.declared.ending.Ending.{Ending}
-use Rattle.swanroll_top.specs.declared.words.Command.TheVariants as command
+use Rattle.swanroll_top.specs.Words.{a_plan, a_check, a_rehearsal}
 use Rattle.swanroll_top.proofs.Steps.{fault-gives, next-is}
 
-pub plan-refuses : (input : List ℕ) (e : InputFault) → grammar.Refuses e (problem_in input) → Gives {A = List ℕ} (Err (ending_of e)) (answer_in command.Plan input)
+pub plan-refuses : (input : List ℕ) (e : InputFault) → grammar.Refuses e (problem_in input) → Gives {A = List ℕ} (Err (ending_of e)) (answer_in a_plan input)
 unfolding answer_in
 plan-refuses input e h = fault-gives e (problem_in input) planned h
 
-pub plan-answers : (input : List ℕ) (p : Problem) → problem_in input ≡ Ok p → answer_in command.Plan input ≡ planned p
+pub plan-answers : (input : List ℕ) (p : Problem) → problem_in input ≡ Ok p → answer_in a_plan input ≡ planned p
 unfolding answer_in
 plan-answers input p h = next-is (problem_in input) p planned h
 
-pub check-refuses : (input : List ℕ) (e : InputFault) → grammar.Refuses e (document_in input) → Gives {A = List ℕ} (Err (ending_of e)) (answer_in command.Check input)
+pub check-refuses : (input : List ℕ) (e : InputFault) → grammar.Refuses e (document_in input) → Gives {A = List ℕ} (Err (ending_of e)) (answer_in a_check input)
 unfolding answer_in
 check-refuses input e h = fault-gives e (document_in input) judged h
 
-pub check-answers : (input : List ℕ) (d : DocumentRead) → document_in input ≡ Ok d → answer_in command.Check input ≡ judged d
+pub check-answers : (input : List ℕ) (d : DocumentRead) → document_in input ≡ Ok d → answer_in a_check input ≡ judged d
 unfolding answer_in
 check-answers input d h = next-is (document_in input) d judged h
 
-pub sim-refuses : (input : List ℕ) (e : InputFault) → grammar.Refuses e (scripted_in input) → Gives {A = List ℕ} (Err (ending_of e)) (answer_in command.Sim input)
+pub sim-refuses : (policy : OpView → ℕ) (input : List ℕ) (e : InputFault) → grammar.Refuses e (scripted_in input) → Gives {A = List ℕ} (Err (ending_of e)) (answer_in (a_rehearsal policy) input)
 unfolding answer_in
-sim-refuses input e h = fault-gives e (scripted_in input) rehearsed h
+sim-refuses policy input e h = fault-gives e (scripted_in input) (rehearsed policy) h
 
-pub sim-answers : (input : List ℕ) (s : ScriptedRead) → scripted_in input ≡ Ok s → answer_in command.Sim input ≡ rehearsed s
+pub sim-answers : (policy : OpView → ℕ) (input : List ℕ) (s : ScriptedRead) → scripted_in input ≡ Ok s → answer_in (a_rehearsal policy) input ≡ rehearsed policy s
 unfolding answer_in
-sim-answers input s h = next-is (scripted_in input) s rehearsed h
+sim-answers policy input s h = next-is (scripted_in input) s (rehearsed policy) h
 
 -- ---- what is known of the input where a text was made
 
@@ -48,6 +49,7 @@ pub read-checks-valid : {A : Type 0} (input : List ℕ) (d : DocumentRead) (answ
 read-checks-valid input d (Ok text) read valid = record { document = d; read = read; valid = valid }
 read-checks-valid input d (Err e) read valid = tt
 
-pub read-rehearses-safely : {A : Type 0} (input : List ℕ) (s : ScriptedRead) (answer : Result A Ending) → scripted_in input ≡ Ok s → IfOk answer (λ text. IsSafeRehearsal s.document.problem s.document.plan s.script) → IfOk answer (λ text. RehearsesSafely input)
-read-rehearses-safely input s (Ok text) read safe = record { scripted = s; read = read; safe = safe }
-read-rehearses-safely input s (Err e) read safe = tt
+pub read-rehearses-safely : {A : Type 0} (policy : OpView → ℕ) (input : List ℕ) (s : ScriptedRead) (answer : Result A Ending) → scripted_in input ≡ Ok s
+    → IfOk answer (λ text. IsSafeRehearsal s.document.problem s.document.plan policy s.script) → IfOk answer (λ text. RehearsesSafely policy input)
+read-rehearses-safely policy input s (Ok text) read safe = record { scripted = s; read = read; safe = safe }
+read-rehearses-safely policy input s (Err e) read safe = tt

@@ -1,18 +1,26 @@
 -- What is enough for an answer, and that an answer is written.
-use Rattle.std.proofs.Common.{◌≡◌, ◌≢◌, ℕ, ◌≤◌, List, length, Option, Some, None, Result, Ok, Err, IsOk, IfSome, refl, sym, subst, ap, ◌∙◌, inl, inr}
-use Rattle.rollout_rules.specs.Wan.{Problem}
+use Rattle.std.proofs.Common.{◌≡◌, ◌≢◌, ℕ, ◌≤◌, List, length, true, false, Option, Some, None, Result, Ok, Err, IsOk, IfSome, refl, sym, subst, ap, ◌∙◌, inl, inr}
+use Rattle.rollout_rules.specs.Wan.{Problem, Rollout}
 use Rattle.rollout_rules.specs.declared.limits.TheConstants.{MOST_INPUT}
+use Rattle.rollout_rules.specs.declared.op.OpView.{OpView}
+use Rattle.plan_check.specs.FirstBroken.{first_broken}
+use Rattle.plan_check.specs.declared.broken.Broken.{Broken}
+use Rattle.plan_check.proofs.Firsts.{broken-invalid}
 use Rattle.problem_json.specs.Grammar.{problem_in}
+use Rattle.problem_json.specs.GrammarDocuments.{DocumentRead, ScriptedRead}
+use Rattle.sim_run.specs.Script.{script_text}
 use Rattle.scratch_plan.specs.declared.no_plan.NoPlan.{NoPlan as Cause}
 use Rattle.plan_choose.specs.Choice.{Choice, chosen}
-use Rattle.swanroll_top.specs.Answers.{with_choice, planned, answer_to}
+use Rattle.swanroll_top.specs.Answers.{◌>>=◌, with_choice, planned, checked, valid_line, judged, rehearsed, answer_to}
 use Rattle.swanroll_top.specs.Endings.{status_of}
 use Rattle.swanroll_top.specs.Program.{Streams, IsRun, RunsAndNotes}
 use Rattle.swanroll_top.specs.Runs.{EndsWith}
+use Rattle.swanroll_top.specs.Safety.{IsValid}
+use Rattle.swanroll_top.specs.Taken.{IsValidDocument, IsValidScript}
 use Rattle.swanroll_top.specs.declared.ending.Ending.{Ending}
-use Rattle.swanroll_top.specs.declared.words.Command.{Command}
-use Rattle.swanroll_top.specs.declared.words.Command.TheVariants as command
-use Rattle.swanroll_top.proofs.Commands.{plan-answers}
+use Rattle.swanroll_top.specs.Words.{Asked, a_plan, a_check, a_rehearsal}
+use Rattle.swanroll_top.proofs.Commands.{plan-answers, check-answers, sim-answers}
+use Rattle.swanroll_top.proofs.Documents.{as_rollout, checked-by}
 use Rattle.swanroll_top.proofs.Inputs.{short-answered}
 
 choice-answers : (p : Problem) (found : Result Choice Cause) → IsOk found → IsOk (with_choice p found)
@@ -23,8 +31,30 @@ planned-answers : (p : Problem) → IsOk (chosen p) → IsOk (planned p)
 unfolding planned
 planned-answers p ok = choice-answers p (chosen p) ok
 
-pub enough-answers : (input : List ℕ) (p : Problem) → length input ≤ MOST_INPUT → problem_in input ≡ Ok p → IsOk (chosen p) → IsOk (answer_to command.Plan input)
-enough-answers input p short read ok = subst (λ r. IsOk r) (sym (short-answered command.Plan input short ∙ plan-answers input p read)) (planned-answers p ok)
+pub enough-answers : (input : List ℕ) (p : Problem) → length input ≤ MOST_INPUT → problem_in input ≡ Ok p → IsOk (chosen p) → IsOk (answer_to a_plan input)
+enough-answers input p short read ok = subst (λ r. IsOk r) (sym (short-answered a_plan input short ∙ plan-answers input p read)) (planned-answers p ok)
+
+-- ---- a valid document, alone or with a script
+
+valid-goes-on : (d : DocumentRead) (next : Rollout → List ℕ) (broken : Option Broken) → first_broken d.problem d.plan ≡ broken → IsValid d.problem d.plan → IsOk (checked d >>= λ o. Ok (next o))
+valid-goes-on d next None e valid = rw (checked-by d None e) refl
+valid-goes-on d next (Some b) e valid = absurd (let both : true ≡ false = sym valid ∙ broken-invalid d.problem d.plan b e in cc)
+
+valid-judged : (d : DocumentRead) → IsValid d.problem d.plan → IsOk (judged d)
+unfolding judged
+valid-judged d valid = valid-goes-on d (λ o. valid_line o.plan) (first_broken d.problem d.plan) refl valid
+
+valid-rehearsed : (policy : OpView → ℕ) (s : ScriptedRead) → IsValid s.document.problem s.document.plan → IsOk (rehearsed policy s)
+unfolding rehearsed
+valid-rehearsed policy s valid = valid-goes-on s.document (λ o. script_text o.problem o.plan policy s.script) (first_broken s.document.problem s.document.plan) refl valid
+
+pub valid-document-answers : (input : List ℕ) → IsValidDocument input → IsOk (answer_to a_check input)
+valid-document-answers input t = subst (λ r. IsOk r) (sym (short-answered a_check input t.within ∙ check-answers input t.document t.read)) (valid-judged t.document t.valid)
+
+pub valid-script-answers : (policy : OpView → ℕ) (input : List ℕ) → IsValidScript input → IsOk (answer_to (a_rehearsal policy) input)
+valid-script-answers policy input t = subst (λ r. IsOk r) (sym (short-answered (a_rehearsal policy) input t.within ∙ sim-answers policy input t.scripted t.read)) (valid-rehearsed policy t.scripted t.valid)
+
+-- ---- a run with an answer
 
 ends-well : (answer : Result (List ℕ) Ending) (e : Ending) (out now : Option (List ℕ)) → IsOk answer → EndsWith answer e out now → (status_of e ≡ 7 → ⊥) → status_of e ≡ 0
 ends-well (Ok text) e out now ok (inl done) cut = ap status_of done.0
@@ -34,7 +64,7 @@ ends-well (Err x) e out now ok h cut = absurd cc
 told-whole : (left : Option (List ℕ)) (input read : List ℕ) → left ≡ Some input → IfSome left (λ all. all ≡ read) → input ≡ read
 told-whole left input read is whole = subst (λ l. IfSome l (λ all. all ≡ read)) is whole
 
-module _ (asked : Command) (before after : Streams) (status : ℕ) (input : List ℕ) where
+module _ (asked : Asked) (before after : Streams) (status : ℕ) (input : List ℕ) where
   well : RunsAndNotes asked before after status → before.left ≡ Some input → IsOk (answer_to asked input) → (status ≡ 7 → ⊥) → status ≡ 0
   well r told ok cut =
       r.is_status ∙ ends-well (answer_to asked r.follows.input) r.ending before.written after.written

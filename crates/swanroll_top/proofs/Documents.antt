@@ -2,6 +2,7 @@
 use Rattle.std.proofs.Common.{◌≡◌, ℕ, List, true, Option, Some, None, Ok, Err, ap, sym, ◌∙◌, subst}
 use Rattle.rollout_rules.specs.Wan.{Problem, Plan, Rollout, last_stage}
 use Rattle.rollout_rules.specs.Valid.{is_valid_plan}
+use Rattle.rollout_rules.specs.declared.op.OpView.{OpView}
 use Rattle.plan_check.specs.FirstBroken.{first_broken}
 use Rattle.plan_check.specs.Verdict.{IsVerdict}
 use Rattle.plan_check.specs.declared.broken.Broken.{Broken}
@@ -52,17 +53,17 @@ refused-judged d e h = step-gives e (checked d) (λ o. Ok (valid_line o.plan)) h
 
 -- ---- the text of a script over a valid plan
 
-pub checked-rehearsed : (s : ScriptedRead) (o : Rollout) (text : List ℕ) → checked s.document ≡ Ok o → text ≡ script_text o.problem o.plan s.script → rehearsed s ≡ Ok text
+pub checked-rehearsed : (policy : OpView → ℕ) (s : ScriptedRead) (o : Rollout) (text : List ℕ) → checked s.document ≡ Ok o → text ≡ script_text o.problem o.plan policy s.script → rehearsed policy s ≡ Ok text
 unfolding rehearsed
-checked-rehearsed s o text e is = ap (λ r. r >>= λ o. Ok (script_text o.problem o.plan s.script)) e ∙ sym (ap Ok is)
+checked-rehearsed policy s o text e is = ap (λ r. r >>= λ o. Ok (script_text o.problem o.plan policy s.script)) e ∙ sym (ap Ok is)
 
-pub refused-rehearsed : (s : ScriptedRead) (e : Ending) → Gives {A = Rollout} (Err e) (checked s.document) → Gives {A = List ℕ} (Err e) (rehearsed s)
+pub refused-rehearsed : (policy : OpView → ℕ) (s : ScriptedRead) (e : Ending) → Gives {A = Rollout} (Err e) (checked s.document) → Gives {A = List ℕ} (Err e) (rehearsed policy s)
 unfolding rehearsed
-refused-rehearsed s e h = step-gives e (checked s.document) (λ o. Ok (script_text o.problem o.plan s.script)) h
+refused-rehearsed policy s e h = step-gives e (checked s.document) (λ o. Ok (script_text o.problem o.plan policy s.script)) h
 
 -- what is known of the rollout that was sealed is known of the document's
-pub sealed-rehearsal : (s : ScriptedRead) (o : Rollout) → IsSealed s.document o → IsSafeRehearsal o.problem o.plan s.script → IsSafeRehearsal s.document.problem s.document.plan s.script
-sealed-rehearsal s o sealed safe = rw sealed.same at safe
+pub sealed-rehearsal : (policy : OpView → ℕ) (s : ScriptedRead) (o : Rollout) → IsSealed s.document o → IsSafeRehearsal o.problem o.plan policy s.script → IsSafeRehearsal s.document.problem s.document.plan policy s.script
+sealed-rehearsal policy s o sealed safe = rw sealed.same at safe
 
 pub ruleset checking = (unbroken-checked, valid-sealed)
 

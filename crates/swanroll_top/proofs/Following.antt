@@ -7,12 +7,12 @@ use Rattle.swanroll_top.specs.Safety.{DoesSafely}
 use Rattle.swanroll_top.specs.Taken.{IsTaken}
 use Rattle.swanroll_top.specs.declared.ending.Ending.{Ending}
 use Rattle.swanroll_top.specs.declared.ending.Ending.TheVariants.{Done, Usage, AboveLimit, Input, NotValid, NoPlan, ReadFault, WriteFault, OutOfMemory}
-use Rattle.swanroll_top.specs.declared.words.Command.{Command}
+use Rattle.swanroll_top.specs.Words.{Asked}
 use Rattle.swanroll_top.proofs.Answering.{no-read-fault}
 use Rattle.swanroll_top.proofs.Inputs.{beyond-follows, short-answered}
 use Rattle.swanroll_top.proofs.Refused.{answer-judged, refused-exactly}
 
-short-follows : (c : Command) (left now out out_now : Option (List ℕ)) (bytes : List ℕ) (e : Ending) → IsShortInput left now bytes → EndsWith (answer_in c bytes) e out out_now → (e ≡ OutOfMemory → ⊥) → (e ≡ Done → DoesSafely c bytes) → FollowsInput c left now e out out_now
+short-follows : (c : Asked) (left now out out_now : Option (List ℕ)) (bytes : List ℕ) (e : Ending) → IsShortInput left now bytes → EndsWith (answer_in c bytes) e out out_now → (e ≡ OutOfMemory → ⊥) → (e ≡ Done → DoesSafely c bytes) → FollowsInput c left now e out out_now
 short-follows c left now out out_now bytes e s h some safe = record {
   input = bytes;
   read = s.input;
@@ -21,7 +21,7 @@ short-follows c left now out out_now bytes e s h some safe = record {
   safe = safe;
 }
 
-pub short-runs : (c : Command) (left now out out_now : Option (List ℕ)) (bytes : List ℕ) (e : Ending) → IsShortInput left now bytes → Follows (answer_in c bytes) e out out_now → (e ≡ Done → DoesSafely c bytes) → Runs c left now e out out_now
+pub short-runs : (c : Asked) (left now out out_now : Option (List ℕ)) (bytes : List ℕ) (e : Ending) → IsShortInput left now bytes → Follows (answer_in c bytes) e out out_now → (e ≡ Done → DoesSafely c bytes) → Runs c left now e out out_now
 short-runs c left now out out_now bytes Done s h safe = short-follows c left now out out_now bytes _ s h (λ m. cc) safe
 short-runs c left now out out_now bytes Usage s h safe = short-follows c left now out out_now bytes _ s h (λ m. cc) safe
 short-runs c left now out out_now bytes AboveLimit s h safe = short-follows c left now out out_now bytes _ s h (λ m. cc) safe
@@ -32,7 +32,7 @@ short-runs c left now out out_now bytes ReadFault s h safe = absurd (no-read-fau
 short-runs c left now out out_now bytes WriteFault s h safe = short-follows c left now out out_now bytes _ s h (λ m. cc) safe
 short-runs c left now out out_now bytes OutOfMemory s h safe = h
 
-pub cut-runs : (c : Command) (left now out : Option (List ℕ)) (e : Ending) → IsCut left e now → Runs c left now e out out
+pub cut-runs : (c : Asked) (left now out : Option (List ℕ)) (e : Ending) → IsCut left e now → Runs c left now e out out
 cut-runs c left now out Done r = absurd r
 cut-runs c left now out Usage r = absurd r
 cut-runs c left now out AboveLimit r = beyond-follows c left now out r

@@ -8,5 +8,5 @@ pub mod Inputs
 pub mod Following
 pub mod Statuses
 pub mod Programs
-pub mod ComparedTexts
 pub mod Complete
+pub mod Pairs

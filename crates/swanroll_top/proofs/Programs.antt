@@ -3,12 +3,12 @@ use Rattle.std.proofs.Common.{◌≡◌, ℕ, List, [], true, false, Option, Som
 use Rattle.wan_edge.specs.Streams.{Appends, Rose}
 use Rattle.swanroll_top.specs.Endings.{status_of, tells_place}
 use Rattle.swanroll_top.specs.Lines.{IsLineOf, IsToldAs}
-use Rattle.swanroll_top.specs.Program.{Streams, IsStatus, DoesCommand, IsRun, IsEnded, RunsAndNotes}
+use Rattle.swanroll_top.specs.Program.{Streams, IsStatus, DoesAsked, IsRun, IsEnded, RunsAndNotes}
 use Rattle.swanroll_top.specs.Runs.{EndsWith, FollowsInput, IsTold, Notes, Runs}
 use Rattle.swanroll_top.specs.declared.ending.Ending.{Ending}
 use Rattle.swanroll_top.specs.declared.ending.Ending.TheVariants.{Done, Usage, AboveLimit, Input, NotValid, NoPlan, ReadFault, WriteFault, OutOfMemory}
 use Rattle.swanroll_top.specs.declared.line.Line.{Line}
-use Rattle.swanroll_top.specs.declared.words.Command.{Command}
+use Rattle.swanroll_top.specs.Words.{Asked}
 use Rattle.swanroll_top.proofs.Statuses.{is-done, is-usage, is-read-fault, is-write-fault, is-status}
 
 -- ---- what an ending says of the input and the sink
@@ -18,7 +18,7 @@ ends-unwritten (Ok text) e out now (inl done) d w = absurd (d done.0)
 ends-unwritten (Ok text) e out now (inr cut) d w = absurd (w cut.0)
 ends-unwritten (Err x) e out now h d w = h.1
 
-module _ (c : Command) (left left_now out out_now : Option (List ℕ)) where
+module _ (c : Asked) (left left_now out out_now : Option (List ℕ)) where
   follows-of : (t : Ending) → Runs c left left_now t out out_now → (status_of t ≡ 6 → ⊥) → (status_of t ≡ 12 → ⊥) → FollowsInput c left left_now t out out_now
   follows-of Done r read memory = r
   follows-of Usage r read memory = r
@@ -77,7 +77,7 @@ not-usage e status before now faults faults_now ran told h =
     ran (told-same e told.told told.is (λ m. let no : Usage ≡ OutOfMemory = sym usage ∙ m in cc) ∙ usage)
 
 -- a run of a command
-pub command-run : (asked : Option Command) (c : Command) (before after : Streams) (e : Ending) (status : ℕ) → asked ≡ Some c
+pub command-run : (asked : Option Asked) (c : Asked) (before after : Streams) (e : Ending) (status : ℕ) → asked ≡ Some c
     → Runs c before.left after.left e before.written after.written
     → (e ≡ ReadFault → Rose before.source_faults after.source_faults) → (e ≡ WriteFault → Rose before.sink_faults after.sink_faults) → (e ≡ Usage → ⊥)
     → IsTold e status before.noted after.noted before.notes_faults after.notes_faults → IsRun asked before after status
@@ -96,7 +96,7 @@ command-run asked c before after e status is runs read write ran told =
       usage = (λ h. absurd (ran (was Usage (λ m. cc) (is-usage t (sym told.is_status ∙ h)))), λ h. absurd (let no : Some c ≡ None = sym is ∙ h in cc));
       read_fault = λ h. read (was ReadFault (λ m. cc) (is-read-fault t (sym told.is_status ∙ h)));
       write_fault = λ h. write (was WriteFault (λ m. cc) (is-write-fault t (sym told.is_status ∙ h)));
-      does = λ usage fault memory. subst (λ a. DoesCommand a before after status) (sym is) (does (λ h. fault (told.is_status ∙ h)) (λ h. memory (told.is_status ∙ h)));
+      does = λ usage fault memory. subst (λ a. DoesAsked a before after status) (sym is) (does (λ h. fault (told.is_status ∙ h)) (λ h. memory (told.is_status ∙ h)));
       silent = λ done cut. unwritten-of c before.left after.left before.written after.written t runs_told (λ h. done (told.is_status ∙ h)) (λ h. cut (told.is_status ∙ h));
       noted = record { ending = t; is_status = told.is_status; line = told.line };
     }
@@ -119,7 +119,7 @@ ended before after e status known left written told =
     }
 
 -- a run whose words are no command line
-pub usage-run : (asked : Option Command) (before after : Streams) (status : ℕ) → asked ≡ None → after.left ≡ before.left → after.written ≡ before.written
+pub usage-run : (asked : Option Asked) (before after : Streams) (status : ℕ) → asked ≡ None → after.left ≡ before.left → after.written ≡ before.written
     → IsTold Usage status before.noted after.noted before.notes_faults after.notes_faults → IsRun asked before after status
 usage-run asked before after status is left written told =
     let e = ended before after Usage status refl left written told in

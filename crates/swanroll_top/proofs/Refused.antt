@@ -3,6 +3,7 @@ use Rattle.std.proofs.Common.{◌≡◌, ◌⊎◌, ◌==◌, ℕ, ◌≤◌, Li
 use Rattle.std.proofs.lemmas.Bool.{eqb-true}
 use Rattle.rollout_rules.specs.Wan.{Problem, Rollout}
 use Rattle.rollout_rules.specs.declared.limits.TheConstants.{MOST_INPUT}
+use Rattle.rollout_rules.specs.declared.op.OpView.{OpView}
 use Rattle.plan_check.specs.FirstBroken.{first_broken}
 use Rattle.plan_check.specs.declared.broken.Broken.{Broken}
 use Rattle.plan_check.proofs.Firsts.{unbroken-valid, broken-invalid}
@@ -17,11 +18,10 @@ use Rattle.swanroll_top.specs.Answers.{◌>>=◌, or_ending, with_choice, planne
 use Rattle.swanroll_top.specs.Endings.{ending_of, status_of}
 use Rattle.swanroll_top.specs.Runs.{EndsWith}
 use Rattle.swanroll_top.specs.Safety.{IsValid}
-use Rattle.swanroll_top.specs.Taken.{IsTaken}
+use Rattle.swanroll_top.specs.Taken.{IsTaken, IsValidScript}
 use Rattle.swanroll_top.specs.declared.ending.Ending.{Ending}
 use Rattle.swanroll_top.specs.declared.ending.Ending.TheVariants.{OutOfMemory}
-use Rattle.swanroll_top.specs.declared.words.Command.{Command}
-use Rattle.swanroll_top.specs.declared.words.Command.TheVariants as command
+use Rattle.swanroll_top.specs.Words.{Asked, a_plan, a_check, a_rehearsal}
 use Rattle.swanroll_top.proofs.Documents.{checked-by}
 use Rattle.swanroll_top.proofs.Steps.{fault-ends}
 
@@ -50,9 +50,9 @@ planned-is-no-refusal : (p : Problem) → is_refusal (planned p) ≡ false
 unfolding planned
 planned-is-no-refusal p = choice-is-no-refusal p (chosen p)
 
-plan-judged : (input : List ℕ) (read : Result Problem InputFault) → problem_in input ≡ read → length input ≤ MOST_INPUT → IsJudged (IsTaken command.Plan input) (or_ending read >>= planned)
+plan-judged : (input : List ℕ) (read : Result Problem InputFault) → problem_in input ≡ read → length input ≤ MOST_INPUT → IsJudged (IsTaken a_plan input) (or_ending read >>= planned)
 plan-judged input (Ok p) is within = inl (record { within = within; problem = p; read = is }, planned-is-no-refusal p)
-plan-judged input (Err e) is within = fault-judged (IsTaken command.Plan input) e (λ t. elim_read is t.read)
+plan-judged input (Err e) is within = fault-judged (IsTaken a_plan input) e (λ t. elim_read is t.read)
   where
     elim_read : {p : Problem} → problem_in input ≡ Err e → problem_in input ≡ Ok p → ⊥
     elim_read a b = cc
@@ -64,43 +64,43 @@ checked-judging : (taken : Type 0) (d : DocumentRead) (next : Rollout → List �
 checked-judging taken d next None e to from = rw (checked-by d None e) (inl (to (unbroken-valid d.problem d.plan e), refl))
 checked-judging taken d next (Some b) e to from = rw (checked-by d (Some b) e) (inr (inl (λ t. let both : true ≡ false = sym (from t) ∙ broken-invalid d.problem d.plan b e in cc, refl)))
 
-same-document : (input : List ℕ) (d : DocumentRead) → document_in input ≡ Ok d → IsTaken command.Check input → IsValid d.problem d.plan
+same-document : (input : List ℕ) (d : DocumentRead) → document_in input ≡ Ok d → IsTaken a_check input → IsValid d.problem d.plan
 same-document input d is t =
     let same : t.document ≡ d = cc (is, t.read) in
     subst (λ x. IsValid x.problem x.plan) same t.valid
 
-check-judged : (input : List ℕ) (read : Result DocumentRead InputFault) → document_in input ≡ read → length input ≤ MOST_INPUT → IsJudged (IsTaken command.Check input) (or_ending read >>= judged)
+check-judged : (input : List ℕ) (read : Result DocumentRead InputFault) → document_in input ≡ read → length input ≤ MOST_INPUT → IsJudged (IsTaken a_check input) (or_ending read >>= judged)
 unfolding judged
 check-judged input (Ok d) is within =
-    checked-judging (IsTaken command.Check input) d (λ o. valid_line o.plan) (first_broken d.problem d.plan) refl
+    checked-judging (IsTaken a_check input) d (λ o. valid_line o.plan) (first_broken d.problem d.plan) refl
     (λ valid. record { within = within; document = d; read = is; valid = valid })
     (same-document input d is)
-check-judged input (Err e) is within = fault-judged (IsTaken command.Check input) e (λ t. elim_read is t.read)
+check-judged input (Err e) is within = fault-judged (IsTaken a_check input) e (λ t. elim_read is t.read)
   where
     elim_read : {d : DocumentRead} → document_in input ≡ Err e → document_in input ≡ Ok d → ⊥
     elim_read a b = cc
 
-same-script : (input : List ℕ) (s : ScriptedRead) → scripted_in input ≡ Ok s → IsTaken command.Sim input → IsValid s.document.problem s.document.plan
+same-script : (input : List ℕ) (s : ScriptedRead) → scripted_in input ≡ Ok s → IsValidScript input → IsValid s.document.problem s.document.plan
 same-script input s is t =
     let same : t.scripted ≡ s = cc (is, t.read) in
     subst (λ x. IsValid x.document.problem x.document.plan) same t.valid
 
-sim-judged : (input : List ℕ) (read : Result ScriptedRead InputFault) → scripted_in input ≡ read → length input ≤ MOST_INPUT → IsJudged (IsTaken command.Sim input) (or_ending read >>= rehearsed)
+sim-judged : (policy : OpView → ℕ) (input : List ℕ) (read : Result ScriptedRead InputFault) → scripted_in input ≡ read → length input ≤ MOST_INPUT → IsJudged (IsValidScript input) (or_ending read >>= rehearsed policy)
 unfolding rehearsed
-sim-judged input (Ok s) is within =
-    checked-judging (IsTaken command.Sim input) s.document (λ o. script_text o.problem o.plan s.script) (first_broken s.document.problem s.document.plan) refl
+sim-judged policy input (Ok s) is within =
+    checked-judging (IsValidScript input) s.document (λ o. script_text o.problem o.plan policy s.script) (first_broken s.document.problem s.document.plan) refl
     (λ valid. record { within = within; scripted = s; read = is; valid = valid })
     (same-script input s is)
-sim-judged input (Err e) is within = fault-judged (IsTaken command.Sim input) e (λ t. elim_read is t.read)
+sim-judged policy input (Err e) is within = fault-judged (IsValidScript input) e (λ t. elim_read is t.read)
   where
     elim_read : {s : ScriptedRead} → scripted_in input ≡ Err e → scripted_in input ≡ Ok s → ⊥
     elim_read a b = cc
 
-pub answer-judged : (c : Command) (input : List ℕ) → length input ≤ MOST_INPUT → IsJudged (IsTaken c input) (answer_in c input)
+pub answer-judged : (c : Asked) (input : List ℕ) → length input ≤ MOST_INPUT → IsJudged (IsTaken c input) (answer_in c input)
 unfolding answer_in
-answer-judged command.Plan input within = plan-judged input (problem_in input) refl within
-answer-judged command.Check input within = check-judged input (document_in input) refl within
-answer-judged command.Sim input within = sim-judged input (scripted_in input) refl within
+answer-judged a_plan input within = plan-judged input (problem_in input) refl within
+answer-judged a_check input within = check-judged input (document_in input) refl within
+answer-judged (a_rehearsal policy) input within = sim-judged policy input (scripted_in input) refl within
 
 -- ---- the status of a run
 

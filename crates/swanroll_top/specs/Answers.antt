@@ -2,6 +2,7 @@
 use Rattle.std.specs.Prelude.{ℕ, List, [], ◌∷◌, ◌++◌, length, codes, decimal, nat_lt, if◌then◌else◌, Option, Some, None, Result, Ok, Err}
 use Rattle.rollout_rules.specs.Wan.{Problem, Plan, Rollout, last_stage}
 use Rattle.rollout_rules.specs.declared.limits.TheConstants.{MOST_INPUT}
+use Rattle.rollout_rules.specs.declared.op.OpView.{OpView}
 use Rattle.plan_check.specs.FirstBroken.{first_broken}
 use Rattle.plan_check.specs.declared.broken.Broken.{Broken}
 use Rattle.plan_choose.specs.Choice.{Choice, chosen}
@@ -14,8 +15,7 @@ use Rattle.sim_run.specs.Script.{script_text}
 use Rattle.swanroll_top.specs.Endings.{ending_of, ending_without}
 use Rattle.swanroll_top.specs.declared.ending.Ending.{Ending}
 use Rattle.swanroll_top.specs.declared.ending.Ending.TheVariants.{AboveLimit, NotValid}
-use Rattle.swanroll_top.specs.declared.words.Command.{Command}
-use Rattle.swanroll_top.specs.declared.words.Command.TheVariants as command
+use Rattle.swanroll_top.specs.Words.{Asked, a_plan, a_check, a_rehearsal}
 
 infixl 10 ◌>>=◌
 -- the next step at the value; an ending stays
@@ -54,16 +54,16 @@ valid_line plan = valid_text (last_stage plan) plan.scale
 unfoldable pub judged : DocumentRead → Result (List ℕ) Ending
 judged d = checked d >>= λ o. Ok (valid_line o.plan)
 
--- the text of a script over the plan of its document, where that is valid
-unfoldable pub rehearsed : ScriptedRead → Result (List ℕ) Ending
-rehearsed s = checked s.document >>= λ o. Ok (script_text o.problem o.plan s.script)
+-- the text of a script over the plan of its document, where that is valid, under a policy
+unfoldable pub rehearsed : (OpView → ℕ) → ScriptedRead → Result (List ℕ) Ending
+rehearsed policy s = checked s.document >>= λ o. Ok (script_text o.problem o.plan policy s.script)
 
--- the answer of a command to an input within the limit
-unfoldable pub answer_in : Command → List ℕ → Result (List ℕ) Ending
-answer_in command.Plan input = or_ending (problem_in input) >>= planned
-answer_in command.Check input = or_ending (document_in input) >>= judged
-answer_in command.Sim input = or_ending (scripted_in input) >>= rehearsed
+-- the answer to an input within the limit
+unfoldable pub answer_in : Asked → List ℕ → Result (List ℕ) Ending
+answer_in a_plan input = or_ending (problem_in input) >>= planned
+answer_in a_check input = or_ending (document_in input) >>= judged
+answer_in (a_rehearsal policy) input = or_ending (scripted_in input) >>= rehearsed policy
 
--- the answer of a command to an input
-unfoldable pub answer_to : Command → List ℕ → Result (List ℕ) Ending
-answer_to command input = if nat_lt MOST_INPUT (length input) then Err AboveLimit else answer_in command input
+-- the answer to an input
+unfoldable pub answer_to : Asked → List ℕ → Result (List ℕ) Ending
+answer_to asked input = if nat_lt MOST_INPUT (length input) then Err AboveLimit else answer_in asked input

@@ -9,3 +9,4 @@ pub mod Taken
 pub mod Reading
 pub mod Runs
 pub mod Program
+pub mod Worked

@@ -5,12 +5,12 @@ use Rattle.std.specs.declared.alloc.Global.{Global}
 use Rattle.wan_edge.specs.Streams.{Rose}
 use Rattle.swanroll_top.specs.Endings.{status_of}
 use Rattle.swanroll_top.specs.Runs.{FollowsInput, Notes}
-use Rattle.swanroll_top.specs.Words.{command_of}
+use Rattle.rollout_rules.specs.declared.op.OpView.{OpView}
+use Rattle.swanroll_top.specs.Words.{Asked, asked_by}
 use Rattle.swanroll_top.specs.declared.arguments.Unread.{Unread}
 use Rattle.swanroll_top.specs.declared.arguments.Unread.TheVariants.{NotText, Memory}
 use Rattle.swanroll_top.specs.declared.ending.Ending.{Ending}
 use Rattle.swanroll_top.specs.declared.ending.Ending.TheVariants.{Usage, OutOfMemory}
-use Rattle.swanroll_top.specs.declared.words.Command.{Command}
 
 -- what the streams of a run tell at a moment: the bytes that the source has left, those written to the sink and to the
 -- notes, and how often each has failed
@@ -37,19 +37,19 @@ pub record IsNoted (status : ℕ) (before after : Streams) : Type 0 where
   pub line : NotesLine ending before after
 
 -- The whole of a run that read its input: the status, what was written and the line of the notes follow from it.
-pub record RunsAndNotes (command : Command) (before after : Streams) (status : ℕ) : Type 0 where
+pub record RunsAndNotes (asked : Asked) (before after : Streams) (status : ℕ) : Type 0 where
   pub ending : Ending
   pub is_status : status ≡ status_of ending
-  pub follows : FollowsInput command before.left after.left ending before.written after.written
+  pub follows : FollowsInput asked before.left after.left ending before.written after.written
   pub line : NotesLine ending before after
 
--- the same of whichever command the words ask for
-abbrev pub DoesCommand : Option Command → Streams → Streams → ℕ → Type 0
-DoesCommand None before after status = ⊥
-DoesCommand (Some command) before after status = RunsAndNotes command before after status
+-- the same of whatever the words ask for
+abbrev pub DoesAsked : Option Asked → Streams → Streams → ℕ → Type 0
+DoesAsked None before after status = ⊥
+DoesAsked (Some asked) before after status = RunsAndNotes asked before after status
 
 -- A run of the program, by what its words ask for.
-pub record IsRun (asked : Option Command) (before after : Streams) (status : ℕ) : Type 0 where
+pub record IsRun (asked : Option Asked) (before after : Streams) (status : ℕ) : Type 0 where
   pub statuses : IsStatus status
   -- the words alone decide whether anything is read
   pub usage : (status ≡ 2) ↔ (asked ≡ None)
@@ -57,7 +57,7 @@ pub record IsRun (asked : Option Command) (before after : Streams) (status : ℕ
   pub read_fault : status ≡ 6 → Rose before.source_faults after.source_faults
   pub write_fault : status ≡ 7 → Rose before.sink_faults after.sink_faults
   -- otherwise all follows from the bytes read
-  pub does : status ≢ 2 → status ≢ 6 → status ≢ 12 → DoesCommand asked before after status
+  pub does : status ≢ 2 → status ≢ 6 → status ≢ 12 → DoesAsked asked before after status
   pub silent : status ≢ 0 → status ≢ 7 → after.written ≡ before.written
   -- the notes say why there is no text
   pub noted : IsNoted status before after
@@ -69,9 +69,9 @@ pub record IsEnded (ending : Ending) (before after : Streams) (status : ℕ) : T
   pub unread : after.left ≡ before.left
   pub unwritten : after.written ≡ before.written
 
--- The program from its arguments on, by the list that they are seen as: its own name is passed over, words that aren't
--- text are no command line, and without memory for the words it ends for want of it.
-abbrev pub IsStarted : {A : Type 0} → Result A Unread → (A → List (String Global)) → Streams → Streams → ℕ → Type 0
-IsStarted (Ok arguments) list before after status = IsRun (command_of (drop 1 (list arguments))) before after status
-IsStarted (Err NotText) list before after status = IsEnded Usage before after status
-IsStarted (Err Memory) list before after status = IsEnded OutOfMemory before after status
+-- The program from its arguments on, by the list that they are seen as, with these policies: its own name is passed over,
+-- words that aren't text are no command line, and without memory for the words it ends for want of it.
+abbrev pub IsStarted : {A : Type 0} → List (List ℕ × (OpView → ℕ)) → Result A Unread → (A → List (String Global)) → Streams → Streams → ℕ → Type 0
+IsStarted policies (Ok arguments) list before after status = IsRun (asked_by policies (drop 1 (list arguments))) before after status
+IsStarted policies (Err NotText) list before after status = IsEnded Usage before after status
+IsStarted policies (Err Memory) list before after status = IsEnded OutOfMemory before after status

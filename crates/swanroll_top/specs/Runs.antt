@@ -10,7 +10,7 @@ use Rattle.swanroll_top.specs.Safety.{DoesSafely}
 use Rattle.swanroll_top.specs.Taken.{IsTaken}
 use Rattle.swanroll_top.specs.declared.ending.Ending.{Ending}
 use Rattle.swanroll_top.specs.declared.ending.Ending.TheVariants.{Done, ReadFault, WriteFault, OutOfMemory}
-use Rattle.swanroll_top.specs.declared.words.Command.{Command}
+use Rattle.swanroll_top.specs.Words.{Asked}
 
 -- The bytes are the input: where the source tells its bytes they are all that was left at entry, and the source was read
 -- to its end, or above the limit of it.
@@ -35,20 +35,20 @@ abbrev pub Follows : Result (List ℕ) Ending → Ending → Option (List ℕ) �
 Follows answer OutOfMemory before now = now ≡ before
 Follows answer ending before now = EndsWith answer ending before now
 
--- The input of a command's run, and how the run follows from it. It is refused exactly where the command doesn't take it;
+-- The input of a run, and how the run follows from it. It is refused exactly where the command doesn't take it;
 -- where the text was written, its rollout is safe.
-pub record FollowsInput (command : Command) (left left_now : Option (List ℕ)) (ending : Ending) (out out_now : Option (List ℕ)) : Type 0 where
+pub record FollowsInput (asked : Asked) (left left_now : Option (List ℕ)) (ending : Ending) (out out_now : Option (List ℕ)) : Type 0 where
   pub input : List ℕ
   pub read : IsInput left left_now input
-  pub answer : EndsWith (answer_to command input) ending out out_now
-  pub refused : (status_of ending ≡ 3) ↔ (IsTaken command input → ⊥)
-  pub safe : ending ≡ Done → DoesSafely command input
+  pub answer : EndsWith (answer_to asked input) ending out out_now
+  pub refused : (status_of ending ≡ 3) ↔ (IsTaken asked input → ⊥)
+  pub safe : ending ≡ Done → DoesSafely asked input
 
 -- what an ending of a run says: after a fault of the source, and for want of memory, that nothing was written
-abbrev pub Runs : Command → Option (List ℕ) → Option (List ℕ) → Ending → Option (List ℕ) → Option (List ℕ) → Type 0
-Runs command left left_now ReadFault out out_now = out_now ≡ out
-Runs command left left_now OutOfMemory out out_now = out_now ≡ out
-Runs command left left_now ending out out_now = FollowsInput command left left_now ending out out_now
+abbrev pub Runs : Asked → Option (List ℕ) → Option (List ℕ) → Ending → Option (List ℕ) → Option (List ℕ) → Type 0
+Runs asked left left_now ReadFault out out_now = out_now ≡ out
+Runs asked left left_now OutOfMemory out out_now = out_now ≡ out
+Runs asked left left_now ending out out_now = FollowsInput asked left left_now ending out out_now
 
 -- the line of an ending was written, or a part of it where the notes failed
 abbrev pub Notes : Ending → Option (List ℕ) → Option (List ℕ) → ℕ → ℕ → Type 0

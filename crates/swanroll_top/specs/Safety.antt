@@ -4,13 +4,13 @@ use Rattle.rollout_rules.specs.Wan.{Problem, Plan, Rollout}
 use Rattle.rollout_rules.specs.Valid.{is_valid_plan}
 use Rattle.rollout_rules.specs.World.{new_world}
 use Rattle.rollout_rules.specs.declared.event.Event.{Event}
+use Rattle.rollout_rules.specs.declared.op.OpView.{OpView}
 use Rattle.rollout_laws.specs.SafeWorlds.{EveryWorldIsSafe}
 use Rattle.plan_choose.specs.Choice.{Choice, chosen}
 use Rattle.problem_json.specs.Grammar.{problem_in}
 use Rattle.problem_json.specs.GrammarDocuments.{DocumentRead, ScriptedRead, document_in, scripted_in}
 use Rattle.sim_run.specs.Rehearsed.{IsSafeRehearsal}
-use Rattle.swanroll_top.specs.declared.words.Command.{Command}
-use Rattle.swanroll_top.specs.declared.words.Command.TheVariants as command
+use Rattle.swanroll_top.specs.Words.{Asked, a_plan, a_check, a_rehearsal}
 
 abbrev pub IsValid : Problem → Plan → Type 0
 IsValid p plan = is_valid_plan p plan ≡ true
@@ -45,13 +45,13 @@ pub record ChecksValid (input : List ℕ) : Type 0 where
   pub read : document_in input ≡ Ok document
   pub valid : IsValid document.problem document.plan
 
--- the script that the input is, over the plan of its document
-pub record RehearsesSafely (input : List ℕ) : Type 0 where
+-- the script that the input is, over the plan of its document, under a policy
+pub record RehearsesSafely (policy : OpView → ℕ) (input : List ℕ) : Type 0 where
   pub scripted : ScriptedRead
   pub read : scripted_in input ≡ Ok scripted
-  pub safe : IsSafeRehearsal scripted.document.problem scripted.document.plan scripted.script
+  pub safe : IsSafeRehearsal scripted.document.problem scripted.document.plan policy scripted.script
 
-abbrev pub DoesSafely : Command → List ℕ → Type 0
-DoesSafely command.Plan input = PlansSafely input
-DoesSafely command.Check input = ChecksValid input
-DoesSafely command.Sim input = RehearsesSafely input
+abbrev pub DoesSafely : Asked → List ℕ → Type 0
+DoesSafely a_plan input = PlansSafely input
+DoesSafely a_check input = ChecksValid input
+DoesSafely (a_rehearsal policy) input = RehearsesSafely policy input

@@ -1,9 +1,11 @@
 ghost use Rattle.std.specs.Prelude.{◌≡◌, drop};
+ghost use Rattle.order_policy.specs.Named.{answers_in};
 ghost use Rattle.swanroll_top.specs.Program.{IsStarted};
 
 use crate::ending::Ending;
 use crate::notes::note;
 use crate::top::swanroll;
+use order_policy::{Policies, Policy};
 use std::alloc::Global;
 use wan_edge::{Sink, Source};
 
@@ -25,8 +27,9 @@ pub fn start<S: Source, K: Sink>(
     source: &mut S,
     sink: &mut K,
     notes: &mut K,
+    policies: &Policies<Policy>,
 ) -> u8
-    ensures started { IsStarted arguments (λ all. all.items)
+    ensures started { IsStarted (answers_in policies.now) arguments (λ all. all.items)
         (record { left = S.left source.old; written = K.written sink.old; noted = K.written notes.old; source_faults = S.faults source.old; sink_faults = K.faults sink.old; notes_faults = K.faults notes.old })
         (record { left = S.left source.new; written = K.written sink.new; noted = K.written notes.new; source_faults = S.faults source.new; sink_faults = K.faults sink.new; notes_faults = K.faults notes.new })
         result }
@@ -34,7 +37,10 @@ pub fn start<S: Source, K: Sink>(
     ensures quiet { result ≡ 0 → notes.new ≡ notes.old }
 {
     match arguments {
-        Ok(arguments) => swanroll(alloc, words_of(arguments.as_slice()), source, sink, notes),
+        Ok(arguments) => {
+            let words = words_of(arguments.as_slice());
+            swanroll(alloc, words, source, sink, notes, policies)
+        }
         Err(Unread::NotText) => note(alloc, notes, Ending::Usage),
         Err(Unread::Memory) => note(alloc, notes, Ending::OutOfMemory),
     }

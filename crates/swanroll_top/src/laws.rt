@@ -10,29 +10,37 @@ ghost use Rattle.scratch_plan.specs.Frame.{has_equal_rates};
 ghost use Rattle.scratch_plan.specs.Refusals.{refusal};
 ghost use Rattle.plan_choose.specs.Choice.{direct_plan, step_plan, most_tried};
 ghost use Rattle.problem_json.specs.Grammar.{problem_in};
+ghost use Rattle.rollout_rules.specs.declared.op.OpView.{OpView};
 ghost use Rattle.swanroll_top.specs.Answers.{answer_to};
 ghost use Rattle.swanroll_top.specs.Program.{IsRun, Streams};
-ghost use Rattle.swanroll_top.specs.declared.words.Command.{Command};
-ghost use Rattle.swanroll_top.specs.declared.words.Command.TheVariants as command;
+ghost use Rattle.swanroll_top.specs.Taken.{IsValidDocument, IsValidScript};
+ghost use Rattle.swanroll_top.specs.Words.{Asked, a_plan, a_check, a_rehearsal};
 
 /// Where the input is a problem whose loads and entries fit, each of these is enough for `plan` to have an
 /// answer: equal rates, a direct plan that is valid, a number of steps with a plan, slack 1/k for some k
 /// from 2 to 64.
 pub fn what_fits_is_planned()
     ensures still { (input : List ℕ) (p : Problem) → length input ≤ MOST_INPUT → problem_in input ≡ Ok p → refusal p ≡ None
-        → IsTrue (has_equal_rates p) → IsOk (answer_to command.Plan input) }
+        → IsTrue (has_equal_rates p) → IsOk (answer_to a_plan input) }
     ensures direct { (input : List ℕ) (p : Problem) → length input ≤ MOST_INPUT → problem_in input ≡ Ok p → refusal p ≡ None
-        → IsTrue (is_valid_plan p (direct_plan p)) → IsOk (answer_to command.Plan input) }
+        → IsTrue (is_valid_plan p (direct_plan p)) → IsOk (answer_to a_plan input) }
     ensures steps { (input : List ℕ) (p : Problem) (q : ℕ) → length input ≤ MOST_INPUT → problem_in input ≡ Ok p → refusal p ≡ None
-        → 2 ≤ q → q ≤ most_tried (least_slack p) → IsSome (step_plan p q) → IsOk (answer_to command.Plan input) }
+        → 2 ≤ q → q ≤ most_tried (least_slack p) → IsSome (step_plan p q) → IsOk (answer_to a_plan input) }
     ensures slack { (input : List ℕ) (p : Problem) (k : ℕ) → length input ≤ MOST_INPUT → problem_in input ≡ Ok p → refusal p ≡ None
-        → 2 ≤ k → k ≤ 64 → IsTrue (has_slack p k) → IsOk (answer_to command.Plan input) }
+        → 2 ≤ k → k ≤ 64 → IsTrue (has_slack p k) → IsOk (answer_to a_plan input) }
+{}
+
+/// Every document with a valid plan has an answer of `check`, and every script on one of `sim`, whatever the
+/// policy.
+pub fn what_is_valid_is_answered()
+    ensures check { (input : List ℕ) → IsValidDocument input → IsOk (answer_to a_check input) }
+    ensures sim { (policy : OpView → ℕ) (input : List ℕ) → IsValidScript input → IsOk (answer_to (a_rehearsal policy) input) }
 {}
 
 /// A run whose source tells its bytes, and whose command has an answer to them, ends with status 0 unless
 /// the source or the sink failed or memory ran out.
 pub fn an_answer_is_written()
-    ensures { (asked : Command) (before after : Streams) (status : ℕ) (input : List ℕ) → IsRun (Some asked) before after status
+    ensures { (asked : Asked) (before after : Streams) (status : ℕ) (input : List ℕ) → IsRun (Some asked) before after status
         → before.left ≡ Some input → IsOk (answer_to asked input)
         → status ≢ 6 → status ≢ 7 → status ≢ 12 → status ≡ 0 }
 {}

@@ -21,6 +21,7 @@ mod tests;
 mod texts;
 mod top;
 mod words;
+pub mod worked;
 mod writing;
 
 pub use arguments::{Unread, start};

@@ -3,6 +3,7 @@ ghost use Rattle.wan_edge.specs.Streams.{Rose};
 ghost use Rattle.swanroll_top.specs.Answers.{answer_in};
 ghost use Rattle.swanroll_top.specs.Runs.{Follows, Runs};
 ghost use Rattle.swanroll_top.specs.Safety.{DoesSafely};
+ghost use Rattle.swanroll_top.specs.Words.{asked};
 
 use crate::ending::Ending;
 use crate::reading::read_input;
@@ -15,11 +16,11 @@ use wan_edge::{Nums8, Sink, Source};
 /// Reads all of the source, and writes the command's text of it.
 pub fn run<S: Source, K: Sink>(
     alloc: Global,
-    command: Command,
+    command: Command<'_>,
     source: &mut S,
     sink: &mut K,
 ) -> Ending
-    ensures runs { Runs command (S.left source.old) (S.left source.new) result (K.written sink.old) (K.written sink.new) }
+    ensures runs { Runs (asked command.entry) (S.left source.old) (S.left source.new) result (K.written sink.old) (K.written sink.new) }
     ensures read_fault { result ≡ Ending.ReadFault → Rose (S.faults source.old) (S.faults source.new) }
     ensures write_fault { result ≡ Ending.WriteFault → Rose (K.faults sink.old) (K.faults sink.new) }
     ensures ran { result ≢ Ending.Usage }
@@ -30,10 +31,10 @@ pub fn run<S: Source, K: Sink>(
     }
 }
 
-fn write_answer<K: Sink>(alloc: Global, command: Command, input: Nums8, sink: &mut K) -> Ending
-    ensures follows { Follows (answer_in command input) result (K.written sink.old) (K.written sink.new) }
+fn write_answer<K: Sink>(alloc: Global, command: Command<'_>, input: Nums8, sink: &mut K) -> Ending
+    ensures follows { Follows (answer_in (asked command.entry) input) result (K.written sink.old) (K.written sink.new) }
     ensures cause { result ≡ Ending.WriteFault → Rose (K.faults sink.old) (K.faults sink.new) }
-    ensures safe { result ≡ Ending.Done → DoesSafely command input }
+    ensures safe { result ≡ Ending.Done → DoesSafely (asked command.entry) input }
 {
     match text_of(alloc, command, input) {
         Ok(text) => write_text(sink, text.as_str()),

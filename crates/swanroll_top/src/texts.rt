@@ -9,6 +9,7 @@ ghost use Rattle.std.specs.Prelude.{IfOk};
 ghost use Rattle.swanroll_top.specs.Answers.{answer_in};
 ghost use Rattle.swanroll_top.specs.Runs.{Gives};
 ghost use Rattle.swanroll_top.specs.Safety.{DoesSafely};
+ghost use Rattle.swanroll_top.specs.Words.{asked};
 
 use crate::ending::Ending;
 use crate::words::Command;
@@ -18,13 +19,13 @@ use wan_edge::Nums8;
 
 /// The text that a command makes of its input, or how the run ends without one. The bytes are given up as
 /// soon as they are read.
-pub fn text_of(alloc: Global, command: Command, input: Nums8) -> Result<Text, Ending>
-    ensures gives { Gives result (answer_in command input) }
-    ensures safe { IfOk result (λ text. DoesSafely command input) }
+pub fn text_of(alloc: Global, command: Command<'_>, input: Nums8) -> Result<Text, Ending>
+    ensures gives { Gives result (answer_in (asked command.entry) input) }
+    ensures safe { IfOk result (λ text. DoesSafely (asked command.entry) input) }
 {
     match command {
         Command::Plan => plan::plan(alloc, input),
         Command::Check => check::check(alloc, input),
-        Command::Sim => sim::sim(alloc, input),
+        Command::Sim(policy) => sim::sim(alloc, policy, input),
     }
 }

@@ -1,36 +1,127 @@
-ghost use Rattle.std.specs.Prelude.{◌≡◌};
-ghost use Rattle.swanroll_top.specs.Words.{command_of, command_named};
+ghost use Rattle.std.specs.Prelude.{◌≡◌, map, string_bytes, bytes_eq, option_map};
+ghost use Rattle.std.specs.List.{list_any};
+ghost use Rattle.order_policy.specs.Answers.{rank_by};
+ghost use Rattle.order_policy.specs.Named.{answers_in, policy_named};
+ghost use Rattle.swanroll_top.specs.Words.{asked, asked_by, kind_named, names_of, begins_with_dash, are_pairs, value_or, policy_in, with_kind};
 
-/// What a command line asks for.
+use order_policy::{Policies, Policy};
+
+/// What a command line asks for: a command, and what its pairs say.
+#[derive(Clone, Copy)]
+pub enum Command<'a> {
+    Plan,
+    Check,
+    /// A rehearsal under a policy.
+    Sim(&'a Policy),
+}
+
+/// A command by its word.
 #[derive(Clone, Copy, Debug, PartialEq, Eq)]
-pub enum Command {
+pub enum Kind {
     Plan,
     Check,
     Sim,
 }
 
-/// The command that the words ask for, if they are a command line: the name of a command, and behind it
-/// pairs of a name and a value, of which no command has any. The program's own name isn't among them.
-pub fn command_of(words: &[String]) -> Option<Command>
-    ensures { result ≡ command_of words.now }
+/// What the words ask for, if they are a command line: the word of a command, and behind it pairs of a
+/// name and a value, each name at most once and in any order. A policy is asked for by its name and has
+/// to be there. The program's own name isn't among the words.
+pub fn command_of<'a>(words: &[String], policies: &'a Policies<Policy>) -> Option<Command<'a>>
+    ensures { option_map asked result ≡ asked_by (answers_in policies.now) words.now }
 {
     match words {
-        [word] => command_named(word.as_str()),
+        [word, pairs @ ..] => command_with(kind_named(word.as_str())?, pairs, policies),
+        [] => None,
+    }
+}
+
+fn kind_named(word: &str) -> Option<Kind>
+    ensures { result ≡ kind_named word.now }
+{
+    match word {
+        "plan" => Some(Kind::Plan),
+        "check" => Some(Kind::Check),
+        "sim" => Some(Kind::Sim),
         _ => None,
     }
 }
 
-fn command_named(word: &str) -> Option<Command>
-    ensures { result ≡ command_named word.now }
+fn command_with<'a>(
+    kind: Kind,
+    pairs: &[String],
+    policies: &'a Policies<Policy>,
+) -> Option<Command<'a>>
+    ensures { option_map asked result ≡ with_kind (answers_in policies.now) (map string_bytes pairs.now) kind }
 {
-    if word == "plan" {
-        return Some(Command::Plan);
+    if !are_pairs(kind, pairs) {
+        return None;
     }
-    if word == "check" {
-        return Some(Command::Check);
+    match kind {
+        Kind::Plan => Some(Command::Plan),
+        Kind::Check => Some(Command::Check),
+        Kind::Sim => Some(Command::Sim(policy_of(pairs, policies)?)),
     }
-    if word == "sim" {
-        return Some(Command::Sim);
+}
+
+/// Whether the command takes a name.
+fn takes(kind: Kind, name: &str) -> bool
+    ensures { result ≡ list_any (bytes_eq name.now) (names_of kind) }
+{
+    match kind {
+        Kind::Plan | Kind::Check => false,
+        Kind::Sim => name == "--policy",
     }
-    None
+}
+
+/// Whether the words are pairs, each of a name that the command takes and a value.
+fn are_pairs(kind: Kind, words: &[String]) -> bool
+    ensures { result ≡ are_pairs (names_of kind) (map string_bytes words.now) }
+{
+    let mut rest = words;
+    while let [name, value, more @ ..] = rest {
+        if !takes(kind, name.as_str()) || begins_with_dash(value.as_str()) {
+            return false;
+        }
+        rest = more;
+    }
+    rest.is_empty()
+}
+
+fn begins_with_dash(word: &str) -> bool
+    ensures { result ≡ begins_with_dash word.now }
+{
+    matches!(word.as_bytes(), [b'-', ..])
+}
+
+/// The policy that the pairs name, if it is there.
+fn policy_of<'a>(pairs: &[String], policies: &'a Policies<Policy>) -> Option<&'a Policy>
+    ensures { option_map (λ policy. rank_by policy.now.answers) result ≡ policy_in (answers_in policies.now) (map string_bytes pairs.now) }
+{
+    policy_named(policies, value_or(pairs, "--policy", "critical")?)
+}
+
+/// The policy that stands first under a name.
+fn policy_named<'a>(policies: &'a Policies<Policy>, name: &str) -> Option<&'a Policy>
+    ensures { option_map (λ policy. rank_by policy.now.answers) result ≡ policy_named name.now (answers_in policies.now) }
+{
+    policies.find(name)
+}
+
+/// The value behind a name, or the default where it isn't among the pairs; None where it stands there
+/// twice.
+fn value_or<'a>(pairs: &'a [String], name: &str, default: &'a str) -> Option<&'a str>
+    ensures { option_map (λ value. value.now) result ≡ value_or name.now default.now (map string_bytes pairs.now) }
+{
+    let mut found = None;
+    let mut rest = pairs;
+    while let [word, value, more @ ..] = rest {
+        if word.as_str() == name {
+            if found.is_some() {
+                return None;
+            }
+            found = Some(value.as_str());
+        }
+        rest = more;
+    }
+    Some(found.unwrap_or(default))
 }

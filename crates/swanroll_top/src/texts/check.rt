@@ -4,7 +4,7 @@ ghost use Rattle.problem_json.specs.GrammarResults.{Reads};
 ghost use Rattle.swanroll_top.specs.Answers.{answer_in, judged, valid_text};
 ghost use Rattle.swanroll_top.specs.Runs.{Gives};
 ghost use Rattle.swanroll_top.specs.Safety.{ChecksValid, IsValid};
-ghost use Rattle.swanroll_top.specs.declared.words.Command.TheVariants as command;
+ghost use Rattle.swanroll_top.specs.Words.{a_check};
 
 use crate::ending::Ending;
 use crate::texts::checking::checked;
@@ -16,7 +16,7 @@ use wan_edge::Nums8;
 /// The command `check`: a line that says how many steps the valid plan of the document has, and its
 /// scale.
 pub fn check(alloc: Global, input: Nums8) -> Result<Text, Ending>
-    ensures gives { Gives result (answer_in command.Check input) }
+    ensures gives { Gives result (answer_in a_check input) }
     ensures safe { IfOk result (λ text. ChecksValid input) }
 {
     let document = given(alloc, input)?;

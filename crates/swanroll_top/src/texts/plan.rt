@@ -5,7 +5,7 @@ ghost use Rattle.problem_json.specs.GrammarResults.{Reads};
 ghost use Rattle.swanroll_top.specs.Answers.{answer_in, planned};
 ghost use Rattle.swanroll_top.specs.Runs.{Gives};
 ghost use Rattle.swanroll_top.specs.Safety.{IsPlanned, IsSafePlan, IsValid, PlansSafely};
-ghost use Rattle.swanroll_top.specs.declared.words.Command.TheVariants as command;
+ghost use Rattle.swanroll_top.specs.Words.{a_plan};
 
 use crate::ending::Ending;
 use lists::{Memory, Text};
@@ -18,7 +18,7 @@ use wan_model::{CheckedPlan, Problem};
 /// The command `plan`: the document of the problem that the bytes are with the plan that is chosen for
 /// it, and a line feed.
 pub fn plan(alloc: Global, input: Nums8) -> Result<Text, Ending>
-    ensures gives { Gives result (answer_in command.Plan input) }
+    ensures gives { Gives result (answer_in a_plan input) }
     ensures safe { IfOk result (λ text. PlansSafely input) }
 {
     let problem = given(alloc, input)?;

@@ -5,8 +5,9 @@ use Rattle.rollout_rules.specs.Legal.{is_legal}
 use Rattle.rollout_rules.specs.declared.op.Entry.{Entry}
 use Rattle.rollout_rules.specs.declared.op.Entry.TheVariants.{Begin}
 use Rattle.rollout_laws.proofs.Histories.{with_both}
-use Rattle.rollout_core.specs.Progress.{AreCountsOf}
-use Rattle.rollout_core.proofs.Following.{is_legal-next, counted_next}
+use Rattle.dependency_graph.specs.Progress.{AreCountsOf}
+use Rattle.dependency_graph.proofs.Following.{counted_next}
+use Rattle.rollout_core.proofs.Following.{is_legal-next}
 use Rattle.rollout_core.proofs.history.count.Goals as goal
 
 pub add-requires-clause-left : goal.add-requires-clause-left

@@ -1,6 +1,6 @@
 use Rattle.std.proofs.Common.{◌≡◌, take}
 use Rattle.rollout_rules.specs.History.{History, with_entries}
-use Rattle.rollout_core.specs.Progress.{AreCountsOf}
+use Rattle.dependency_graph.specs.Progress.{AreCountsOf}
 use Rattle.rollout_core.proofs.history.count.Given as goal
 
 abbrev pub invariant-loop-entry : goal.invariant-loop-entry

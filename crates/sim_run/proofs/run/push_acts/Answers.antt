@@ -1,19 +1,20 @@
 use Rattle.std.proofs.Common.{◌≡◌, get_or, rules}
 use Rattle.rollout_rules.specs.declared.event.Act.TheVariants as act
+use Rattle.order_policy.specs.Answers.{rank_by}
 use Rattle.sim_run.proofs.Going.{IsGoing, goes_on}
 use Rattle.sim_run.proofs.run.push_acts.Goals as goal
 
 pub loop-number-preserved : goal.loop-number-preserved
-loop-number-preserved c =
+loop-number-preserved g c =
     let k = c.loop-number.number in
+    let policy = rank_by c.args.policy.now.answers in
     let a = get_or c.args.script.now k act.Round in
     let at : get_or c.args.script.now k a ≡ a = search rules in
-    let was : IsGoing c.args.rehearsal.now c.args.text.now c.args.script.now k c.loop-number.rehearsal c.loop-number.text = record {
-      idle = c.loop-number.invariant.idle;
+    let was : IsGoing policy c.args.rehearsal.now c.args.text.now c.args.script.now k c.loop-number.rehearsal c.loop-number.text = record {
       rollout = c.loop-number.invariant.rollout;
       state = c.loop-number.invariant.state;
       text = c.loop-number.invariant.text;
     } in
-    let on = goes_on c.args.rehearsal.now c.args.text.now c.args.script.now k c.loop-number.rehearsal c.loop-number.text was c.loop-number-test.true
+    let on = goes_on policy c.args.rehearsal.now c.args.text.now c.args.script.now k c.loop-number.rehearsal c.loop-number.text was c.loop-number-test.true
     a at c.in_ok-line.line c.in_ok-line.ensures.line c.act.new.self c.in_ok-line.ensures.state c.push_act_line.new.text c.in_ok-push_act_line.ensures in
-    record { idle = on.idle; rollout = on.rollout; state = on.state; text = on.text }
+    record { rollout = on.rollout; state = on.state; text = on.text }

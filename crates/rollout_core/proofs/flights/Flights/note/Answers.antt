@@ -1,5 +1,5 @@
 use Rattle.std.proofs.Common.{◌∙◌, [], ◌∷◌, ◌++◌, length, sym, ap, arith}
-use Rattle.rollout_core.specs.Flights.{flies_by}
+use Rattle.dependency_graph.specs.Progress.{flies_by}
 use Rattle.rollout_core.proofs.Flying.{passing-few, passing-more, passing-kept}
 use Rattle.rollout_core.proofs.flights.Flights.note.Goals as goal
 use Rattle.rollout_core.proofs.flights.Flights.note.Goals.{then-flies, else-flies}

@@ -1,5 +1,6 @@
 use Rattle.std.proofs.Common.{◌≡◌}
-use Rattle.rollout_core.specs.Flights.{passing, flies_by}
+use Rattle.dependency_graph.specs.Progress.{flies_by}
+use Rattle.rollout_core.specs.Flights.{passing}
 use Rattle.rollout_core.proofs.flights.Flights.note.Given as goal
 
 -- of the items before this one those that fly are noted

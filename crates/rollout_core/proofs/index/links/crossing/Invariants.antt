@@ -1,5 +1,0 @@
-use Rattle.rollout_core.specs.Index.{IsCrossing}
-use Rattle.rollout_core.proofs.index.links.crossing.Given as goal
-
-abbrev pub invariant-loop-t : goal.invariant-loop-t
-invariant-loop-t l = IsCrossing l.plan.problem l.l l.t l.row

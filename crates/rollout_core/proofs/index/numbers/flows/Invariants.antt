@@ -1,5 +1,0 @@
-use Rattle.rollout_core.specs.Index.{AreItems}
-use Rattle.rollout_core.proofs.index.numbers.flows.Given as goal
-
-abbrev pub invariant-loop-f : goal.invariant-loop-f
-invariant-loop-f l = AreItems l.plan.problem l.f l.row

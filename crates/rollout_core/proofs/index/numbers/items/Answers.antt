@@ -1,6 +1,0 @@
-use Rattle.std.proofs.Common.{subst}
-use Rattle.rollout_rules.specs.Network.{IsNetwork}
-use Rattle.rollout_core.proofs.index.numbers.items.Goals as goal
-
-pub returns-clause-network : goal.returns-clause-network
-returns-clause-network c = subst IsNetwork c.problem.ensures c.tunnels-t-end.ensures.network

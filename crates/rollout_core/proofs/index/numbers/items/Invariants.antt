@@ -1,7 +1,0 @@
-use Rattle.rollout_rules.specs.Items.{number_of}
-use Rattle.rollout_rules.specs.declared.item.Item.TheVariants as item
-use Rattle.rollout_core.specs.Index.{AreItems}
-use Rattle.rollout_core.proofs.index.numbers.items.Given as goal
-
-abbrev pub invariant-loop-t : goal.invariant-loop-t
-invariant-loop-t l = AreItems l.plan.problem (number_of l.plan.problem (item.Entry l.t 0)) l.row

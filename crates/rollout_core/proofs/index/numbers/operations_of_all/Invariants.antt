@@ -1,5 +1,0 @@
-use Rattle.rollout_core.specs.Index.{AreOperations}
-use Rattle.rollout_core.proofs.index.numbers.operations_of_all.Given as goal
-
-abbrev pub invariant-loop-n : goal.invariant-loop-n
-invariant-loop-n l = AreOperations l.plan l.n l.row

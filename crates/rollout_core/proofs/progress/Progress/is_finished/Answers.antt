@@ -1,6 +1,0 @@
-use Rattle.std.proofs.Common.{◌∙◌}
-use Rattle.rollout_core.proofs.Standings.{finished-counts}
-use Rattle.rollout_core.proofs.progress.Progress.is_finished.Goals as goal
-
-pub returns : goal.returns
-returns c = λ h so. c.all_settled.ensures ∙ finished-counts c.args.self.now h so

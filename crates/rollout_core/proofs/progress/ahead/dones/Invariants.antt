@@ -1,9 +1,0 @@
-use Rattle.std.proofs.Common.{◌≡◌, ◌≤◌, take}
-use Rattle.rollout_rules.specs.History.{dones_in}
-use Rattle.rollout_core.proofs.progress.ahead.dones.Given as goal
-
-abbrev pub invariant-loop-entry : goal.invariant-loop-entry
-invariant-loop-entry l = record {
-  value : l.count ≡ dones_in (take l.entry-index l.entries) l.item;
-  few : l.count ≤ l.entry-index;
-}

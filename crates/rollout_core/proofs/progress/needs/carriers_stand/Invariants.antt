@@ -1,9 +1,0 @@
-use Rattle.std.proofs.Common.{◌≡◌, true}
-use Rattle.rollout_rules.specs.Sums.{all_below}
-use Rattle.rollout_rules.specs.Wan.{tunnel_of}
-use Rattle.rollout_core.specs.Ahead.{places_with}
-use Rattle.rollout_core.specs.Fits.{carrier_stands}
-use Rattle.rollout_core.proofs.progress.needs.carriers_stand.Given as goal
-
-abbrev pub invariant-loop-j : goal.invariant-loop-j
-invariant-loop-j l = all_below l.j (λ j. carrier_stands l.plan.problem l.plan.plan (places_with l.plan l.progress l.ahead) (tunnel_of l.plan.problem l.f j) l.s) ≡ true

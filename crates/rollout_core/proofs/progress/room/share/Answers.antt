@@ -1,5 +1,0 @@
-use Rattle.std.proofs.Common.{arith}
-use Rattle.rollout_core.proofs.progress.room.share.Goals as goal
-
-pub overflow_cast-flow : goal.overflow_cast-flow
-overflow_cast-flow c = omega (arith, c.flow_of-flow.ensures.inside, c.checked_plan_is_valid.ensures.network.flows.count)

@@ -1,9 +1,0 @@
-use Rattle.std.proofs.Common.{◌≡◌, drop}
-use Rattle.rollout_rules.specs.World.{answers_of}
-use Rattle.rollout_core.specs.Drafts.{drafted}
-use Rattle.sim_run.proofs.Batches.{ended}
-use Rattle.sim_run.proofs.round.add_dones.Given as goal
-
--- the Dones of the items before this one
-abbrev pub invariant-loop-item : goal.invariant-loop-item
-invariant-loop-item l = l.draft ≡ drafted l.world (ended l.world.world.durable (answers_of l.world.world.migration (drop l.heard l.world.world.handed)) l.item)

@@ -1,6 +1,0 @@
-use Rattle.std.proofs.Common.{◌≡◌, ◌++◌}
-use Rattle.sim_run.specs.Script.{link_lines}
-use Rattle.sim_run.proofs.run.push_link_lines.Given as goal
-
-abbrev pub invariant-loop-number : goal.invariant-loop-number
-invariant-loop-number l = l.text ≡ l.fn.text ++ link_lines l.plan.problem l.plan.plan l.history l.number

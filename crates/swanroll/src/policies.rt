@@ -1,0 +1,44 @@
+//! The program's policies, and what each answers.
+
+ghost use Rattle.std.specs.Prelude.{◌≡◌, IfOk};
+ghost use Rattle.order_policy.specs.Answers.{rank_by};
+ghost use Rattle.order_policy.specs.Named.{answers_in};
+ghost use Rattle.swanroll.specs.Policies.{critical, order, RanksBy, named};
+
+use lists::Memory;
+use order_policy::{Policies, Policy};
+use std::alloc::Global;
+use wan_model::OpView;
+
+/// The last rank there is.
+const LAST_RANK: u64 = 4_294_967_295;
+
+/// The operation before the longest chain comes first (Dionysus' critical path).
+pub fn critical(view: OpView) -> u64
+    ensures { result ≡ critical view }
+{
+    LAST_RANK - u64::from(view.chain)
+}
+
+/// All operations have one rank, so they come in the order of items.
+pub fn order(_view: OpView) -> u64
+    ensures { result ≡ order _view }
+{
+    0
+}
+
+/// The policies by the names under which the words ask for them.
+pub fn policies_of(
+    alloc: Global,
+    by_chain: Policy,
+    by_item: Policy,
+) -> Result<Policies<Policy>, Memory>
+    requires chain { RanksBy (rank_by by_chain.answers) critical }
+    requires item { RanksBy (rank_by by_item.answers) order }
+    ensures { IfOk result (λ policies. answers_in policies ≡ named (rank_by by_chain.answers) (rank_by by_item.answers)) }
+{
+    let mut policies = Policies::new(alloc);
+    policies.add("critical", by_chain)?;
+    policies.add("order", by_item)?;
+    Ok(policies)
+}
