@@ -1,5 +1,5 @@
 -- The verdict on a part, test by test.
-use Rattle.std.proofs.Common.{◌≡◌, ◌&&◌, ◌==◌, Bool, true, false, ℕ, ◌<◌, ◌≤◌, nat_lt, List, [], length, drop, Option, Some, if◌then◌else◌, refl, sym, ◌∙◌, ap, arith, lt-ltb, ne_eqb}
+use Rattle.std.proofs.Common.{◌≡◌, ◌&&◌, ◌==◌, Bool, true, false, ℕ, ◌<◌, nat_lt, List, length, drop, Some, if◌then◌else◌, sym, ◌∙◌, ap, arith, lt-ltb, ne_eqb}
 use Rattle.std.specs.Prelude.{bytes_eq}
 use Rattle.std.proofs.lemmas.Bool.Decides.{nat_tests}
 use Rattle.std.proofs.lemmas.Bool.{and_parts}
@@ -7,16 +7,16 @@ use Rattle.rollout_rules.specs.Wan.{Rollout}
 use Rattle.rollout_rules.specs.Items.{item_count}
 use Rattle.rollout_rules.specs.History.{started}
 use Rattle.rollout_rules.specs.Legal.{is_legal, is_sound}
-use Rattle.rollout_rules.specs.declared.op.Entry.{Entry}
 use Rattle.rollout_laws.proofs.Histories.{started_is_legal}
-use Rattle.dependency_graph.specs.Graph.{Followed}
 use Rattle.intent_journal.specs.declared.digest.Digest.{Digest}
+use Rattle.intent_journal.specs.declared.fault.JournalFault.{JournalFault}
+use Rattle.intent_journal.specs.declared.fault.JournalFault.TheVariants.{BadStart, Disk, Illegal, Memory, NotJournal, OtherPlan}
 use Rattle.intent_journal.specs.Numbers.{byte_at}
 use Rattle.intent_journal.specs.Parts.{Slot, digest_in, migration_in, part_rows}
 use Rattle.intent_journal.specs.Images.{open_journal, slot_at}
 use Rattle.intent_journal.specs.Reading.{IsRead, Listed, live_side, nothing_read, with_rows}
-use Rattle.intent_journal.specs.Judging.{IsJudgedPart}
-use Rattle.intent_journal.specs.Verdicts.{NoJournal, NoStart, NotLegal, OfAnother, Stands, Verdict, is_own, is_start, judged_at, judged_journal, judged_list, judged_part, judged_start, legal_count, start_of, with_history}
+use Rattle.intent_journal.specs.Judging.{BeforeList, IsOfList}
+use Rattle.intent_journal.specs.Verdicts.{NoJournal, NoStart, NotLegal, OfAnother, Stands, Verdict, is_own, is_start, judged_at, judged_journal, judged_list, judged_part, judged_start, legal_count, start_of}
 
 module _ (r : Rollout) (start : List ℕ) (listed : Listed) where
   abbrev count : ℕ
@@ -93,3 +93,12 @@ judged_side r digest image side slot part v journal live is part_is judged =
     ∙ ap (λ (s : Slot). judged_part r digest s (drop s.start image)) (sym is)
     ∙ ap (judged_part r digest slot) (sym part_is)
     ∙ judged
+
+-- a fault of the list comes late
+pub of_list : (fault : JournalFault) (P : Type 0) → IsOfList fault → BeforeList fault P
+of_list (Illegal place) P late = tt
+of_list Memory P late = tt
+of_list Disk P late = tt
+of_list (NotJournal first) P late = absurd late
+of_list (OtherPlan kept wanted) P late = absurd late
+of_list BadStart P late = absurd late

@@ -1,5 +1,5 @@
 -- Which entries may follow what a graph stands for, by what the graph tells.
-use Rattle.std.proofs.Common.{◌≡◌, ◌⊎◌, inl, inr, ◌==◌, ◌&&◌, not, nat_le, nat_lt, Bool, true, false, ℕ, suc, ◌+◌, ◌<◌, ◌≤◌, List, [], ◌∷◌, ◌++◌, length, take, drop, get_or, if◌then◌else◌, refl, sym, subst, ⊎_elim, ◌∙◌, ap, arith, eqb-true, eq-eqb, lt-ltb, le-leb, take-append-drop}
+use Rattle.std.proofs.Common.{◌≡◌, ◌&&◌, not, nat_lt, Bool, true, false, ℕ, suc, ◌+◌, ◌<◌, ◌≤◌, List, [], ◌∷◌, ◌++◌, length, take, drop, get_or, if◌then◌else◌, sym, ⊎_elim, ◌∙◌, ap, arith, eqb-true, eq-eqb, lt-ltb, le-leb}
 use Rattle.std.proofs.Math.Seq.{drop-cons, take-add}
 use Rattle.std.proofs.lemmas.Bool.{and_from, and_parts, cases_Bool, ltb-true}
 use Rattle.std.proofs.lemmas.List.{append-nil, append_assoc, drop_all, take_all}
@@ -7,14 +7,13 @@ use Rattle.rollout_rules.specs.Wan.{Plan, Problem, Rollout}
 use Rattle.rollout_rules.specs.Items.{item_count, item_at}
 use Rattle.rollout_rules.specs.Operations.{operations}
 use Rattle.rollout_rules.specs.History.{History, begun, flies, places_of, settled, with_entries}
-use Rattle.rollout_rules.specs.Needs.{needs_met}
 use Rattle.rollout_rules.specs.Room.{fits}
-use Rattle.rollout_rules.specs.Legal.{is_legal, is_next, may_add, may_begin, may_end, may_follow}
+use Rattle.rollout_rules.specs.Legal.{is_legal, is_next, may_add, may_begin, may_end}
 use Rattle.rollout_rules.specs.Release.{next_op}
 use Rattle.rollout_rules.specs.declared.op.Op.{Op}
 use Rattle.rollout_rules.specs.declared.op.Entry.{Entry}
 use Rattle.rollout_rules.specs.declared.op.Entry.TheVariants.{Begin, Done}
-use Rattle.rollout_laws.proofs.Histories.{MayBegin, begins, ends, is_counted, is_legal-append}
+use Rattle.rollout_laws.proofs.Histories.{begins, ends, is_counted, is_legal-append}
 use Rattle.dependency_graph.specs.Graph.{Followed, are_needs_met, has_next, has_room, with_begun, with_done}
 use Rattle.intent_journal.specs.Verdicts.{legal_count}
 

@@ -13,12 +13,17 @@ pub mod Headers
 pub mod Heads
 pub mod Judgements
 pub mod Laying
+pub mod Listings
 pub mod Legality
 pub mod Made
 pub mod NewParts
 pub mod NumbersRead
 pub mod Passages
+pub mod Pieces
+pub mod Placings
+pub mod Quiet
 pub mod Readings
+pub mod Recoveries
 pub mod Renewed
 pub mod Rows
 pub mod Runs

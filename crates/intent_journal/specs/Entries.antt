@@ -1,5 +1,5 @@
 -- The nine bytes of an entry: its kind, the number of the item, and that of the operation.
-use Rattle.std.specs.Prelude.{ℕ, ◌<◌, ◌^◌, ◌==◌, List, ◌∷◌, ◌++◌, map, drop, Option, Some, None, if◌then◌else◌}
+use Rattle.std.specs.Prelude.{⊤, ℕ, ◌<◌, ◌^◌, ◌==◌, List, [], ◌∷◌, ◌++◌, map, drop, Option, Some, None, if◌then◌else◌}
 use Rattle.rollout_rules.specs.declared.op.Op.{Op}
 use Rattle.rollout_rules.specs.declared.op.Entry.{Entry}
 use Rattle.rollout_rules.specs.declared.op.Entry.TheVariants.{Begin, Done}
@@ -34,3 +34,7 @@ entry_in row =
 abbrev pub IsSmall : Entry → Type 0
 IsSmall (Begin op) = (op.item < 2 ^ 32) × (op.number < 2 ^ 32)
 IsSmall (Done op) = (op.item < 2 ^ 32) × (op.number < 2 ^ 32)
+
+abbrev pub AllSmall : List Entry → Type 0
+AllSmall [] = ⊤
+AllSmall (entry ∷ later) = IsSmall entry × AllSmall later

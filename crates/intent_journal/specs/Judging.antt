@@ -1,8 +1,10 @@
 -- What was judged of a part and of an image, where it is the journal of a rollout.
-use Rattle.std.specs.Prelude.{◌≡◌, ℕ, true, List, drop}
+use Rattle.std.specs.Prelude.{◌≡◌, ⊤, ℕ, true, List}
 use Rattle.rollout_rules.specs.declared.op.Entry.{Entry}
 use Rattle.dependency_graph.specs.Graph.{Followed}
 use Rattle.intent_journal.specs.declared.digest.Digest.{Digest}
+use Rattle.intent_journal.specs.declared.fault.JournalFault.{JournalFault}
+use Rattle.intent_journal.specs.declared.fault.JournalFault.TheVariants.{BadStart, Disk, Illegal, Memory, NotJournal, OtherPlan}
 use Rattle.intent_journal.specs.declared.found.Found.{Found}
 use Rattle.intent_journal.specs.Parts.{Slot}
 use Rattle.intent_journal.specs.Phases.{IsFound}
@@ -20,3 +22,21 @@ pub record IsJudged (image : List ℕ) (digest : Digest) (place : Found) (start 
   pub stands : judged_journal old.rollout digest image ≡ Stands start list
   pub found : IsFound place image
   pub graph : new ≡ with_history old start list
+
+-- a fault that comes before the graph is brought along the list
+abbrev pub BeforeList : JournalFault → Type 0 → Type 0
+BeforeList (NotJournal first) holds = holds
+BeforeList (OtherPlan kept wanted) holds = holds
+BeforeList BadStart holds = holds
+BeforeList (Illegal place) holds = ⊤
+BeforeList Disk holds = ⊤
+BeforeList Memory holds = ⊤
+
+-- a fault of the list, or want of memory
+abbrev pub IsOfList : JournalFault → Type 0
+IsOfList (Illegal place) = ⊤
+IsOfList Memory = ⊤
+IsOfList (NotJournal first) = ⊥
+IsOfList (OtherPlan kept wanted) = ⊥
+IsOfList BadStart = ⊥
+IsOfList Disk = ⊥

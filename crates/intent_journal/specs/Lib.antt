@@ -8,8 +8,11 @@ pub mod Numbers
 pub mod Opened
 pub mod Parts
 pub mod Phases
+pub mod Placements
 pub mod Reading
+pub mod Recovered
 pub mod Renewals
 pub mod States
 pub mod Verdicts
+pub mod Whole
 pub mod Worked

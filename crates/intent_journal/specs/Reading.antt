@@ -4,7 +4,7 @@ use Rattle.rollout_rules.specs.declared.op.Entry.{Entry}
 use Rattle.intent_journal.specs.Numbers.{byte_at, number_4}
 use Rattle.intent_journal.specs.Entries.{entry_in}
 use Rattle.intent_journal.specs.Parts.{Slot, batches_of, kept_in, open_batch, part_rows, size_of}
-use Rattle.intent_journal.specs.Images.{first_side, is_live, second_side, slot_at}
+use Rattle.intent_journal.specs.Images.{first_side, is_live, list_of, second_side, slot_at}
 use Rattle.intent_journal.specs.States.{Stands, with_more}
 use Rattle.intent_journal.specs.Parts.{Kept}
 
@@ -32,6 +32,14 @@ with_row listed (Some entry) = if listed.whole then record { entries = listed.en
 abbrev pub with_rows : Listed → List (List ℕ) → Listed
 with_rows listed [] = listed
 with_rows listed (row ∷ later) = with_rows (with_row listed (entry_in row)) later
+
+-- the entries of the list that an image stands for
+abbrev pub entries_of : List ℕ → Listed
+entries_of image = with_rows nothing_read (list_of image)
+
+-- The image stands for this list, each row of which is an entry.
+abbrev pub Lists : List Entry → List ℕ → Type 0
+Lists list image = entries_of image ≡ record { entries = list; whole = true }
 
 -- how many entries the batch behind a gate has, where the gate is open, the batch is whole and a byte stands behind it
 abbrev pub batch_at : List ℕ → ℕ → Option ℕ

@@ -1,5 +1,5 @@
 -- What an image is to a rollout that knows its journal by a digest.
-use Rattle.std.specs.Prelude.{◌≡◌, ⊤, ℕ, ◌+◌, Bool, not, ◌&&◌, ◌==◌, nat_lt, List, [], ◌∷◌, length, drop, bytes_eq, Option, Some, None, if◌then◌else◌}
+use Rattle.std.specs.Prelude.{◌≡◌, ⊤, ℕ, ◌+◌, Bool, ◌&&◌, ◌==◌, nat_lt, List, [], ◌∷◌, length, drop, bytes_eq, Option, Some, None, if◌then◌else◌}
 use Rattle.rollout_rules.specs.declared.op.Entry.{Entry}
 use Rattle.rollout_rules.specs.Wan.{Plan, Problem, Rollout}
 use Rattle.rollout_rules.specs.Items.{item_count}

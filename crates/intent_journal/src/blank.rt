@@ -1,6 +1,7 @@
 ghost use Rattle.std.specs.Prelude.{◌≡◌, ◌<◌, drop, length, IfOk, IsTrue, Some};
 ghost use Rattle.intent_journal.specs.Images as images;
 ghost use Rattle.intent_journal.specs.Parts.{is_whole};
+ghost use Rattle.intent_journal.specs.Phases as phases;
 
 use crate::bytes::byte_in;
 use crate::live::live_side;
@@ -30,6 +31,13 @@ pub(crate) fn is_blank(alloc: Global, image: &[u8]) -> Result<bool, Memory>
         OPEN_JOURNAL => Ok(false),
         _ => keeps_nothing(alloc, image),
     }
+}
+
+/// Whether the first byte is there, and is 0.
+pub(crate) fn is_cleared(image: &[u8]) -> bool
+    ensures { result ≡ phases.is_cleared image.now }
+{
+    !image.is_empty() && byte_in(image, 0) == 0
 }
 
 // Whether a part is live, and its list is empty.

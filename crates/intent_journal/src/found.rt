@@ -23,6 +23,9 @@ pub(crate) struct Found {
 // What the field of a size has more where the part is of the second format.
 const SECOND: u64 = 1 << 62;
 
+// Where a live part starts no later, a new one can stand behind it.
+pub(crate) const LATEST_START: u64 = 1 << 61;
+
 impl Found {
     /// Where the live part ends.
     pub fn end(&self) -> u64

@@ -3,7 +3,7 @@ ghost use Rattle.rollout_rules.specs.History.{from_nothing};
 ghost use Rattle.intent_journal.specs.Images as images;
 ghost use Rattle.intent_journal.specs.Images.{open_journal};
 ghost use Rattle.intent_journal.specs.declared.digest.Digest.{Digest};
-ghost use Rattle.intent_journal.specs.Judging.{IsJudged, IsJudgedPart};
+ghost use Rattle.intent_journal.specs.Judging.{BeforeList, IsJudged, IsJudgedPart, IsOfList};
 ghost use Rattle.intent_journal.specs.Numbers as numbers;
 ghost use Rattle.intent_journal.specs.Parts.{digest_in, is_whole, migration_in};
 ghost use Rattle.intent_journal.specs.Phases.{IsFound};
@@ -47,6 +47,7 @@ pub(crate) fn judge(
     requires empty { graph.old.history ≡ from_nothing graph.old.rollout.problem [] }
     ensures ok { IfOk result (λ judged. IsJudged image.now digest.now judged.found judged.start.items judged.list graph.old graph.new) }
     ensures err { IfErr result (λ fault. IsRefusal fault digest.now (judged_journal graph.old.rollout digest.now image.now)) }
+    ensures unmoved { IfErr result (λ fault. BeforeList fault (graph.new ≡ graph.old)) }
 {
     let first = byte_in(image, 0);
     if first != OPEN_JOURNAL {
@@ -70,6 +71,7 @@ fn judge_side(
     requires empty { graph.old.history ≡ from_nothing graph.old.rollout.problem [] }
     ensures ok { IfOk result (λ judged. IsJudged image.now digest.now judged.found judged.start.items judged.list graph.old graph.new) }
     ensures err { IfErr result (λ fault. IsRefusal fault digest.now (judged_journal graph.old.rollout digest.now image.now)) }
+    ensures unmoved { IfErr result (λ fault. BeforeList fault (graph.new ≡ graph.old)) }
 {
     let slot = Slot::at(side, image);
     let kept = judge_part(alloc, &slot, part_of(&slot, image), digest, graph)?;
@@ -82,7 +84,7 @@ fn judge_side(
 }
 
 // What was found of an image, with the gate behind the list of the live part.
-fn found_at(image: &[u8], side: usize, slot: &Slot, gate: usize) -> Found
+pub(crate) fn found_at(image: &[u8], side: usize, slot: &Slot, gate: usize) -> Found
     requires journal { numbers.byte_at 0 image.now ≡ open_journal }
     requires side { reading.live_side image.now ≡ Some side }
     requires slot { slot.now ≡ images.slot_at side image.now }
@@ -120,6 +122,7 @@ struct KeptPart {
     gate: usize,
 }
 
+#[tactic(auto, using(crate::proofs::Judgements::of_list))]
 fn judge_part(
     alloc: Global,
     slot: &Slot,
@@ -131,6 +134,7 @@ fn judge_part(
     requires empty { graph.old.history ≡ from_nothing graph.old.rollout.problem [] }
     ensures ok { IfOk result (λ kept. IsJudgedPart slot.now part.now digest.now kept.start.items kept.list kept.gate graph.old graph.new) }
     ensures err { IfErr result (λ fault. IsRefusal fault digest.now (judged_part graph.old.rollout digest.now slot.now part.now)) }
+    ensures unmoved { IfErr result (λ fault. BeforeList fault (graph.new ≡ graph.old)) }
 {
     let kept = kept_digest(slot, part);
     if !is_same(&kept, digest) {
@@ -193,7 +197,8 @@ fn bring(graph: &mut Graph, start: &[u32], listed: &Listed) -> Option<usize>
 }
 
 fn illegal_at(place: usize) -> JournalFault
-    ensures { (digest : Digest) → IsRefusal result digest (NotLegal place) }
+    ensures refusal { (digest : Digest) → IsRefusal result digest (NotLegal place) }
+    ensures late { IsOfList result }
 {
     if place <= u32::MAX as usize {
         JournalFault::Illegal(place as u32)

@@ -1,4 +1,4 @@
-use Rattle.std.proofs.Common.{rules, ◌≡◌, IfOk, Option, Some, ap, ◌∙◌, sym, subst}
+use Rattle.std.proofs.Common.{◌≡◌, IfOk, Option, Some, ap, ◌∙◌, sym, subst}
 use Rattle.intent_journal.specs.Images.{keeps_nothing, kept_at}
 use Rattle.intent_journal.specs.Parts.{Kept, Slot}
 use Rattle.intent_journal.proofs.Blanks.{opened_none, opened_part, side_small, side_whole}

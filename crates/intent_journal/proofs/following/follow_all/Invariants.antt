@@ -1,4 +1,4 @@
-use Rattle.std.proofs.Common.{◌≡◌, ◌≤◌, length}
+use Rattle.std.proofs.Common.{◌≤◌, length}
 use Rattle.intent_journal.proofs.Legality.{HasFollowed}
 use Rattle.intent_journal.proofs.following.follow_all.Given as goal
 

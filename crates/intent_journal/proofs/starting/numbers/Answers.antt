@@ -1,4 +1,4 @@
-use Rattle.std.proofs.Common.{rules, ◌≡◌, arith}
+use Rattle.std.proofs.Common.{rules, arith}
 use Rattle.intent_journal.proofs.NumbersRead.{numbers_end, numbers_next}
 use Rattle.intent_journal.proofs.starting.numbers.Goals as goal
 

@@ -1,4 +1,4 @@
-use Rattle.std.proofs.Common.{◌≡◌, ◌-◌, length}
+use Rattle.std.proofs.Common.{◌-◌, length}
 use Rattle.intent_journal.specs.Reading.{Walks}
 use Rattle.intent_journal.proofs.walking.walk.Given as goal
 

@@ -1,0 +1,45 @@
+-- Calls of a disk that write nothing, one behind the other.
+use Rattle.std.proofs.Common.{◌≡◌, inl, inr, arith, ℕ, ◌≤◌, List, Option, Some, None, refl, sym, ◌∙◌}
+use Rattle.disk_model.specs.Crashes.{IsDurable, Within}
+use Rattle.disk_model.specs.Moments.{Passes}
+use Rattle.disk_model.proofs.Running.{LeavesOnly-chain, LeavesOnly-goes_on, LeavesOnly-start}
+use Rattle.intent_journal.specs.Whole.{Causes, IsQuiet}
+use Rattle.intent_journal.specs.declared.fault.JournalFault.{JournalFault}
+use Rattle.intent_journal.specs.declared.fault.JournalFault.TheVariants.{BadStart, Disk, Illegal, Memory, NotJournal, OtherPlan}
+
+module _ {D : Type 0} (bytes : D → Option (List ℕ)) (moment : D → ℕ) (left_since : D → ℕ → List ℕ → Type 0) (may_leave : D → List ℕ → Type 0) where
+  pub no_call : (old : D) → ((c : List ℕ) → left_since old (moment old) c → may_leave old c) → IsQuiet bytes moment left_since may_leave old old
+  no_call old now = record { same = refl; crash = λ c left. left; run = LeavesOnly-start moment left_since old (may_leave old) now }
+
+  pub one_call : (old new : D) → ((c : List ℕ) → left_since old (moment old) c → may_leave old c) → bytes new ≡ bytes old → Within (may_leave new) (may_leave old)
+      → Passes (moment old) (moment new) (left_since old) (left_since new) (may_leave new) → IsQuiet bytes moment left_since may_leave old new
+  one_call old new now same crash time = record {
+    same = same;
+    crash = crash;
+    run = LeavesOnly-goes_on moment left_since old old new (may_leave old) (may_leave new) (LeavesOnly-start moment left_since old (may_leave old) now) time crash;
+  }
+
+  pub more_calls : (old mid new : D) → IsQuiet bytes moment left_since may_leave old mid → IsQuiet bytes moment left_since may_leave mid new → IsQuiet bytes moment left_since may_leave old new
+  more_calls old mid new first second = record {
+    same = second.same ∙ first.same;
+    crash = λ c left. first.crash c (second.crash c left);
+    run = LeavesOnly-chain moment left_since old mid new (may_leave old) (may_leave mid) first.run second.run first.crash;
+  }
+
+-- what was on the disk still is
+pub durable_still : (told told_new : Option (List ℕ)) (left left_new : List ℕ → Type 0) → told_new ≡ told → Within left_new left → IsDurable told left → IsDurable told_new left_new
+durable_still told None left left_new same within durable = tt
+durable_still None (Some all) left left_new same within durable = absurd (cc same)
+durable_still (Some old) (Some all) left left_new same within durable =
+    let is : all ≡ old = cc same in
+    λ c leaves. durable c (within c leaves) ∙ sym is
+
+-- the count rose after it had not fallen
+pub causes_later : (fault : JournalFault) (before mid now : ℕ) → Causes fault mid now → before ≤ mid → Causes fault before now
+causes_later Disk before mid now (inl more) no_less = inl (omega (arith, more, no_less))
+causes_later Disk before mid now (inr most) no_less = inr most
+causes_later Memory before mid now cause no_less = tt
+causes_later (NotJournal first) before mid now cause no_less = cause
+causes_later (OtherPlan kept wanted) before mid now cause no_less = cause
+causes_later BadStart before mid now cause no_less = cause
+causes_later (Illegal place) before mid now cause no_less = cause

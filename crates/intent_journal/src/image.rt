@@ -1,0 +1,75 @@
+ghost use Rattle.std.specs.Prelude.{◌≡◌, ◌<◌, ◌≤◌, [], length, IfErr, IfOk, IfSome, OnOk};
+ghost use Rattle.disk_model.specs.Crashes.{IsDurable};
+ghost use Rattle.intent_journal.specs.Whole.{Causes, IsQuiet, Reads};
+
+use crate::fault::JournalFault;
+use disk_model::Disk;
+use lists::Memory;
+use std::alloc::Global;
+use std::vec;
+
+// How many bytes one call reads at most.
+const PIECE: usize = 65_536;
+
+/// Syncs a disk and reads all of its bytes. Then they are what a crash leaves.
+#[tactic(auto, using(crate::proofs::Quiet::causes_later))]
+pub(crate) fn read_image<D: Disk>(alloc: Global, disk: &mut D) -> Result<Vec<u8>, JournalFault>
+    ensures read { IfOk result (λ image. IfSome (D.bytes disk.old) (λ all. image.items ≡ all)) }
+    ensures durable { IfOk result (λ _. IsDurable (D.bytes disk.new) (D.may_leave disk.new)) }
+    ensures quiet { IsQuiet D.bytes D.moment D.left_since D.may_leave disk.old disk.new }
+    ensures cause { IfErr result (λ fault. Causes fault (D.faults disk.old) (D.faults disk.new)) }
+    ensures count { D.faults disk.old ≤ D.faults disk.new }
+{
+    let mut buffer = buffer_of(alloc, PIECE)?;
+    let mut image = Vec::new(alloc);
+    disk.sync()?;
+    read_pieces(disk, &mut buffer, &mut image)?;
+    Ok(image)
+}
+
+fn buffer_of(alloc: Global, size: usize) -> Result<Vec<u8>, Memory>
+    ensures { IfOk result (λ buffer. length buffer.items ≡ size) }
+{
+    Ok(vec![in alloc; 0; size]?)
+}
+
+// Reads piece by piece, up to the first that is empty.
+#[tactic(auto, using(crate::proofs::Quiet::causes_later))]
+fn read_pieces<D: Disk>(
+    disk: &mut D,
+    buffer: &mut [u8],
+    image: &mut Vec<u8>,
+) -> Result<(), JournalFault>
+    requires some { 0 < length buffer.old }
+    requires empty { image.old.items ≡ [] }
+    ensures read { OnOk result (IfSome (D.bytes disk.old) (λ all. image.new.items ≡ all)) }
+    ensures quiet { IsQuiet D.bytes D.moment D.left_since D.may_leave disk.old disk.new }
+    ensures cause { IfErr result (λ fault. Causes fault (D.faults disk.old) (D.faults disk.new)) }
+    ensures count { D.faults disk.old ≤ D.faults disk.new }
+{
+    for _turn in 0..u64::MAX {
+        let more = read_more(disk, buffer, image)?;
+        if !more {
+            return Ok(());
+        }
+    }
+    Err(JournalFault::Memory)
+}
+
+// Reads the bytes that come next, if there are any, and says whether there were.
+fn read_more<D: Disk>(
+    disk: &mut D,
+    buffer: &mut [u8],
+    image: &mut Vec<u8>,
+) -> Result<bool, JournalFault>
+    requires { 0 < length buffer.old }
+    ensures read { IfOk result (λ more. IfSome (D.bytes disk.old) (Reads more image.old.items image.new.items)) }
+    ensures buffer { length buffer.new ≡ length buffer.old }
+    ensures quiet { IsQuiet D.bytes D.moment D.left_since D.may_leave disk.old disk.new }
+    ensures cause { IfErr result (λ fault. Causes fault (D.faults disk.old) (D.faults disk.new)) }
+    ensures count { D.faults disk.old ≤ D.faults disk.new }
+{
+    let n = disk.read_at(image.len() as u64, buffer)?;
+    image.extend_from_slice(&buffer[..n])?;
+    Ok(n > 0)
+}
