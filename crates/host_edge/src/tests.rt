@@ -1,9 +1,13 @@
-use crate::FileDisk;
+use crate::{FileDisk, TcpFleet, TcpGuest};
 use disk_model::Disk;
 use std::fs;
+use std::net::TcpListener;
 use std::test::Fail;
+use wan_edge::{Fleet, Port, Sink, Source};
 
 const PATH: &str = "host_edge_test.disk";
+
+const FLEET_PATH: &str = "host_edge_test.fleet";
 
 #[test]
 fn a_file_keeps_what_was_written_behind_its_lock(rt: HostRuntime) -> Result<(), Fail> {
@@ -29,5 +33,32 @@ fn a_path_that_names_no_file_fails_at_each_call(rt: HostRuntime) -> Result<(), F
     assert!(rt; disk.len().is_err());
     assert!(rt; disk.write_at(0, b"a").is_err());
     assert!(rt; disk.sync().is_err());
+    Ok(())
+}
+
+#[test]
+fn a_port_and_a_guest_talk_over_loopback(rt: HostRuntime) -> Result<(), Fail> {
+    let alloc = rt.alloc();
+    let listener = TcpListener::bind(&rt, "127.0.0.1:0")?;
+    let address = listener.local_addr()?;
+    let lines = format!(in alloc; "left edge {address}\nB {address}\nB {address}\nC\n")?;
+    fs::write(&rt, FLEET_PATH, lines.as_str())?;
+    let path = String::from_str(alloc, FLEET_PATH)?;
+    let mut fleet = TcpFleet::new(alloc, rt, path, String::new(alloc), 20);
+    assert!(rt; fleet.port(1, "B").is_err());
+    assert!(rt; fleet.port(2, "C").is_err());
+    assert!(rt; fleet.guest().is_err());
+    let mut port = fleet.port(0, "left edge")?;
+    let mut guest = TcpGuest::new(listener.accept()?.0);
+    let mut into = [0; 4];
+    assert!(rt; port.hear(&mut into) == Ok(0));
+    port.offer(b"abc")?;
+    assert!(rt; guest.read(&mut into) == Ok(3));
+    assert!(rt; guest.write(b"de") == Ok(2));
+    assert!(rt; port.hear(&mut into) == Ok(2));
+    assert_eq!(rt; into, *b"dec\0");
+    drop(guest);
+    assert!(rt; port.hear(&mut into).is_err());
+    fs::remove_file(&rt, FLEET_PATH)?;
     Ok(())
 }

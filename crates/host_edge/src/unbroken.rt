@@ -1,5 +1,5 @@
 //! Reads and writes that go on where a signal interrupts them.
-ghost use Rattle.std.specs.Prelude.{◌≡◌, ◌<◌, ◌≤◌, length, take, IfOk, OnErr};
+ghost use Rattle.std.specs.Prelude.{◌≡◌, ◌<◌, ◌≤◌, length, take, IfOk, OnErr, OnOk};
 ghost use Rattle.std.specs.Io.KnownBytes.{Appends, Consumes, IsAtEnd, Keeps};
 
 use std::io::{self, ErrorKind, Read, Write};
@@ -36,4 +36,15 @@ pub(crate) fn write_some<W: Write>(writer: &mut W, from: &[u8]) -> io::Result<us
         }
     }
     Err(ErrorKind::Interrupted.into())
+}
+
+/// All the bytes, by as many writes as it takes.
+pub(crate) fn write_whole<W: Write>(writer: &mut W, from: &[u8]) -> io::Result<()>
+    ensures { OnOk result (Appends (W.contents writer.old) (W.contents writer.new) from.now) }
+{
+    let mut done = 0;
+    while done < from.len() {
+        done += write_some(writer, &from[done..])?;
+    }
+    Ok(())
 }

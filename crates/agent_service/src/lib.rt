@@ -1,0 +1,14 @@
+//! The agent of a switch over the guests that a fleet gives: one agent, which holds nothing at first,
+//! serves one guest after the other, each to its end, and what it holds it keeps between them.
+//!
+//! The contract of [`serve_guests`] names each guest with what it told and what was written to it, by
+//! the contract of [`switch_agent::serve_bytes`], and what was counted.
+#![tactic(auto)]
+
+mod guests;
+mod service;
+#[cfg(test)]
+mod tests;
+
+pub use guests::serve_guests;
+pub use service::{Service, ServiceFault};

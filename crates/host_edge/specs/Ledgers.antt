@@ -1,0 +1,31 @@
+-- What a fleet has lent, and whom it had as guests.
+use Rattle.std.specs.Prelude.{ℕ, ◌+◌, ◌-◌, Bool, true, false, List, [], ◌∷◌, ◌++◌, Option, None}
+use Rattle.wan_edge.specs.Fleets.{marked, with_one, without}
+use Rattle.host_edge.specs.declared.ledger.Loans.{Loans, Nothing, Given', Back'}
+use Rattle.host_edge.specs.declared.ledger.Visits.{Visits, Nobody, Given' as Came', Back' as Left'}
+use Rattle.host_edge.specs.declared.tcp_guest.TcpGuest.{TcpGuest}
+use Rattle.host_edge.specs.declared.tcp_port.TcpPort.{TcpPort}
+
+-- the ports given back, by switch
+abbrev pub kept_in : {S : Type 0} → Loans S → ℕ → Option (TcpPort S)
+kept_in Nothing = λ n. None
+kept_in (Given' marker before switch) = without (kept_in before) switch.value
+kept_in (Back' marker before switch port) = with_one (kept_in before) switch.value port.value
+
+-- whether the port of a switch was given and not given back
+abbrev pub lent_in : {S : Type 0} → Loans S → ℕ → Bool
+lent_in Nothing = λ n. false
+lent_in (Given' marker before switch) = marked (lent_in before) switch.value true
+lent_in (Back' marker before switch port) = marked (lent_in before) switch.value false
+
+-- the guests given back, in order
+abbrev pub served_in : {S : Type 0} → Visits S → List (TcpGuest S)
+served_in Nobody = []
+served_in (Came' marker before) = served_in before
+served_in (Left' marker before guest) = served_in before ++ guest.value ∷ []
+
+-- how many guests were given and not given back
+abbrev pub visiting_in : {S : Type 0} → Visits S → ℕ
+visiting_in Nobody = 0
+visiting_in (Came' marker before) = visiting_in before + 1
+visiting_in (Left' marker before guest) = visiting_in before - 1

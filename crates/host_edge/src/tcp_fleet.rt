@@ -1,0 +1,166 @@
+ghost use Rattle.std.specs.Prelude.{◌≡◌, None, IsSome, OnOk};
+ghost use Rattle.host_edge.specs.Ledgers.{kept_in, lent_in, served_in, visiting_in};
+
+use crate::faults::Faults;
+use crate::ledger::{Loans, Visits};
+use crate::switchboard::Switchboard;
+use crate::{TcpGuest, TcpPort};
+use std::alloc::Global;
+use std::fs::File;
+use std::io::{self, ErrorKind};
+use std::net::{Net, OpenListener, OpenStream, SocketAddr, TcpListener, TcpStream, ToSocketAddrs};
+use std::rt::Files;
+use std::time::Duration;
+use wan_edge::{Failed, Fleet};
+
+/// Switches behind addresses, and the controllers that connect to an address. It tells nothing of what
+/// waits or comes.
+///
+/// The file of addresses is read at the first use of a switch, and the address for controllers is bound at
+/// the first wait for one. A line of the file is a switch's name and its address, split at the last space.
+/// A switch that no line names, or more than one does, fails at each use.
+#[derive(Drop)]
+pub struct TcpFleet<R: Net> {
+    rt: R,
+    switches: Switchboard,
+    listen: String,
+    listener: Option<R::Listener>,
+    limit: Duration,
+    loans: Loans<R::Stream>,
+    visits: Visits<R::Stream>,
+    faults: Faults,
+}
+
+impl<R: Net> TcpFleet<R> {
+    /// The switches of a file at a path and the controllers that come to an address, of which no call has
+    /// failed. Where the one or the other is empty, each call that needs it fails. `milliseconds`, above 0,
+    /// is how long connecting, hearing and writing may take; a guest may be read for ever.
+    pub fn new(alloc: Global, rt: R, path: String, listen: String, milliseconds: u64) -> Self
+        ensures { result.faults ≡ 0 }
+    {
+        TcpFleet {
+            rt,
+            switches: Switchboard::new(alloc, path),
+            listen,
+            listener: None,
+            limit: Duration::from_millis(milliseconds),
+            loans: Loans::Nothing,
+            visits: Visits::Nobody,
+            faults: Faults::new(),
+        }
+    }
+}
+
+impl<R: Net + Files<File = File>> Fleet for TcpFleet<R> {
+    type Port = TcpPort<R::Stream>;
+
+    type Guest = TcpGuest<R::Stream>;
+
+    ghost waiting = { λ _. None };
+
+    ghost coming = { λ _. None };
+
+    ghost kept = { λ f. kept_in f.loans };
+
+    ghost served = { λ f. served_in f.visits };
+
+    ghost lent = { λ f. lent_in f.loans };
+
+    ghost visiting = { λ f. visiting_in f.visits };
+
+    ghost faults = { λ f. f.faults };
+
+    fn port(&mut self, switch: u32, name: &str) -> Result<TcpPort<R::Stream>, Failed> {
+        let answer = connect(&self.rt, &mut self.switches, name, self.limit);
+        let stream = self.faults.counted(answer)?;
+        self.loans = self.loans.given(switch);
+        Ok(TcpPort::new(stream))
+    }
+
+    fn keep(&mut self, switch: u32, port: TcpPort<R::Stream>) {
+        self.loans = self.loans.back(switch, &port);
+    }
+
+    fn guest(&mut self) -> Result<Option<TcpGuest<R::Stream>>, Failed> {
+        let answer = accept(
+            &self.rt,
+            self.listen.as_str(),
+            &mut self.listener,
+            self.limit,
+        );
+        let stream = self.faults.counted(answer)?;
+        self.visits = self.visits.given();
+        Ok(Some(TcpGuest::new(stream)))
+    }
+
+    fn keep_guest(&mut self, guest: TcpGuest<R::Stream>) {
+        self.visits = self.visits.back(&guest);
+    }
+}
+
+// A connection to the switch of this name, with its time limits.
+fn connect<R: Net + Files<File = File>>(
+    rt: &R,
+    switches: &mut Switchboard,
+    name: &str,
+    limit: Duration,
+) -> io::Result<R::Stream> {
+    let address = switches.address(rt, name)?;
+    let stream = connect_within(rt, address, limit)?;
+    stream.set_nodelay(true)?;
+    stream.set_read_timeout(Some(limit))?;
+    stream.set_write_timeout(Some(limit))?;
+    Ok(stream)
+}
+
+// Tries what the address stands for, one after the other.
+fn connect_within<R: Net>(rt: &R, address: &str, limit: Duration) -> io::Result<R::Stream> {
+    let mut answer = Err(ErrorKind::AddrNotAvailable.into());
+    for place in address.to_socket_addrs(rt)? {
+        answer = TcpStream::connect_timeout(rt, &place, limit);
+        if answer.is_ok() {
+            return answer;
+        }
+    }
+    answer
+}
+
+// The next connection from a controller, with its time limit.
+fn accept<R: Net>(
+    rt: &R,
+    address: &str,
+    listener: &mut Option<R::Listener>,
+    limit: Duration,
+) -> io::Result<R::Stream> {
+    bind_once(rt, address, listener)?;
+    let stream = accept_one(listener.as_ref().unwrap())?;
+    stream.set_nodelay(true)?;
+    stream.set_write_timeout(Some(limit))?;
+    Ok(stream)
+}
+
+fn bind_once<R: Net>(rt: &R, address: &str, listener: &mut Option<R::Listener>) -> io::Result<()>
+    ensures { OnOk result (IsSome listener.new) }
+{
+    if listener.is_none() {
+        *listener = Some(TcpListener::bind(rt, address)?);
+    }
+    Ok(())
+}
+
+// One connection. A call that a signal interrupts is made again, and a controller that went before it was
+// taken is passed over.
+fn accept_one<L: OpenListener>(listener: &L) -> io::Result<L::Stream> {
+    for _ in 0..u64::MAX {
+        match listener.accept() {
+            Ok((stream, _)) => return Ok(stream),
+            Err(error) if is_passing(error.kind()) => {}
+            Err(error) => return Err(error),
+        }
+    }
+    Err(ErrorKind::Interrupted.into())
+}
+
+fn is_passing(kind: ErrorKind) -> bool {
+    matches!(kind, ErrorKind::Interrupted | ErrorKind::ConnectionAborted)
+}
