@@ -1,12 +1,12 @@
-//! The program: hands the arguments, the standard streams, the allocator and its policies to the call that
-//! does everything, and ends with its status.
+//! The program: hands the arguments, the standard streams, the journal's file, the allocator and its
+//! policies to the call that does everything, and ends with its status.
 #![tactic(auto)]
 
 ghost use Rattle.std.specs.Prelude.{◌≡◌, ◌≢◌};
 ghost use Rattle.std.specs.IoError.{error_kind};
 ghost use Rattle.swanroll.specs.Policies as spec;
 
-use host_edge::{StdSink, StdSource};
+use host_edge::{FileDisk, StdSink, StdSource};
 use lists::Memory;
 use order_policy::{Policies, Policy};
 use policies::{critical, order, policies_of};
@@ -24,14 +24,18 @@ fn main(rt: HostRuntime) -> ExitCode {
     let mut notes = StdSink::error(rt.stderr());
     match run(&rt, &mut source, &mut sink, &mut notes) {
         Ok(status) => ExitCode::from(status),
-        Err(_) => ExitCode::from(start(
-            rt.alloc(),
-            Err(Unread::Memory),
-            &mut source,
-            &mut sink,
-            &mut notes,
-            &Policies::new(rt.alloc()),
-        )),
+        Err(_) => ExitCode::from(
+            start(
+                rt.alloc(),
+                Err(Unread::Memory),
+                &mut source,
+                &mut sink,
+                &mut notes,
+                journal(rt),
+                &Policies::new(rt.alloc()),
+            )
+            .status,
+        ),
     }
 }
 
@@ -55,7 +59,22 @@ fn run(
         { order(view) },
     )?;
     let policies = policies_of(rt.alloc(), Policy::new(by_chain), Policy::new(by_item))?;
-    Ok(start(rt.alloc(), arguments(rt), source, sink, notes, &policies))
+    let ended = start(
+        rt.alloc(),
+        arguments(rt),
+        source,
+        sink,
+        notes,
+        journal(*rt),
+        &policies,
+    );
+    Ok(ended.status)
+}
+
+/// The file that the environment names as the journal. Where it names none, each call fails.
+fn journal(rt: HostRuntime) -> FileDisk<HostRuntime> {
+    let path = env::var(&rt, "SWANROLL_JOURNAL").unwrap_or(String::new(rt.alloc()));
+    FileDisk::new(rt, path)
 }
 
 fn arguments(rt: &HostRuntime) -> Result<Vec<String>, Unread> {

@@ -1,5 +1,5 @@
 -- No command answers with an ending that isn't one of its input.
-use Rattle.std.proofs.Common.{◌≡◌, ◌⊎◌, ℕ, List, Bool, true, false, Option, Some, None, Result, Ok, Err, refl, ap, ◌∙◌, inl, inr}
+use Rattle.std.proofs.Common.{◌≡◌, ◌⊎◌, ℕ, List, Bool, true, false, Option, Some, None, Result, Ok, Err, refl, sym, ap, ◌∙◌, inl, inr}
 use Rattle.rollout_rules.specs.Wan.{Problem, Rollout}
 use Rattle.rollout_rules.specs.declared.op.OpView.{OpView}
 use Rattle.plan_check.specs.FirstBroken.{first_broken}
@@ -13,10 +13,11 @@ use Rattle.problem_json.specs.declared.fault.InputFault.{InputFault}
 use Rattle.sim_run.specs.Script.{script_text}
 use Rattle.swanroll_top.specs.Answers.{◌>>=◌, or_ending, with_choice, planned, checked, valid_line, judged, rehearsed, answer_in}
 use Rattle.swanroll_top.specs.Endings.{ending_of}
+use Rattle.swanroll_top.specs.Reports.{rollout_in}
 use Rattle.swanroll_top.specs.Runs.{EndsWith, Follows, Gives}
 use Rattle.swanroll_top.specs.declared.ending.Ending.{Ending}
-use Rattle.swanroll_top.specs.declared.ending.Ending.TheVariants.{Done, Usage, ReadFault, WriteFault}
-use Rattle.swanroll_top.specs.Words.{Asked, a_plan, a_check, a_rehearsal}
+use Rattle.swanroll_top.specs.declared.ending.Ending.TheVariants.{Done, Usage, AboveLimit, Input, NotValid, NoPlan, ReadFault, WriteFault, DiskFault, Refused, OutOfMemory}
+use Rattle.swanroll_top.specs.Words.{TextAsked, a_plan, a_check, a_rehearsal}
 use Rattle.swanroll_top.proofs.Documents.{as_rollout, checked-by}
 use Rattle.swanroll_top.proofs.Steps.{fault-ends}
 
@@ -26,6 +27,8 @@ is_answer Done = false
 is_answer Usage = false
 is_answer ReadFault = false
 is_answer WriteFault = false
+is_answer DiskFault = false
+is_answer (Refused e) = false
 is_answer ending = true
 
 abbrev pub HasAnswer : Result (List ℕ) Ending → Type 0
@@ -62,7 +65,7 @@ rehearsed-answers : (policy : OpView → ℕ) (s : ScriptedRead) → HasAnswer (
 unfolding rehearsed
 rehearsed-answers policy s = checked-step-by s.document (λ o. Ok (script_text o.problem o.plan policy s.script)) (first_broken s.document.problem s.document.plan) refl (λ o. tt)
 
-pub command-answers : (c : Asked) (input : List ℕ) → HasAnswer (answer_in c input)
+pub command-answers : (c : TextAsked) (input : List ℕ) → HasAnswer (answer_in c input)
 unfolding answer_in
 command-answers a_plan input = step-answers (problem_in input) planned planned-answers
 command-answers a_check input = step-answers (document_in input) judged judged-answers
@@ -73,14 +76,50 @@ ends-only (Ok text) e out now h (inl done) = inl done.0
 ends-only (Ok text) e out now h (inr cut) = inr (inl cut.0)
 ends-only (Err d) e out now h w = inr (inr (ap is_answer w.0 ∙ h))
 
-pub no-read-fault : (c : Asked) (input : List ℕ) (out now : Option (List ℕ)) → Follows (answer_in c input) ReadFault out now → ⊥
+pub no-read-fault : (c : TextAsked) (input : List ℕ) (out now : Option (List ℕ)) → Follows (answer_in c input) ReadFault out now → ⊥
 no-read-fault c input out now h = elim (ends-only _ ReadFault out now (command-answers c input) h) [ inl e ↦ cc | inr e ↦ elim e [ inl f ↦ cc | inr f ↦ cc ] ]
 
-pub no-usage : (c : Asked) (input : List ℕ) (out now : Option (List ℕ)) → Follows (answer_in c input) Usage out now → ⊥
+pub no-usage : (c : TextAsked) (input : List ℕ) (out now : Option (List ℕ)) → Follows (answer_in c input) Usage out now → ⊥
 no-usage c input out now h = elim (ends-only _ Usage out now (command-answers c input) h) [ inl e ↦ cc | inr e ↦ elim e [ inl f ↦ cc | inr f ↦ cc ] ]
 
-pub no-done : (c : Asked) (input : List ℕ) → Gives {A = List ℕ} (Err Done) (answer_in c input) → ⊥
+pub no-disk-fault : (c : TextAsked) (input : List ℕ) (out now : Option (List ℕ)) → Follows (answer_in c input) DiskFault out now → ⊥
+no-disk-fault c input out now h = elim (ends-only _ DiskFault out now (command-answers c input) h) [ inl e ↦ cc | inr e ↦ elim e [ inl f ↦ cc | inr f ↦ cc ] ]
+
+-- ---- a document alone
+
+broken-answers : (d : DocumentRead) (e : Ending) (broken : Option Broken) → first_broken d.problem d.plan ≡ broken → checked d ≡ Err e → is_answer e ≡ true
+broken-answers d e None is h = absurd (let no : Ok (as_rollout d) ≡ Err e = sym (checked-by d None is) ∙ h in cc)
+broken-answers d e (Some b) is h =
+    let both : Err (NotValid d.problem b) ≡ Err e = sym (checked-by d (Some b) is) ∙ h in
+    let same : NotValid d.problem b ≡ e = cc both in
+    ap is_answer (sym same)
+
+read-answers : (read : Result DocumentRead InputFault) (e : Ending) → or_ending read >>= checked ≡ Err e → is_answer e ≡ true
+read-answers (Ok d) e h = broken-answers d e (first_broken d.problem d.plan) refl h
+read-answers (Err f) e h =
+    let same : ending_of f ≡ e = cc h in
+    ap is_answer (sym same) ∙ fault-answers f
+
+-- no document comes to an ending of a device
+pub rollout-answers : (input : List ℕ) (e : Ending) → rollout_in input ≡ Err e → is_answer e ≡ true
+unfolding rollout_in
+rollout-answers input e h = read-answers (document_in input) e h
+
+pub rollout-gives : (input : List ℕ) (e : Ending) → Gives {A = Rollout} (Err e) (rollout_in input) → is_answer e ≡ true
+rollout-gives input Done g = rollout-answers input Done g
+rollout-gives input Usage g = rollout-answers input Usage g
+rollout-gives input AboveLimit g = refl
+rollout-gives input (Input f) g = refl
+rollout-gives input (NotValid p b) g = refl
+rollout-gives input (NoPlan u) g = refl
+rollout-gives input ReadFault g = rollout-answers input ReadFault g
+rollout-gives input WriteFault g = rollout-answers input WriteFault g
+rollout-gives input DiskFault g = rollout-answers input DiskFault g
+rollout-gives input (Refused f) g = rollout-answers input (Refused f) g
+rollout-gives input OutOfMemory g = refl
+
+pub no-done : (c : TextAsked) (input : List ℕ) → Gives {A = List ℕ} (Err Done) (answer_in c input) → ⊥
 no-done c input h = let e : is_answer Done ≡ true = (rw h at (command-answers c input)) in cc
 
-pub no-write-fault : (c : Asked) (input : List ℕ) → Gives {A = List ℕ} (Err WriteFault) (answer_in c input) → ⊥
+pub no-write-fault : (c : TextAsked) (input : List ℕ) → Gives {A = List ℕ} (Err WriteFault) (answer_in c input) → ⊥
 no-write-fault c input h = let e : is_answer WriteFault ≡ true = (rw h at (command-answers c input)) in cc

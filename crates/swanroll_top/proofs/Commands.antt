@@ -1,14 +1,15 @@
 -- The answer of each command, from what it read, and what is known of the input behind it.
 use Rattle.std.proofs.Common.{◌≡◌, ℕ, List, Result, Ok, Err, IfOk}
-use Rattle.rollout_rules.specs.Wan.{Problem}
+use Rattle.rollout_rules.specs.Wan.{Problem, Rollout}
 use Rattle.rollout_rules.specs.declared.op.OpView.{OpView}
 use Rattle.problem_json.specs.Grammar.{problem_in}
 use Rattle.problem_json.specs.GrammarDocuments.{DocumentRead, ScriptedRead, document_in, scripted_in}
 use Rattle.problem_json.specs.GrammarResults as grammar
 use Rattle.problem_json.specs.declared.fault.InputFault.{InputFault}
 use Rattle.sim_run.specs.Rehearsed.{IsSafeRehearsal}
-use Rattle.swanroll_top.specs.Answers.{planned, judged, rehearsed, answer_in}
+use Rattle.swanroll_top.specs.Answers.{planned, judged, rehearsed, checked, answer_in}
 use Rattle.swanroll_top.specs.Endings.{ending_of}
+use Rattle.swanroll_top.specs.Reports.{rollout_in}
 use Rattle.swanroll_top.specs.Runs.{Gives}
 use Rattle.swanroll_top.specs.Safety.{IsPlanned, PlansSafely, ChecksValid, RehearsesSafely, IsValid}
 use Rattle.swanroll_top.specs.declared.ending.Ending.{Ending}
@@ -53,3 +54,11 @@ pub read-rehearses-safely : {A : Type 0} (policy : OpView → ℕ) (input : List
     → IfOk answer (λ text. IsSafeRehearsal s.document.problem s.document.plan policy s.script) → IfOk answer (λ text. RehearsesSafely policy input)
 read-rehearses-safely policy input s (Ok text) read safe = record { scripted = s; read = read; safe = safe }
 read-rehearses-safely policy input s (Err e) read safe = tt
+
+pub rollout-refuses : (input : List ℕ) (e : InputFault) → grammar.Refuses e (document_in input) → Gives {A = Rollout} (Err (ending_of e)) (rollout_in input)
+unfolding rollout_in
+rollout-refuses input e h = fault-gives e (document_in input) checked h
+
+pub rollout-is : (input : List ℕ) (d : DocumentRead) → document_in input ≡ Ok d → rollout_in input ≡ checked d
+unfolding rollout_in
+rollout-is input d h = next-is (document_in input) d checked h

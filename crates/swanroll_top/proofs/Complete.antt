@@ -9,18 +9,21 @@ use Rattle.plan_check.proofs.Firsts.{broken-invalid}
 use Rattle.problem_json.specs.Grammar.{problem_in}
 use Rattle.problem_json.specs.GrammarDocuments.{DocumentRead, ScriptedRead}
 use Rattle.sim_run.specs.Script.{script_text}
+use Rattle.intent_journal.specs.declared.fault.JournalFault.{JournalFault}
+use Rattle.rollout_report.specs.Journals.{journal_report}
 use Rattle.scratch_plan.specs.declared.no_plan.NoPlan.{NoPlan as Cause}
 use Rattle.plan_choose.specs.Choice.{Choice, chosen}
 use Rattle.swanroll_top.specs.Answers.{◌>>=◌, with_choice, planned, checked, valid_line, judged, rehearsed, answer_to}
 use Rattle.swanroll_top.specs.Endings.{status_of}
-use Rattle.swanroll_top.specs.Program.{Streams, IsRun, RunsAndNotes}
+use Rattle.swanroll_top.specs.Program.{Streams, IsRun, ReportsAndNotes, RunsAndNotes}
+use Rattle.swanroll_top.specs.Reports.{EndsReport, or_journal, rollout_to}
 use Rattle.swanroll_top.specs.Runs.{EndsWith}
 use Rattle.swanroll_top.specs.Safety.{IsValid}
 use Rattle.swanroll_top.specs.Taken.{IsValidDocument, IsValidScript}
 use Rattle.swanroll_top.specs.declared.ending.Ending.{Ending}
-use Rattle.swanroll_top.specs.Words.{Asked, a_plan, a_check, a_rehearsal}
+use Rattle.swanroll_top.specs.Words.{TextAsked, a_plan, a_check, a_rehearsal, a_report, a_text}
 use Rattle.swanroll_top.proofs.Commands.{plan-answers, check-answers, sim-answers}
-use Rattle.swanroll_top.proofs.Documents.{as_rollout, checked-by}
+use Rattle.swanroll_top.proofs.Documents.{checked-by}
 use Rattle.swanroll_top.proofs.Inputs.{short-answered}
 
 choice-answers : (p : Problem) (found : Result Choice Cause) → IsOk found → IsOk (with_choice p found)
@@ -64,12 +67,40 @@ ends-well (Err x) e out now ok h cut = absurd cc
 told-whole : (left : Option (List ℕ)) (input read : List ℕ) → left ≡ Some input → IfSome left (λ all. all ≡ read) → input ≡ read
 told-whole left input read is whole = subst (λ l. IfSome l (λ all. all ≡ read)) is whole
 
-module _ (asked : Asked) (before after : Streams) (status : ℕ) (input : List ℕ) where
+module _ (asked : TextAsked) (before after : Streams) (status : ℕ) (input : List ℕ) where
   well : RunsAndNotes asked before after status → before.left ≡ Some input → IsOk (answer_to asked input) → (status ≡ 7 → ⊥) → status ≡ 0
   well r told ok cut =
       r.is_status ∙ ends-well (answer_to asked r.follows.input) r.ending before.written after.written
       (subst (λ i. IsOk (answer_to asked i)) (told-whole before.left input r.follows.input told r.follows.read.whole) ok)
       r.follows.answer (λ e. cut (r.is_status ∙ e))
 
-  pub answer-written : IsRun (Some asked) before after status → before.left ≡ Some input → IsOk (answer_to asked input) → status ≢ 6 → status ≢ 7 → status ≢ 12 → status ≡ 0
-  answer-written run told ok source sink memory = well (run.does (λ e. absurd (let none = run.usage.0 e in cc)) source memory) told ok sink
+  pub answer-written : IsRun (Some (a_text asked)) before after status → before.left ≡ Some input → IsOk (answer_to asked input) → status ≢ 6 → status ≢ 7 → status ≢ 12 → status ≡ 0
+  answer-written run told ok source sink memory =
+      well (run.does (λ e. absurd (let none = run.usage.0 e in cc)) source (λ e. absurd ((run.disk_fault e).0)) memory) told ok sink
+
+-- ---- a report with a text
+
+module _ (m : ℕ) (before after : Streams) (status : ℕ) (input image : List ℕ) (o : Rollout) where
+  answered : (told : Option (List ℕ)) (answer : Result (List ℕ) Ending) → told ≡ Some image → IfSome told (λ all. or_journal (journal_report o m all) ≡ answer) → or_journal (journal_report o m image) ≡ answer
+  answered None answer told is = absurd (cc told)
+  answered (Some all) answer told is = let same : all ≡ image = cc told in subst (λ x. or_journal (journal_report o m x) ≡ answer) same is
+
+  ok-journal : (r : Result (List ℕ) JournalFault) → IsOk r → IsOk (or_journal r)
+  ok-journal (Ok text) ok = refl
+  ok-journal (Err e) ok = absurd cc
+
+  reported : (r : Result Rollout Ending) (e : Ending) → r ≡ Ok o → before.stored ≡ Some image → IsOk (journal_report o m image) → EndsReport m r before.stored e before.written after.written → (status_of e ≡ 7 → ⊥) → status_of e ≡ 0
+  reported (Err x) e is stored ok ends cut = absurd (cc is)
+  reported (Ok other) e is stored ok ends cut =
+      let same : other ≡ o = cc is in
+      let told : IfSome before.stored (λ all. or_journal (journal_report o m all) ≡ ends.answer) = subst (λ x. IfSome before.stored (λ all. or_journal (journal_report x m all) ≡ ends.answer)) same ends.is in
+      ends-well ends.answer e before.written after.written (subst (λ r. IsOk r) (answered before.stored ends.answer stored told) (ok-journal (journal_report o m image) ok)) ends.ends cut
+
+  report-well : ReportsAndNotes m before after status → before.left ≡ Some input → before.stored ≡ Some image → rollout_to input ≡ Ok o → IsOk (journal_report o m image) → (status ≡ 7 → ⊥) → status ≡ 0
+  report-well r told stored is ok cut =
+      r.is_status ∙ reported (rollout_to r.follows.input) r.ending (subst (λ i. rollout_to i ≡ Ok o) (told-whole before.left input r.follows.input told r.follows.read.whole) is) stored ok r.follows.ends
+      (λ e. cut (r.is_status ∙ e))
+
+  pub report-written : IsRun (Some (a_report m)) before after status → before.left ≡ Some input → before.stored ≡ Some image → rollout_to input ≡ Ok o → IsOk (journal_report o m image)
+      → status ≢ 6 → status ≢ 7 → status ≢ 8 → status ≢ 12 → status ≡ 0
+  report-written run told stored is ok source sink disk memory = report-well (run.does (λ e. absurd (let none = run.usage.0 e in cc)) source disk memory) told stored is ok sink

@@ -6,13 +6,13 @@ use Rattle.swanroll_top.specs.Runs.{EndsWith, Follows, FollowsInput, Runs}
 use Rattle.swanroll_top.specs.Safety.{DoesSafely}
 use Rattle.swanroll_top.specs.Taken.{IsTaken}
 use Rattle.swanroll_top.specs.declared.ending.Ending.{Ending}
-use Rattle.swanroll_top.specs.declared.ending.Ending.TheVariants.{Done, Usage, AboveLimit, Input, NotValid, NoPlan, ReadFault, WriteFault, OutOfMemory}
-use Rattle.swanroll_top.specs.Words.{Asked}
+use Rattle.swanroll_top.specs.declared.ending.Ending.TheVariants.{Done, Usage, AboveLimit, Input, NotValid, NoPlan, ReadFault, WriteFault, DiskFault, Refused, OutOfMemory}
+use Rattle.swanroll_top.specs.Words.{TextAsked}
 use Rattle.swanroll_top.proofs.Answering.{no-read-fault}
 use Rattle.swanroll_top.proofs.Inputs.{beyond-follows, short-answered}
 use Rattle.swanroll_top.proofs.Refused.{answer-judged, refused-exactly}
 
-short-follows : (c : Asked) (left now out out_now : Option (List ℕ)) (bytes : List ℕ) (e : Ending) → IsShortInput left now bytes → EndsWith (answer_in c bytes) e out out_now → (e ≡ OutOfMemory → ⊥) → (e ≡ Done → DoesSafely c bytes) → FollowsInput c left now e out out_now
+short-follows : (c : TextAsked) (left now out out_now : Option (List ℕ)) (bytes : List ℕ) (e : Ending) → IsShortInput left now bytes → EndsWith (answer_in c bytes) e out out_now → (e ≡ OutOfMemory → ⊥) → (e ≡ Done → DoesSafely c bytes) → FollowsInput c left now e out out_now
 short-follows c left now out out_now bytes e s h some safe = record {
   input = bytes;
   read = s.input;
@@ -21,7 +21,7 @@ short-follows c left now out out_now bytes e s h some safe = record {
   safe = safe;
 }
 
-pub short-runs : (c : Asked) (left now out out_now : Option (List ℕ)) (bytes : List ℕ) (e : Ending) → IsShortInput left now bytes → Follows (answer_in c bytes) e out out_now → (e ≡ Done → DoesSafely c bytes) → Runs c left now e out out_now
+pub short-runs : (c : TextAsked) (left now out out_now : Option (List ℕ)) (bytes : List ℕ) (e : Ending) → IsShortInput left now bytes → Follows (answer_in c bytes) e out out_now → (e ≡ Done → DoesSafely c bytes) → Runs c left now e out out_now
 short-runs c left now out out_now bytes Done s h safe = short-follows c left now out out_now bytes _ s h (λ m. cc) safe
 short-runs c left now out out_now bytes Usage s h safe = short-follows c left now out out_now bytes _ s h (λ m. cc) safe
 short-runs c left now out out_now bytes AboveLimit s h safe = short-follows c left now out out_now bytes _ s h (λ m. cc) safe
@@ -30,9 +30,11 @@ short-runs c left now out out_now bytes (NotValid p b) s h safe = short-follows 
 short-runs c left now out out_now bytes (NoPlan u) s h safe = short-follows c left now out out_now bytes _ s h (λ m. cc) safe
 short-runs c left now out out_now bytes ReadFault s h safe = absurd (no-read-fault c bytes out out_now h)
 short-runs c left now out out_now bytes WriteFault s h safe = short-follows c left now out out_now bytes _ s h (λ m. cc) safe
+short-runs c left now out out_now bytes DiskFault s h safe = short-follows c left now out out_now bytes _ s h (λ m. cc) safe
+short-runs c left now out out_now bytes (Refused f) s h safe = short-follows c left now out out_now bytes _ s h (λ m. cc) safe
 short-runs c left now out out_now bytes OutOfMemory s h safe = h
 
-pub cut-runs : (c : Asked) (left now out : Option (List ℕ)) (e : Ending) → IsCut left e now → Runs c left now e out out
+pub cut-runs : (c : TextAsked) (left now out : Option (List ℕ)) (e : Ending) → IsCut left e now → Runs c left now e out out
 cut-runs c left now out Done r = absurd r
 cut-runs c left now out Usage r = absurd r
 cut-runs c left now out AboveLimit r = beyond-follows c left now out r
@@ -41,4 +43,6 @@ cut-runs c left now out (NotValid p b) r = absurd r
 cut-runs c left now out (NoPlan u) r = absurd r
 cut-runs c left now out ReadFault r = refl
 cut-runs c left now out WriteFault r = absurd r
+cut-runs c left now out DiskFault r = absurd r
+cut-runs c left now out (Refused f) r = absurd r
 cut-runs c left now out OutOfMemory r = refl

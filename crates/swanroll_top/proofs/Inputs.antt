@@ -12,13 +12,13 @@ use Rattle.swanroll_top.specs.Runs.{IsInput, FollowsInput}
 use Rattle.swanroll_top.specs.Taken.{IsTaken}
 use Rattle.swanroll_top.specs.Reading.{IsShortInput, IsCut}
 use Rattle.swanroll_top.specs.declared.ending.Ending.TheVariants.{AboveLimit}
-use Rattle.swanroll_top.specs.Words.{Asked, a_plan, a_check, a_rehearsal}
+use Rattle.swanroll_top.specs.Words.{TextAsked, a_plan, a_check, a_rehearsal}
 
-pub long-refused : (c : Asked) (input : List ℕ) → MOST_INPUT < length input → answer_to c input ≡ Err AboveLimit
+pub long-refused : (c : TextAsked) (input : List ℕ) → MOST_INPUT < length input → answer_to c input ≡ Err AboveLimit
 unfolding answer_to
 long-refused c input long = rw (lt-ltb MOST_INPUT (length input) long) refl
 
-pub short-answered : (c : Asked) (input : List ℕ) → length input ≤ MOST_INPUT → answer_to c input ≡ answer_in c input
+pub short-answered : (c : TextAsked) (input : List ℕ) → length input ≤ MOST_INPUT → answer_to c input ≡ answer_in c input
 unfolding answer_to
 short-answered c input short = rw (le-ltb MOST_INPUT (length input) short) refl
 
@@ -33,13 +33,13 @@ read-cut before now reading.TooLong r = r
 read-cut before now reading.Memory r = tt
 
 -- an input above the limit is taken by no command
-pub long-untaken : (c : Asked) (input : List ℕ) → MOST_INPUT < length input → IsTaken c input → ⊥
+pub long-untaken : (c : TextAsked) (input : List ℕ) → MOST_INPUT < length input → IsTaken c input → ⊥
 long-untaken a_plan input long t = omega (arith, long, t.within)
 long-untaken a_check input long t = omega (arith, long, t.within)
 long-untaken (a_rehearsal policy) input long t = omega (arith, long, t.within)
 
 -- where more than the limit was read, the answer to the input is that it is too long
-long-follows : (c : Asked) (before now out : Option (List ℕ)) (input : List ℕ) → IsInput before now input → MOST_INPUT < length input → FollowsInput c before now AboveLimit out out
+long-follows : (c : TextAsked) (before now out : Option (List ℕ)) (input : List ℕ) → IsInput before now input → MOST_INPUT < length input → FollowsInput c before now AboveLimit out out
 long-follows c before now out input read long = record {
   input = input;
   read = read;
@@ -48,7 +48,7 @@ long-follows c before now out input read long = record {
   safe = λ e. cc;
 }
 
-pub beyond-follows : (c : Asked) (before now out : Option (List ℕ)) → GoesBeyond MOST_INPUT before now → FollowsInput c before now AboveLimit out out
+pub beyond-follows : (c : TextAsked) (before now out : Option (List ℕ)) → GoesBeyond MOST_INPUT before now → FollowsInput c before now AboveLimit out out
 beyond-follows c None now out g = long-follows c None now out g.bytes (record { whole = tt; read = inr g }) (omega (arith, g.beyond))
 beyond-follows c (Some left) (Some rest) out g =
     let same : left ≡ g.bytes ++ rest = cc (g.taken) in

@@ -4,9 +4,11 @@ pub mod Documents
 pub mod Commands
 pub mod Answering
 pub mod Refused
+pub mod Reporting
 pub mod Inputs
 pub mod Following
 pub mod Statuses
 pub mod Programs
 pub mod Complete
+pub mod Digits
 pub mod Pairs

@@ -3,13 +3,14 @@ use Rattle.std.proofs.Common.{◌≡◌, ℕ, List, [], true, false, Option, Som
 use Rattle.wan_edge.specs.Streams.{Appends, Rose}
 use Rattle.swanroll_top.specs.Endings.{status_of, tells_place}
 use Rattle.swanroll_top.specs.Lines.{IsLineOf, IsToldAs}
-use Rattle.swanroll_top.specs.Program.{Streams, IsStatus, DoesAsked, IsRun, IsEnded, RunsAndNotes}
+use Rattle.swanroll_top.specs.Program.{Streams, IsStatus, DoesAsked, IsRun, IsEnded, NameDisk, NamesDisk, NotesLine, RunsAsked}
+use Rattle.swanroll_top.specs.Reports.{FollowsReport, RunsReport}
 use Rattle.swanroll_top.specs.Runs.{EndsWith, FollowsInput, IsTold, Notes, Runs}
 use Rattle.swanroll_top.specs.declared.ending.Ending.{Ending}
-use Rattle.swanroll_top.specs.declared.ending.Ending.TheVariants.{Done, Usage, AboveLimit, Input, NotValid, NoPlan, ReadFault, WriteFault, OutOfMemory}
+use Rattle.swanroll_top.specs.declared.ending.Ending.TheVariants.{Done, Usage, AboveLimit, Input, NotValid, NoPlan, ReadFault, WriteFault, DiskFault, Refused, OutOfMemory}
 use Rattle.swanroll_top.specs.declared.line.Line.{Line}
-use Rattle.swanroll_top.specs.Words.{Asked}
-use Rattle.swanroll_top.proofs.Statuses.{is-done, is-usage, is-read-fault, is-write-fault, is-status}
+use Rattle.swanroll_top.specs.Words.{Asked, TextAsked, a_report, a_text}
+use Rattle.swanroll_top.proofs.Statuses.{is-done, is-usage, is-read-fault, is-write-fault, is-disk-fault, is-status}
 
 -- ---- what an ending says of the input and the sink
 
@@ -18,7 +19,7 @@ ends-unwritten (Ok text) e out now (inl done) d w = absurd (d done.0)
 ends-unwritten (Ok text) e out now (inr cut) d w = absurd (w cut.0)
 ends-unwritten (Err x) e out now h d w = h.1
 
-module _ (c : Asked) (left left_now out out_now : Option (List ℕ)) where
+module _ (c : TextAsked) (left left_now out out_now : Option (List ℕ)) where
   follows-of : (t : Ending) → Runs c left left_now t out out_now → (status_of t ≡ 6 → ⊥) → (status_of t ≡ 12 → ⊥) → FollowsInput c left left_now t out out_now
   follows-of Done r read memory = r
   follows-of Usage r read memory = r
@@ -28,33 +29,79 @@ module _ (c : Asked) (left left_now out out_now : Option (List ℕ)) where
   follows-of (NoPlan u) r read memory = r
   follows-of ReadFault r read memory = absurd (read refl)
   follows-of WriteFault r read memory = r
+  follows-of DiskFault r read memory = r
+  follows-of (Refused f) r read memory = r
   follows-of OutOfMemory r read memory = absurd (memory refl)
 
-  unwritten-of : (t : Ending) → Runs c left left_now t out out_now → (status_of t ≡ 0 → ⊥) → (status_of t ≡ 7 → ⊥) → out_now ≡ out
-  unwritten-of Done r done cut = absurd (done refl)
-  unwritten-of Usage r done cut = ends-unwritten _ _ out out_now r.answer (λ e. cc) (λ e. cc)
-  unwritten-of AboveLimit r done cut = ends-unwritten _ _ out out_now r.answer (λ e. cc) (λ e. cc)
-  unwritten-of (Input f) r done cut = ends-unwritten _ _ out out_now r.answer (λ e. cc) (λ e. cc)
-  unwritten-of (NotValid p b) r done cut = ends-unwritten _ _ out out_now r.answer (λ e. cc) (λ e. cc)
-  unwritten-of (NoPlan u) r done cut = ends-unwritten _ _ out out_now r.answer (λ e. cc) (λ e. cc)
-  unwritten-of ReadFault r done cut = r
-  unwritten-of WriteFault r done cut = absurd (cut refl)
-  unwritten-of OutOfMemory r done cut = r
+  text-unwritten : (t : Ending) → Runs c left left_now t out out_now → (status_of t ≡ 0 → ⊥) → (status_of t ≡ 7 → ⊥) → out_now ≡ out
+  text-unwritten Done r done cut = absurd (done refl)
+  text-unwritten Usage r done cut = ends-unwritten _ _ out out_now r.answer (λ e. cc) (λ e. cc)
+  text-unwritten AboveLimit r done cut = ends-unwritten _ _ out out_now r.answer (λ e. cc) (λ e. cc)
+  text-unwritten (Input f) r done cut = ends-unwritten _ _ out out_now r.answer (λ e. cc) (λ e. cc)
+  text-unwritten (NotValid p b) r done cut = ends-unwritten _ _ out out_now r.answer (λ e. cc) (λ e. cc)
+  text-unwritten (NoPlan u) r done cut = ends-unwritten _ _ out out_now r.answer (λ e. cc) (λ e. cc)
+  text-unwritten ReadFault r done cut = r
+  text-unwritten WriteFault r done cut = absurd (cut refl)
+  text-unwritten DiskFault r done cut = ends-unwritten _ _ out out_now r.answer (λ e. cc) (λ e. cc)
+  text-unwritten (Refused f) r done cut = ends-unwritten _ _ out out_now r.answer (λ e. cc) (λ e. cc)
+  text-unwritten OutOfMemory r done cut = r
 
-  place-unwritten : (e : Ending) → tells_place e ≡ true → Runs c left left_now e out out_now → out_now ≡ out
-  place-unwritten Done h r = cc
-  place-unwritten Usage h r = cc
-  place-unwritten AboveLimit h r = cc
-  place-unwritten (Input f) h r = ends-unwritten _ _ out out_now r.answer (λ e. cc) (λ e. cc)
-  place-unwritten (NotValid p b) h r = ends-unwritten _ _ out out_now r.answer (λ e. cc) (λ e. cc)
-  place-unwritten (NoPlan u) h r = ends-unwritten _ _ out out_now r.answer (λ e. cc) (λ e. cc)
-  place-unwritten ReadFault h r = cc
-  place-unwritten WriteFault h r = cc
-  place-unwritten OutOfMemory h r = cc
+module _ (m : ℕ) (left left_now stored out out_now : Option (List ℕ)) where
+  reports-of : (t : Ending) → RunsReport m left left_now stored t out out_now → (status_of t ≡ 6 → ⊥) → (status_of t ≡ 8 → ⊥) → (status_of t ≡ 12 → ⊥)
+      → FollowsReport m left left_now stored t out out_now
+  reports-of Done r read disk memory = r
+  reports-of Usage r read disk memory = r
+  reports-of AboveLimit r read disk memory = r
+  reports-of (Input f) r read disk memory = r
+  reports-of (NotValid p b) r read disk memory = r
+  reports-of (NoPlan u) r read disk memory = r
+  reports-of ReadFault r read disk memory = absurd (read refl)
+  reports-of WriteFault r read disk memory = r
+  reports-of DiskFault r read disk memory = absurd (disk refl)
+  reports-of (Refused f) r read disk memory = r
+  reports-of OutOfMemory r read disk memory = absurd (memory refl)
 
-  told-runs : (e t : Ending) → IsToldAs e t → Runs c left left_now e out out_now → Runs c left left_now t out out_now
-  told-runs e t (inl same) r = subst (λ x. Runs c left left_now x out out_now) (sym same) r
-  told-runs e t (inr memory) r = subst (λ x. Runs c left left_now x out out_now) (sym memory.0) (place-unwritten e memory.1 r)
+  report-unwritten : (t : Ending) → RunsReport m left left_now stored t out out_now → (status_of t ≡ 0 → ⊥) → (status_of t ≡ 7 → ⊥) → out_now ≡ out
+  report-unwritten Done r done cut = r.silent done cut
+  report-unwritten Usage r done cut = r.silent done cut
+  report-unwritten AboveLimit r done cut = r.silent done cut
+  report-unwritten (Input f) r done cut = r.silent done cut
+  report-unwritten (NotValid p b) r done cut = r.silent done cut
+  report-unwritten (NoPlan u) r done cut = r.silent done cut
+  report-unwritten ReadFault r done cut = r
+  report-unwritten WriteFault r done cut = r.silent done cut
+  report-unwritten DiskFault r done cut = r
+  report-unwritten (Refused f) r done cut = r.silent done cut
+  report-unwritten OutOfMemory r done cut = r
+
+-- an ending that tells a place writes nothing
+place-silent : (e : Ending) → tells_place e ≡ true → (status_of e ≡ 0 → ⊥) × (status_of e ≡ 7 → ⊥)
+place-silent Done h = cc
+place-silent Usage h = cc
+place-silent AboveLimit h = cc
+place-silent (Input f) h = (λ e. omega (arith, e), λ e. omega (arith, e))
+place-silent (NotValid p b) h = (λ e. omega (arith, e), λ e. omega (arith, e))
+place-silent (NoPlan u) h = (λ e. omega (arith, e), λ e. omega (arith, e))
+place-silent ReadFault h = cc
+place-silent WriteFault h = cc
+place-silent DiskFault h = cc
+place-silent (Refused f) h = (λ e. omega (arith, e), λ e. omega (arith, e))
+place-silent OutOfMemory h = cc
+
+module _ (left left_now stored out out_now : Option (List ℕ)) where
+  unwritten-of : (c : Asked) (t : Ending) → RunsAsked c left left_now stored t out out_now → (status_of t ≡ 0 → ⊥) → (status_of t ≡ 7 → ⊥) → out_now ≡ out
+  unwritten-of (a_text what) t r done cut = text-unwritten what left left_now out out_now t r done cut
+  unwritten-of (a_report m) t r done cut = report-unwritten m left left_now stored out out_now t r done cut
+
+  memory-runs : (c : Asked) → out_now ≡ out → RunsAsked c left left_now stored OutOfMemory out out_now
+  memory-runs (a_text what) same = same
+  memory-runs (a_report m) same = same
+
+  told-runs : (c : Asked) (e t : Ending) → IsToldAs e t → RunsAsked c left left_now stored e out out_now → RunsAsked c left left_now stored t out out_now
+  told-runs c e t (inl same) r = subst (λ x. RunsAsked c left left_now stored x out out_now) (sym same) r
+  told-runs c e t (inr memory) r =
+      let silent = place-silent e memory.1 in
+      subst (λ x. RunsAsked c left left_now stored x out out_now) (sym memory.0) (memory-runs c (unwritten-of c e r silent.0 silent.1))
 
 -- an ending is told by the line that was written
 pub told-by : (e t : Ending) (line : Line) (status : ℕ) (before now : Option (List ℕ)) (faults faults_now : ℕ) → IsLineOf e t line → status ≡ status_of t → Notes t before now faults faults_now → IsTold e status before now faults faults_now
@@ -76,28 +123,42 @@ not-usage e status before now faults faults_now ran told h =
     let usage : told.told ≡ Usage = is-usage told.told (sym told.is_status ∙ h) in
     ran (told-same e told.told told.is (λ m. let no : Usage ≡ OutOfMemory = sym usage ∙ m in cc) ∙ usage)
 
+-- what a run of a command does, by its ending
+does-asked : (c : Asked) (before after : Streams) (t : Ending) (status : ℕ) → status ≡ status_of t
+    → RunsAsked c before.left after.left before.stored t before.written after.written → NotesLine t before after
+    → (status_of t ≡ 6 → ⊥) → (status_of t ≡ 8 → ⊥) → (status_of t ≡ 12 → ⊥) → DoesAsked (Some c) before after status
+does-asked (a_text what) before after t status is runs line read disk memory = record {
+  ending = t;
+  is_status = is;
+  follows = follows-of what before.left after.left before.written after.written t runs read memory;
+  line = line;
+}
+does-asked (a_report m) before after t status is runs line read disk memory = record {
+  ending = t;
+  is_status = is;
+  follows = reports-of m before.left after.left before.stored before.written after.written t runs read disk memory;
+  line = line;
+}
+
 -- a run of a command
 pub command-run : (asked : Option Asked) (c : Asked) (before after : Streams) (e : Ending) (status : ℕ) → asked ≡ Some c
-    → Runs c before.left after.left e before.written after.written
-    → (e ≡ ReadFault → Rose before.source_faults after.source_faults) → (e ≡ WriteFault → Rose before.sink_faults after.sink_faults) → (e ≡ Usage → ⊥)
+    → RunsAsked c before.left after.left before.stored e before.written after.written
+    → (e ≡ ReadFault → Rose before.source_faults after.source_faults) → (e ≡ WriteFault → Rose before.sink_faults after.sink_faults)
+    → (e ≡ DiskFault → NamesDisk c × Rose before.disk_faults after.disk_faults) → (e ≡ Usage → ⊥)
     → IsTold e status before.noted after.noted before.notes_faults after.notes_faults → IsRun asked before after status
-command-run asked c before after e status is runs read write ran told =
+command-run asked c before after e status is runs read write disk ran told =
     let t = told.told in
-    let runs_told = told-runs c before.left after.left before.written after.written e t told.is runs in
-    let does : (status_of t ≡ 6 → ⊥) → (status_of t ≡ 12 → ⊥) → RunsAndNotes c before after status = λ fault memory. record {
-      ending = t;
-      is_status = told.is_status;
-      follows = follows-of c before.left after.left before.written after.written t runs_told fault memory;
-      line = told.line;
-    } in
-    let was : (s : Ending) → (s ≡ OutOfMemory → ⊥) → t ≡ s → e ≡ s = λ s n h. told-same e t told.is (λ m. n (sym h ∙ m)) ∙ h in
+    let runs_told = told-runs before.left after.left before.stored before.written after.written c e t told.is runs in
+    let was : (x : Ending) → (x ≡ OutOfMemory → ⊥) → t ≡ x → e ≡ x = λ x other same. told-same e t told.is (λ m. other (sym same ∙ m)) ∙ same in
     record {
       statuses = subst IsStatus (sym told.is_status) (is-status t);
       usage = (λ h. absurd (ran (was Usage (λ m. cc) (is-usage t (sym told.is_status ∙ h)))), λ h. absurd (let no : Some c ≡ None = sym is ∙ h in cc));
       read_fault = λ h. read (was ReadFault (λ m. cc) (is-read-fault t (sym told.is_status ∙ h)));
       write_fault = λ h. write (was WriteFault (λ m. cc) (is-write-fault t (sym told.is_status ∙ h)));
-      does = λ usage fault memory. subst (λ a. DoesAsked a before after status) (sym is) (does (λ h. fault (told.is_status ∙ h)) (λ h. memory (told.is_status ∙ h)));
-      silent = λ done cut. unwritten-of c before.left after.left before.written after.written t runs_told (λ h. done (told.is_status ∙ h)) (λ h. cut (told.is_status ∙ h));
+      disk_fault = λ h. let found = disk (was DiskFault (λ m. cc) (is-disk-fault t (sym told.is_status ∙ h))) in (subst NameDisk (sym is) found.0, found.1);
+      does = λ usage fault device memory. subst (λ a. DoesAsked a before after status) (sym is)
+          (does-asked c before after t status told.is_status runs_told told.line (λ h. fault (told.is_status ∙ h)) (λ h. device (told.is_status ∙ h)) (λ h. memory (told.is_status ∙ h)));
+      silent = λ done cut. unwritten-of before.left after.left before.stored before.written after.written c t runs_told (λ h. done (told.is_status ∙ h)) (λ h. cut (told.is_status ∙ h));
       noted = record { ending = t; is_status = told.is_status; line = told.line };
     }
 
@@ -129,7 +190,8 @@ usage-run asked before after status is left written told =
       usage = (λ _. is, λ _. e.is_status);
       read_fault = λ h. absurd (omega (arith, h, two));
       write_fault = λ h. absurd (omega (arith, h, two));
-      does = λ usage fault memory. absurd (usage e.is_status);
+      disk_fault = λ h. absurd (omega (arith, h, two));
+      does = λ usage fault device memory. absurd (usage e.is_status);
       silent = λ done cut. written;
       noted = record { ending = Usage; is_status = e.is_status; line = e.line };
     }

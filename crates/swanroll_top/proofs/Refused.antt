@@ -21,7 +21,7 @@ use Rattle.swanroll_top.specs.Safety.{IsValid}
 use Rattle.swanroll_top.specs.Taken.{IsTaken, IsValidScript}
 use Rattle.swanroll_top.specs.declared.ending.Ending.{Ending}
 use Rattle.swanroll_top.specs.declared.ending.Ending.TheVariants.{OutOfMemory}
-use Rattle.swanroll_top.specs.Words.{Asked, a_plan, a_check, a_rehearsal}
+use Rattle.swanroll_top.specs.Words.{TextAsked, a_plan, a_check, a_rehearsal}
 use Rattle.swanroll_top.proofs.Documents.{checked-by}
 use Rattle.swanroll_top.proofs.Steps.{fault-ends}
 
@@ -96,7 +96,7 @@ sim-judged policy input (Err e) is within = fault-judged (IsValidScript input) e
     elim_read : {s : ScriptedRead} → scripted_in input ≡ Err e → scripted_in input ≡ Ok s → ⊥
     elim_read a b = cc
 
-pub answer-judged : (c : Asked) (input : List ℕ) → length input ≤ MOST_INPUT → IsJudged (IsTaken c input) (answer_in c input)
+pub answer-judged : (c : TextAsked) (input : List ℕ) → length input ≤ MOST_INPUT → IsJudged (IsTaken c input) (answer_in c input)
 unfolding answer_in
 answer-judged a_plan input within = plan-judged input (problem_in input) refl within
 answer-judged a_check input within = check-judged input (document_in input) refl within

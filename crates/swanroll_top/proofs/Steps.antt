@@ -1,5 +1,5 @@
 -- What follows a step of a command: a fault ends the run, and a value is handed on.
-use Rattle.std.proofs.Common.{◌≡◌, ◌⊎◌, ℕ, List, Result, Ok, Err, refl, ap, inl, inr}
+use Rattle.std.proofs.Common.{◌≡◌, ◌⊎◌, Result, Ok, Err, refl, ap, inl, inr}
 use Rattle.problem_json.specs.GrammarResults as grammar
 use Rattle.problem_json.specs.declared.fault.InputFault.{InputFault}
 use Rattle.problem_json.specs.declared.fault.InputFault.TheVariants as fault
@@ -7,7 +7,7 @@ use Rattle.swanroll_top.specs.Answers.{◌>>=◌, or_ending}
 use Rattle.swanroll_top.specs.Endings.{ending_of}
 use Rattle.swanroll_top.specs.Runs.{Gives}
 use Rattle.swanroll_top.specs.declared.ending.Ending.{Ending}
-use Rattle.swanroll_top.specs.declared.ending.Ending.TheVariants.{Done, Usage, AboveLimit, Input, NotValid, NoPlan, ReadFault, WriteFault, OutOfMemory}
+use Rattle.swanroll_top.specs.declared.ending.Ending.TheVariants.{Done, Usage, AboveLimit, Input, NotValid, NoPlan, ReadFault, WriteFault, DiskFault, Refused, OutOfMemory}
 
 -- a fault of the grammar ends the run as it says, and want of memory for want of it
 pub fault-ends : (e : InputFault) → (ending_of e ≡ Input e) ⊎ (ending_of e ≡ OutOfMemory)
@@ -30,7 +30,7 @@ fault-ends (fault.WidthZero p) = inl refl
 fault-ends fault.Memory = inr refl
 
 -- a fault of the grammar is the answer's ending
-pub fault-gives : {A : Type 0} (e : InputFault) (read : Result A InputFault) (next : A → Result (List ℕ) Ending) → grammar.Refuses e read → Gives {A = List ℕ} (Err (ending_of e)) (or_ending read >>= next)
+pub fault-gives : {A B : Type 0} (e : InputFault) (read : Result A InputFault) (next : A → Result B Ending) → grammar.Refuses e read → Gives {A = B} (Err (ending_of e)) (or_ending read >>= next)
 fault-gives fault.NotJson read next h = ap (λ r. or_ending r >>= next) h
 fault-gives (fault.Missing p k) read next h = ap (λ r. or_ending r >>= next) h
 fault-gives (fault.WrongKind p) read next h = ap (λ r. or_ending r >>= next) h
@@ -50,7 +50,7 @@ fault-gives (fault.WidthZero p) read next h = ap (λ r. or_ending r >>= next) h
 fault-gives fault.Memory read next h = tt
 
 -- what follows a value that was read
-pub next-is : {A : Type 0} (read : Result A InputFault) (a : A) (next : A → Result (List ℕ) Ending) → read ≡ Ok a → or_ending read >>= next ≡ next a
+pub next-is : {A B : Type 0} (read : Result A InputFault) (a : A) (next : A → Result B Ending) → read ≡ Ok a → or_ending read >>= next ≡ next a
 next-is read a next h = ap (λ r. or_ending r >>= next) h
 
 -- an ending of a step is that of what follows it
@@ -63,4 +63,6 @@ step-gives (NotValid p b) step next h = ap (λ r. r >>= next) h
 step-gives (NoPlan u) step next h = ap (λ r. r >>= next) h
 step-gives ReadFault step next h = ap (λ r. r >>= next) h
 step-gives WriteFault step next h = ap (λ r. r >>= next) h
+step-gives DiskFault step next h = ap (λ r. r >>= next) h
+step-gives (Refused f) step next h = ap (λ r. r >>= next) h
 step-gives OutOfMemory step next h = tt

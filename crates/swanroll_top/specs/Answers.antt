@@ -15,7 +15,7 @@ use Rattle.sim_run.specs.Script.{script_text}
 use Rattle.swanroll_top.specs.Endings.{ending_of, ending_without}
 use Rattle.swanroll_top.specs.declared.ending.Ending.{Ending}
 use Rattle.swanroll_top.specs.declared.ending.Ending.TheVariants.{AboveLimit, NotValid}
-use Rattle.swanroll_top.specs.Words.{Asked, a_plan, a_check, a_rehearsal}
+use Rattle.swanroll_top.specs.Words.{TextAsked, a_plan, a_check, a_rehearsal}
 
 infixl 10 ◌>>=◌
 -- the next step at the value; an ending stays
@@ -59,11 +59,11 @@ unfoldable pub rehearsed : (OpView → ℕ) → ScriptedRead → Result (List �
 rehearsed policy s = checked s.document >>= λ o. Ok (script_text o.problem o.plan policy s.script)
 
 -- the answer to an input within the limit
-unfoldable pub answer_in : Asked → List ℕ → Result (List ℕ) Ending
+unfoldable pub answer_in : TextAsked → List ℕ → Result (List ℕ) Ending
 answer_in a_plan input = or_ending (problem_in input) >>= planned
 answer_in a_check input = or_ending (document_in input) >>= judged
 answer_in (a_rehearsal policy) input = or_ending (scripted_in input) >>= rehearsed policy
 
 -- the answer to an input
-unfoldable pub answer_to : Asked → List ℕ → Result (List ℕ) Ending
+unfoldable pub answer_to : TextAsked → List ℕ → Result (List ℕ) Ending
 answer_to asked input = if nat_lt MOST_INPUT (length input) then Err AboveLimit else answer_in asked input

@@ -4,13 +4,16 @@ use Rattle.wan_edge.specs.declared.reading.ReadFault.{ReadFault as SourceFault}
 use Rattle.wan_edge.specs.declared.reading.ReadFault.TheVariants as reading
 use Rattle.problem_json.specs.declared.fault.InputFault.{InputFault}
 use Rattle.problem_json.specs.declared.fault.InputFault.TheVariants as fault
+use Rattle.intent_journal.specs.declared.fault.JournalFault.{JournalFault}
+use Rattle.intent_journal.specs.declared.fault.JournalFault.TheVariants as journal
 use Rattle.swanroll_top.specs.FaultLines.{input_line, broken_line}
+use Rattle.swanroll_top.specs.JournalLines.{journal_line}
 use Rattle.scratch_plan.specs.declared.no_plan.NoPlan.{NoPlan as Cause}
 use Rattle.scratch_plan.specs.declared.no_plan.NoPlan.TheVariants as cause
 use Rattle.rollout_rules.specs.Wan.{Problem}
 use Rattle.swanroll_top.specs.NoPlanLines.{no_plan_line}
 use Rattle.swanroll_top.specs.declared.ending.Ending.{Ending}
-use Rattle.swanroll_top.specs.declared.ending.Ending.TheVariants.{Done, Usage, AboveLimit, Input, NotValid, NoPlan, ReadFault, WriteFault, OutOfMemory}
+use Rattle.swanroll_top.specs.declared.ending.Ending.TheVariants.{Done, Usage, AboveLimit, Input, NotValid, NoPlan, ReadFault, WriteFault, DiskFault, Refused, OutOfMemory}
 
 abbrev pub status_of : Ending → ℕ
 status_of Done = 0
@@ -21,6 +24,8 @@ status_of (NotValid p b) = 3
 status_of (NoPlan u) = 4
 status_of ReadFault = 6
 status_of WriteFault = 7
+status_of DiskFault = 8
+status_of (Refused e) = 10
 status_of OutOfMemory = 12
 
 abbrev pub line_of : Ending → List ℕ
@@ -32,6 +37,8 @@ line_of (NotValid p b) = broken_line p b
 line_of (NoPlan u) = no_plan_line u.problem u.cause
 line_of ReadFault = codes "read fault\n"
 line_of WriteFault = codes "write fault\n"
+line_of DiskFault = codes "journal device fault\n"
+line_of (Refused e) = journal_line e
 line_of OutOfMemory = codes "out of memory\n"
 
 -- whether the line of an ending tells a place, and so takes memory
@@ -44,6 +51,8 @@ tells_place (NotValid p b) = true
 tells_place (NoPlan u) = true
 tells_place ReadFault = false
 tells_place WriteFault = false
+tells_place DiskFault = false
+tells_place (Refused e) = true
 tells_place OutOfMemory = false
 
 -- how a run ends that wasn't given its input, or whose input was refused
@@ -55,6 +64,12 @@ ending_of_reading reading.Memory = OutOfMemory
 abbrev pub ending_of : InputFault → Ending
 ending_of fault.Memory = OutOfMemory
 ending_of e = Input e
+
+-- how a run ends on whose disk no journal was opened
+abbrev pub ending_of_journal : JournalFault → Ending
+ending_of_journal journal.Disk = DiskFault
+ending_of_journal journal.Memory = OutOfMemory
+ending_of_journal e = Refused e
 
 -- how a run ends for a problem without a plan
 abbrev pub ending_without : Problem → Cause → Ending

@@ -7,6 +7,8 @@ pub mod Answers
 pub mod Safety
 pub mod Taken
 pub mod Reading
+pub mod JournalLines
+pub mod Reports
 pub mod Runs
 pub mod Program
 pub mod Worked

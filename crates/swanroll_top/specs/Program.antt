@@ -1,26 +1,29 @@
 -- What the whole program does, by what it read, wrote and noted.
-use Rattle.std.specs.Prelude.{◌≡◌, ◌≢◌, ◌↔◌, ◌==◌, ℕ, List, [], ◌∷◌, drop, String, Option, Some, None, Result, Ok, Err, IsTrue}
+use Rattle.std.specs.Prelude.{◌≡◌, ◌≢◌, ⊤, ◌↔◌, ◌==◌, ℕ, List, [], ◌∷◌, drop, String, Option, Some, None, Result, Ok, Err, IsTrue}
 use Rattle.std.specs.List.{list_any}
 use Rattle.std.specs.declared.alloc.Global.{Global}
 use Rattle.wan_edge.specs.Streams.{Rose}
 use Rattle.swanroll_top.specs.Endings.{status_of}
-use Rattle.swanroll_top.specs.Runs.{FollowsInput, Notes}
+use Rattle.swanroll_top.specs.Reports.{FollowsReport, RunsReport}
+use Rattle.swanroll_top.specs.Runs.{FollowsInput, Notes, Runs}
 use Rattle.rollout_rules.specs.declared.op.OpView.{OpView}
-use Rattle.swanroll_top.specs.Words.{Asked, asked_by}
+use Rattle.swanroll_top.specs.Words.{Asked, TextAsked, a_report, a_text, asked_by}
 use Rattle.swanroll_top.specs.declared.arguments.Unread.{Unread}
 use Rattle.swanroll_top.specs.declared.arguments.Unread.TheVariants.{NotText, Memory}
 use Rattle.swanroll_top.specs.declared.ending.Ending.{Ending}
 use Rattle.swanroll_top.specs.declared.ending.Ending.TheVariants.{Usage, OutOfMemory}
 
--- what the streams of a run tell at a moment: the bytes that the source has left, those written to the sink and to the
--- notes, and how often each has failed
+-- what the streams and the disk of a run tell at a moment: the bytes that the source has left, those written to the sink and to the
+-- notes, those on the disk, and how often each has failed
 pub record Streams : Type 0 where
   pub left : Option (List ℕ)
   pub written : Option (List ℕ)
   pub noted : Option (List ℕ)
+  pub stored : Option (List ℕ)
   pub source_faults : ℕ
   pub sink_faults : ℕ
   pub notes_faults : ℕ
+  pub disk_faults : ℕ
 
 -- the notes have the line of an ending
 abbrev pub NotesLine : Ending → Streams → Streams → Type 0
@@ -28,7 +31,7 @@ NotesLine ending before after = Notes ending before.noted after.noted before.not
 
 -- a status that the program may have
 abbrev pub IsStatus : ℕ → Type 0
-IsStatus status = IsTrue (list_any (λ s. s == status) (0 ∷ 2 ∷ 3 ∷ 4 ∷ 6 ∷ 7 ∷ 12 ∷ []))
+IsStatus status = IsTrue (list_any (λ s. s == status) (0 ∷ 2 ∷ 3 ∷ 4 ∷ 6 ∷ 7 ∷ 8 ∷ 10 ∷ 12 ∷ []))
 
 -- the notes have the line of an ending with this status
 pub record IsNoted (status : ℕ) (before after : Streams) : Type 0 where
@@ -37,16 +40,44 @@ pub record IsNoted (status : ℕ) (before after : Streams) : Type 0 where
   pub line : NotesLine ending before after
 
 -- The whole of a run that read its input: the status, what was written and the line of the notes follow from it.
-pub record RunsAndNotes (asked : Asked) (before after : Streams) (status : ℕ) : Type 0 where
+pub record RunsAndNotes (asked : TextAsked) (before after : Streams) (status : ℕ) : Type 0 where
   pub ending : Ending
   pub is_status : status ≡ status_of ending
   pub follows : FollowsInput asked before.left after.left ending before.written after.written
   pub line : NotesLine ending before after
 
+-- the same of a report, by what the disk told at entry
+pub record ReportsAndNotes (migration : ℕ) (before after : Streams) (status : ℕ) : Type 0 where
+  pub ending : Ending
+  pub is_status : status ≡ status_of ending
+  pub follows : FollowsReport migration before.left after.left before.stored ending before.written after.written
+  pub line : NotesLine ending before after
+
+-- what an ending of a run says of the input and the sink, by what the words ask for
+abbrev pub RunsAsked : Asked → Option (List ℕ) → Option (List ℕ) → Option (List ℕ) → Ending → Option (List ℕ) → Option (List ℕ) → Type 0
+RunsAsked (a_text what) left left_now told ending out out_now = Runs what left left_now ending out out_now
+RunsAsked (a_report migration) left left_now told ending out out_now = RunsReport migration left left_now told ending out out_now
+
 -- the same of whatever the words ask for
 abbrev pub DoesAsked : Option Asked → Streams → Streams → ℕ → Type 0
 DoesAsked None before after status = ⊥
-DoesAsked (Some asked) before after status = RunsAndNotes asked before after status
+DoesAsked (Some (a_text what)) before after status = RunsAndNotes what before after status
+DoesAsked (Some (a_report migration)) before after status = ReportsAndNotes migration before after status
+
+-- the command names the disk
+abbrev pub NamesDisk : Asked → Type 0
+NamesDisk (a_text what) = ⊥
+NamesDisk (a_report migration) = ⊤
+
+abbrev pub NameDisk : Option Asked → Type 0
+NameDisk None = ⊥
+NameDisk (Some asked) = NamesDisk asked
+
+-- a disk that isn't named is as it was
+abbrev pub LeavesUnnamed : {D : Type 0} → Option Asked → D → D → Type 0
+LeavesUnnamed None before after = after ≡ before
+LeavesUnnamed (Some (a_text what)) before after = after ≡ before
+LeavesUnnamed (Some (a_report migration)) before after = ⊤
 
 -- A run of the program, by what its words ask for.
 pub record IsRun (asked : Option Asked) (before after : Streams) (status : ℕ) : Type 0 where
@@ -56,8 +87,9 @@ pub record IsRun (asked : Option Asked) (before after : Streams) (status : ℕ) 
   -- a fault comes only where its object counted one
   pub read_fault : status ≡ 6 → Rose before.source_faults after.source_faults
   pub write_fault : status ≡ 7 → Rose before.sink_faults after.sink_faults
+  pub disk_fault : status ≡ 8 → NameDisk asked × Rose before.disk_faults after.disk_faults
   -- otherwise all follows from the bytes read
-  pub does : status ≢ 2 → status ≢ 6 → status ≢ 12 → DoesAsked asked before after status
+  pub does : status ≢ 2 → status ≢ 6 → status ≢ 8 → status ≢ 12 → DoesAsked asked before after status
   pub silent : status ≢ 0 → status ≢ 7 → after.written ≡ before.written
   -- the notes say why there is no text
   pub noted : IsNoted status before after

@@ -10,7 +10,7 @@ use Rattle.swanroll_top.specs.Safety.{DoesSafely}
 use Rattle.swanroll_top.specs.Taken.{IsTaken}
 use Rattle.swanroll_top.specs.declared.ending.Ending.{Ending}
 use Rattle.swanroll_top.specs.declared.ending.Ending.TheVariants.{Done, ReadFault, WriteFault, OutOfMemory}
-use Rattle.swanroll_top.specs.Words.{Asked}
+use Rattle.swanroll_top.specs.Words.{TextAsked}
 
 -- The bytes are the input: where the source tells its bytes they are all that was left at entry, and the source was read
 -- to its end, or above the limit of it.
@@ -37,7 +37,7 @@ Follows answer ending before now = EndsWith answer ending before now
 
 -- The input of a run, and how the run follows from it. It is refused exactly where the command doesn't take it;
 -- where the text was written, its rollout is safe.
-pub record FollowsInput (asked : Asked) (left left_now : Option (List ℕ)) (ending : Ending) (out out_now : Option (List ℕ)) : Type 0 where
+pub record FollowsInput (asked : TextAsked) (left left_now : Option (List ℕ)) (ending : Ending) (out out_now : Option (List ℕ)) : Type 0 where
   pub input : List ℕ
   pub read : IsInput left left_now input
   pub answer : EndsWith (answer_to asked input) ending out out_now
@@ -45,7 +45,7 @@ pub record FollowsInput (asked : Asked) (left left_now : Option (List ℕ)) (end
   pub safe : ending ≡ Done → DoesSafely asked input
 
 -- what an ending of a run says: after a fault of the source, and for want of memory, that nothing was written
-abbrev pub Runs : Asked → Option (List ℕ) → Option (List ℕ) → Ending → Option (List ℕ) → Option (List ℕ) → Type 0
+abbrev pub Runs : TextAsked → Option (List ℕ) → Option (List ℕ) → Ending → Option (List ℕ) → Option (List ℕ) → Type 0
 Runs asked left left_now ReadFault out out_now = out_now ≡ out
 Runs asked left left_now OutOfMemory out out_now = out_now ≡ out
 Runs asked left left_now ending out out_now = FollowsInput asked left left_now ending out out_now

@@ -10,7 +10,7 @@ use Rattle.plan_choose.specs.Choice.{Choice, chosen}
 use Rattle.problem_json.specs.Grammar.{problem_in}
 use Rattle.problem_json.specs.GrammarDocuments.{DocumentRead, ScriptedRead, document_in, scripted_in}
 use Rattle.sim_run.specs.Rehearsed.{IsSafeRehearsal}
-use Rattle.swanroll_top.specs.Words.{Asked, a_plan, a_check, a_rehearsal}
+use Rattle.swanroll_top.specs.Words.{TextAsked, a_plan, a_check, a_rehearsal}
 
 abbrev pub IsValid : Problem → Plan → Type 0
 IsValid p plan = is_valid_plan p plan ≡ true
@@ -51,7 +51,7 @@ pub record RehearsesSafely (policy : OpView → ℕ) (input : List ℕ) : Type 0
   pub read : scripted_in input ≡ Ok scripted
   pub safe : IsSafeRehearsal scripted.document.problem scripted.document.plan policy scripted.script
 
-abbrev pub DoesSafely : Asked → List ℕ → Type 0
+abbrev pub DoesSafely : TextAsked → List ℕ → Type 0
 DoesSafely a_plan input = PlansSafely input
 DoesSafely a_check input = ChecksValid input
 DoesSafely (a_rehearsal policy) input = RehearsesSafely policy input

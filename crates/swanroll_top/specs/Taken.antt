@@ -5,7 +5,7 @@ use Rattle.rollout_rules.specs.declared.limits.TheConstants.{MOST_INPUT}
 use Rattle.problem_json.specs.Grammar.{problem_in}
 use Rattle.problem_json.specs.GrammarDocuments.{DocumentRead, ScriptedRead, document_in, scripted_in}
 use Rattle.swanroll_top.specs.Safety.{IsValid}
-use Rattle.swanroll_top.specs.Words.{Asked, a_plan, a_check, a_rehearsal}
+use Rattle.swanroll_top.specs.Words.{TextAsked, a_plan, a_check, a_rehearsal}
 
 pub record IsProblem (input : List ℕ) : Type 0 where
   pub within : length input ≤ MOST_INPUT
@@ -24,7 +24,7 @@ pub record IsValidScript (input : List ℕ) : Type 0 where
   pub read : scripted_in input ≡ Ok scripted
   pub valid : IsValid scripted.document.problem scripted.document.plan
 
-abbrev pub IsTaken : Asked → List ℕ → Type 0
+abbrev pub IsTaken : TextAsked → List ℕ → Type 0
 IsTaken a_plan input = IsProblem input
 IsTaken a_check input = IsValidDocument input
 IsTaken (a_rehearsal policy) input = IsValidScript input

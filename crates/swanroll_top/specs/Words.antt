@@ -1,6 +1,7 @@
 -- Which words are a command line, and what they ask for. Behind the word of a command stand pairs of a name and a value.
-use Rattle.std.specs.Prelude.{ℕ, Bool, true, false, not, ◌&&◌, ◌==◌, List, [], ◌∷◌, map, String, string_bytes, codes, bytes_eq, Option, Some, None, option_map, option_and_then, if◌then◌else◌}
+use Rattle.std.specs.Prelude.{ℕ, ◌<◌, ◌^◌, Bool, true, false, not, ◌&&◌, ◌==◌, nat_le, nat_lt, length, List, [], ◌∷◌, map, String, string_bytes, codes, bytes_eq, Option, Some, None, option_map, option_and_then, if◌then◌else◌}
 use Rattle.std.specs.List.{list_any}
+use Rattle.std.specs.Str.Parse.{digits_value}
 use Rattle.std.specs.declared.alloc.Global.{Global}
 use denote.Param.Members.{Mut}
 use denote.Struct.Field.{u64-field}
@@ -8,22 +9,33 @@ use Rattle.rollout_rules.specs.declared.op.OpView.{OpView}
 use Rattle.order_policy.specs.Answers.{rank_by}
 use Rattle.order_policy.specs.Named.{policy_named}
 use Rattle.swanroll_top.specs.declared.words.Kind.{Kind}
-use Rattle.swanroll_top.specs.declared.words.Kind.TheVariants.{Plan, Check, Sim}
+use Rattle.swanroll_top.specs.declared.words.Kind.TheVariants.{Plan, Check, Sim, Report}
 use Rattle.swanroll_top.specs.declared.words.Command.{Command}
 use Rattle.swanroll_top.specs.declared.words.Command.TheVariants as command
+use Rattle.swanroll_top.specs.declared.words.TextCommand.{TextCommand}
+use Rattle.swanroll_top.specs.declared.words.TextCommand.TheVariants as text_command
+
+-- what a command line asks for that wants a text of the input alone
+pub data TextAsked : Type 0 where
+  a_plan : TextAsked
+  a_check : TextAsked
+  a_rehearsal : (policy : OpView → ℕ) → TextAsked
 
 -- what a command line asks for: a command, and what its pairs say
 pub data Asked : Type 0 where
-  a_plan : Asked
-  a_check : Asked
-  a_rehearsal : (policy : OpView → ℕ) → Asked
+  a_text : (what : TextAsked) → Asked
+  a_report : (migration : ℕ) → Asked
 
 -- a command in code asks for this: a policy is what it answers
 module _ {X : Type 0} {F : X → Type 0} {M : Mut ((x : X) × F x) (OpView × Unit {0}) u64-field.Value} where
+  abbrev pub text_asked : TextCommand X F M → TextAsked
+  text_asked text_command.Plan = a_plan
+  text_asked text_command.Check = a_check
+  text_asked (text_command.Sim policy) = a_rehearsal (rank_by policy.now.answers)
+
   abbrev pub asked : Command X F M → Asked
-  asked command.Plan = a_plan
-  asked command.Check = a_check
-  asked (command.Sim policy) = a_rehearsal (rank_by policy.now.answers)
+  asked (command.Text what) = a_text (text_asked what)
+  asked (command.Report migration) = a_report migration
 
 -- ---- each command's word, and the names that it takes
 
@@ -32,12 +44,14 @@ kind_named word =
     if bytes_eq word (codes "plan") then Some Plan
     else if bytes_eq word (codes "check") then Some Check
     else if bytes_eq word (codes "sim") then Some Sim
+    else if bytes_eq word (codes "report") then Some Report
     else None
 
 abbrev pub names_of : Kind → List (List ℕ)
 names_of Plan = []
 names_of Check = []
 names_of Sim = codes "--policy" ∷ []
+names_of Report = codes "--migration" ∷ []
 
 -- ---- pairs of a name and a value
 
@@ -66,16 +80,34 @@ one_or default (value ∷ again ∷ more) = None
 abbrev pub value_or : List ℕ → List ℕ → List (List ℕ) → Option (List ℕ)
 value_or name default words = one_or default (values_of name words)
 
+-- ---- numbers
+
+-- whether all bytes are decimal digits
+abbrev pub are_digits : List ℕ → Bool
+are_digits [] = true
+are_digits (c ∷ cs) = nat_le 48 c && nat_le c 57 && are_digits cs
+
+-- a number below 2^32 in 1 to 19 decimal digits
+abbrev pub number_in : List ℕ → Option ℕ
+number_in word =
+    if nat_lt 0 (length word) && nat_le (length word) 19 && are_digits word && nat_lt (digits_value 10 word) (2 ^ 32) then Some (digits_value 10 word)
+    else None
+
 -- ---- what is asked for, with these policies: a name, and what the policy under it answers
 
 -- what the policy answers that the pairs name, where it is there
 abbrev pub policy_in : List (List ℕ × (OpView → ℕ)) → List (List ℕ) → Option (OpView → ℕ)
 policy_in policies pairs = option_and_then (λ name. policy_named name policies) (value_or (codes "--policy") (codes "critical") pairs)
 
+-- the number of the migration that the pairs name
+abbrev pub migration_in : List (List ℕ) → Option ℕ
+migration_in pairs = option_and_then number_in (value_or (codes "--migration") (codes "0") pairs)
+
 abbrev pub with_pairs : List (List ℕ × (OpView → ℕ)) → List (List ℕ) → Kind → Option Asked
-with_pairs policies pairs Plan = Some a_plan
-with_pairs policies pairs Check = Some a_check
-with_pairs policies pairs Sim = option_map a_rehearsal (policy_in policies pairs)
+with_pairs policies pairs Plan = Some (a_text a_plan)
+with_pairs policies pairs Check = Some (a_text a_check)
+with_pairs policies pairs Sim = option_map (λ policy. a_text (a_rehearsal policy)) (policy_in policies pairs)
+with_pairs policies pairs Report = option_map a_report (migration_in pairs)
 
 abbrev pub with_kind : List (List ℕ × (OpView → ℕ)) → List (List ℕ) → Kind → Option Asked
 with_kind policies pairs kind = if are_pairs (names_of kind) pairs then with_pairs policies pairs kind else None

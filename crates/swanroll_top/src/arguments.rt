@@ -4,7 +4,8 @@ ghost use Rattle.swanroll_top.specs.Program.{IsStarted};
 
 use crate::ending::Ending;
 use crate::notes::note;
-use crate::top::swanroll;
+use crate::top::{Ended, swanroll};
+use disk_model::Disk;
 use order_policy::{Policies, Policy};
 use std::alloc::Global;
 use wan_edge::{Sink, Source};
@@ -19,30 +20,37 @@ pub enum Unread {
 }
 
 /// Does what the program's arguments ask for, of which the first is its own name, and answers its exit
-/// status. Arguments that aren't text are no command line.
+/// status and the disk. Arguments that aren't text are no command line.
 #[tactic(auto, using(crate::proofs::Programs::running))]
-pub fn start<S: Source, K: Sink>(
+pub fn start<S: Source, K: Sink, D: Disk>(
     alloc: Global,
     arguments: Result<Vec<String>, Unread>,
     source: &mut S,
     sink: &mut K,
     notes: &mut K,
+    disk: D,
     policies: &Policies<Policy>,
-) -> u8
+) -> Ended<D>
     ensures started { IsStarted (answers_in policies.now) arguments (λ all. all.items)
-        (record { left = S.left source.old; written = K.written sink.old; noted = K.written notes.old; source_faults = S.faults source.old; sink_faults = K.faults sink.old; notes_faults = K.faults notes.old })
-        (record { left = S.left source.new; written = K.written sink.new; noted = K.written notes.new; source_faults = S.faults source.new; sink_faults = K.faults sink.new; notes_faults = K.faults notes.new })
-        result }
-    ensures untouched { result ≡ 2 → source.new ≡ source.old }
-    ensures quiet { result ≡ 0 → notes.new ≡ notes.old }
+        (record { left = S.left source.old; written = K.written sink.old; noted = K.written notes.old; stored = D.bytes disk; source_faults = S.faults source.old; sink_faults = K.faults sink.old; notes_faults = K.faults notes.old; disk_faults = D.faults disk })
+        (record { left = S.left source.new; written = K.written sink.new; noted = K.written notes.new; stored = D.bytes result.disk; source_faults = S.faults source.new; sink_faults = K.faults sink.new; notes_faults = K.faults notes.new; disk_faults = D.faults result.disk })
+        result.status }
+    ensures untouched { result.status ≡ 2 → source.new ≡ source.old }
+    ensures quiet { result.status ≡ 0 → notes.new ≡ notes.old }
 {
     match arguments {
         Ok(arguments) => {
             let words = words_of(arguments.as_slice());
-            swanroll(alloc, words, source, sink, notes, policies)
+            swanroll(alloc, words, source, sink, notes, disk, policies)
         }
-        Err(Unread::NotText) => note(alloc, notes, Ending::Usage),
-        Err(Unread::Memory) => note(alloc, notes, Ending::OutOfMemory),
+        Err(Unread::NotText) => Ended {
+            status: note(alloc, notes, Ending::Usage),
+            disk,
+        },
+        Err(Unread::Memory) => Ended {
+            status: note(alloc, notes, Ending::OutOfMemory),
+            disk,
+        },
     }
 }
 

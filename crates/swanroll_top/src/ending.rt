@@ -1,8 +1,10 @@
 ghost use Rattle.std.specs.Prelude.{◌≡◌};
 
 use crate::fault_lines::{broken_line, input_line};
+use crate::journal_line::journal_line;
 use crate::line::{Line, out_of_memory};
 use crate::no_plan_line::no_plan_line;
+use intent_journal::JournalFault;
 use lists::Memory;
 use plan_check::Broken;
 use plan_choose::Unplanned;
@@ -28,6 +30,10 @@ pub enum Ending {
     NoPlan(Unplanned),
     ReadFault,
     WriteFault,
+    /// The disk of the journal failed.
+    DiskFault,
+    /// The journal on the disk isn't one of this rollout, or can't be followed.
+    Refused(JournalFault),
     OutOfMemory,
 }
 
@@ -47,6 +53,8 @@ impl Ending {
             Ending::NoPlan(_) => 4,
             Ending::ReadFault => 6,
             Ending::WriteFault => 7,
+            Ending::DiskFault => 8,
+            Ending::Refused(_) => 10,
             Ending::OutOfMemory => 12,
         }
     }
@@ -66,6 +74,8 @@ impl Ending {
             Ending::NoPlan(unplanned) => no_plan_line(alloc, unplanned),
             Ending::ReadFault => Ok(Line::Known("read fault\n")),
             Ending::WriteFault => Ok(Line::Known("write fault\n")),
+            Ending::DiskFault => Ok(Line::Known("journal device fault\n")),
+            Ending::Refused(fault) => journal_line(alloc, fault),
             Ending::OutOfMemory => Ok(out_of_memory()),
         }
     }
@@ -110,6 +120,21 @@ impl From<Unplanned> for Ending {
         match unplanned.cause {
             NoPlan::Memory => Ending::OutOfMemory,
             _ => Ending::NoPlan(unplanned),
+        }
+    }
+}
+
+impl From<JournalFault> for Ending {
+    ghost use Rattle.std.specs.Prelude.{◌≡◌};
+    ghost use Rattle.swanroll_top.specs.Endings.{ending_of_journal};
+
+    ghost from_gives = { λ fault ending. ending ≡ ending_of_journal fault };
+
+    fn from(fault: JournalFault) -> Ending {
+        match fault {
+            JournalFault::Disk => Ending::DiskFault,
+            JournalFault::Memory => Ending::OutOfMemory,
+            _ => Ending::Refused(fault),
         }
     }
 }

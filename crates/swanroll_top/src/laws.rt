@@ -1,7 +1,7 @@
 //! What the contract of the call says together with the rules, as functions that only say it.
 
 ghost use Rattle.std.specs.Prelude.{◌≡◌, ◌≢◌, ℕ, ◌≤◌, List, length, Option, Some, None, Ok, IsTrue, IsSome, IsOk};
-ghost use Rattle.rollout_rules.specs.Wan.{Problem};
+ghost use Rattle.rollout_rules.specs.Wan.{Problem, Rollout};
 ghost use Rattle.rollout_rules.specs.Valid.{is_valid_plan};
 ghost use Rattle.rollout_rules.specs.Slack.{has_slack};
 ghost use Rattle.rollout_rules.specs.declared.limits.TheConstants.{MOST_INPUT};
@@ -12,9 +12,11 @@ ghost use Rattle.plan_choose.specs.Choice.{direct_plan, step_plan, most_tried};
 ghost use Rattle.problem_json.specs.Grammar.{problem_in};
 ghost use Rattle.rollout_rules.specs.declared.op.OpView.{OpView};
 ghost use Rattle.swanroll_top.specs.Answers.{answer_to};
+ghost use Rattle.rollout_report.specs.Journals.{journal_report};
+ghost use Rattle.swanroll_top.specs.Reports.{rollout_to};
 ghost use Rattle.swanroll_top.specs.Program.{IsRun, Streams};
 ghost use Rattle.swanroll_top.specs.Taken.{IsValidDocument, IsValidScript};
-ghost use Rattle.swanroll_top.specs.Words.{Asked, a_plan, a_check, a_rehearsal};
+ghost use Rattle.swanroll_top.specs.Words.{TextAsked, a_plan, a_check, a_rehearsal, a_report, a_text};
 
 /// Where the input is a problem whose loads and entries fit, each of these is enough for `plan` to have an
 /// answer: equal rates, a direct plan that is valid, a number of steps with a plan, slack 1/k for some k
@@ -40,7 +42,16 @@ pub fn what_is_valid_is_answered()
 /// A run whose source tells its bytes, and whose command has an answer to them, ends with status 0 unless
 /// the source or the sink failed or memory ran out.
 pub fn an_answer_is_written()
-    ensures { (asked : Asked) (before after : Streams) (status : ℕ) (input : List ℕ) → IsRun (Some asked) before after status
+    ensures { (asked : TextAsked) (before after : Streams) (status : ℕ) (input : List ℕ) → IsRun (Some (a_text asked)) before after status
         → before.left ≡ Some input → IsOk (answer_to asked input)
         → status ≢ 6 → status ≢ 7 → status ≢ 12 → status ≡ 0 }
+{}
+
+/// A report ends with status 0 unless the source, the sink or the disk failed or memory ran out, where the
+/// source tells a document with a valid plan, and the disk no journal yet, or one of this rollout with a
+/// legal list.
+pub fn a_report_is_written()
+    ensures { (migration : ℕ) (before after : Streams) (status : ℕ) (input image : List ℕ) (o : Rollout) → IsRun (Some (a_report migration)) before after status
+        → before.left ≡ Some input → before.stored ≡ Some image → rollout_to input ≡ Ok o → IsOk (journal_report o migration image)
+        → status ≢ 6 → status ≢ 7 → status ≢ 8 → status ≢ 12 → status ≡ 0 }
 {}

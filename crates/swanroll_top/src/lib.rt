@@ -4,12 +4,15 @@
 //!
 //! A module a concern: the words, reading all of the source, writing all of the text, how a run ends and
 //! the notes. The commands that make a text of their input stand in `texts`, a module each; none of them
-//! needs a device. The contract speaks from the bytes read to the bytes written.
+//! needs a device. `report` opens the journal on a disk. The contract speaks from the bytes read, and those
+//! on the disk, to the bytes written.
 #![tactic(auto)]
 
 mod arguments;
 mod ending;
 mod fault_lines;
+mod journal_line;
+mod journal_report;
 pub mod laws;
 mod line;
 mod no_plan_line;
@@ -26,4 +29,4 @@ mod writing;
 
 pub use arguments::{Unread, start};
 pub use ending::Ending;
-pub use top::swanroll;
+pub use top::{Ended, swanroll};

@@ -1,28 +1,63 @@
-ghost use Rattle.std.specs.Prelude.{◌≡◌, ◌≢◌};
+ghost use Rattle.std.specs.Prelude.{◌≡◌, ◌≢◌, Some};
 ghost use Rattle.wan_edge.specs.Streams.{Rose};
 ghost use Rattle.swanroll_top.specs.Answers.{answer_in};
+ghost use Rattle.swanroll_top.specs.Program.{LeavesUnnamed, NamesDisk, RunsAsked};
 ghost use Rattle.swanroll_top.specs.Runs.{Follows, Runs};
 ghost use Rattle.swanroll_top.specs.Safety.{DoesSafely};
-ghost use Rattle.swanroll_top.specs.Words.{asked};
+ghost use Rattle.swanroll_top.specs.Words.{asked, text_asked};
 
 use crate::ending::Ending;
+use crate::journal_report::report;
 use crate::reading::read_input;
 use crate::texts::text_of;
-use crate::words::Command;
+use crate::words::{Command, TextCommand};
 use crate::writing::write_text;
+use disk_model::Disk;
 use std::alloc::Global;
 use wan_edge::{Nums8, Sink, Source};
 
-/// Reads all of the source, and writes the command's text of it.
-pub fn run<S: Source, K: Sink>(
+/// How a command ended, and the disk.
+#[derive(Drop)]
+pub struct Closed<D> {
+    pub ending: Ending,
+    pub disk: D,
+}
+
+/// Does what a command line asks for.
+pub fn run<S: Source, K: Sink, D: Disk>(
     alloc: Global,
     command: Command<'_>,
     source: &mut S,
     sink: &mut K,
+    disk: D,
+) -> Closed<D>
+    ensures runs { RunsAsked (asked command.entry) (S.left source.old) (S.left source.new) (D.bytes disk) result.ending (K.written sink.old) (K.written sink.new) }
+    ensures read_fault { result.ending ≡ Ending.ReadFault → Rose (S.faults source.old) (S.faults source.new) }
+    ensures write_fault { result.ending ≡ Ending.WriteFault → Rose (K.faults sink.old) (K.faults sink.new) }
+    ensures disk_fault { result.ending ≡ Ending.DiskFault → NamesDisk (asked command.entry) × Rose (D.faults disk) (D.faults result.disk) }
+    ensures ran { result.ending ≢ Ending.Usage }
+    ensures unnamed { LeavesUnnamed (Some (asked command.entry)) disk result.disk }
+{
+    match command {
+        Command::Text(text) => Closed {
+            ending: run_text(alloc, text, source, sink),
+            disk,
+        },
+        Command::Report(migration) => report(alloc, migration, source, sink, disk),
+    }
+}
+
+/// Reads all of the source, and writes the command's text of it.
+fn run_text<S: Source, K: Sink>(
+    alloc: Global,
+    command: TextCommand<'_>,
+    source: &mut S,
+    sink: &mut K,
 ) -> Ending
-    ensures runs { Runs (asked command.entry) (S.left source.old) (S.left source.new) result (K.written sink.old) (K.written sink.new) }
+    ensures runs { Runs (text_asked command.entry) (S.left source.old) (S.left source.new) result (K.written sink.old) (K.written sink.new) }
     ensures read_fault { result ≡ Ending.ReadFault → Rose (S.faults source.old) (S.faults source.new) }
     ensures write_fault { result ≡ Ending.WriteFault → Rose (K.faults sink.old) (K.faults sink.new) }
+    ensures no_disk { result ≢ Ending.DiskFault }
     ensures ran { result ≢ Ending.Usage }
 {
     match read_input(alloc, source) {
@@ -31,10 +66,15 @@ pub fn run<S: Source, K: Sink>(
     }
 }
 
-fn write_answer<K: Sink>(alloc: Global, command: Command<'_>, input: Nums8, sink: &mut K) -> Ending
-    ensures follows { Follows (answer_in (asked command.entry) input) result (K.written sink.old) (K.written sink.new) }
+fn write_answer<K: Sink>(
+    alloc: Global,
+    command: TextCommand<'_>,
+    input: Nums8,
+    sink: &mut K,
+) -> Ending
+    ensures follows { Follows (answer_in (text_asked command.entry) input) result (K.written sink.old) (K.written sink.new) }
     ensures cause { result ≡ Ending.WriteFault → Rose (K.faults sink.old) (K.faults sink.new) }
-    ensures safe { result ≡ Ending.Done → DoesSafely (asked command.entry) input }
+    ensures safe { result ≡ Ending.Done → DoesSafely (text_asked command.entry) input }
 {
     match text_of(alloc, command, input) {
         Ok(text) => write_text(sink, text.as_str()),

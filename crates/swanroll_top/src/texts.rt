@@ -9,23 +9,24 @@ ghost use Rattle.std.specs.Prelude.{IfOk};
 ghost use Rattle.swanroll_top.specs.Answers.{answer_in};
 ghost use Rattle.swanroll_top.specs.Runs.{Gives};
 ghost use Rattle.swanroll_top.specs.Safety.{DoesSafely};
-ghost use Rattle.swanroll_top.specs.Words.{asked};
+ghost use Rattle.swanroll_top.specs.Words.{text_asked};
 
 use crate::ending::Ending;
-use crate::words::Command;
+use crate::words::TextCommand;
+pub use checking::rollout_of;
 use lists::Text;
 use std::alloc::Global;
 use wan_edge::Nums8;
 
 /// The text that a command makes of its input, or how the run ends without one. The bytes are given up as
 /// soon as they are read.
-pub fn text_of(alloc: Global, command: Command<'_>, input: Nums8) -> Result<Text, Ending>
-    ensures gives { Gives result (answer_in (asked command.entry) input) }
-    ensures safe { IfOk result (λ text. DoesSafely (asked command.entry) input) }
+pub fn text_of(alloc: Global, command: TextCommand<'_>, input: Nums8) -> Result<Text, Ending>
+    ensures gives { Gives result (answer_in (text_asked command.entry) input) }
+    ensures safe { IfOk result (λ text. DoesSafely (text_asked command.entry) input) }
 {
     match command {
-        Command::Plan => plan::plan(alloc, input),
-        Command::Check => check::check(alloc, input),
-        Command::Sim(policy) => sim::sim(alloc, policy, input),
+        TextCommand::Plan => plan::plan(alloc, input),
+        TextCommand::Check => check::check(alloc, input),
+        TextCommand::Sim(policy) => sim::sim(alloc, policy, input),
     }
 }

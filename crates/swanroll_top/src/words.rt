@@ -2,13 +2,25 @@ ghost use Rattle.std.specs.Prelude.{◌≡◌, map, string_bytes, bytes_eq, opti
 ghost use Rattle.std.specs.List.{list_any};
 ghost use Rattle.order_policy.specs.Answers.{rank_by};
 ghost use Rattle.order_policy.specs.Named.{answers_in, policy_named};
-ghost use Rattle.swanroll_top.specs.Words.{asked, asked_by, kind_named, names_of, begins_with_dash, are_pairs, value_or, policy_in, with_kind};
+ghost use Rattle.swanroll_top.specs.Words.{asked, asked_by, kind_named, names_of, begins_with_dash, are_pairs, value_or, policy_in, migration_in, number_in, are_digits, with_kind};
 
 use order_policy::{Policies, Policy};
+
+/// How many digits a number has at the most.
+const MOST_DIGITS: usize = 19;
 
 /// What a command line asks for: a command, and what its pairs say.
 #[derive(Clone, Copy)]
 pub enum Command<'a> {
+    /// A text of the input alone.
+    Text(TextCommand<'a>),
+    /// A report of the journal, as that of a migration of this number.
+    Report(u32),
+}
+
+/// A command that makes a text of its input alone.
+#[derive(Clone, Copy)]
+pub enum TextCommand<'a> {
     Plan,
     Check,
     /// A rehearsal under a policy.
@@ -21,6 +33,7 @@ pub enum Kind {
     Plan,
     Check,
     Sim,
+    Report,
 }
 
 /// What the words ask for, if they are a command line: the word of a command, and behind it pairs of a
@@ -42,6 +55,7 @@ fn kind_named(word: &str) -> Option<Kind>
         "plan" => Some(Kind::Plan),
         "check" => Some(Kind::Check),
         "sim" => Some(Kind::Sim),
+        "report" => Some(Kind::Report),
         _ => None,
     }
 }
@@ -57,9 +71,10 @@ fn command_with<'a>(
         return None;
     }
     match kind {
-        Kind::Plan => Some(Command::Plan),
-        Kind::Check => Some(Command::Check),
-        Kind::Sim => Some(Command::Sim(policy_of(pairs, policies)?)),
+        Kind::Plan => Some(Command::Text(TextCommand::Plan)),
+        Kind::Check => Some(Command::Text(TextCommand::Check)),
+        Kind::Sim => Some(Command::Text(TextCommand::Sim(policy_of(pairs, policies)?))),
+        Kind::Report => Some(Command::Report(migration_of(pairs)?)),
     }
 }
 
@@ -70,6 +85,7 @@ fn takes(kind: Kind, name: &str) -> bool
     match kind {
         Kind::Plan | Kind::Check => false,
         Kind::Sim => name == "--policy",
+        Kind::Report => name == "--migration",
     }
 }
 
@@ -98,6 +114,39 @@ fn policy_of<'a>(pairs: &[String], policies: &'a Policies<Policy>) -> Option<&'a
     ensures { option_map (λ policy. rank_by policy.now.answers) result ≡ policy_in (answers_in policies.now) (map string_bytes pairs.now) }
 {
     policy_named(policies, value_or(pairs, "--policy", "critical")?)
+}
+
+/// The number of the migration that the pairs name; 0 where they name none.
+fn migration_of(pairs: &[String]) -> Option<u32>
+    ensures { result ≡ migration_in (map string_bytes pairs.now) }
+{
+    number_in(value_or(pairs, "--migration", "0")?)
+}
+
+/// A number below 2^32 in 1 to 19 decimal digits.
+fn number_in(word: &str) -> Option<u32>
+    ensures { result ≡ number_in word.now }
+{
+    if word.len() > MOST_DIGITS || !are_digits(word.as_bytes()) {
+        return None;
+    }
+    match word.parse::<u32>() {
+        Ok(number) => Some(number),
+        Err(_) => None,
+    }
+}
+
+fn are_digits(bytes: &[u8]) -> bool
+    ensures { result ≡ are_digits bytes.now }
+{
+    let mut rest = bytes;
+    while let [byte, more @ ..] = rest {
+        if !byte.is_ascii_digit() {
+            return false;
+        }
+        rest = more;
+    }
+    true
 }
 
 /// The policy that stands first under a name.

@@ -1,16 +1,18 @@
 //! Worked examples of command lines: proving each is computing it.
 
 ghost use Rattle.std.specs.Prelude.{◌≡◌, [], ◌∷◌, codes, Some, None};
-ghost use Rattle.swanroll_top.specs.Words.{a_plan, a_check, a_rehearsal, asked_in};
+ghost use Rattle.swanroll_top.specs.Words.{a_plan, a_check, a_rehearsal, a_report, a_text, asked_in};
 ghost use Rattle.swanroll_top.specs.Worked.{chain_first, by_item, two_policies};
 
 /// A command alone, and a rehearsal under the policy that is named.
 pub fn command_lines()
-    ensures plan { asked_in two_policies (codes "plan" ∷ []) ≡ Some a_plan }
-    ensures check { asked_in two_policies (codes "check" ∷ []) ≡ Some a_check }
-    ensures sim { asked_in two_policies (codes "sim" ∷ []) ≡ Some (a_rehearsal chain_first) }
-    ensures critical { asked_in two_policies (codes "sim" ∷ codes "--policy" ∷ codes "critical" ∷ []) ≡ Some (a_rehearsal chain_first) }
-    ensures order { asked_in two_policies (codes "sim" ∷ codes "--policy" ∷ codes "order" ∷ []) ≡ Some (a_rehearsal by_item) }
+    ensures plan { asked_in two_policies (codes "plan" ∷ []) ≡ Some (a_text a_plan) }
+    ensures check { asked_in two_policies (codes "check" ∷ []) ≡ Some (a_text a_check) }
+    ensures sim { asked_in two_policies (codes "sim" ∷ []) ≡ Some (a_text (a_rehearsal chain_first)) }
+    ensures critical { asked_in two_policies (codes "sim" ∷ codes "--policy" ∷ codes "critical" ∷ []) ≡ Some (a_text (a_rehearsal chain_first)) }
+    ensures order { asked_in two_policies (codes "sim" ∷ codes "--policy" ∷ codes "order" ∷ []) ≡ Some (a_text (a_rehearsal by_item)) }
+    ensures report { asked_in two_policies (codes "report" ∷ []) ≡ Some (a_report 0) }
+    ensures migration { asked_in two_policies (codes "report" ∷ codes "--migration" ∷ codes "007" ∷ []) ≡ Some (a_report 7) }
 {}
 
 /// A word that is no command, or none.
@@ -37,5 +39,7 @@ pub fn words_with_a_wrong_value()
     ensures dash { asked_in two_policies (codes "sim" ∷ codes "--policy" ∷ codes "-" ∷ []) ≡ None }
     ensures unknown { asked_in two_policies (codes "sim" ∷ codes "--policy" ∷ codes "none" ∷ []) ≡ None }
     ensures empty { asked_in two_policies (codes "sim" ∷ codes "--policy" ∷ [] ∷ []) ≡ None }
+    ensures no_digits { asked_in two_policies (codes "report" ∷ codes "--migration" ∷ codes "+1" ∷ []) ≡ None }
+    ensures large { asked_in two_policies (codes "report" ∷ codes "--migration" ∷ codes "4294967296" ∷ []) ≡ None }
     ensures no_default { asked_in [] (codes "sim" ∷ []) ≡ None }
 {}

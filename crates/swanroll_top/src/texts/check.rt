@@ -1,15 +1,13 @@
 ghost use Rattle.std.specs.Prelude.{◌≡◌, IfOk};
-ghost use Rattle.problem_json.specs.GrammarDocuments.{document_in};
-ghost use Rattle.problem_json.specs.GrammarResults.{Reads};
 ghost use Rattle.swanroll_top.specs.Answers.{answer_in, judged, valid_text};
 ghost use Rattle.swanroll_top.specs.Runs.{Gives};
 ghost use Rattle.swanroll_top.specs.Safety.{ChecksValid, IsValid};
 ghost use Rattle.swanroll_top.specs.Words.{a_check};
 
 use crate::ending::Ending;
-use crate::texts::checking::checked;
+use crate::texts::checking::{checked, given};
 use lists::{Memory, Text};
-use problem_json::{Document, InputFault, read_document};
+use problem_json::Document;
 use std::alloc::Global;
 use wan_edge::Nums8;
 
@@ -21,13 +19,6 @@ pub fn check(alloc: Global, input: Nums8) -> Result<Text, Ending>
 {
     let document = given(alloc, input)?;
     judged(alloc, document)
-}
-
-/// The document that the bytes are. They are given up as soon as they are read.
-fn given(alloc: Global, input: Nums8) -> Result<Document, InputFault>
-    ensures { Reads result (document_in input) }
-{
-    read_document(alloc, input.as_slice())
 }
 
 #[tactic(auto, using(crate::proofs::Documents::judging))]

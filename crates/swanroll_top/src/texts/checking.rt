@@ -1,13 +1,32 @@
 ghost use Rattle.std.specs.Prelude.{◌≡◌, IfOk};
+ghost use Rattle.problem_json.specs.GrammarDocuments.{document_in};
+ghost use Rattle.problem_json.specs.GrammarResults.{Reads};
 ghost use Rattle.swanroll_top.specs.Answers.{checked};
+ghost use Rattle.swanroll_top.specs.Reports.{rollout_in};
 ghost use Rattle.swanroll_top.specs.Runs.{Gives};
 ghost use Rattle.swanroll_top.specs.Safety.{IsSealed};
 
 use crate::ending::Ending;
 use plan_check::{PlanFault, check_plan};
-use problem_json::Document;
+use problem_json::{Document, InputFault, read_document};
 use std::alloc::Global;
+use wan_edge::Nums8;
 use wan_model::CheckedPlan;
+
+/// The valid plan of the document that the bytes are, with its problem.
+pub fn rollout_of(alloc: Global, input: Nums8) -> Result<CheckedPlan, Ending>
+    ensures { Gives result (rollout_in input) }
+{
+    let document = given(alloc, input)?;
+    checked(alloc, document)
+}
+
+/// The document that the bytes are. They are given up as soon as they are read.
+pub fn given(alloc: Global, input: Nums8) -> Result<Document, InputFault>
+    ensures { Reads result (document_in input) }
+{
+    read_document(alloc, input.as_slice())
+}
 
 /// The plan of a document with its problem, where it breaks no clause.
 #[tactic(auto, using(crate::proofs::Documents::checking))]

@@ -1,6 +1,6 @@
-use Rattle.swanroll_top.proofs.Answering.{no-read-fault, no-usage}
+use Rattle.swanroll_top.proofs.Answering.{no-disk-fault, no-read-fault, no-usage}
 use Rattle.swanroll_top.proofs.Following.{short-runs, cut-runs}
-use Rattle.swanroll_top.proofs.run.run.Goals as goal
+use Rattle.swanroll_top.proofs.run.run_text.Goals as goal
 
 pub returns-in-Ok-clause-runs : goal.returns-in-Ok-clause-runs
 returns-in-Ok-clause-runs g c = short-runs _ _ _ _ _ _ _ c.in-Ok.ensures.read c.write_answer.ensures.follows c.write_answer.ensures.safe
@@ -13,3 +13,6 @@ returns-in-Ok-clause-ran g c = λ e. no-usage _ _ _ _ (rw e at c.write_answer.en
 
 pub returns-in-Err-clause-runs : goal.returns-in-Err-clause-runs
 returns-in-Err-clause-runs g c = cut-runs _ _ _ _ _ c.in-Err.ensures.read
+
+pub returns-in-Ok-clause-no_disk : goal.returns-in-Ok-clause-no_disk
+returns-in-Ok-clause-no_disk g c = λ e. no-disk-fault _ _ _ _ (rw e at c.write_answer.ensures.follows)

@@ -1,0 +1,20 @@
+//! How far a rollout has come, as a text for an operator, from its history alone.
+//!
+//! [`report`] prints how many entries the history has, how many operations are settled and in flight, how
+//! many of those to each stage are settled, the peak of each link and table, and whether the rollout is
+//! finished; its contract is the definition `report_text`. `rollout_peaks` has the law that over a legal
+//! history every peak fits. [`report_journal`] does so for the journal on a disk, which it opens as a
+//! rollout does.
+#![tactic(auto)]
+
+mod journaled;
+mod reporting;
+mod stages;
+mod starts;
+#[cfg(test)]
+mod tests;
+mod totals;
+pub mod worked;
+
+pub use journaled::{Reported, report_journal};
+pub use reporting::report;

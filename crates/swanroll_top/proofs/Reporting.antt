@@ -1,0 +1,266 @@
+-- How a report follows from its input and from the journal.
+use Rattle.std.proofs.Common.{◌≡◌, ◌⊎◌, ℕ, ◌<◌, ◌≤◌, List, ◌++◌, length, true, false, Option, Some, None, IfSome, Result, Ok, Err, refl, sym, ap, ◌∙◌, subst, inl, inr, arith}
+use Rattle.std.proofs.lemmas.Bool.{lt-ltb, le-ltb}
+use Rattle.std.proofs.lemmas.List.{length-append}
+use Rattle.rollout_rules.specs.Wan.{Rollout}
+use Rattle.rollout_rules.specs.declared.limits.TheConstants.{MOST_INPUT}
+use Rattle.wan_edge.specs.ReadAll.{GoesBeyond}
+use Rattle.plan_check.specs.FirstBroken.{first_broken}
+use Rattle.plan_check.specs.declared.broken.Broken.{Broken}
+use Rattle.plan_check.proofs.Firsts.{unbroken-valid, broken-invalid}
+use Rattle.problem_json.specs.GrammarDocuments.{DocumentRead, document_in}
+use Rattle.problem_json.specs.declared.fault.InputFault.{InputFault}
+use Rattle.intent_journal.specs.declared.fault.JournalFault.{JournalFault}
+use Rattle.intent_journal.specs.declared.fault.JournalFault.TheVariants as journal
+use Rattle.rollout_report.specs.Journals.{Tells, journal_report}
+use Rattle.swanroll_top.specs.Answers.{◌>>=◌, checked, or_ending, unless_broken}
+use Rattle.swanroll_top.specs.Endings.{ending_of, ending_of_journal, status_of}
+use Rattle.swanroll_top.specs.Reading.{IsCut, IsShortInput}
+use Rattle.swanroll_top.specs.Reports.{EndsJournal, EndsReport, FollowsReport, FollowsReported, IsLate, RunsReport, or_journal, rollout_in, rollout_to}
+use Rattle.swanroll_top.specs.Runs.{EndsWith, Gives, IsInput}
+use Rattle.swanroll_top.specs.Safety.{IsValid}
+use Rattle.swanroll_top.specs.Taken.{IsValidDocument}
+use Rattle.swanroll_top.specs.declared.ending.Ending.{Ending}
+use Rattle.swanroll_top.specs.declared.ending.Ending.TheVariants.{Done, Usage, AboveLimit, Input, NotValid, NoPlan, ReadFault, WriteFault, DiskFault, Refused, OutOfMemory}
+use Rattle.swanroll_top.proofs.Answering.{is_answer, rollout-answers, rollout-gives}
+use Rattle.swanroll_top.proofs.Documents.{checked-by}
+use Rattle.swanroll_top.proofs.Steps.{fault-ends}
+
+-- ---- whether an input is a document with a valid plan
+
+abbrev IsJudgedAs : List ℕ → Result Rollout Ending → Type 0
+IsJudgedAs input (Ok o) = IsValidDocument input
+IsJudgedAs input (Err e) = (e ≡ OutOfMemory) ⊎ ((IsValidDocument input → ⊥) × (status_of e ≡ 3))
+
+same-document : (input : List ℕ) (d : DocumentRead) → document_in input ≡ Ok d → IsValidDocument input → IsValid d.problem d.plan
+same-document input d is t =
+    let same : t.document ≡ d = cc (is, t.read) in
+    subst (λ x. IsValid x.problem x.plan) same t.valid
+
+broken-judged : (input : List ℕ) (d : DocumentRead) → document_in input ≡ Ok d → length input ≤ MOST_INPUT → (broken : Option Broken) → first_broken d.problem d.plan ≡ broken → IsJudgedAs input (unless_broken d broken)
+broken-judged input d read within None is = record { within = within; document = d; read = read; valid = unbroken-valid d.problem d.plan is }
+broken-judged input d read within (Some b) is = inr (λ t. let both : true ≡ false = sym (same-document input d read t) ∙ broken-invalid d.problem d.plan b is in cc, refl)
+
+fault-judged : (input : List ℕ) (f : InputFault) → document_in input ≡ Err f → IsJudgedAs input (Err (ending_of f))
+fault-judged input f is = elim (fault-ends f) [
+  | inl input_is ↦ inr (λ t. no-both t.document t.read, ap status_of input_is)
+  | inr memory ↦ inl memory
+]
+  where
+    no-both : (d : DocumentRead) → document_in input ≡ Ok d → ⊥
+    no-both d read = let both : Err f ≡ Ok d = sym is ∙ read in cc
+
+read-judged : (input : List ℕ) (read : Result DocumentRead InputFault) → document_in input ≡ read → length input ≤ MOST_INPUT → IsJudgedAs input (or_ending read >>= checked)
+read-judged input (Ok d) is within = subst (IsJudgedAs input) (sym (checked-by d (first_broken d.problem d.plan) refl)) (broken-judged input d is within (first_broken d.problem d.plan) refl)
+read-judged input (Err f) is within = fault-judged input f is
+
+rollout-judged : (input : List ℕ) → length input ≤ MOST_INPUT → IsJudgedAs input (rollout_in input)
+unfolding rollout_in
+rollout-judged input within = read-judged input (document_in input) refl within
+
+short-rollout : (input : List ℕ) → length input ≤ MOST_INPUT → rollout_to input ≡ rollout_in input
+unfolding rollout_to
+short-rollout input short = rw (le-ltb MOST_INPUT (length input) short) refl
+
+long-rollout : (input : List ℕ) → MOST_INPUT < length input → rollout_to input ≡ Err AboveLimit
+unfolding rollout_to
+long-rollout input long = rw (lt-ltb MOST_INPUT (length input) long) refl
+
+-- ---- what an ending says
+
+late-status : (answer : Result (List ℕ) Ending) (e : Ending) (out now : Option (List ℕ)) → IsLate answer → EndsWith answer e out now → status_of e ≡ 3 → ⊥
+late-status (Ok text) e out now late (inl done) three = omega (arith, ap status_of done.0, three)
+late-status (Ok text) e out now late (inr cut) three = omega (arith, ap status_of cut.0, three)
+late-status (Err (Refused f)) e out now late h three = omega (arith, ap status_of h.0, three)
+late-status (Err Done) e out now late h three = late
+late-status (Err Usage) e out now late h three = late
+late-status (Err AboveLimit) e out now late h three = late
+late-status (Err (Input f)) e out now late h three = late
+late-status (Err (NotValid p b)) e out now late h three = late
+late-status (Err (NoPlan u)) e out now late h three = late
+late-status (Err ReadFault) e out now late h three = late
+late-status (Err WriteFault) e out now late h three = late
+late-status (Err DiskFault) e out now late h three = late
+late-status (Err OutOfMemory) e out now late h three = late
+
+unwritten : (answer : Result (List ℕ) Ending) (e : Ending) (out now : Option (List ℕ)) → EndsWith answer e out now → (status_of e ≡ 0 → ⊥) → (status_of e ≡ 7 → ⊥) → now ≡ out
+unwritten (Ok text) e out now (inl done) zero seven = absurd (zero (ap status_of done.0))
+unwritten (Ok text) e out now (inr cut) zero seven = absurd (seven (ap status_of cut.0))
+unwritten (Err x) e out now h zero seven = h.1
+
+module _ (m : ℕ) (told out out_now : Option (List ℕ)) (input : List ℕ) (e : Ending) where
+  refused-exactly : (r : Result Rollout Ending) → IsJudgedAs input r → EndsReport m r told e out out_now → (e ≡ OutOfMemory → ⊥)
+      → (status_of e ≡ 3 → IsValidDocument input → ⊥) × ((IsValidDocument input → ⊥) → status_of e ≡ 3)
+  refused-exactly (Ok o) valid ends some = (λ three _. late-status ends.answer e out out_now ends.late ends.ends three, λ n. absurd (n valid))
+  refused-exactly (Err x) (inl memory) ends some = absurd (some (ends.0 ∙ memory))
+  refused-exactly (Err x) (inr judged) ends some = (λ _. judged.0, λ _. ap status_of ends.0 ∙ judged.1)
+
+  ends-silent : (r : Result Rollout Ending) → EndsReport m r told e out out_now → (status_of e ≡ 0 → ⊥) → (status_of e ≡ 7 → ⊥) → out_now ≡ out
+  ends-silent (Ok o) ends zero seven = unwritten ends.answer e out out_now ends.ends zero seven
+  ends-silent (Err x) ends zero seven = ends.1
+
+-- ---- a source that was read to its end, and one that wasn't
+
+module _ (m : ℕ) (left now told out out_now : Option (List ℕ)) (input : List ℕ) where
+  follows-report : (e : Ending) → IsShortInput left now input → EndsReport m (rollout_in input) told e out out_now → (e ≡ OutOfMemory → ⊥) → FollowsReport m left now told e out out_now
+  follows-report e s ends some = record {
+    input = input;
+    read = s.input;
+    ends = subst (λ r. EndsReport m r told e out out_now) (sym (short-rollout input s.within)) ends;
+    refused = refused-exactly m told out out_now input e (rollout_in input) (rollout-judged input s.within) ends some;
+    silent = ends-silent m told out out_now input e (rollout_in input) ends;
+  }
+
+  pub short-reports : (e : Ending) → IsShortInput left now input → FollowsReported m (rollout_in input) told e out out_now → RunsReport m left now told e out out_now
+  short-reports Done s h = follows-report Done s h (λ e. cc)
+  short-reports Usage s h = follows-report Usage s h (λ e. cc)
+  short-reports AboveLimit s h = follows-report AboveLimit s h (λ e. cc)
+  short-reports (Input f) s h = follows-report (Input f) s h (λ e. cc)
+  short-reports (NotValid p b) s h = follows-report (NotValid p b) s h (λ e. cc)
+  short-reports (NoPlan u) s h = follows-report (NoPlan u) s h (λ e. cc)
+  short-reports ReadFault s h = ends-silent m told out out_now input ReadFault (rollout_in input) h (λ e. omega (arith, e)) (λ e. omega (arith, e))
+  short-reports WriteFault s h = follows-report WriteFault s h (λ e. cc)
+  short-reports DiskFault s h = h
+  short-reports (Refused f) s h = follows-report (Refused f) s h (λ e. cc)
+  short-reports OutOfMemory s h = h
+
+long-reports : (m : ℕ) (before now told out : Option (List ℕ)) (input : List ℕ) → IsInput before now input → MOST_INPUT < length input → FollowsReport m before now told AboveLimit out out
+long-reports m before now told out input read long = record {
+  input = input;
+  read = read;
+  ends = subst (λ r. EndsReport m r told AboveLimit out out) (sym (long-rollout input long)) (refl, refl);
+  refused = (λ _ t. omega (arith, long, t.within), λ _. refl);
+  silent = λ zero seven. refl;
+}
+
+beyond-reports : (m : ℕ) (before now told out : Option (List ℕ)) → GoesBeyond MOST_INPUT before now → FollowsReport m before now told AboveLimit out out
+beyond-reports m None now told out g = long-reports m None now told out g.bytes (record { whole = tt; read = inr g }) (omega (arith, g.beyond))
+beyond-reports m (Some left) (Some rest) told out g =
+    let same : left ≡ g.bytes ++ rest = cc (g.taken) in
+    long-reports m (Some left) (Some rest) told out left (record { whole = refl; read = inr g }) (omega (arith, g.beyond, ap length same, length-append g.bytes rest))
+beyond-reports m (Some left) None told out g = absurd (cc (g.taken))
+
+pub cut-reports : (m : ℕ) (left now told out : Option (List ℕ)) (e : Ending) → IsCut left e now → RunsReport m left now told e out out
+cut-reports m left now told out Done r = absurd r
+cut-reports m left now told out Usage r = absurd r
+cut-reports m left now told out AboveLimit r = beyond-reports m left now told out r
+cut-reports m left now told out (Input f) r = absurd r
+cut-reports m left now told out (NotValid p b) r = absurd r
+cut-reports m left now told out (NoPlan u) r = absurd r
+cut-reports m left now told out ReadFault r = refl
+cut-reports m left now told out WriteFault r = absurd r
+cut-reports m left now told out DiskFault r = absurd r
+cut-reports m left now told out (Refused f) r = absurd r
+cut-reports m left now told out OutOfMemory r = refl
+
+-- ---- what a journal comes to
+
+told-more : (told : Option (List ℕ)) (P Q : List ℕ → Type 0) → ((image : List ℕ) → P image → Q image) → IfSome told P → IfSome told Q
+told-more None P Q more h = tt
+told-more (Some image) P Q more h = more image h
+
+module _ (m : ℕ) (o : Rollout) (told out : Option (List ℕ)) where
+  pub reported-text : (text : List ℕ) (e : Ending) (now : Option (List ℕ)) → IfSome told (λ image. Tells (Ok text) (journal_report o m image)) → EndsWith (Ok text) e out now → FollowsReported m (Ok o) told e out now
+  reported-text text e now tells (inl done) =
+      subst (λ x. FollowsReported m (Ok o) told x out now) (sym done.0)
+      (record { answer = Ok text; late = tt; is = told-more told _ _ (λ image is. ap or_journal is) tells; ends = inl (refl, done.1) })
+  reported-text text e now tells (inr cut) =
+      subst (λ x. FollowsReported m (Ok o) told x out now) (sym cut.0)
+      (record { answer = Ok text; late = tt; is = told-more told _ _ (λ image is. ap or_journal is) tells; ends = inr (refl, cut.1) })
+
+  pub reported-fault : (cause : JournalFault) → IfSome told (λ image. Tells (Err cause) (journal_report o m image)) → FollowsReported m (Ok o) told (ending_of_journal cause) out out
+  reported-fault journal.Disk tells = refl
+  reported-fault journal.Memory tells = refl
+  reported-fault (journal.NotJournal first) tells =
+      record { answer = Err (Refused (journal.NotJournal first)); late = tt; is = told-more told _ _ (λ image is. ap or_journal is) tells; ends = (refl, refl) }
+  reported-fault (journal.OtherPlan kept wanted) tells =
+      record { answer = Err (Refused (journal.OtherPlan kept wanted)); late = tt; is = told-more told _ _ (λ image is. ap or_journal is) tells; ends = (refl, refl) }
+  reported-fault (journal.Illegal place) tells =
+      record { answer = Err (Refused (journal.Illegal place)); late = tt; is = told-more told _ _ (λ image is. ap or_journal is) tells; ends = (refl, refl) }
+  reported-fault journal.BadStart tells =
+      record { answer = Err (Refused journal.BadStart); late = tt; is = told-more told _ _ (λ image is. ap or_journal is) tells; ends = (refl, refl) }
+
+pub reported : (m : ℕ) (o : Rollout) (told out now : Option (List ℕ)) (answer : Result (List ℕ) JournalFault) (e : Ending) → IfSome told (λ image. Tells answer (journal_report o m image))
+    → EndsJournal answer e out now → FollowsReported m (Ok o) told e out now
+reported m o told out now (Ok text) e tells ends = reported-text m o told out text e now tells ends
+reported m o told out now (Err cause) e tells ends =
+    subst (λ x. FollowsReported m (Ok o) told x out now) (sym ends.0)
+    (subst (λ w. FollowsReported m (Ok o) told (ending_of_journal cause) out w) (sym ends.1) (reported-fault m o told out cause tells))
+
+-- the ending is that of the disk exactly where the disk failed, and never another device's
+pub fault-of-disk : (cause : JournalFault) → ending_of_journal cause ≡ DiskFault → cause ≡ journal.Disk
+fault-of-disk journal.Disk h = refl
+fault-of-disk journal.Memory h = cc
+fault-of-disk (journal.NotJournal first) h = cc
+fault-of-disk (journal.OtherPlan kept wanted) h = cc
+fault-of-disk (journal.Illegal place) h = cc
+fault-of-disk journal.BadStart h = cc
+
+pub fault-no-write : (cause : JournalFault) → ending_of_journal cause ≡ WriteFault → ⊥
+fault-no-write journal.Disk h = cc
+fault-no-write journal.Memory h = cc
+fault-no-write (journal.NotJournal first) h = cc
+fault-no-write (journal.OtherPlan kept wanted) h = cc
+fault-no-write (journal.Illegal place) h = cc
+fault-no-write journal.BadStart h = cc
+
+pub text-no-disk : (text : List ℕ) (e : Ending) (out now : Option (List ℕ)) → EndsWith (Ok text) e out now → e ≡ DiskFault → ⊥
+text-no-disk text e out now (inl done) h = let no : Done ≡ DiskFault = sym done.0 ∙ h in cc
+text-no-disk text e out now (inr cut) h = let no : WriteFault ≡ DiskFault = sym cut.0 ∙ h in cc
+
+-- ---- an input that is refused
+
+module _ (m : ℕ) (told out : Option (List ℕ)) (r : Result Rollout Ending) where
+  refused-by : (e : Ending) → r ≡ Err e → EndsReport m r told e out out
+  refused-by e is = subst (λ x. EndsReport m x told e out out) (sym is) (refl, refl)
+
+  pub input-refused : (e : Ending) → Gives {A = Rollout} (Err e) r → FollowsReported m r told e out out
+  input-refused Done g = refused-by Done g
+  input-refused Usage g = refused-by Usage g
+  input-refused AboveLimit g = refused-by AboveLimit g
+  input-refused (Input f) g = refused-by (Input f) g
+  input-refused (NotValid p b) g = refused-by (NotValid p b) g
+  input-refused (NoPlan u) g = refused-by (NoPlan u) g
+  input-refused ReadFault g = refused-by ReadFault g
+  input-refused WriteFault g = refused-by WriteFault g
+  input-refused DiskFault g = refl
+  input-refused (Refused f) g = refused-by (Refused f) g
+  input-refused OutOfMemory g = refl
+
+pub input-no-disk : (input : List ℕ) (e : Ending) → Gives {A = Rollout} (Err e) (rollout_in input) → e ≡ DiskFault → ⊥
+input-no-disk input e g is = let no : is_answer DiskFault ≡ true = ap is_answer (sym is) ∙ rollout-gives input e g in cc
+
+pub input-no-write : (input : List ℕ) (e : Ending) → Gives {A = Rollout} (Err e) (rollout_in input) → e ≡ WriteFault → ⊥
+input-no-write input e g is = let no : is_answer WriteFault ≡ true = ap is_answer (sym is) ∙ rollout-gives input e g in cc
+
+-- ---- no report ends as if nothing had been read
+
+late-ends : (answer : Result (List ℕ) Ending) (e : Ending) (out now : Option (List ℕ)) → IsLate answer → EndsWith answer e out now → (status_of e ≡ 0) ⊎ ((status_of e ≡ 7) ⊎ (status_of e ≡ 10))
+late-ends (Ok text) e out now late (inl done) = inl (ap status_of done.0)
+late-ends (Ok text) e out now late (inr cut) = inr (inl (ap status_of cut.0))
+late-ends (Err (Refused f)) e out now late h = inr (inr (ap status_of h.0))
+late-ends (Err Done) e out now late h = absurd late
+late-ends (Err Usage) e out now late h = absurd late
+late-ends (Err AboveLimit) e out now late h = absurd late
+late-ends (Err (Input f)) e out now late h = absurd late
+late-ends (Err (NotValid p b)) e out now late h = absurd late
+late-ends (Err (NoPlan u)) e out now late h = absurd late
+late-ends (Err ReadFault) e out now late h = absurd late
+late-ends (Err WriteFault) e out now late h = absurd late
+late-ends (Err DiskFault) e out now late h = absurd late
+late-ends (Err OutOfMemory) e out now late h = absurd late
+
+module _ (m : ℕ) (told out now : Option (List ℕ)) where
+  no-fault : (r : Result Rollout Ending) → ((x : Ending) → r ≡ Err x → is_answer x ≡ true) → EndsReport m r told ReadFault out now → ⊥
+  no-fault (Ok o) answers ends = elim (late-ends ends.answer ReadFault out now ends.late ends.ends) [ inl h ↦ omega (arith, h) | inr more ↦ elim more [ inl h ↦ omega (arith, h) | inr h ↦ omega (arith, h) ] ]
+  no-fault (Err x) answers ends = let no : is_answer ReadFault ≡ true = ap is_answer ends.0 ∙ answers x refl in cc
+
+  no-words : (r : Result Rollout Ending) → ((x : Ending) → r ≡ Err x → is_answer x ≡ true) → EndsReport m r told Usage out now → ⊥
+  no-words (Ok o) answers ends = elim (late-ends ends.answer Usage out now ends.late ends.ends) [ inl h ↦ omega (arith, h) | inr more ↦ elim more [ inl h ↦ omega (arith, h) | inr h ↦ omega (arith, h) ] ]
+  no-words (Err x) answers ends = let no : is_answer Usage ≡ true = ap is_answer ends.0 ∙ answers x refl in cc
+
+  pub report-no-read : (input : List ℕ) (e : Ending) → FollowsReported m (rollout_in input) told e out now → e ≡ ReadFault → ⊥
+  report-no-read input e h is = no-fault (rollout_in input) (rollout-answers input) (subst (λ x. FollowsReported m (rollout_in input) told x out now) is h)
+
+  pub report-no-usage : (input : List ℕ) (e : Ending) → FollowsReported m (rollout_in input) told e out now → e ≡ Usage → ⊥
+  report-no-usage input e h is = no-words (rollout_in input) (rollout-answers input) (subst (λ x. FollowsReported m (rollout_in input) told x out now) is h)

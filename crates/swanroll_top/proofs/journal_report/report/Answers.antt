@@ -1,0 +1,14 @@
+use Rattle.swanroll_top.proofs.Reporting.{cut-reports, report-no-read, report-no-usage, short-reports}
+use Rattle.swanroll_top.proofs.journal_report.report.Goals as goal
+
+pub returns-in-Ok-clause-runs : goal.returns-in-Ok-clause-runs
+returns-in-Ok-clause-runs g c = short-reports _ _ _ _ _ _ _ _ c.in-Ok.ensures.read c.report_input.ensures.follows
+
+pub returns-in-Ok-clause-read_fault : goal.returns-in-Ok-clause-read_fault
+returns-in-Ok-clause-read_fault g c = λ e. absurd (report-no-read _ _ _ _ _ _ c.report_input.ensures.follows e)
+
+pub returns-in-Ok-clause-ran : goal.returns-in-Ok-clause-ran
+returns-in-Ok-clause-ran g c = λ e. report-no-usage _ _ _ _ _ _ c.report_input.ensures.follows e
+
+pub returns-in-Err-clause-runs : goal.returns-in-Err-clause-runs
+returns-in-Err-clause-runs g c = cut-reports _ _ _ _ _ _ c.in-Err.ensures.read

@@ -1,0 +1,68 @@
+-- What the command `report` reads and writes.
+use Rattle.std.specs.Prelude.{◌≡◌, ⊤, ◌↔◌, ℕ, List, length, nat_lt, Option, Result, Ok, Err, IfSome, if◌then◌else◌}
+use Rattle.rollout_rules.specs.Wan.{Rollout}
+use Rattle.rollout_rules.specs.declared.limits.TheConstants.{MOST_INPUT}
+use Rattle.problem_json.specs.GrammarDocuments.{document_in}
+use Rattle.intent_journal.specs.declared.fault.JournalFault.{JournalFault}
+use Rattle.rollout_report.specs.Journals.{journal_report}
+use Rattle.swanroll_top.specs.Answers.{◌>>=◌, checked, or_ending}
+use Rattle.swanroll_top.specs.Endings.{ending_of_journal, status_of}
+use Rattle.swanroll_top.specs.Runs.{EndsWith, IsInput}
+use Rattle.swanroll_top.specs.Taken.{IsValidDocument}
+use Rattle.swanroll_top.specs.declared.ending.Ending.{Ending}
+use Rattle.swanroll_top.specs.declared.ending.Ending.TheVariants.{AboveLimit, DiskFault, OutOfMemory, ReadFault, Refused}
+
+-- the rollout of a document whose plan is valid, of an input within the limit and of any
+unfoldable pub rollout_in : List ℕ → Result Rollout Ending
+rollout_in input = or_ending (document_in input) >>= checked
+
+unfoldable pub rollout_to : List ℕ → Result Rollout Ending
+rollout_to input = if nat_lt MOST_INPUT (length input) then Err AboveLimit else rollout_in input
+
+abbrev pub or_journal : Result (List ℕ) JournalFault → Result (List ℕ) Ending
+or_journal (Ok text) = Ok text
+or_journal (Err e) = Err (ending_of_journal e)
+
+-- an answer that comes from the journal: a text, or that the journal is refused
+abbrev pub IsLate : Result (List ℕ) Ending → Type 0
+IsLate (Ok text) = ⊤
+IsLate (Err (Refused e)) = ⊤
+IsLate (Err e) = ⊥
+
+-- The run ends as the journal's answer says. Where the disk tells its bytes, that is the report of them.
+pub record Reports (migration : ℕ) (o : Rollout) (told : Option (List ℕ)) (ending : Ending) (out out_now : Option (List ℕ)) : Type 0 where
+  pub answer : Result (List ℕ) Ending
+  pub late : IsLate answer
+  pub is : IfSome told (λ image. or_journal (journal_report o migration image) ≡ answer)
+  pub ends : EndsWith answer ending out out_now
+
+-- the text of a report was written, or a part of it, or the run ends as its cause says
+abbrev pub EndsJournal : Result (List ℕ) JournalFault → Ending → Option (List ℕ) → Option (List ℕ) → Type 0
+EndsJournal (Ok text) ending out out_now = EndsWith (Ok text) ending out out_now
+EndsJournal (Err cause) ending out out_now = (ending ≡ ending_of_journal cause) × (out_now ≡ out)
+
+-- the input is refused, or the journal decides
+abbrev pub EndsReport : ℕ → Result Rollout Ending → Option (List ℕ) → Ending → Option (List ℕ) → Option (List ℕ) → Type 0
+EndsReport migration (Err e) told ending out out_now = (ending ≡ e) × (out_now ≡ out)
+EndsReport migration (Ok o) told ending out out_now = Reports migration o told ending out out_now
+
+-- the same, where the disk may have failed or memory have run out: then nothing was written
+abbrev pub FollowsReported : ℕ → Result Rollout Ending → Option (List ℕ) → Ending → Option (List ℕ) → Option (List ℕ) → Type 0
+FollowsReported migration rollout told OutOfMemory out out_now = out_now ≡ out
+FollowsReported migration rollout told DiskFault out out_now = out_now ≡ out
+FollowsReported migration rollout told ending out out_now = EndsReport migration rollout told ending out out_now
+
+-- The input of a report, and how the run follows from it. It is refused exactly where it is no document with a valid plan.
+pub record FollowsReport (migration : ℕ) (left left_now told : Option (List ℕ)) (ending : Ending) (out out_now : Option (List ℕ)) : Type 0 where
+  pub input : List ℕ
+  pub read : IsInput left left_now input
+  pub ends : EndsReport migration (rollout_to input) told ending out out_now
+  pub refused : (status_of ending ≡ 3) ↔ (IsValidDocument input → ⊥)
+  pub silent : (status_of ending ≡ 0 → ⊥) → (status_of ending ≡ 7 → ⊥) → out_now ≡ out
+
+-- what an ending of a report says: after a fault of the source or of the disk, and for want of memory, that nothing was written
+abbrev pub RunsReport : ℕ → Option (List ℕ) → Option (List ℕ) → Option (List ℕ) → Ending → Option (List ℕ) → Option (List ℕ) → Type 0
+RunsReport migration left left_now told ReadFault out out_now = out_now ≡ out
+RunsReport migration left left_now told DiskFault out out_now = out_now ≡ out
+RunsReport migration left left_now told OutOfMemory out out_now = out_now ≡ out
+RunsReport migration left left_now told ending out out_now = FollowsReport migration left left_now told ending out out_now

@@ -1,0 +1,87 @@
+//! The command `report`, over the journal on a disk.
+
+ghost use Rattle.std.specs.Prelude.{◌≡◌, ◌≢◌, IsErrOf, Ok};
+ghost use Rattle.intent_journal.specs.declared.fault.JournalFault.TheVariants as fault;
+ghost use Rattle.wan_edge.specs.Streams.{Rose};
+ghost use Rattle.swanroll_top.specs.Reports.{EndsJournal, FollowsReported, RunsReport, rollout_in};
+
+use crate::ending::Ending;
+use crate::reading::read_input;
+use crate::run::Closed;
+use crate::texts::rollout_of;
+use crate::writing::write_text;
+use disk_model::Disk;
+use intent_journal::JournalFault;
+use lists::Text;
+use rollout_report::{Reported, report_journal};
+use std::alloc::Global;
+use wan_edge::{Nums8, Sink, Source};
+use wan_model::CheckedPlan;
+
+/// Reads all of the source, and writes how far the rollout of its document has come by the journal on the
+/// disk.
+pub fn report<S: Source, K: Sink, D: Disk>(
+    alloc: Global,
+    migration: u32,
+    source: &mut S,
+    sink: &mut K,
+    disk: D,
+) -> Closed<D>
+    ensures runs { RunsReport migration (S.left source.old) (S.left source.new) (D.bytes disk) result.ending (K.written sink.old) (K.written sink.new) }
+    ensures read_fault { result.ending ≡ Ending.ReadFault → Rose (S.faults source.old) (S.faults source.new) }
+    ensures write_fault { result.ending ≡ Ending.WriteFault → Rose (K.faults sink.old) (K.faults sink.new) }
+    ensures disk_fault { result.ending ≡ Ending.DiskFault → Rose (D.faults disk) (D.faults result.disk) }
+    ensures ran { result.ending ≢ Ending.Usage }
+{
+    match read_input(alloc, source) {
+        Ok(input) => report_input(alloc, migration, input, sink, disk),
+        Err(ending) => Closed { ending, disk },
+    }
+}
+
+fn report_input<K: Sink, D: Disk>(
+    alloc: Global,
+    migration: u32,
+    input: Nums8,
+    sink: &mut K,
+    disk: D,
+) -> Closed<D>
+    ensures follows { FollowsReported migration (rollout_in input) (D.bytes disk) result.ending (K.written sink.old) (K.written sink.new) }
+    ensures write_fault { result.ending ≡ Ending.WriteFault → Rose (K.faults sink.old) (K.faults sink.new) }
+    ensures disk_fault { result.ending ≡ Ending.DiskFault → Rose (D.faults disk) (D.faults result.disk) }
+{
+    match rollout_of(alloc, input) {
+        Ok(plan) => report_plan(alloc, plan, migration, sink, disk),
+        Err(ending) => Closed { ending, disk },
+    }
+}
+
+fn report_plan<K: Sink, D: Disk>(
+    alloc: Global,
+    plan: CheckedPlan,
+    migration: u32,
+    sink: &mut K,
+    disk: D,
+) -> Closed<D>
+    ensures follows { FollowsReported migration (Ok plan) (D.bytes disk) result.ending (K.written sink.old) (K.written sink.new) }
+    ensures write_fault { result.ending ≡ Ending.WriteFault → Rose (K.faults sink.old) (K.faults sink.new) }
+    ensures disk_fault { result.ending ≡ Ending.DiskFault → Rose (D.faults disk) (D.faults result.disk) }
+{
+    let Reported { disk, answer } = report_journal(alloc, plan, migration, disk);
+    Closed {
+        ending: write_report(sink, answer),
+        disk,
+    }
+}
+
+/// Writes a report, or says how the run ends without one.
+fn write_report<K: Sink>(sink: &mut K, report: Result<Text, JournalFault>) -> Ending
+    ensures written { EndsJournal report result (K.written sink.old) (K.written sink.new) }
+    ensures write_fault { result ≡ Ending.WriteFault → Rose (K.faults sink.old) (K.faults sink.new) }
+    ensures disk { result ≡ Ending.DiskFault → IsErrOf report fault.Disk }
+{
+    match report {
+        Ok(text) => write_text(sink, text.as_str()),
+        Err(cause) => Ending::from(cause),
+    }
+}
