@@ -1,5 +1,5 @@
-"""Compares the program with an independent reference on generated inputs and command lines, and on good inputs of which a few bytes were
-changed: status, output and notes have to be the same byte for byte.
+"""Compares the program with an independent reference on generated inputs, journals and command lines, and on good inputs of which a few bytes
+were changed: status, output, notes and the journal afterwards have to be the same byte for byte.
 
     python3 tests/against_reference.py REFERENCE PROGRAM [COUNT]
 
@@ -13,11 +13,11 @@ import subprocess
 import sys
 import tempfile
 
-KINDS = {"plan": 3000, "bad": 3000, "check": 2000, "sim": 2000, "words": 2000, "mutated": 2000}
+KINDS = {"plan": 3000, "bad": 3000, "check": 2000, "sim": 2000, "report": 2000, "words": 2000, "mutated": 2000}
 # Problems whose plan comes from a program with thirds or quarters, by seed and number: among the first thousands there are only halves.
 FRACTIONS = [("2", 1), ("2", 347), ("3", 249), ("5", 467)]
 # What the program does by now.
-FEATURES = "none,places,planner,lp,widths,marks,crashes,sim,check,policies"
+FEATURES = "none,places,planner,lp,widths,marks,crashes,sim,check,policies,migration,report,journal=r16"
 PIECES = [b"null", b"true", b"-", b"1", b"1.5", b"99999999999", b'"A"', b"[]", b"{}", b",", b":", b"[", b"}", b'"', b"\\", b"\xff", b" "]
 
 
