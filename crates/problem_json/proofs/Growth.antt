@@ -3,6 +3,8 @@ use Rattle.std.proofs.Common.{◌≡◌, ◌≢◌, ℕ, zero, suc, ◌+◌, ◌
 use Rattle.std.proofs.lemmas.List.{get_or_push}
 use Rattle.std.proofs.lemmas.Grind.{common_steps, get_or-set_at}
 use Rattle.std.proofs.Math.ListN.{length-set}
+use Rattle.serde_json.specs.Data.{Items}
+use Rattle.serde_json.specs.Events.{items_len}
 use Rattle.rollout_rules.specs.Sums.{sum_below}
 use Rattle.rollout_rules.specs.Wan.{Problem, flow_at, hops, no_flow}
 use Rattle.rollout_rules.specs.Network.{IsNetwork}
@@ -31,6 +33,10 @@ grows_on p q r n before after = record {
   tunnels = omega arith;
   of_last = omega arith;
 }
+
+-- those that have come and those that are left are all of a list
+pub one_fewer : (n : ℕ) (left rest all : Items) → n + items_len left ≡ items_len all → items_len left ≡ items_len rest + 1 → n + 1 + items_len rest ≡ items_len all
+one_fewer n left rest all are is = omega (arith, are, is)
 
 sum_last : (n : ℕ) (f : ℕ → ℕ) → 0 < n → sum_below n f ≡ sum_below (n - 1) f + f (n - 1)
 sum_last zero f some = absurd (omega arith)

@@ -1,13 +1,14 @@
 -- The text of a list, an element at a time.
 use Rattle.std.proofs.Common.{◌≡◌, ◌⊎◌, inl, inr, ℕ, zero, suc, ◌+◌, ◌<◌, ◌≤◌, nat_lt, Bool, true, false, if◌then◌else◌, lt-ltb, codes, decimal, List, [], ◌∷◌, ◌++◌, map, length, drop, get_or, refl, sym, ap, ◌∙◌, drop-cons, append_assoc, arith}
-use Rattle.std.proofs.lemmas.List.{drop_all, drop-map, length_push}
+use Rattle.std.proofs.lemmas.List.{drop_all, drop-map, get_or-map, length-map, length_push}
 use Rattle.std.proofs.lemmas.Bool.{cases_lt}
 use Rattle.rollout_rules.specs.Sums.{list_below}
+use Rattle.rollout_rules.specs.Wan.{Problem, no_switch}
 use Rattle.json.specs.Print.{escape_byte}
-use Rattle.serde_json.specs.Data.{Data, Members, member}
+use Rattle.serde_json.specs.Data.{Data, Members, no_members, member}
 use Rattle.serde_json.specs.View.{items_of}
 use Rattle.serde_json.specs.Written.{comma_if, compact_text, items_text, members_text}
-use Rattle.problem_json.specs.Writing.{number_data, list_data}
+use Rattle.problem_json.specs.Writing.{number_data, list_data, name_data, quoted_name}
 use Rattle.problem_json.proofs.Adding.{length-list_below}
 
 -- the text of the elements from number k on, with the closing bracket
@@ -51,6 +52,30 @@ pub three_members : (old head first piece mid second next third t₁ t₂ t₃ t
     → t₁ ≡ old ++ head → t₂ ≡ t₁ ++ first → t₃ ≡ t₂ ++ piece → t₄ ≡ t₃ ++ mid → t₅ ≡ t₄ ++ second → t₆ ≡ t₅ ++ next → t₇ ≡ t₆ ++ third → t₈ ≡ t₇ ++ 125 ∷ []
     → t₈ ≡ old ++ (head ++ (first ++ (piece ++ (mid ++ (second ++ (next ++ (third ++ 125 ∷ [])))))))
 three_members old head first piece mid second next third t₁ t₂ t₃ t₄ t₅ t₆ t₇ t₈ e₁ e₂ e₃ e₄ e₅ e₆ e₇ e₈ = rw (e₈, e₇, e₆, e₅, e₄, e₃, e₂, e₁) (simp append_assoc)
+
+-- three members alone
+pub three_alone : (old head first mid second next third t₁ t₂ t₃ t₄ t₅ t₆ t₇ : List ℕ)
+    → t₁ ≡ old ++ head → t₂ ≡ t₁ ++ first → t₃ ≡ t₂ ++ mid → t₄ ≡ t₃ ++ second → t₅ ≡ t₄ ++ next → t₆ ≡ t₅ ++ third → t₇ ≡ t₆ ++ 125 ∷ []
+    → t₇ ≡ old ++ (head ++ (first ++ (mid ++ (second ++ (next ++ (third ++ 125 ∷ []))))))
+three_alone old head first mid second next third t₁ t₂ t₃ t₄ t₅ t₆ t₇ e₁ e₂ e₃ e₄ e₅ e₆ e₇ = rw (e₇, e₆, e₅, e₄, e₃, e₂, e₁) (simp append_assoc)
+
+-- three, the last of them with a piece behind it
+pub three_and_piece : (old head first mid second next third piece t₁ t₂ t₃ t₄ t₅ t₆ t₇ t₈ : List ℕ)
+    → t₁ ≡ old ++ head → t₂ ≡ t₁ ++ first → t₃ ≡ t₂ ++ mid → t₄ ≡ t₃ ++ second → t₅ ≡ t₄ ++ next → t₆ ≡ t₅ ++ third → t₇ ≡ t₆ ++ piece → t₈ ≡ t₇ ++ 125 ∷ []
+    → t₈ ≡ old ++ (head ++ (first ++ (mid ++ (second ++ (next ++ (third ++ (piece ++ 125 ∷ [])))))))
+three_and_piece old head first mid second next third piece t₁ t₂ t₃ t₄ t₅ t₆ t₇ t₈ e₁ e₂ e₃ e₄ e₅ e₆ e₇ e₈ = rw (e₈, e₇, e₆, e₅, e₄, e₃, e₂, e₁) (simp append_assoc)
+
+pub width_of_member : (plain : Bool) (width : ℕ)
+    → members_text true (if plain then no_members else member (codes "width") (number_data width) no_members) ≡ (if plain then [] else codes ",\"width\":" ++ decimal width) ++ 125 ∷ []
+unfolding escape_byte
+width_of_member true width = refl
+width_of_member false width = refl
+
+-- the quoted name of the switch with a number
+pub quoted_at : (names : List (List ℕ)) (p : Problem) (w : ℕ) (name : List ℕ) → names ≡ map quoted_name p.switches → w < length names → name ≡ get_or names w name → name ≡ compact_text (name_data p w)
+quoted_at names p w name is lt at =
+    let many : length names ≡ length p.switches = ap length is ∙ length-map p.switches quoted_name in
+    at ∙ ap (λ ns. get_or ns w name) is ∙ get_or-map quoted_name p.switches w no_switch name (omega (arith, lt, many))
 
 pub format_member : (plain : Bool) (format : ℕ) (behind : Members)
     → members_text true (if plain then behind else member (codes "format") (number_data format) behind) ≡ (if plain then [] else codes ",\"format\":" ++ decimal format) ++ members_text true behind

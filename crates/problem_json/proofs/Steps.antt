@@ -1,9 +1,7 @@
 -- A reader's answer after a step of the grammar: the fault of the step, or what the next step says.
-use Rattle.std.proofs.Common.{◌≡◌, ℕ, suc, ◌<◌, List, length, get_or, drop, drop-cons, Result, Ok, sym, subst}
-use Rattle.serde_json.specs.Data.{Data, item}
-use Rattle.serde_json.specs.View.{view, items_view}
-use Rattle.serde_json.specs.declared.value.Value.{Value}
-use Rattle.serde_json.proofs.Views.{items_len-items_view}
+use Rattle.std.proofs.Common.{◌≡◌, suc, ◌+◌, Result, Ok, ap, sym, subst, ◌∙◌, arith}
+use Rattle.serde_json.specs.Data.{Data, Items, no_items, item}
+use Rattle.serde_json.specs.Events.{items_len}
 use Rattle.problem_json.specs.GrammarResults.{◌>>=◌, add_each, Refuses}
 use Rattle.problem_json.specs.declared.fault.InputFault.{InputFault}
 use Rattle.problem_json.specs.declared.fault.InputFault.TheVariants.{NotJson, Missing, WrongKind, NotWhole, TooMany, TooLarge, NameTwice, UnknownSwitch, LinkTwice, NoSuchLink, SwitchTwice, EndsDiffer, ShortPath, Memory, BadEvent, BadFormat, WidthZero}
@@ -32,16 +30,25 @@ Refuses-step (WidthZero place) g next h = rw h
 pub Refuses-next : {A B : Type 0} (e : InputFault) (g : Result A InputFault) (a : A) (next : A → Result B InputFault) → g ≡ Ok a → Refuses e (next a) → Refuses e (g >>= next)
 Refuses-next e g a next is h = rw is h
 
--- a list from a place on is the value there and the list behind it
-items_at : (vs : List Value) (i : ℕ) (v : Value) → i < length vs → v ≡ get_or vs i v → items_view (drop i vs) ≡ item (view v) (items_view (drop (suc i) vs))
-items_at vs i v below is = rw (drop-cons vs i v below, sym is)
-
 -- the fault at one element is the fault of the list, where what is left adds up to the whole
-pub Refuses-at : {A : Type 0} (e : InputFault) (f : Data → A → Result A InputFault) (vs : List Value) (i : ℕ) (v : Value) (a first : A) → i < length vs → v ≡ get_or vs i v
-    → add_each f (items_view (drop i vs)) a ≡ add_each f (items_view vs) first → Refuses e (f (view v) a) → Refuses e (add_each f (items_view vs) first)
-Refuses-at e f vs i v a first below is left h =
-    subst (λ (g : Result _ InputFault). Refuses e g) left
-    (rw (items_at vs i v below is) (Refuses-step e (f (view v) a) (λ b. add_each f (items_view (drop (suc i) vs)) b) h))
+pub Refuses-at : {A : Type 0} (e : InputFault) (f : Data → A → Result A InputFault) (left rest : Items) (d : Data) (a : A) (all : Result A InputFault) → left ≡ item d rest → add_each f left a ≡ all → Refuses e (f d a) → Refuses e all
+Refuses-at e f left rest d a all is adds h =
+    subst (λ (g : Result _ InputFault). Refuses e g) (sym (ap (λ ds. add_each f ds a) is) ∙ adds)
+    (Refuses-step e (f d a) (λ b. add_each f rest b) h)
 
--- these, and how long a list of values is
-pub ruleset steps = (Refuses-step, Refuses-next, Refuses-at, items_len-items_view)
+-- an element that is added leaves the rest
+pub add_each-next : {A : Type 0} (f : Data → A → Result A InputFault) (left rest : Items) (d : Data) (a b : A) (all : Result A InputFault) → left ≡ item d rest → add_each f left a ≡ all → f d a ≡ Ok b → add_each f rest b ≡ all
+add_each-next f left rest d a b all is adds one = sym (ap (λ g. g >>= λ c. add_each f rest c) one) ∙ sym (ap (λ ds. add_each f ds a) is) ∙ adds
+
+-- where none is left, all are added
+pub add_each-over : {A : Type 0} (f : Data → A → Result A InputFault) (left : Items) (a : A) (all : Result A InputFault) → left ≡ no_items → add_each f left a ≡ all → all ≡ Ok a
+add_each-over f left a all is adds = sym adds ∙ ap (λ ds. add_each f ds a) is
+
+pub items_len-item : (left rest : Items) (d : Data) → left ≡ item d rest → items_len left ≡ items_len rest + 1
+items_len-item left rest d is = let one : suc (items_len rest) ≡ items_len rest + 1 = omega arith in ap items_len is ∙ one
+
+pub items_len-none : (left : Items) → left ≡ no_items → items_len left ≡ 0
+items_len-none left is = ap items_len is
+
+-- these, and how long a list is
+pub ruleset steps = (Refuses-step, Refuses-next, Refuses-at, add_each-next, add_each-over, items_len-item, items_len-none)

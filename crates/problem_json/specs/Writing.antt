@@ -25,6 +25,10 @@ list_data ds = array (items_of ds)
 abbrev pub switch_data : Switch → Data
 switch_data s = object (member (codes "name") (string s.name) (member (codes "table") (number_data s.table) no_members))
 
+-- the name of a switch between quotes
+abbrev pub quoted_name : Switch → List ℕ
+quoted_name s = compact_text (string s.name)
+
 -- the name of the switch with a number
 abbrev pub name_data : Problem → ℕ → Data
 name_data p w = string (switch_at p w).name
@@ -87,6 +91,10 @@ document_text p plan = compact_text (document_data p plan)
 -- the text of the member of a format behind another, or nothing
 abbrev pub format_text : ℕ → List ℕ
 format_text format = if format == 1 then [] else codes ",\"format\":" ++ decimal format
+
+-- the text of the member of a width behind a path, or nothing
+abbrev pub width_text : ℕ → ℕ → List ℕ
+width_text format width = if format == 1 then [] else codes ",\"width\":" ++ decimal width
 
 -- a plan of numbers of 64 bits
 abbrev pub AreWords : List ℕ → Type 0

@@ -10,6 +10,8 @@ mod fault;
 mod key;
 mod place;
 mod read;
+#[cfg(test)]
+mod tests;
 mod writing;
 
 pub use fault::InputFault;

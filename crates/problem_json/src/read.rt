@@ -1,5 +1,6 @@
 ghost use Rattle.std.specs.Prelude.{◌≡◌, ◌+◌, ◌≤◌, length, IfOk, OnOk};
-ghost use Rattle.serde_json.specs.View.{view, items_view};
+ghost use Rattle.serde_json.specs.Events.{items_len};
+ghost use Rattle.json_data.specs.View.{data_of, view, items_view};
 ghost use Rattle.rollout_rules.specs.declared.limits.TheConstants.{MOST_SWITCHES, MOST_LINKS, MOST_FLOWS};
 ghost use Rattle.problem_json.specs.GrammarResults.{Reads, ReadsAs, Leaves, add_each};
 ghost use Rattle.problem_json.specs.GrammarNetwork.{with_one_switch, with_one_link, with_one_flow};
@@ -13,8 +14,6 @@ mod flows;
 mod path;
 mod plans;
 mod scripts;
-#[cfg(test)]
-mod tests;
 mod topology;
 mod values;
 
@@ -25,8 +24,8 @@ use crate::read::flows::add_flow;
 use crate::read::topology::{add_link, add_switch};
 use crate::read::values::{list_of, whole};
 pub use documents::{Document, Scripted, read_document, read_script};
+use json_data::{DataFault, Element, Elements, Scratch};
 use rollout_rules::{MOST_FLOWS, MOST_LINKS, MOST_SWITCHES};
-use serde_json::Value;
 use std::alloc::Global;
 use wan_model::Problem;
 
@@ -42,23 +41,28 @@ use wan_model::Problem;
 pub fn read_problem(alloc: Global, bytes: &[u8]) -> Result<Problem, InputFault>
     ensures { Reads result (problem_in bytes.now) }
 {
-    let value = read_value(alloc, bytes)?;
-    problem_of(alloc, Place::of(Part::Top), &value)
+    let mut scratch = Scratch::new(alloc);
+    let data = read_data(alloc, bytes, &mut scratch)?;
+    problem_of(alloc, Place::of(Part::Top), &data.root())
 }
 
 #[tactic(auto, using(crate::proofs::Text::data_read, crate::proofs::Text::data_refused))]
-fn read_value(alloc: Global, bytes: &[u8]) -> Result<Value, InputFault>
-    ensures { ReadsAs view result (data_in bytes.now) }
+fn read_data<'a>(
+    alloc: Global,
+    bytes: &'a [u8],
+    scratch: &'a mut Scratch,
+) -> Result<json_data::Document<'a>, InputFault>
+    ensures { ReadsAs data_of result (data_in bytes.now) }
 {
-    match Value::from_slice(alloc, bytes) {
-        Ok(value) => Ok(value),
-        Err(e) if e.is_memory() => Err(InputFault::Memory),
-        Err(_) => Err(InputFault::NotJson),
+    match json_data::Document::read(alloc, bytes, scratch) {
+        Ok(data) => Ok(data),
+        Err(DataFault::Memory) => Err(InputFault::Memory),
+        Err(DataFault::NotJson) => Err(InputFault::NotJson),
     }
 }
 
 #[tactic(auto, using(crate::proofs::Steps::steps), unfolding(crate::specs::Grammar::problem_of))]
-fn problem_of(alloc: Global, object: Place, value: &Value) -> Result<Problem, InputFault>
+fn problem_of(alloc: Global, object: Place, value: &Element<'_, '_>) -> Result<Problem, InputFault>
     ensures { Reads result (problem_of object (view value.now)) }
 {
     let mut problem = empty_of(alloc, value)?;
@@ -70,7 +74,7 @@ fn problem_of(alloc: Global, object: Place, value: &Value) -> Result<Problem, In
 
 /// The problem without switches, links and flows, in the format that an object names, or in format 1.
 #[tactic(auto, using(crate::proofs::Steps::steps), unfolding(crate::specs::Grammar::empty_of, crate::specs::Grammar::empty_of_format))]
-fn empty_of(alloc: Global, value: &Value) -> Result<Problem, InputFault>
+fn empty_of(alloc: Global, value: &Element<'_, '_>) -> Result<Problem, InputFault>
     ensures empty { Reads result (empty_of (view value.now)) }
     ensures switches { IfOk result (λ p. length p.switches ≡ 0) }
     ensures links { IfOk result (λ p. length p.links ≡ 0) }
@@ -79,7 +83,7 @@ fn empty_of(alloc: Global, value: &Value) -> Result<Problem, InputFault>
     let Some(format) = value.get(Key::Format.as_str()) else {
         return Ok(Problem::new(alloc));
     };
-    empty_in(alloc, whole(Place::of(Part::Format), format)?)
+    empty_in(alloc, whole(Place::of(Part::Format), &format)?)
 }
 
 #[tactic(auto, unfolding(crate::specs::Grammar::empty_in))]
@@ -97,7 +101,11 @@ fn empty_in(alloc: Global, format: u64) -> Result<Problem, InputFault>
 }
 
 #[tactic(auto, using(crate::proofs::Steps::steps), unfolding(crate::specs::Grammar::with_list))]
-fn read_switches(problem: &mut Problem, object: Place, value: &Value) -> Result<(), InputFault>
+fn read_switches(
+    problem: &mut Problem,
+    object: Place,
+    value: &Element<'_, '_>,
+) -> Result<(), InputFault>
     requires { length problem.old.switches ≡ 0 }
     ensures added { Leaves result problem.new
         (with_list object key.Switches (place_of part.Switches) MOST_SWITCHES with_one_switch (view value.now) problem.old) }
@@ -115,21 +123,26 @@ fn read_switches(problem: &mut Problem, object: Place, value: &Value) -> Result<
 }
 
 #[tactic(auto, using(crate::proofs::Steps::steps))]
-fn add_switches(problem: &mut Problem, switches: &[Value]) -> Result<(), InputFault>
-    requires { length problem.old.switches + length switches.now ≤ MOST_SWITCHES }
+fn add_switches(problem: &mut Problem, switches: Elements<'_, '_>) -> Result<(), InputFault>
+    requires { length problem.old.switches + items_len (items_view switches) ≤ MOST_SWITCHES }
     ensures added { Leaves result problem.new
-        (add_each with_one_switch (items_view switches.now) problem.old) }
+        (add_each with_one_switch (items_view switches.entry) problem.old) }
     ensures links { problem.new.links ≡ problem.old.links }
     ensures flows { problem.new.flows ≡ problem.old.flows }
 {
-    for switch in switches {
-        add_switch(problem, switch)?;
+    let mut left = switches;
+    'each: while let Some(switch) = left.next() {
+        add_switch(problem, &switch)?;
     }
     Ok(())
 }
 
 #[tactic(auto, using(crate::proofs::Steps::steps), unfolding(crate::specs::Grammar::with_list))]
-fn read_links(problem: &mut Problem, object: Place, value: &Value) -> Result<(), InputFault>
+fn read_links(
+    problem: &mut Problem,
+    object: Place,
+    value: &Element<'_, '_>,
+) -> Result<(), InputFault>
     requires { length problem.old.links ≡ 0 }
     ensures added { Leaves result problem.new
         (with_list object key.Links (place_of part.Links) MOST_LINKS with_one_link (view value.now) problem.old) }
@@ -146,14 +159,15 @@ fn read_links(problem: &mut Problem, object: Place, value: &Value) -> Result<(),
 }
 
 #[tactic(auto, using(crate::proofs::Steps::steps))]
-fn add_links(problem: &mut Problem, links: &[Value]) -> Result<(), InputFault>
-    requires { length problem.old.links + length links.now ≤ MOST_LINKS }
+fn add_links(problem: &mut Problem, links: Elements<'_, '_>) -> Result<(), InputFault>
+    requires { length problem.old.links + items_len (items_view links) ≤ MOST_LINKS }
     ensures added { Leaves result problem.new
-        (add_each with_one_link (items_view links.now) problem.old) }
+        (add_each with_one_link (items_view links.entry) problem.old) }
     ensures flows { problem.new.flows ≡ problem.old.flows }
 {
-    for link in links {
-        add_link(problem, link)?;
+    let mut left = links;
+    'each: while let Some(link) = left.next() {
+        add_link(problem, &link)?;
     }
     Ok(())
 }
@@ -163,7 +177,7 @@ fn read_flows(
     alloc: Global,
     problem: &mut Problem,
     object: Place,
-    value: &Value,
+    value: &Element<'_, '_>,
 ) -> Result<(), InputFault>
     requires { length problem.old.flows ≡ 0 }
     ensures { Leaves result problem.new
@@ -180,13 +194,18 @@ fn read_flows(
 }
 
 #[tactic(auto, using(crate::proofs::Steps::steps))]
-fn add_flows(alloc: Global, problem: &mut Problem, flows: &[Value]) -> Result<(), InputFault>
-    requires { length problem.old.flows + length flows.now ≤ MOST_FLOWS }
+fn add_flows(
+    alloc: Global,
+    problem: &mut Problem,
+    flows: Elements<'_, '_>,
+) -> Result<(), InputFault>
+    requires { length problem.old.flows + items_len (items_view flows) ≤ MOST_FLOWS }
     ensures { Leaves result problem.new
-        (add_each with_one_flow (items_view flows.now) problem.old) }
+        (add_each with_one_flow (items_view flows.entry) problem.old) }
 {
-    for flow in flows {
-        add_flow(alloc, problem, flow)?;
+    let mut left = flows;
+    'each: while let Some(flow) = left.next() {
+        add_flow(alloc, problem, &flow)?;
     }
     Ok(())
 }

@@ -2,8 +2,6 @@ mod pieces;
 mod plan;
 mod problem;
 mod round_trip;
-#[cfg(test)]
-mod tests;
 
 ghost use Rattle.std.specs.Prelude.{◌≡◌, IfOk, Ok};
 ghost use Rattle.rollout_rules.specs.Network.{IsNetwork};

@@ -1,19 +1,16 @@
-ghost use Rattle.serde_json.specs.View.{view};
+ghost use Rattle.json_data.specs.View.{view};
 ghost use Rattle.problem_json.specs.GrammarResults.{Reads};
 ghost use Rattle.problem_json.specs.GrammarDocuments.{problem_part, plan_part, document_of, scripted_of, document_in, scripted_in};
 
-#[cfg(test)]
-mod tests;
-
-use super::{problem_of, read_value};
+use super::{problem_of, read_data};
 use crate::fault::InputFault;
 use crate::key::Key;
 use crate::place::{Part, Place};
 use crate::read::plans::plan_of;
 use crate::read::scripts::script_of;
 use crate::read::values::member;
+use json_data::{Element, Scratch};
 use rollout_rules::Script;
-use serde_json::Value;
 use std::alloc::Global;
 use std::marker::Model;
 use wan_model::{Plan, Problem};
@@ -62,8 +59,9 @@ impl Model for Scripted {
 pub fn read_document(alloc: Global, bytes: &[u8]) -> Result<Document, InputFault>
     ensures { Reads result (document_in bytes.now) }
 {
-    let value = read_value(alloc, bytes)?;
-    document_of(alloc, &value)
+    let mut scratch = Scratch::new(alloc);
+    let data = read_data(alloc, bytes, &mut scratch)?;
+    document_of(alloc, &data.root())
 }
 
 /// Reads a document with a `script` in the same object.
@@ -76,12 +74,13 @@ pub fn read_document(alloc: Global, bytes: &[u8]) -> Result<Document, InputFault
 pub fn read_script(alloc: Global, bytes: &[u8]) -> Result<Scripted, InputFault>
     ensures { Reads result (scripted_in bytes.now) }
 {
-    let value = read_value(alloc, bytes)?;
-    scripted_of(alloc, &value)
+    let mut scratch = Scratch::new(alloc);
+    let data = read_data(alloc, bytes, &mut scratch)?;
+    scripted_of(alloc, &data.root())
 }
 
 #[tactic(auto, using(crate::proofs::Steps::steps), unfolding(crate::specs::GrammarDocuments::document_of))]
-fn document_of(alloc: Global, value: &Value) -> Result<Document, InputFault>
+fn document_of(alloc: Global, value: &Element<'_, '_>) -> Result<Document, InputFault>
     ensures { Reads result (document_of (view value.now)) }
 {
     let problem = problem_part(alloc, value)?;
@@ -90,22 +89,22 @@ fn document_of(alloc: Global, value: &Value) -> Result<Document, InputFault>
 }
 
 #[tactic(auto, using(crate::proofs::Steps::steps), unfolding(crate::specs::GrammarDocuments::problem_part))]
-fn problem_part(alloc: Global, value: &Value) -> Result<Problem, InputFault>
+fn problem_part(alloc: Global, value: &Element<'_, '_>) -> Result<Problem, InputFault>
     ensures { Reads result (problem_part (view value.now)) }
 {
     let problem = member(Place::of(Part::Top), Key::Problem, value)?;
-    problem_of(alloc, Place::of(Part::Problem), problem)
+    problem_of(alloc, Place::of(Part::Problem), &problem)
 }
 
 #[tactic(auto, using(crate::proofs::Steps::steps), unfolding(crate::specs::GrammarDocuments::plan_part))]
-fn plan_part(alloc: Global, value: &Value) -> Result<Plan, InputFault>
+fn plan_part(alloc: Global, value: &Element<'_, '_>) -> Result<Plan, InputFault>
     ensures { Reads result (plan_part (view value.now)) }
 {
-    plan_of(alloc, member(Place::of(Part::Top), Key::Plan, value)?)
+    plan_of(alloc, &member(Place::of(Part::Top), Key::Plan, value)?)
 }
 
 #[tactic(auto, using(crate::proofs::Steps::steps), unfolding(crate::specs::GrammarDocuments::scripted_of))]
-fn scripted_of(alloc: Global, value: &Value) -> Result<Scripted, InputFault>
+fn scripted_of(alloc: Global, value: &Element<'_, '_>) -> Result<Scripted, InputFault>
     ensures { Reads result (scripted_of (view value.now)) }
 {
     let document = document_of(alloc, value)?;

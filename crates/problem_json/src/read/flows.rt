@@ -1,5 +1,6 @@
 ghost use Rattle.std.specs.Prelude.{◌≡◌, ◌+◌, ◌-◌, ◌<◌, ◌≤◌, ◌==◌, ◌&&◌, length, slice_index, OnOk};
-ghost use Rattle.serde_json.specs.View.{view, items_view};
+ghost use Rattle.serde_json.specs.Events.{items_len};
+ghost use Rattle.json_data.specs.View.{view, items_view};
 ghost use Rattle.rollout_rules.specs.declared.limits.TheConstants.{MOST_FLOWS, MOST_TUNNELS, MOST_TUNNELS_OF_FLOW};
 ghost use Rattle.rollout_rules.specs.Building.{has_ends, last_flow};
 ghost use Rattle.problem_json.specs.GrammarResults.{Leaves, add_each};
@@ -11,9 +12,9 @@ use crate::key::Key;
 use crate::place::{Part, Place};
 use crate::read::path::{of_tunnel, path_of};
 use crate::read::values::{list_of, name_of, rate_of, width_of};
+use json_data::{Element, Elements};
 use lists::Ids;
 use rollout_rules::{MOST_TUNNELS, MOST_TUNNELS_OF_FLOW};
-use serde_json::Value;
 use std::alloc::Global;
 use wan_model::Problem;
 
@@ -22,7 +23,7 @@ use wan_model::Problem;
 pub(super) fn add_flow(
     alloc: Global,
     problem: &mut Problem,
-    value: &Value,
+    value: &Element<'_, '_>,
 ) -> Result<(), InputFault>
     requires { length problem.old.flows < MOST_FLOWS }
     ensures added { Leaves result problem.new (with_one_flow (view value.now) problem.old) }
@@ -48,23 +49,32 @@ pub(super) fn add_flow(
 
 /// Adds tunnels to the last flow, in which there is room for them.
 #[tactic(auto, using(crate::proofs::Steps::steps, crate::proofs::Growth::grows_on))]
-fn add_tunnels(alloc: Global, problem: &mut Problem, tunnels: &[Value]) -> Result<(), InputFault>
+fn add_tunnels(
+    alloc: Global,
+    problem: &mut Problem,
+    tunnels: Elements<'_, '_>,
+) -> Result<(), InputFault>
     requires some_flow { 0 < length problem.old.flows }
-    requires few { tunnels_of_last problem.old + length tunnels.now ≤ MOST_TUNNELS_OF_FLOW }
-    requires room { length problem.old.tunnels + length tunnels.now ≤ MOST_TUNNELS }
+    requires few { tunnels_of_last problem.old + items_len (items_view tunnels) ≤ MOST_TUNNELS_OF_FLOW }
+    requires room { length problem.old.tunnels + items_len (items_view tunnels) ≤ MOST_TUNNELS }
     ensures added { Leaves result problem.new
-        (add_each with_one_tunnel (items_view tunnels.now) problem.old) }
-    ensures grown { OnOk result (HasMoreTunnels problem.old problem.new (length tunnels.now)) }
+        (add_each with_one_tunnel (items_view tunnels.entry) problem.old) }
+    ensures grown { OnOk result (HasMoreTunnels problem.old problem.new (items_len (items_view tunnels.entry))) }
 {
-    for tunnel in tunnels {
-        add_tunnel(alloc, problem, tunnel)?;
+    let mut left = tunnels;
+    'each: while let Some(tunnel) = left.next() {
+        add_tunnel(alloc, problem, &tunnel)?;
     }
     Ok(())
 }
 
 /// Adds a tunnel to the last flow.
 #[tactic(auto, using(crate::proofs::Steps::steps, crate::proofs::Growth::tunnel_grows), unfolding(crate::specs::GrammarNetwork::with_one_tunnel))]
-fn add_tunnel(alloc: Global, problem: &mut Problem, value: &Value) -> Result<(), InputFault>
+fn add_tunnel(
+    alloc: Global,
+    problem: &mut Problem,
+    value: &Element<'_, '_>,
+) -> Result<(), InputFault>
     requires some_flow { 0 < length problem.old.flows }
     requires few { tunnels_of_last problem.old < MOST_TUNNELS_OF_FLOW }
     requires room { length problem.old.tunnels < MOST_TUNNELS }

@@ -1,6 +1,7 @@
 ghost use Rattle.std.specs.Prelude.{◌≡◌, ◌+◌, ◌<◌, ◌≤◌, ◌==◌, length, IfOk, OnOk};
 ghost use Rattle.std.specs.List.{list_any};
-ghost use Rattle.serde_json.specs.View.{view, items_view};
+ghost use Rattle.serde_json.specs.Events.{items_len};
+ghost use Rattle.json_data.specs.View.{view, items_view};
 ghost use Rattle.rollout_rules.specs.declared.limits.TheConstants.{MOST_HOPS};
 ghost use Rattle.rollout_rules.specs.Building.{IsRoute, last_flow};
 ghost use Rattle.problem_json.specs.GrammarResults.{Reads, Leaves, add_each};
@@ -11,9 +12,9 @@ use crate::key::Key;
 use crate::place::{Part, Place};
 use crate::read::topology::switch_named;
 use crate::read::values::list_of;
+use json_data::{Element, Elements};
 use lists::Ids;
 use rollout_rules::MOST_HOPS;
-use serde_json::Value;
 use std::alloc::Global;
 use wan_model::Problem;
 
@@ -49,7 +50,11 @@ fn of_hop(problem: &Problem, path: &Ids) -> Place
 
 /// The path of a tunnel: switches by their numbers, each joined to the next by a link.
 #[tactic(auto, using(crate::proofs::Steps::steps, crate::proofs::Routes::route_none), unfolding(crate::specs::GrammarNetwork::path_of))]
-pub(super) fn path_of(alloc: Global, problem: &Problem, value: &Value) -> Result<Ids, InputFault>
+pub(super) fn path_of(
+    alloc: Global,
+    problem: &Problem,
+    value: &Element<'_, '_>,
+) -> Result<Ids, InputFault>
     requires { 0 < length problem.now.flows }
     ensures path { Reads result (path_of problem.now (view value.now)) }
     ensures route { IfOk result (λ path. IsRoute problem.now path) }
@@ -67,24 +72,25 @@ pub(super) fn path_of(alloc: Global, problem: &Problem, value: &Value) -> Result
 }
 
 #[tactic(auto, using(crate::proofs::Steps::steps))]
-fn add_hops(problem: &Problem, names: &[Value], path: &mut Ids) -> Result<(), InputFault>
+fn add_hops(problem: &Problem, names: Elements<'_, '_>, path: &mut Ids) -> Result<(), InputFault>
     requires some_flow { 0 < length problem.now.flows }
-    requires room { length path.old + length names.now ≤ MOST_HOPS }
+    requires room { length path.old + items_len (items_view names) ≤ MOST_HOPS }
     requires route { IsRoute problem.now path.old }
     ensures hops { Leaves result path.new
-        (add_each (with_one_hop problem.now) (items_view names.now) path.old) }
+        (add_each (with_one_hop problem.now) (items_view names.entry) path.old) }
     ensures route { OnOk result (IsRoute problem.now path.new) }
-    ensures longer { OnOk result (length path.new ≡ length path.old + length names.now) }
+    ensures longer { OnOk result (length path.new ≡ length path.old + items_len (items_view names.entry)) }
 {
-    for name in names {
-        add_hop(problem, name, path)?;
+    let mut left = names;
+    'each: while let Some(name) = left.next() {
+        add_hop(problem, &name, path)?;
     }
     Ok(())
 }
 
 /// Adds a switch to a path.
 #[tactic(auto, using(crate::proofs::Steps::steps, crate::proofs::Routes::route_more), unfolding(crate::specs::GrammarNetwork::with_one_hop))]
-fn add_hop(problem: &Problem, value: &Value, path: &mut Ids) -> Result<(), InputFault>
+fn add_hop(problem: &Problem, value: &Element<'_, '_>, path: &mut Ids) -> Result<(), InputFault>
     requires some_flow { 0 < length problem.now.flows }
     requires room { length path.old < MOST_HOPS }
     requires route { IsRoute problem.now path.old }

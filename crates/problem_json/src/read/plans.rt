@@ -1,5 +1,6 @@
 ghost use Rattle.std.specs.Prelude.{◌≡◌, ◌+◌, ◌<◌, ◌≤◌, length, OnOk};
-ghost use Rattle.serde_json.specs.View.{view, items_view};
+ghost use Rattle.serde_json.specs.Events.{items_len};
+ghost use Rattle.json_data.specs.View.{view, items_view};
 ghost use Rattle.rollout_rules.specs.declared.limits.TheConstants.{MOST_STAGES, MOST_TUNNELS};
 ghost use Rattle.problem_json.specs.GrammarResults.{Reads, Leaves, add_each};
 ghost use Rattle.problem_json.specs.GrammarPlans.{with_one_mark, marks_of, with_one_rate, rates_of, stage_of, with_one_stage, plan_of};
@@ -8,15 +9,15 @@ use crate::fault::InputFault;
 use crate::key::Key;
 use crate::place::{Part, Place};
 use crate::read::values::{list_of, number, number_of};
+use json_data::{Element, Elements};
 use lists::{Marks, Nums};
 use rollout_rules::{LARGEST_PLAN_RATE, LARGEST_SCALE, MOST_STAGES, MOST_TUNNELS};
-use serde_json::Value;
 use std::alloc::Global;
 use wan_model::{Plan, Stage};
 
 /// The plan that an object is.
 #[tactic(auto, using(crate::proofs::Steps::steps), unfolding(crate::specs::GrammarPlans::plan_of))]
-pub(super) fn plan_of(alloc: Global, value: &Value) -> Result<Plan, InputFault>
+pub(super) fn plan_of(alloc: Global, value: &Element<'_, '_>) -> Result<Plan, InputFault>
     ensures { Reads result (plan_of (view value.now)) }
 {
     let object = Place::of(Part::PlanTop);
@@ -30,18 +31,19 @@ pub(super) fn plan_of(alloc: Global, value: &Value) -> Result<Plan, InputFault>
 }
 
 #[tactic(auto, using(crate::proofs::Steps::steps))]
-fn add_stages(alloc: Global, plan: &mut Plan, stages: &[Value]) -> Result<(), InputFault>
-    requires { length plan.old.stages + length stages.now ≤ MOST_STAGES }
-    ensures { Leaves result plan.new (add_each with_one_stage (items_view stages.now) plan.old) }
+fn add_stages(alloc: Global, plan: &mut Plan, stages: Elements<'_, '_>) -> Result<(), InputFault>
+    requires { length plan.old.stages + items_len (items_view stages) ≤ MOST_STAGES }
+    ensures { Leaves result plan.new (add_each with_one_stage (items_view stages.entry) plan.old) }
 {
-    for stage in stages {
-        add_stage(alloc, plan, stage)?;
+    let mut left = stages;
+    'each: while let Some(stage) = left.next() {
+        add_stage(alloc, plan, &stage)?;
     }
     Ok(())
 }
 
 #[tactic(auto, using(crate::proofs::Steps::steps), unfolding(crate::specs::GrammarPlans::with_one_stage))]
-fn add_stage(alloc: Global, plan: &mut Plan, value: &Value) -> Result<(), InputFault>
+fn add_stage(alloc: Global, plan: &mut Plan, value: &Element<'_, '_>) -> Result<(), InputFault>
     requires { length plan.old.stages < MOST_STAGES }
     ensures added { Leaves result plan.new (with_one_stage (view value.now) plan.old) }
     ensures longer { OnOk result (length plan.new.stages ≡ length plan.old.stages + 1) }
@@ -54,7 +56,7 @@ fn add_stage(alloc: Global, plan: &mut Plan, value: &Value) -> Result<(), InputF
 
 #[tactic(auto, using(crate::proofs::Steps::steps), unfolding(crate::specs::GrammarPlans::stage_of))]
 /// The stage with a number.
-fn stage_of(alloc: Global, stage: u32, value: &Value) -> Result<Stage, InputFault>
+fn stage_of(alloc: Global, stage: u32, value: &Element<'_, '_>) -> Result<Stage, InputFault>
     ensures { Reads result (stage_of stage (view value.now)) }
 {
     let installed = marks_of(alloc, stage, value)?;
@@ -63,7 +65,7 @@ fn stage_of(alloc: Global, stage: u32, value: &Value) -> Result<Stage, InputFaul
 }
 
 #[tactic(auto, using(crate::proofs::Steps::steps), unfolding(crate::specs::GrammarPlans::marks_of))]
-fn marks_of(alloc: Global, stage: u32, value: &Value) -> Result<Marks, InputFault>
+fn marks_of(alloc: Global, stage: u32, value: &Element<'_, '_>) -> Result<Marks, InputFault>
     ensures { Reads result (marks_of stage (view value.now)) }
 {
     let object = Place::at(Part::Stage, stage);
@@ -75,18 +77,19 @@ fn marks_of(alloc: Global, stage: u32, value: &Value) -> Result<Marks, InputFaul
 }
 
 #[tactic(auto, using(crate::proofs::Steps::steps))]
-fn add_marks(stage: u32, marks: &mut Marks, elements: &[Value]) -> Result<(), InputFault>
-    requires { length marks.old + length elements.now ≤ MOST_TUNNELS }
-    ensures { Leaves result marks.new (add_each (with_one_mark stage) (items_view elements.now) marks.old) }
+fn add_marks(stage: u32, marks: &mut Marks, elements: Elements<'_, '_>) -> Result<(), InputFault>
+    requires { length marks.old + items_len (items_view elements) ≤ MOST_TUNNELS }
+    ensures { Leaves result marks.new (add_each (with_one_mark stage) (items_view elements.entry) marks.old) }
 {
-    for element in elements {
-        add_mark(stage, marks, element)?;
+    let mut left = elements;
+    'each: while let Some(element) = left.next() {
+        add_mark(stage, marks, &element)?;
     }
     Ok(())
 }
 
 #[tactic(auto, using(crate::proofs::Steps::steps), unfolding(crate::specs::GrammarPlans::with_one_mark))]
-fn add_mark(stage: u32, marks: &mut Marks, value: &Value) -> Result<(), InputFault>
+fn add_mark(stage: u32, marks: &mut Marks, value: &Element<'_, '_>) -> Result<(), InputFault>
     requires { length marks.old < MOST_TUNNELS }
     ensures added { Leaves result marks.new (with_one_mark stage (view value.now) marks.old) }
     ensures longer { OnOk result (length marks.new ≡ length marks.old + 1) }
@@ -98,7 +101,7 @@ fn add_mark(stage: u32, marks: &mut Marks, value: &Value) -> Result<(), InputFau
 }
 
 #[tactic(auto, using(crate::proofs::Steps::steps), unfolding(crate::specs::GrammarPlans::rates_of))]
-fn rates_of(alloc: Global, stage: u32, value: &Value) -> Result<Nums, InputFault>
+fn rates_of(alloc: Global, stage: u32, value: &Element<'_, '_>) -> Result<Nums, InputFault>
     ensures { Reads result (rates_of stage (view value.now)) }
 {
     let object = Place::at(Part::Stage, stage);
@@ -110,18 +113,19 @@ fn rates_of(alloc: Global, stage: u32, value: &Value) -> Result<Nums, InputFault
 }
 
 #[tactic(auto, using(crate::proofs::Steps::steps))]
-fn add_rates(stage: u32, rates: &mut Nums, elements: &[Value]) -> Result<(), InputFault>
-    requires { length rates.old + length elements.now ≤ MOST_TUNNELS }
-    ensures { Leaves result rates.new (add_each (with_one_rate stage) (items_view elements.now) rates.old) }
+fn add_rates(stage: u32, rates: &mut Nums, elements: Elements<'_, '_>) -> Result<(), InputFault>
+    requires { length rates.old + items_len (items_view elements) ≤ MOST_TUNNELS }
+    ensures { Leaves result rates.new (add_each (with_one_rate stage) (items_view elements.entry) rates.old) }
 {
-    for element in elements {
-        add_rate(stage, rates, element)?;
+    let mut left = elements;
+    'each: while let Some(element) = left.next() {
+        add_rate(stage, rates, &element)?;
     }
     Ok(())
 }
 
 #[tactic(auto, using(crate::proofs::Steps::steps), unfolding(crate::specs::GrammarPlans::with_one_rate))]
-fn add_rate(stage: u32, rates: &mut Nums, value: &Value) -> Result<(), InputFault>
+fn add_rate(stage: u32, rates: &mut Nums, value: &Element<'_, '_>) -> Result<(), InputFault>
     requires { length rates.old < MOST_TUNNELS }
     ensures added { Leaves result rates.new (with_one_rate stage (view value.now) rates.old) }
     ensures longer { OnOk result (length rates.new ≡ length rates.old + 1) }

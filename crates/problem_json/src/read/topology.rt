@@ -1,5 +1,5 @@
 ghost use Rattle.std.specs.Prelude.{◌≡◌, ◌+◌, ◌<◌, length, IfOk, OnOk};
-ghost use Rattle.serde_json.specs.View.{view};
+ghost use Rattle.json_data.specs.View.{view};
 ghost use Rattle.rollout_rules.specs.declared.limits.TheConstants.{MOST_SWITCHES, MOST_LINKS};
 ghost use Rattle.problem_json.specs.GrammarResults.{Reads, Leaves};
 ghost use Rattle.problem_json.specs.GrammarNetwork.{with_one_switch, with_one_link, switch_named, end_of};
@@ -8,13 +8,13 @@ use crate::fault::InputFault;
 use crate::key::Key;
 use crate::place::{Part, Place};
 use crate::read::values::{member, name_of, number_of, text_of};
+use json_data::Element;
 use rollout_rules::{LARGEST_CAPACITY, LARGEST_TABLE};
-use serde_json::Value;
 use wan_model::Problem;
 
 /// Adds a switch.
 #[tactic(auto, using(crate::proofs::Steps::steps), unfolding(crate::specs::GrammarNetwork::with_one_switch))]
-pub(super) fn add_switch(problem: &mut Problem, value: &Value) -> Result<(), InputFault>
+pub(super) fn add_switch(problem: &mut Problem, value: &Element<'_, '_>) -> Result<(), InputFault>
     requires { length problem.old.switches < MOST_SWITCHES }
     ensures added { Leaves result problem.new (with_one_switch (view value.now) problem.old) }
     ensures switches { OnOk result (length problem.new.switches ≡ length problem.old.switches + 1) }
@@ -39,7 +39,7 @@ pub(super) fn add_switch(problem: &mut Problem, value: &Value) -> Result<(), Inp
 pub(super) fn switch_named(
     place: Place,
     problem: &Problem,
-    value: &Value,
+    value: &Element<'_, '_>,
 ) -> Result<u32, InputFault>
     ensures switch { Reads result (switch_named place problem.now (view value.now)) }
     ensures below { IfOk result (λ w. w < length problem.now.switches) }
@@ -52,7 +52,12 @@ pub(super) fn switch_named(
 
 /// The switch that the object of a new link names at a key.
 #[tactic(auto, using(crate::proofs::Steps::steps), unfolding(crate::specs::GrammarNetwork::end_of))]
-fn end_of(key: Key, part: Part, problem: &Problem, value: &Value) -> Result<u32, InputFault>
+fn end_of(
+    key: Key,
+    part: Part,
+    problem: &Problem,
+    value: &Element<'_, '_>,
+) -> Result<u32, InputFault>
     requires { length problem.now.links < MOST_LINKS }
     ensures switch { Reads result (end_of key part problem.now (view value.now)) }
     ensures below { IfOk result (λ w. w < length problem.now.switches) }
@@ -60,12 +65,12 @@ fn end_of(key: Key, part: Part, problem: &Problem, value: &Value) -> Result<u32,
     let number = problem.links().len() as u32;
     let object = Place::at(Part::Link, number);
     let place = Place::at(part, number);
-    switch_named(place, problem, member(object, key, value)?)
+    switch_named(place, problem, &member(object, key, value)?)
 }
 
 /// Adds a link.
 #[tactic(auto, using(crate::proofs::Steps::steps), unfolding(crate::specs::GrammarNetwork::with_one_link))]
-pub(super) fn add_link(problem: &mut Problem, value: &Value) -> Result<(), InputFault>
+pub(super) fn add_link(problem: &mut Problem, value: &Element<'_, '_>) -> Result<(), InputFault>
     requires { length problem.old.links < MOST_LINKS }
     ensures added { Leaves result problem.new (with_one_link (view value.now) problem.old) }
     ensures links { OnOk result (length problem.new.links ≡ length problem.old.links + 1) }

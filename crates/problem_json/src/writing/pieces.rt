@@ -1,6 +1,6 @@
-ghost use Rattle.std.specs.Prelude.{◌≡◌, ◌++◌, OnOk, decimal, false, nat_lt, IsUtf8};
-ghost use Rattle.serde_json.specs.View.{view};
-ghost use Rattle.serde_json.specs.Written.{has_float, comma_if, compact_text};
+ghost use Rattle.std.specs.Prelude.{◌≡◌, ◌++◌, OnOk, decimal, nat_lt, IsUtf8};
+ghost use Rattle.serde_json.specs.Data.{string};
+ghost use Rattle.serde_json.specs.Written.{comma_if, compact_text};
 
 use itoa::Buffer;
 use lists::{Memory, Text};
@@ -24,12 +24,11 @@ pub fn push_number(text: &mut Text, number: u64) -> Result<(), Memory>
     text.push_str(buffer.format(number))
 }
 
-/// Adds the text of one row.
-pub fn push_row(alloc: Global, text: &mut Text, row: Value) -> Result<(), Memory>
-    requires { has_float (view row) ≡ false }
-    ensures { OnOk result (text.new ≡ text.old ++ compact_text (view row)) }
+/// Adds a name between quotes, as JSON escapes it (RFC 8259, section 7).
+pub fn push_name(alloc: Global, text: &mut Text, name: &str) -> Result<(), Memory>
+    ensures { OnOk result (text.new ≡ text.old ++ compact_text (string name.now)) }
 {
-    let piece = row.to_string(alloc)?;
+    let piece = Value::try_from_str(alloc, name)?.to_string(alloc)?;
     text.push_str(piece.as_str())
 }
 

@@ -1,12 +1,16 @@
-use Rattle.std.proofs.Common.{◌≡◌, ◌+◌, length, drop}
-use Rattle.serde_json.specs.View.{items_view}
+use Rattle.std.proofs.Common.{◌≡◌, ◌+◌, length}
+use Rattle.serde_json.specs.Events.{items_len}
+use Rattle.json_data.specs.View.{items_view}
 use Rattle.problem_json.specs.GrammarResults.{add_each}
 use Rattle.problem_json.specs.GrammarNetwork.{with_one_switch}
 use Rattle.problem_json.proofs.read.add_switches.Given as goal
 
-abbrev pub invariant-loop-switch : goal.invariant-loop-switch
-invariant-loop-switch l =
-    (length l.problem.switches ≡ length l.initial.problem.switches + l.switch-index)
+abbrev pub invariant-each : goal.invariant-each
+invariant-each l =
+    (length l.problem.switches + items_len (items_view l.left) ≡ length l.initial.problem.switches + items_len (items_view l.switches))
     × (l.problem.links ≡ l.initial.problem.links)
     × (l.problem.flows ≡ l.initial.problem.flows)
-    × (add_each with_one_switch (items_view (drop l.switch-index l.switches)) l.problem ≡ add_each with_one_switch (items_view l.switches) l.initial.problem)
+    × (add_each with_one_switch (items_view l.left) l.problem ≡ add_each with_one_switch (items_view l.switches) l.initial.problem)
+
+abbrev pub decreases-each : goal.decreases-each
+decreases-each l = items_len (items_view l.left)

@@ -1,10 +1,14 @@
-use Rattle.std.proofs.Common.{◌≡◌, ◌+◌, length, drop}
-use Rattle.serde_json.specs.View.{items_view}
+use Rattle.std.proofs.Common.{◌≡◌, ◌+◌, length}
+use Rattle.serde_json.specs.Events.{items_len}
+use Rattle.json_data.specs.View.{items_view}
 use Rattle.problem_json.specs.GrammarResults.{add_each}
 use Rattle.problem_json.specs.GrammarPlans.{with_one_mark}
 use Rattle.problem_json.proofs.read.plans.add_marks.Given as goal
 
-abbrev pub invariant-loop-element : goal.invariant-loop-element
-invariant-loop-element l =
-    (length l.marks ≡ length l.initial.marks + l.element-index)
-    × (add_each (with_one_mark l.stage) (items_view (drop l.element-index l.elements)) l.marks ≡ add_each (with_one_mark l.stage) (items_view l.elements) l.initial.marks)
+abbrev pub invariant-each : goal.invariant-each
+invariant-each l =
+    (length l.marks + items_len (items_view l.left) ≡ length l.initial.marks + items_len (items_view l.elements))
+    × (add_each (with_one_mark l.stage) (items_view l.left) l.marks ≡ add_each (with_one_mark l.stage) (items_view l.elements) l.initial.marks)
+
+abbrev pub decreases-each : goal.decreases-each
+decreases-each l = items_len (items_view l.left)

@@ -16,11 +16,11 @@ pub push_tunnels-requires-clause-inside : goal.push_tunnels-requires-clause-insi
 push_tunnels-requires-clause-inside c =
     let p = c.args.problem.now in
     let row : c.index-flows-number.result ≡ flow_at p c.args.number =
-    get_or_read_under p.flows c.args.number (length p.flows) c.index-flows-number.result no_flow (c.index-flows-number.is ∙ ap (λ fs. slice_index_or fs c.args.number c.index-flows-number.result) c.flows.ensures.list) c.requires refl in
+    get_or_read_under p.flows c.args.number (length p.flows) c.index-flows-number.result no_flow (c.index-flows-number.is ∙ ap (λ fs. slice_index_or fs c.args.number c.index-flows-number.result) c.flows.ensures.list) c.requires.inside refl in
     let first : c.flow.inside.first ≡ (flow_at p c.args.number).first = ap (λ (f : Flow). f.first) (c.flow.view_is ∙ row) in
     let tunnels : c.flow.inside.tunnels ≡ (flow_at p c.args.number).tunnels = ap (λ (f : Flow). f.tunnels) (c.flow.view_is ∙ row) in
     let flows = c.flows.ensures.network.flows in
-    omega (arith, first, tunnels, flows.in_order c.args.number c.requires, flows.all, sum_below-up (suc c.args.number) (length p.flows) (tunnels_of p) c.requires)
+    omega (arith, first, tunnels, flows.in_order c.args.number c.requires.inside, flows.all, sum_below-up (suc c.args.number) (length p.flows) (tunnels_of p) c.requires.inside)
 
 pub returns : goal.returns
 unfolding escape_byte
@@ -28,7 +28,7 @@ returns c =
     let p = c.args.problem.now in
     let f = c.args.number in
     let row : c.index-flows-number.result ≡ flow_at p f =
-    get_or_read_under p.flows f (length p.flows) c.index-flows-number.result no_flow (c.index-flows-number.is ∙ ap (λ fs. slice_index_or fs f c.index-flows-number.result) c.flows.ensures.list) c.requires refl in
+    get_or_read_under p.flows f (length p.flows) c.index-flows-number.result no_flow (c.index-flows-number.is ∙ ap (λ fs. slice_index_or fs f c.index-flows-number.result) c.flows.ensures.list) c.requires.inside refl in
     let first : c.flow.inside.first ≡ (flow_at p f).first = ap (λ (x : Flow). x.first) (c.flow.view_is ∙ row) in
     let count : c.flow.inside.first + c.flow.inside.tunnels - c.flow.inside.first ≡ (flow_at p f).tunnels = omega (arith, ap (λ (x : Flow). x.tunnels) (c.flow.view_is ∙ row)) in
     let name : c.as_str.result.now ≡ (flow_at p f).name = c.as_str.ensures ∙ ap (λ (x : Flow). x.name) (c.flow.view_is ∙ row) in

@@ -22,6 +22,6 @@ returns-clause-text c =
     c.push_str.new.self c.push_flows.new.text c.push_format.new.text c.push_str-2.new.self c.push_links.new.text c.push_str-3.new.self c.push_switches.new.text c.push_str-4.new.self
     c.in_ok-push_str.ensures.ok c.in_ok-push_flows.ensures (c.in_ok-push_format.ensures ∙ ap (λ n. c.push_flows.new.text ++ format_text n) c.format.ensures.value)
     c.in_ok-push_str-2.ensures.ok c.in_ok-push_links.ensures c.in_ok-push_str-3.ensures.ok
-    (c.in_ok-push_switches.ensures ∙ ap (λ ss. c.push_str-3.new.self ++ compact_text (list_data (map switch_data ss))) c.switches.ensures.list) last
+    (c.in_ok-push_switches.ensures ∙ ap (λ ss. c.push_str-3.new.self ++ compact_text (list_data (map switch_data ss))) c.switches-2.ensures.list) last
     ∙ ap (λ t. old ++ (codes "{\"flows\":" ++ (compact_text flows ++ t))) (sym (format_member (p.format == 1) p.format behind)))
     c.push_str-4.ensures.ok

@@ -1,0 +1,4 @@
+mod Values
+mod Grown
+mod Reading
+mod Found

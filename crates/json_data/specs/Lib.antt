@@ -1,0 +1,4 @@
+pub mod Nodes
+pub mod Growth
+pub mod View
+pub mod Found

@@ -1,0 +1,52 @@
+ghost use Rattle.std.specs.Prelude.{◌≡◌, MatchOption};
+ghost use Rattle.serde_json.specs.Data.{no_items, item};
+ghost use Rattle.serde_json.specs.Events.{items_len};
+ghost use Rattle.json_data.specs.Nodes.{items_at};
+
+use crate::element::Element;
+use crate::node::{Node, behind};
+
+/// What is left of an array's elements.
+#[derive(Clone, Copy, Drop)]
+pub struct Elements<'t, 'a> {
+    left: usize,
+    // From the next one's first node on.
+    nodes: &'t [Node<'a>],
+}
+
+impl<'t, 'a> Elements<'t, 'a> {
+    ghost use Rattle.json_data.specs.View.{view, items_view};
+
+    pub(crate) fn first(left: usize, nodes: &'t [Node<'a>]) -> Elements<'t, 'a>
+        ensures { items_view result ≡ items_at left nodes.now }
+    {
+        Elements { left, nodes }
+    }
+
+    /// How many are left.
+    pub fn len(&self) -> usize
+        ensures { result ≡ items_len (items_view self.now) }
+    {
+        let mut rest = *self;
+        let mut count = 0;
+        'elements: while rest.next().is_some() {
+            count += 1;
+        }
+        count
+    }
+
+    /// The next one, which is then no longer left.
+    pub fn next(&mut self) -> Option<Element<'t, 'a>>
+        ensures { MatchOption result
+            ((items_view self.old ≡ no_items) × (items_view self.new ≡ no_items))
+            (λ e. items_view self.old ≡ item (view e) (items_view self.new)) }
+    {
+        if self.left == 0 || self.nodes.is_empty() {
+            return None;
+        }
+        let nodes = self.nodes;
+        self.left -= 1;
+        self.nodes = behind(nodes);
+        Some(Element::first(nodes))
+    }
+}

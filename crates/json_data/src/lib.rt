@@ -1,0 +1,24 @@
+//! JSON (RFC 8259) as one flat list of nodes over the borrowed text, seen as the data that `serde_json`
+//! reads.
+//!
+//! [`Document::read`] answers a document exactly where `serde_json` reads a value, and its root is seen as
+//! that value: nesting stops at 127, a number too large for a float is refused, and of equal keys the last
+//! counts. [`Element`] is a value in the document and [`Elements`] what is left of an array; each call is an
+//! equation on the data.
+#![tactic(auto)]
+
+mod build;
+mod document;
+mod element;
+mod elements;
+mod fault;
+mod node;
+mod number;
+#[cfg(test)]
+mod tests;
+
+pub use document::Document;
+pub use element::Element;
+pub use elements::Elements;
+pub use fault::DataFault;
+pub use json::Scratch;
