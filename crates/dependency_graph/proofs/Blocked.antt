@@ -1,35 +1,34 @@
 -- Why an item waits, as other items begin and end their operations.
-use Rattle.std.proofs.Common.{◌≡◌, ℕ, zero, suc, ◌+◌, ◌-◌, ◌<◌, ◌≤◌, ◌⊎◌, Bool, true, false, not, ◌&&◌, ◌||◌, ◌==◌, if◌then◌else◌, List, [], ◌∷◌, length, slice_index, nat_le, nat_lt, inl, inr, refl, sym, ap, ap₂, ◌∙◌, subst, arith, eq-eqb, ne_eqb, eqb-true, lt-ltb, ltb-true, leb-true, leb-false, lt-ltb}
+use Rattle.std.proofs.Common.{◌≡◌, ℕ, zero, suc, ◌+◌, ◌<◌, ◌≤◌, true, false, not, ◌&&◌, ◌||◌, ◌==◌, if◌then◌else◌, length, slice_index, nat_le, nat_lt, inl, inr, refl, sym, ap, ap₂, ◌∙◌, subst, arith, lt-ltb, ltb-true, leb-false, lt-ltb}
 use Rattle.std.proofs.lemmas.Bool.{cases_Bool, cases_eq, and_parts, and_from, and_left, and_right, and_cases, or_parts, both_ways, not-true, not_from_true, false_from_ne_true, ltb-false}
 use Rattle.rollout_rules.specs.Sums.{all_below}
 use Rattle.rollout_rules.specs.Wan.{Problem, Plan, flow_at, tunnel_at, tunnel_of, hops, rate_at, mark_at, last_stage}
 use Rattle.rollout_rules.specs.Network.{IsNetwork}
-use Rattle.rollout_rules.specs.Items.{Resource, is_item, is_resource, item_count, item_at, number_of, capacity_of, use_at, greater_rate, either_mark, step_maximum}
-use Rattle.rollout_rules.specs.Operations.{operations, stand_after}
-use Rattle.rollout_rules.specs.History.{Places, begun, settled, flies, places_of, stand}
+use Rattle.rollout_rules.specs.Items.{is_item, item_count, item_at, number_of}
+use Rattle.rollout_rules.specs.Operations.{stand_after}
+use Rattle.rollout_rules.specs.History.{Places, settled, flies, stand}
 use Rattle.rollout_rules.specs.Needs.{installed_since, idle_since, entries_past, needs_met_at, needs_met}
-use Rattle.rollout_rules.specs.Room.{least_stage, room, fits}
+use Rattle.rollout_rules.specs.Room.{least_stage}
 use Rattle.rollout_rules.specs.Legal.{may_begin, is_legal}
 use Rattle.rollout_rules.specs.Release.{next_op}
 use Rattle.rollout_rules.specs.declared.item.Item.{Item}
 use Rattle.rollout_rules.specs.declared.item.Item.TheVariants as item
 use Rattle.rollout_rules.proofs.Below.{all_below-fails}
-use Rattle.rollout_rules.proofs.Numbers.{is_item-item_at, number_of-item_at, item_at-number_of}
+use Rattle.rollout_rules.proofs.Numbers.{is_item-item_at, number_of-item_at}
 use Rattle.rollout_rules.proofs.OverItems.{entry-is_item, is_item-entry, is_item-flow}
 use Rattle.rollout_rules.proofs.Tunnels.{tunnel_of-below, flow-tunnel_of}
 use Rattle.rollout_laws.proofs.Goods.{fits-room}
 use Rattle.rollout_laws.proofs.Standing.{stand-most}
-use Rattle.rollout_laws.proofs.Histories.{begun-begin_other, begun-done, settled-begin, settled-done_other, begins}
-use Rattle.dependency_graph.specs.Cells.{Cells, resource_count, resource_at, resource_number, cell_holds, rises, falls, has, TakesNothing, AreTouched, AreRooms}
-use Rattle.dependency_graph.specs.Wakes.{Awake, Rouses, AreWokenFrom, IsLetGo, AreFree}
-use Rattle.dependency_graph.specs.Graph.{Followed, count_of, places, has_next, are_needs_met, has_room, with_begun, with_done}
-use Rattle.dependency_graph.specs.Waiting.{is_admissible, Lacks, WaitsAt, AreWaiting, AreWoken, AreRelated, IsRoused, AreRoused}
-use Rattle.dependency_graph.proofs.Agreement.{Agree, all_below-same}
-use Rattle.dependency_graph.proofs.Changed.{place_in}
+use Rattle.rollout_laws.proofs.Histories.{begun-begin_other, settled-begin, begins}
+use Rattle.dependency_graph.specs.Cells.{Cells, resource_count, resource_at, cell_holds, rises, has, AreRooms}
+use Rattle.dependency_graph.specs.Wakes.{Awake, Rouses, IsLetGo, AreFree}
+use Rattle.dependency_graph.specs.Graph.{Followed, count_of, places, has_next, are_needs_met, has_room, with_begun}
+use Rattle.dependency_graph.specs.Waiting.{is_admissible, Lacks, WaitsAt, AreWaiting, AreRelated, IsRoused}
+use Rattle.dependency_graph.proofs.Agreement.{all_below-same}
 use Rattle.dependency_graph.proofs.Needed.{needs-same}
-use Rattle.dependency_graph.proofs.Steps.{begin-room, done-room}
-use Rattle.dependency_graph.proofs.RoomCells.{at-resource, number-at, cell-room}
-use Rattle.dependency_graph.proofs.Graphs.{begins-next, begins-least, ends-next}
+use Rattle.dependency_graph.proofs.Steps.{begin-room}
+use Rattle.dependency_graph.proofs.RoomCells.{at-resource, cell-room}
+use Rattle.dependency_graph.proofs.Graphs.{begins-next, begins-least}
 
 -- ---- an item that waits may not begin
 module _ (g : Followed) (n : ℕ) (inside : n < item_count g.rollout.problem) (legal : is_legal g.rollout.problem g.rollout.plan g.history ≡ true) where

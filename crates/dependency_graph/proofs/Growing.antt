@@ -1,7 +1,7 @@
 -- The rows of an index as they grow.
 use Rattle.std.proofs.Common.{◌≡◌, refl, ℕ, zero, suc, ◌+◌, ◌*◌, ◌^◌, ◌<◌, ◌≤◌, true, false, List, [], ◌∷◌, ◌++◌, length, subst, ap, ◌∙◌, sym, arith, ◌==◌}
 use Rattle.rollout_rules.specs.Sums.{sum_below}
-use Rattle.rollout_rules.specs.Wan.{Problem, Rollout, hops, switch_of, crosses}
+use Rattle.rollout_rules.specs.Wan.{Problem, Rollout, hops, switch_of}
 use Rattle.rollout_rules.specs.Network.{IsNetwork}
 use Rattle.rollout_rules.specs.Items.{item_count, item_at, number_of}
 use Rattle.rollout_rules.specs.Operations as operation
@@ -11,7 +11,7 @@ use Rattle.rollout_rules.proofs.Below.{sum_below-up}
 use Rattle.rollout_rules.proofs.Numbers.{item_at-number_of, number_of-below}
 use Rattle.rollout_rules.proofs.OverItems.{is_item-flow, is_item-entry}
 use Rattle.dependency_graph.specs.declared.index.table_place.TablePlace.{TablePlace}
-use Rattle.dependency_graph.specs.Index.{no_place, AreItems, AreOperations, AreFirstEntries, IsCrossing, IsTable, AreCrossings, AreTables}
+use Rattle.dependency_graph.specs.Index.{no_place, AreItems, AreOperations, AreFirstEntries, IsTable}
 use Rattle.dependency_graph.proofs.Elements.{length-push, each-push, sum-push}
 
 -- ---- numbers of items are small
@@ -82,28 +82,6 @@ firsts-push p n row x is so = record {
   each = each-push (λ m y. y ≡ number_of p (item.Entry m 0)) row x 0 n so.count so.each is;
 }
 
--- ---- tunnels across a link
-pub crossing-none : (p : Problem) (l : ℕ) → IsCrossing p l 0 []
-crossing-none p l = record { tunnels = λ j lt. absurd (omega arith); sums = λ f. refl }
-
-crossing-over : (p : Problem) (l t : ℕ) (row : List ℕ) → t < length p.tunnels → crosses p t l ≡ true → IsCrossing p l t row → IsCrossing p l (suc t) (row ++ t ∷ [])
-crossing-over p l t row lt over so = record {
-  tunnels = λ j below. each-push (λ m x. x < length p.tunnels) row t 0 (length row) refl so.tunnels lt j (omega (arith, length-push row t));
-  sums = λ f. sum-push f row t 0 ∙ rw over (ap (λ x. x + f t) (so.sums f));
-}
-
-crossing-past : (p : Problem) (l t : ℕ) (row : List ℕ) → crosses p t l ≡ false → IsCrossing p l t row → IsCrossing p l (suc t) row
-crossing-past p l t row past so = record {
-  tunnels = so.tunnels;
-  sums = λ f. rw past (omega (arith, so.sums f));
-}
-
-pub crossing-push : (p : Problem) (l t : ℕ) (row : List ℕ) → t < length p.tunnels → crosses p t l ≡ true → IsCrossing p l t row → IsCrossing p l (t + 1) (row ++ t ∷ [])
-crossing-push p l t row lt over so = let e : suc t ≡ t + 1 = omega arith in subst (λ n. IsCrossing p l n (row ++ t ∷ [])) e (crossing-over p l t row lt over so)
-
-pub crossing-pass : (p : Problem) (l t : ℕ) (row : List ℕ) → crosses p t l ≡ false → IsCrossing p l t row → IsCrossing p l (t + 1) row
-crossing-pass p l t row past so = let e : suc t ≡ t + 1 = omega arith in subst (λ n. IsCrossing p l n row) e (crossing-past p l t row past so)
-
 -- ---- entries in a table
 pub table-none : (p : Problem) (w : ℕ) → IsTable p w 0 0 []
 table-none p w = record { tunnels = λ j lt. absurd (omega arith); items = λ j lt. absurd (omega arith); sums = λ f. refl }
@@ -136,22 +114,3 @@ table-next p w t row so = let e : suc t ≡ t + 1 = omega arith in subst (λ n. 
   where
     next : IsTable p w (suc t) 0 row
     next = record { tunnels = so.tunnels; items = so.items; sums = λ f. omega (arith, so.sums f) }
-
--- ---- rows of rows
-pub crossings-none : (p : Problem) → AreCrossings p [] 0
-crossings-none p = record { count = refl; each = λ l lt. absurd (omega arith) }
-
-pub crossings-push : (p : Problem) (rows : List (List ℕ)) (l : ℕ) (row : List ℕ) → AreCrossings p rows l → IsCrossing p l (length p.tunnels) row → AreCrossings p (rows ++ row ∷ []) (l + 1)
-crossings-push p rows l row so here = record {
-  count = omega (arith, length-push rows row, so.count);
-  each = each-push (λ k xs. IsCrossing p k (length p.tunnels) xs) rows row [] l so.count so.each here;
-}
-
-pub tables-none : (p : Problem) → AreTables p [] 0
-tables-none p = record { count = refl; each = λ w lt. absurd (omega arith) }
-
-pub tables-push : (p : Problem) (rows : List (List TablePlace)) (w : ℕ) (row : List TablePlace) → AreTables p rows w → IsTable p w (length p.tunnels) 0 row → AreTables p (rows ++ row ∷ []) (w + 1)
-tables-push p rows w row so here = record {
-  count = omega (arith, length-push rows row, so.count);
-  each = each-push (λ k xs. IsTable p k (length p.tunnels) 0 xs) rows row [] w so.count so.each here;
-}

@@ -1,10 +1,9 @@
 -- Lists of items at resources, as one is put in front and as the first is taken out.
-use Rattle.std.proofs.Common.{◌≡◌, ℕ, zero, suc, ◌+◌, ◌-◌, ◌<◌, ◌⊎◌, Bool, true, false, ◌||◌, ◌==◌, List, [], ◌∷◌, length, length-set, set, slice_index, refl, sym, ap, ◌∙◌, subst, inl, inr, arith, eq-eqb, eqb-true}
-use Rattle.std.specs.List.{AllByRecursion}
-use Rattle.std.proofs.lemmas.Bool.{cases_eq, or_cases, or_left, or_right, or_parts, false_from_ne_true, both_ways, eqb-false}
+use Rattle.std.proofs.Common.{◌≡◌, ℕ, ◌+◌, ◌<◌, ◌⊎◌, Bool, true, false, ◌==◌, List, [], ◌∷◌, length, length-set, set, slice_index, refl, sym, ap, ◌∙◌, subst, inl, inr, arith, eq-eqb, eqb-true}
+use Rattle.std.proofs.lemmas.Bool.{cases_eq, or_cases, or_left, or_right, or_parts, false_from_ne_true, eqb-false}
 use Rattle.std.proofs.lemmas.List.{get_or-set_same, get_or-set_other}
 use Rattle.dependency_graph.specs.Cells.{has}
-use Rattle.dependency_graph.specs.Wakes.{IsChain, IsOnce, IsKeptRow, AreKept}
+use Rattle.dependency_graph.specs.Wakes.{IsChain, IsKeptRow, AreKept}
 use Rattle.dependency_graph.proofs.Rows.{each-has, each-but}
 
 -- a list goes on through items whose next ones are as they were

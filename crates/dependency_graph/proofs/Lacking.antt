@@ -3,7 +3,6 @@ use Rattle.std.proofs.Common.{◌≡◌, ℕ, true, subst}
 use Rattle.rollout_rules.specs.Wan.{Rollout}
 use Rattle.rollout_rules.specs.Items.{item_at}
 use Rattle.rollout_rules.specs.History.{stand}
-use Rattle.rollout_rules.specs.Room.{least_stage}
 use Rattle.rollout_rules.specs.declared.item.Item.{Item}
 use Rattle.dependency_graph.specs.Cells.{Cells, AreRooms, rises}
 use Rattle.dependency_graph.specs.Graph.{Followed, places, has_next}

@@ -1,9 +1,9 @@
 -- All items in an order, of which the first so many are a set.
-use Rattle.std.proofs.Common.{◌≡◌, ℕ, zero, suc, ◌+◌, ◌<◌, ◌≤◌, Bool, true, false, ◌&&◌, ◌||◌, not, ◌==◌, nat_lt, if◌then◌else◌, List, [], ◌∷◌, take, length, slice_index, refl, sym, ap, ap₂, ◌∙◌, subst, inl, inr, arith, eq-eqb, ne_eqb, eqb-true, lt-ltb, le-ltb, ltb-true}
-use Rattle.std.proofs.lemmas.Bool.{cases_Bool, cases_eq, cases_lt, both_ways}
+use Rattle.std.proofs.Common.{◌≡◌, ℕ, ◌+◌, ◌<◌, ◌≤◌, Bool, true, false, ◌&&◌, ◌||◌, not, ◌==◌, nat_lt, if◌then◌else◌, List, take, length, slice_index, refl, sym, ap, ◌∙◌, inl, inr, arith, eq-eqb, ne_eqb, lt-ltb, le-ltb, ltb-true}
+use Rattle.std.proofs.lemmas.Bool.{cases_eq}
 use Rattle.std.proofs.lemmas.List.{get_or-take, length-take-le}
 use Rattle.dependency_graph.specs.Cells.{has, AreOnce}
-use Rattle.dependency_graph.specs.Wakes.{AreInverse, AreExchanged, exchanged}
+use Rattle.dependency_graph.specs.Wakes.{AreInverse, AreExchanged}
 use Rattle.dependency_graph.proofs.Rows.{has-at}
 use Rattle.dependency_graph.proofs.Changed.{same-test, place_in}
 

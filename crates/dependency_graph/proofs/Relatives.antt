@@ -1,5 +1,5 @@
 -- Items that are woken one after another.
-use Rattle.std.proofs.Common.{◌≡◌, ℕ, suc, ◌+◌, ◌<◌, Bool, true, false, List, length, slice_index, inl, inr, refl, sym, ap, ◌∙◌, subst, arith, ltb-true}
+use Rattle.std.proofs.Common.{◌≡◌, ℕ, ◌+◌, ◌<◌, Bool, true, List, length, slice_index, inl, inr, sym, ◌∙◌, subst, arith}
 use Rattle.std.proofs.lemmas.Bool.{cases_eq}
 use Rattle.rollout_rules.specs.Wan.{Problem, flow_at, tunnel_at, tunnel_of, hops}
 use Rattle.rollout_rules.specs.Network.{IsNetwork}

@@ -1,19 +1,19 @@
 -- What a Done leaves waiting.
-use Rattle.std.proofs.Common.{◌≡◌, ℕ, zero, suc, ◌+◌, ◌-◌, ◌<◌, ◌≤◌, ◌⊎◌, Bool, true, false, not, ◌&&◌, ◌==◌, if◌then◌else◌, List, length, slice_index, nat_le, nat_lt, inl, inr, refl, sym, ap, ap₂, ◌∙◌, subst, arith}
-use Rattle.std.proofs.lemmas.Bool.{cases_Bool, cases_eq, cases_lt, and_parts, and_left, and_right, and_cases, both_ways, not-true, false_from_ne_true}
-use Rattle.rollout_rules.specs.Wan.{Problem, Plan, Rollout, last_stage}
+use Rattle.std.proofs.Common.{◌≡◌, ℕ, ◌+◌, ◌-◌, ◌<◌, Bool, true, false, not, ◌&&◌, ◌==◌, if◌then◌else◌, List, slice_index, nat_le, nat_lt, inl, inr, refl, sym, ap, ap₂, ◌∙◌, subst, arith}
+use Rattle.std.proofs.lemmas.Bool.{cases_Bool, cases_eq, and_parts, and_left, both_ways, not-true, false_from_ne_true}
+use Rattle.rollout_rules.specs.Wan.{Rollout, last_stage}
 use Rattle.rollout_rules.specs.Network.{IsNetwork}
-use Rattle.rollout_rules.specs.Items.{Resource, is_item, item_count, item_at, number_of, use_at, greater_rate, either_mark, step_maximum}
+use Rattle.rollout_rules.specs.Items.{Resource, item_count, item_at, number_of, use_at, greater_rate, either_mark, step_maximum}
 use Rattle.rollout_rules.specs.Operations.{stand_after}
-use Rattle.rollout_rules.specs.History.{begun, settled, flies, stand}
+use Rattle.rollout_rules.specs.History.{settled, flies, stand}
 use Rattle.rollout_rules.specs.Room.{least_stage, room}
 use Rattle.rollout_rules.specs.Legal.{is_legal}
 use Rattle.rollout_rules.specs.Release.{next_op}
-use Rattle.rollout_rules.proofs.Numbers.{is_item-item_at, number_of-item_at, item_at-number_of}
+use Rattle.rollout_rules.proofs.Numbers.{is_item-item_at, number_of-item_at}
 use Rattle.rollout_laws.proofs.Standing.{stand-most}
 use Rattle.rollout_laws.proofs.Histories.{begun-done, settled-done_other}
-use Rattle.dependency_graph.specs.Cells.{resource_count, resource_at, resource_number, rises, has, TakesNothing, AreTouched}
-use Rattle.dependency_graph.specs.Wakes.{Awake, Rouses, AreWokenFrom}
+use Rattle.dependency_graph.specs.Cells.{resource_count, resource_at, rises, has, TakesNothing, AreTouched}
+use Rattle.dependency_graph.specs.Wakes.{Awake}
 use Rattle.dependency_graph.specs.Graph.{Followed, count_of, places, has_next, are_needs_met, with_done}
 use Rattle.dependency_graph.specs.Waiting.{Lacks, WaitsAt, AreWaiting, AreRelated, IsRoused, AreRoused}
 use Rattle.dependency_graph.proofs.Changed.{place_in}

@@ -1,7 +1,7 @@
 -- What a row of numbers has.
-use Rattle.std.proofs.Common.{◌≡◌, ℕ, zero, suc, ◌<◌, Bool, true, false, ◌||◌, ◌==◌, List, [], ◌∷◌, length, slice_index, refl, sym, ap, ◌∙◌, subst, inl, inr, arith, eq-eqb, eqb-true, add-one}
+use Rattle.std.proofs.Common.{◌≡◌, ℕ, zero, suc, ◌<◌, true, false, ◌==◌, List, [], ◌∷◌, length, slice_index, subst, inl, inr, arith, eq-eqb, eqb-true}
 use Rattle.std.specs.List.{AllByRecursion}
-use Rattle.std.proofs.lemmas.Bool.{or_cases, or_left, or_right, or_parts, false_from_ne_true, both_ways, eqb-false}
+use Rattle.std.proofs.lemmas.Bool.{or_cases, or_left, or_right, or_parts, eqb-false}
 use Rattle.dependency_graph.specs.Cells.{has}
 
 -- the row has what stands at one of its places

@@ -1,15 +1,15 @@
 -- How many items stand at each stage, as one of them moves, and the least stage at which one stands.
-use Rattle.std.proofs.Common.{◌≡◌, ℕ, zero, suc, ◌+◌, ◌<◌, ◌≤◌, Bool, true, List, [], ◌^◌, length, length-set, set, slice_index, refl, sym, ap, ◌∙◌, subst, inl, inr, arith, add-one, eq-eqb, ne_eqb, eqb-true, ◌==◌}
+use Rattle.std.proofs.Common.{◌≡◌, ℕ, zero, suc, ◌+◌, ◌<◌, ◌≤◌, min, Bool, true, List, [], ◌^◌, length, length-set, set, slice_index, refl, sym, ap, ◌∙◌, subst, inl, inr, arith, add-one, eq-eqb, ne_eqb, eqb-true, ◌==◌}
 use Rattle.std.proofs.lemmas.Bool.{cases_Bool, cases_eq, cases_lt}
 use Rattle.std.proofs.lemmas.List.{get_or-set_same, get_or-set_other}
 use Rattle.rollout_rules.specs.Sums.{count_below, least_below}
 use Rattle.rollout_rules.specs.Wan.{Rollout, last_stage}
 use Rattle.rollout_rules.specs.Items.{item_count, item_at}
 use Rattle.rollout_rules.specs.Operations.{stand_after}
-use Rattle.rollout_rules.proofs.Below.{sum_below-but, least_below-top, least_below-at, least_below-from}
+use Rattle.rollout_rules.proofs.Below.{sum_below-but, sum_below-zero, least_below-top, least_below-at, least_below-from}
 use Rattle.dependency_graph.specs.Progress.{Counts}
 use Rattle.dependency_graph.specs.Fits.{least_stand}
-use Rattle.dependency_graph.specs.StageCounts.{ItemStages, standing, AreStageCounts, AreItemStages, AreStands, AreRestood}
+use Rattle.dependency_graph.specs.StageCounts.{ItemStages, IsLeast, standing, AreStageCounts, AreItemStages, AreStands, AreRestood}
 use Rattle.dependency_graph.proofs.Agreement.{least_below-same}
 use Rattle.dependency_graph.proofs.Standings.{one_if, one_small, set-at}
 
@@ -113,6 +113,18 @@ least-none last stages within none =
       | inl less ↦ absurd (omega (arith, none (slice_index stages k) less, count-some (length stages) (λ j. slice_index stages j == slice_index stages k) k lt (eq-eqb (slice_index stages k) (slice_index stages k) refl)))
       | inr at ↦ at
     ]
+
+-- before the stage from which on they all stand none does
+pub standing-none : (stages : List ℕ) (low s : ℕ) → ((k : ℕ) → k < length stages → low ≤ slice_index stages k) → s < low → standing stages (length stages) s ≡ 0
+standing-none stages low s above lt =
+    sum_below-zero (length stages) (λ k. one_if (slice_index stages k == s)) (λ k inside. ap one_if (ne_eqb (slice_index stages k) s (λ e. let up = above k inside in omega (arith, up, e, lt))))
+
+-- an item that moves stands at least where the least one stood, or where it goes
+pub above-moved : (at : ItemStages) (least i x : ℕ) → IsLeast least at → i < length at.stages → (k : ℕ) → k < length (set at.stages i x) → min least x ≤ slice_index (set at.stages i x) k
+above-moved at least i x so inside k lt = elim (cases_eq i k) as (λ _. min least x ≤ slice_index (set at.stages i x) k) [
+  | inl same ↦ subst (λ m. min least x ≤ slice_index (set at.stages i x) m) same (omega (arith, get_or-set_same at.stages i x 0 inside))
+  | inr other ↦ omega (arith, so, get_or-set_other at.stages i k x 0 (λ e. other (sym e)), least_below-at (length at.stages) at.last (slice_index at.stages) k (omega (arith, lt, length-set at.stages i x)))
+]
 
 -- with nothing ahead it is the least of the stages kept
 pub least-kept : (r : Rollout) (c : Counts) (stages : List ℕ) → AreStands r c.settled stages (item_count r.problem) → least_below (length stages) (last_stage r.plan) (slice_index stages) ≡ least_stand r c []

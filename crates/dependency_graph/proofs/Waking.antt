@@ -1,11 +1,11 @@
 -- Items that are woken, and those that are kept at a resource.
-use Rattle.std.proofs.Common.{◌≡◌, ℕ, zero, suc, ◌+◌, ◌<◌, ◌≤◌, Bool, true, false, ◌&&◌, ◌||◌, not, ◌==◌, List, [], ◌∷◌, length, length-set, set, slice_index, refl, sym, ap, ◌∙◌, subst, inl, inr, arith, eq-eqb, ne_eqb, eqb-true}
+use Rattle.std.proofs.Common.{◌≡◌, ℕ, ◌+◌, ◌<◌, Bool, true, false, ◌&&◌, ◌||◌, not, ◌==◌, length, length-set, set, slice_index, refl, sym, ap, ◌∙◌, subst, inl, inr, arith, eq-eqb, ne_eqb, eqb-true}
 use Rattle.std.proofs.lemmas.Bool.{cases_eq, or_parts, or_cases, and_cases, and_left, and_parts, both_ways, eqb-false, not-true, not-false}
 use Rattle.std.proofs.lemmas.List.{get_or-set_same, get_or-set_other}
 use Rattle.rollout_rules.specs.Sums.{sum_below}
 use Rattle.rollout_rules.proofs.Below.{sum_below-but}
 use Rattle.dependency_graph.specs.Cells.{has}
-use Rattle.dependency_graph.specs.Wakes.{ItemSet, Keeping, Awake, AreAwake, AreFree, AreFreeOf, Rouses, IsWokenOrKept, AreWokenFrom, IsLetGo, joined}
+use Rattle.dependency_graph.specs.Wakes.{ItemSet, Keeping, Awake, AreAwake, AreFreeOf, Rouses, IsWokenOrKept, AreWokenFrom, IsLetGo, joined}
 
 pub rouses-none : (w : Awake) → Rouses w w
 rouses-none w = record { resources = refl; items = refl; rest = λ n lt none. (none, refl) }

@@ -1,7 +1,7 @@
 -- What is looked up of a rollout by number: the items, and which of them take of each resource.
 use Rattle.std.specs.Prelude.{◌≡◌, ℕ, ◌+◌, ◌<◌, List, [], length, slice_index, slice_index_or, ◌==◌, if◌then◌else◌}
 use Rattle.rollout_rules.specs.Sums.{sum_below}
-use Rattle.rollout_rules.specs.Wan.{Problem, Rollout, hops, switch_of, crosses}
+use Rattle.rollout_rules.specs.Wan.{Problem, Rollout, tunnel_at, hops, switch_of, crosses}
 use Rattle.rollout_rules.specs.Network.{IsNetwork}
 use Rattle.rollout_rules.specs.Items.{item_count, item_at, number_of}
 use Rattle.rollout_rules.specs.Operations as operation
@@ -43,6 +43,27 @@ pub record IsTable (p : Problem) (w n m : ℕ) (row : List TablePlace) : Type 0 
   pub sums : (f : ℕ → ℕ → ℕ) → sum_below (length row) (λ j. f (place_at row j).tunnel (place_at row j).item)
       ≡ sum_below n (λ t. sum_below (hops p t) (λ h. if switch_of p t h == w then f t (number_of p (item.Entry t h)) else 0))
       + sum_below m (λ h. if switch_of p n h == w then f n (number_of p (item.Entry n h)) else 0)
+
+-- so many rows with nothing in them
+pub record AreEmpty {X : Type 0} (n : ℕ) (rows : List (List X)) : Type 0 where
+  pub count : length rows ≡ n
+  pub each : (l : ℕ) → l < n → slice_index_or rows l [] ≡ []
+
+-- Of the first n tunnels, and by the first m links of the one behind, the row has those that cross link l.
+pub record IsCrossingTo (p : Problem) (l n m : ℕ) (row : List ℕ) : Type 0 where
+  pub tunnels : (j : ℕ) → j < length row → slice_index row j < length p.tunnels
+  pub sums : (f : ℕ → ℕ) → sum_below (length row) (λ j. f (slice_index row j))
+      ≡ sum_below n (λ t. if crosses p t l then f t else 0) + sum_below m (λ k. if slice_index (tunnel_at p n).links k == l then f n else 0)
+
+-- each link has such a row
+pub record AreCrossingsTo (p : Problem) (n m : ℕ) (rows : List (List ℕ)) : Type 0 where
+  pub count : length rows ≡ length p.links
+  pub each : (l : ℕ) → l < length p.links → IsCrossingTo p l n m (slice_index_or rows l [])
+
+-- each switch has a row of the entries in its table, of the first n tunnels and the first m of the one behind
+pub record AreTablesTo (p : Problem) (n m : ℕ) (rows : List (List TablePlace)) : Type 0 where
+  pub count : length rows ≡ length p.switches
+  pub each : (w : ℕ) → w < length p.switches → IsTable p w n m (slice_index_or rows w [])
 
 -- the rows of all links, and of all switches
 pub record AreCrossings (p : Problem) (rows : List (List ℕ)) (n : ℕ) : Type 0 where

@@ -1,6 +1,6 @@
 -- Where items stand, kept beside the counts.
 use Rattle.std.specs.Prelude.{◌≡◌, ℕ, ◌+◌, ◌<◌, ◌≤◌, ◌^◌, List, length, slice_index, ◌==◌}
-use Rattle.rollout_rules.specs.Sums.{count_below}
+use Rattle.rollout_rules.specs.Sums.{count_below, least_below}
 use Rattle.rollout_rules.specs.Wan.{Rollout, last_stage}
 use Rattle.rollout_rules.specs.Network.{IsNetwork}
 use Rattle.rollout_rules.specs.Items.{item_count, item_at}
@@ -24,6 +24,10 @@ pub record AreItemStages (last : ℕ) (stages counts : List ℕ) : Type 0 where
   pub few : length stages < 2 ^ 32
   pub within : (k : ℕ) → k < length stages → slice_index stages k ≤ last
   pub standings : AreStageCounts last stages (length stages) counts
+
+-- the number is the least stage at which an item stands, or the last stage where there is no item
+abbrev pub IsLeast : ℕ → ItemStages → Type 0
+IsLeast least at = least ≡ least_below (length at.stages) at.last (slice_index at.stages)
 
 -- the first n items stand where so many operations of each being settled takes it
 pub record AreStands (r : Rollout) (settled stands : List ℕ) (n : ℕ) : Type 0 where

@@ -1,152 +1,90 @@
-ghost use Rattle.std.specs.Prelude.{◌≡◌, ◌<◌, ◌≤◌, ◌^◌, if◌then◌else◌, IsTrue, length};
+ghost use Rattle.std.specs.Prelude.{◌≡◌, ℕ, ◌<◌, ◌≤◌, ◌^◌, if◌then◌else◌, IsTrue, length, slice_index};
+ghost use Rattle.rollout_rules.specs.Sums.{sum_below};
 ghost use Rattle.rollout_rules.specs.Wan as wan;
 ghost use Rattle.rollout_rules.specs.Items as items;
-ghost use Rattle.rollout_rules.specs.Items.{the_link, is_item};
-ghost use Rattle.rollout_rules.specs.declared.item.Item.TheVariants as variants;
+ghost use Rattle.rollout_rules.specs.Items.{is_item};
 ghost use Rattle.dependency_graph.specs.Cells as cells;
+ghost use Rattle.dependency_graph.specs.Touched as touched;
+ghost use Rattle.dependency_graph.specs.Touched.{IsItemRow};
 
 use crate::checked::checked_plan_is_valid;
-use crate::index::crosses;
+use crate::item_row::ItemRow;
 use rollout_rules::Item;
 use wan_model::CheckedPlan;
 
-/// What an item's step from stage `x` on takes of a resource more than its content there.
-pub(crate) fn rise(plan: &CheckedPlan, item: Item, x: usize, resource: usize) -> u64
+/// What an item's step from stage `x` on takes of the k-th resource of its row more than its content there.
+pub(crate) fn rise(plan: &CheckedPlan, item: Item, x: usize, row: &ItemRow, k: usize) -> u64
     requires item { IsTrue (is_item plan.now.problem item) }
     requires stage { x ≤ wan.last_stage plan.now.plan }
-    requires resource { resource < cells.resource_count plan.now.problem }
-    ensures { result ≡ cells.rises plan.now item x resource }
+    requires row { IsItemRow plan.now.problem item row.now }
+    requires place { k < length row.now.resources }
+    ensures { result ≡ cells.rises plan.now item x (slice_index row.now.resources k) }
 {
-    let most = most(plan, item, x, resource);
-    most - uses(plan, item, x, resource)
+    gain(plan, item, x, plan.next_stage(x), row, k)
 }
 
 /// What it takes more than the content of the next stage.
-pub(crate) fn fall(plan: &CheckedPlan, item: Item, x: usize, resource: usize) -> u64
+pub(crate) fn fall(plan: &CheckedPlan, item: Item, x: usize, row: &ItemRow, k: usize) -> u64
     requires item { IsTrue (is_item plan.now.problem item) }
     requires stage { x < wan.last_stage plan.now.plan }
-    requires resource { resource < cells.resource_count plan.now.problem }
-    ensures { result ≡ cells.falls plan.now item x resource }
+    requires row { IsItemRow plan.now.problem item row.now }
+    requires place { k < length row.now.resources }
+    ensures { result ≡ cells.falls plan.now item x (slice_index row.now.resources k) }
 {
-    let next = plan.next_stage(x);
-    let most = most(plan, item, x, resource);
-    most - uses(plan, item, next, resource)
+    gain(plan, item, plan.next_stage(x), x, row, k)
 }
 
-/// What an item may take of a resource in the step from stage `s` on.
-fn most(plan: &CheckedPlan, item: Item, s: usize, resource: usize) -> u64
+/// What an item takes of the k-th resource of its row at stage `to` beyond what it takes at stage `from`, tunnel
+/// by tunnel. Time: the tunnels of a flow that cross the link.
+fn gain(plan: &CheckedPlan, item: Item, from: usize, to: usize, row: &ItemRow, k: usize) -> u64
     requires item { IsTrue (is_item plan.now.problem item) }
-    requires stage { s ≤ wan.last_stage plan.now.plan }
-    requires resource { resource < cells.resource_count plan.now.problem }
-    ensures { result ≡ items.step_maximum plan.now.problem plan.now.plan s item (cells.resource_at plan.now.problem resource) }
+    requires from { from ≤ wan.last_stage plan.now.plan }
+    requires to { to ≤ wan.last_stage plan.now.plan }
+    requires row { IsItemRow plan.now.problem item row.now }
+    requires place { k < length row.now.resources }
+    ensures { result ≡ touched.gain plan.now.problem plan.now.plan from to item (cells.resource_at plan.now.problem (slice_index row.now.resources k)) }
 {
-    let links = plan.problem().links().len();
+    checked_plan_is_valid(plan);
     match item {
-        Item::Flow(flow) => {
-            if resource < links {
-                greater_rates(plan, flow as usize, s, resource as u32)
-            } else {
-                0
-            }
-        }
-        Item::Entry { tunnel, hop } => {
-            let t = tunnel as usize;
-            if resource < links || !plan.either_mark(s, t) {
-                return 0;
-            }
-            width_in(plan, t, hop as usize, resource - links)
-        }
+        Item::Flow(_) => rates_beyond(plan, from, to, row.tunnels(k)),
+        Item::Entry { tunnel, .. } => width_beyond(plan, from, to, tunnel as usize),
     }
 }
 
-/// What an item's content at stage `s` takes of a resource.
-fn uses(plan: &CheckedPlan, item: Item, s: usize, resource: usize) -> u64
-    requires item { IsTrue (is_item plan.now.problem item) }
-    requires stage { s ≤ wan.last_stage plan.now.plan }
-    requires resource { resource < cells.resource_count plan.now.problem }
-    ensures { result ≡ items.use_at plan.now.problem plan.now.plan s item (cells.resource_at plan.now.problem resource) }
+/// The sum over tunnels of what their rates at stage `to` are larger than at stage `from`.
+fn rates_beyond(plan: &CheckedPlan, from: usize, to: usize, tunnels: &[u32]) -> u64
+    requires from { from ≤ wan.last_stage plan.now.plan }
+    requires to { to ≤ wan.last_stage plan.now.plan }
+    requires tunnels { (j : ℕ) → j < length tunnels.now → slice_index tunnels.now j < length plan.now.problem.tunnels }
+    requires few { sum_below (length tunnels.now) (λ j. touched.beyond plan.now.plan from to (slice_index tunnels.now j)) < 2 ^ 64 }
+    ensures { result ≡ sum_below (length tunnels.now) (λ j. touched.beyond plan.now.plan from to (slice_index tunnels.now j)) }
 {
-    let links = plan.problem().links().len();
-    match item {
-        Item::Flow(flow) => {
-            if resource < links {
-                rates(plan, flow as usize, s, resource as u32)
-            } else {
-                0
-            }
-        }
-        Item::Entry { tunnel, hop } => {
-            let t = tunnel as usize;
-            if resource < links || !plan.mark(s, t) {
-                return 0;
-            }
-            width_in(plan, t, hop as usize, resource - links)
-        }
+    let mut sum = 0u64;
+    for j in 0..tunnels.len() {
+        sum += rate_beyond(plan, from, to, tunnels[j] as usize);
     }
+    sum
 }
 
-/// The width of tunnel `t`, where its entry is in the table of switch `w`.
-fn width_in(plan: &CheckedPlan, t: usize, hop: usize, w: usize) -> u64
+fn rate_beyond(plan: &CheckedPlan, from: usize, to: usize, t: usize) -> u64
+    requires from { from ≤ wan.last_stage plan.now.plan }
+    requires to { to ≤ wan.last_stage plan.now.plan }
     requires tunnel { t < length plan.now.problem.tunnels }
-    requires hop { hop < wan.hops plan.now.problem t }
-    ensures { result ≡ cells.width_in plan.now.problem t hop w }
+    ensures { result ≡ touched.beyond plan.now.plan from to t }
 {
-    if plan.switch_of(t, hop) == w {
+    let before = plan.rate(from, t);
+    plan.rate(to, t).saturating_sub(before)
+}
+
+/// The width of a tunnel that is installed at stage `to` and isn't at stage `from`.
+fn width_beyond(plan: &CheckedPlan, from: usize, to: usize, t: usize) -> u64
+    requires from { from ≤ wan.last_stage plan.now.plan }
+    requires to { to ≤ wan.last_stage plan.now.plan }
+    requires tunnel { t < length plan.now.problem.tunnels }
+    ensures { result ≡ (if touched.appears plan.now.plan from to t then wan.width_of plan.now.problem t else 0) }
+{
+    if plan.mark(to, t) && !plan.mark(from, t) {
         u64::from(plan.width(t))
-    } else {
-        0
-    }
-}
-
-/// The sum over the tunnels of flow `f` that cross link `l`, of the larger rate at both ends of the step.
-fn greater_rates(plan: &CheckedPlan, f: usize, s: usize, l: u32) -> u64
-    requires flow { f < length plan.now.problem.flows }
-    requires stage { s ≤ wan.last_stage plan.now.plan }
-    requires link { l < length plan.now.problem.links }
-    ensures { result ≡ items.step_maximum plan.now.problem plan.now.plan s (variants.Flow f) (the_link l) }
-{
-    checked_plan_is_valid(plan);
-    let mut sum: u128 = 0;
-    for j in 0..plan.tunnel_count(f) {
-        sum += u128::from(greater_rate_on(plan, s, plan.tunnel_of(f, j), l));
-    }
-    sum as u64
-}
-
-/// The same of the rates at stage `s`.
-fn rates(plan: &CheckedPlan, f: usize, s: usize, l: u32) -> u64
-    requires flow { f < length plan.now.problem.flows }
-    requires stage { s ≤ wan.last_stage plan.now.plan }
-    requires link { l < length plan.now.problem.links }
-    ensures { result ≡ items.use_at plan.now.problem plan.now.plan s (variants.Flow f) (the_link l) }
-{
-    checked_plan_is_valid(plan);
-    let mut sum: u128 = 0;
-    for j in 0..plan.tunnel_count(f) {
-        sum += u128::from(rate_on(plan, s, plan.tunnel_of(f, j), l));
-    }
-    sum as u64
-}
-
-fn greater_rate_on(plan: &CheckedPlan, s: usize, t: usize, l: u32) -> u64
-    requires stage { s ≤ wan.last_stage plan.now.plan }
-    requires tunnel { t < length plan.now.problem.tunnels }
-    ensures { result ≡ (if wan.crosses plan.now.problem t l then items.greater_rate plan.now.plan s t else 0) }
-{
-    if crosses(plan, t, l) {
-        plan.greater_rate(s, t)
-    } else {
-        0
-    }
-}
-
-fn rate_on(plan: &CheckedPlan, s: usize, t: usize, l: u32) -> u64
-    requires stage { s ≤ wan.last_stage plan.now.plan }
-    requires tunnel { t < length plan.now.problem.tunnels }
-    ensures { result ≡ (if wan.crosses plan.now.problem t l then wan.rate_at plan.now.plan s t else 0) }
-{
-    if crosses(plan, t, l) {
-        plan.rate(s, t)
     } else {
         0
     }

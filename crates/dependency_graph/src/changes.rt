@@ -1,4 +1,4 @@
-ghost use Rattle.std.specs.Prelude.{◌≡◌, ◌<◌, ◌≤◌, length, IsTrue, not};
+ghost use Rattle.std.specs.Prelude.{◌≡◌, ℕ, ◌+◌, ◌<◌, ◌≤◌, length, IsTrue, not};
 ghost use Rattle.rollout_rules.specs.Wan as wan;
 ghost use Rattle.rollout_rules.specs.Items.{is_item};
 ghost use Rattle.rollout_rules.specs.Operations as operation;
@@ -39,6 +39,23 @@ pub fn stand_after(plan: &CheckedPlan, item: Item, settled: u64) -> u32
         }
     }
     stand
+}
+
+/// The stage to which one operation more takes an item that stands at stage `from`: the next one before a
+/// change of its content, or the last. Time: the stages that it passes.
+pub(crate) fn stand_behind(plan: &CheckedPlan, item: Item, from: u32) -> u32
+    requires item { IsTrue (is_item plan.now.problem item) }
+    requires stage { from ≤ wan.last_stage plan.now.plan }
+    ensures { (j : ℕ) → from ≡ operation.stand_after plan.now.problem plan.now.plan item j → result ≡ operation.stand_after plan.now.problem plan.now.plan item (j + 1) }
+{
+    let last = plan.last_stage();
+    let first = (from as usize + 1).min(last);
+    for s in first..last {
+        if changes_behind(plan, item, s) {
+            return s as u32;
+        }
+    }
+    last as u32
 }
 
 /// Whether the content of an item at the stage behind stage `s` differs from that at `s`: whether an

@@ -2,12 +2,14 @@ ghost use Rattle.std.specs.Prelude.{◌≡◌, ℕ, ◌+◌, ◌<◌, ◌≤◌,
 ghost use Rattle.rollout_rules.specs.Sums.{all_below};
 ghost use Rattle.rollout_rules.specs.Wan.{last_stage};
 ghost use Rattle.rollout_rules.specs.Items.{is_item};
-ghost use Rattle.dependency_graph.specs.Cells.{cell, resource_count, rises, falls, AreCells, AreTouched, AreRaised, cell_holds};
+ghost use Rattle.dependency_graph.specs.Cells.{cell, resource_count, rises, falls, AreCells, AreRaised, cell_holds};
+ghost use Rattle.dependency_graph.specs.Touched.{IsItemRow};
 ghost use Rattle.dependency_graph.specs.Waiting.{Fails};
 ghost use Rattle.dependency_graph.specs.Cells as rooms;
 
 use crate::amounts::{capacity, fall, rise};
 use crate::cells::Cells;
+use crate::item_row::ItemRow;
 use rollout_rules::Item;
 use wan_model::CheckedPlan;
 
@@ -19,19 +21,20 @@ pub(crate) fn raise_row(
     item: Item,
     x: usize,
     low: usize,
-    row: &[u32],
+    row: &ItemRow,
 )
     requires item { IsTrue (is_item plan.now.problem item) }
     requires stage { x ≤ last_stage plan.now.plan }
     requires order { low ≤ x }
-    requires row { AreTouched plan.now.problem item row.now }
+    requires row { IsItemRow plan.now.problem item row.now }
     requires cells { AreCells plan.now cells.old }
     requires fits { (q s : ℕ) → q < resource_count plan.now.problem → low ≤ s → s < x → cell cells.old q s + rises plan.now item x q < 2 ^ 60 }
     ensures { AreRaised low x (rises plan.now item x) cells.old cells.new }
 {
-    for k in 0..row.len() {
-        let resource = row[k] as usize;
-        cells.raise(resource, low, x, rise(plan, item, x, resource));
+    let resources = row.resources();
+    for k in 0..resources.len() {
+        let amount = rise(plan, item, x, row, k);
+        cells.raise(resources[k] as usize, low, x, amount);
     }
 }
 
@@ -43,20 +46,21 @@ pub(crate) fn lower_row(
     item: Item,
     x: usize,
     low: usize,
-    row: &[u32],
+    row: &ItemRow,
 )
     requires item { IsTrue (is_item plan.now.problem item) }
     requires stage { x < last_stage plan.now.plan }
     requires order { low ≤ x }
-    requires row { AreTouched plan.now.problem item row.now }
+    requires row { IsItemRow plan.now.problem item row.now }
     requires cells { AreCells plan.now cells.old }
     requires there { (q s : ℕ) → q < resource_count plan.now.problem → low ≤ s → s < x + 1 → falls plan.now item x q ≤ cell cells.old q s }
     ensures { AreRaised low (x + 1) (falls plan.now item x) cells.new cells.old }
 {
     let _ = plan.last_stage();
-    for k in 0..row.len() {
-        let resource = row[k] as usize;
-        cells.lower(resource, low, x + 1, fall(plan, item, x, resource));
+    let resources = row.resources();
+    for k in 0..resources.len() {
+        let amount = fall(plan, item, x, row, k);
+        cells.lower(resources[k] as usize, low, x + 1, amount);
     }
 }
 
@@ -68,19 +72,20 @@ pub(crate) fn first_lacking(
     item: Item,
     x: usize,
     low: usize,
-    row: &[u32],
+    row: &ItemRow,
 ) -> Option<u32>
     requires item { IsTrue (is_item plan.now.problem item) }
     requires stage { x ≤ last_stage plan.now.plan }
     requires order { low ≤ x }
-    requires row { AreTouched plan.now.problem item row.now }
+    requires row { IsItemRow plan.now.problem item row.now }
     requires cells { AreCells plan.now cells.now }
-    ensures none { is_none result ≡ rooms.row_holds plan.now cells.now low x (rises plan.now item x) row.now }
+    ensures none { is_none result ≡ rooms.row_holds plan.now cells.now low x (rises plan.now item x) row.now.resources }
     ensures lacking { IfSome result (λ q. Fails plan.now cells.now low x (rises plan.now item x) q) }
 {
-    for k in 0..row.len() {
-        let resource = row[k];
-        let amount = rise(plan, item, x, resource as usize);
+    let resources = row.resources();
+    for k in 0..resources.len() {
+        let resource = resources[k];
+        let amount = rise(plan, item, x, row, k);
         if !holds(cells, plan, resource as usize, low, x, amount) {
             return Some(resource);
         }

@@ -140,7 +140,7 @@ impl Graph {
         self.course.stands(&self.plan, item)
     }
 
-    /// The least stage at which an item stands. Time: the stages.
+    /// The least stage at which an item stands.
     pub fn least_stage(&self) -> u32
         ensures { result ≡ rooms.least_stage self.now.rollout.problem self.now.rollout.plan (graph.places self.now) }
     {
@@ -279,7 +279,7 @@ impl Graph {
             &self.plan,
             &self.course,
             item,
-            row,
+            row.resources(),
             after != low,
         );
     }

@@ -6,11 +6,11 @@ ghost use Rattle.rollout_rules.specs.declared.item.Item.TheVariants as variants;
 ghost use Rattle.dependency_graph.specs.Index.{IsCrossing, IsTable};
 
 mod links;
+mod many_rows;
 mod numbers;
 mod table_place;
 mod tables;
 
-pub(crate) use crate::index::links::crosses;
 use crate::index::links::crossings;
 pub use crate::index::numbers::items;
 use crate::index::numbers::{first_entries, operations_of_all};
@@ -31,8 +31,8 @@ pub struct Index {
     items: Many<Item>,
     operations: Ids,
     first_entries: Ids,
-    crossings: Many<Ids>,
-    tables: Many<TablePlaces>,
+    crossings: Vec<Ids>,
+    tables: Vec<TablePlaces>,
 }
 
 impl Model for Index {
@@ -43,7 +43,7 @@ impl Model for Index {
 
     ghost view = { λ c. c.plan.value };
 
-    ghost invariant = { λ c. IsIndex c.plan.value c.items c.operations c.first_entries c.crossings c.tables };
+    ghost invariant = { λ c. IsIndex c.plan.value c.items c.operations c.first_entries c.crossings.items c.tables.items };
 }
 
 impl Index {
@@ -102,7 +102,7 @@ impl Index {
         requires { link < length self.now.problem.links }
         ensures { IsCrossing self.now.problem link (length self.now.problem.tunnels) result.now }
     {
-        let row = &self.crossings.as_slice()[link];
+        let row = &self.crossings[link];
         row.as_slice()
     }
 

@@ -18,13 +18,14 @@ pub mod ahead;
 pub mod needs;
 pub mod room;
 
-use crate::changes::stand_after;
+use crate::changes::{stand_after, stand_behind};
 use crate::checked::checked_plan_is_valid;
 use crate::index::Index;
 use crate::progress::ahead::stand;
 use crate::progress::needs::{needs_met, needs_met_at};
 use crate::progress::room::{least_stage, room};
-use crate::stage_counts::{StageCounts, copied};
+use crate::stage_counts::copied;
+use crate::stands::Stands;
 use lists::Memory;
 use rollout_rules::{Entry, Item};
 use std::alloc::Global;
@@ -40,7 +41,7 @@ pub struct Progress {
     index: Arc<Index, Global>,
     settled: Vec<u32>,
     begun: Vec<u32>,
-    stands: StageCounts,
+    stands: Stands,
 }
 
 impl Model for Progress {
@@ -64,7 +65,7 @@ impl Progress {
     {
         let index = Index::new(alloc, plan)?;
         let stages = first_stages(alloc, plan, &index, start)?;
-        let stands = StageCounts::new(alloc, plan.last_stage() as u32, stages)?;
+        let stands = Stands::new(alloc, plan.last_stage() as u32, stages)?;
         let settled = copied(alloc, start)?;
         let begun = copied(alloc, start)?;
         Ok(Progress {
@@ -235,7 +236,7 @@ impl Progress {
             Entry::Done(op) => {
                 let item = op.item as usize;
                 let settled = self.settled[item] + 1;
-                let stage = stand_after(plan, self.lookup().item(op.item), u64::from(settled));
+                let stage = stage_behind(self, plan, op.item);
                 self.stands.set(op.item, stage);
                 self.settled[item] = settled;
             }
@@ -261,7 +262,17 @@ fn first_stages(
     Ok(stages)
 }
 
-fn restand(stands: &mut StageCounts, plan: &CheckedPlan, index: &Index, start: &[u32])
+/// The stage to which an item goes as one operation more of it is settled.
+fn stage_behind(progress: &Progress, plan: &CheckedPlan, item: u32) -> u32
+    requires own { plan.now ≡ progress.now.rollout }
+    requires item { item < item_count plan.now.problem }
+    ensures { result ≡ operation.stand_after plan.now.problem plan.now.plan (item_at plan.now.problem item) (slice_index progress.now.settled item + 1) }
+{
+    let from = progress.stands.stage(item);
+    stand_behind(plan, progress.lookup().item(item), from)
+}
+
+fn restand(stands: &mut Stands, plan: &CheckedPlan, index: &Index, start: &[u32])
     requires own { index.now ≡ plan.now }
     requires numbers { length start.now ≡ item_count plan.now.problem }
     requires items { length stands.old.stages ≡ item_count plan.now.problem }

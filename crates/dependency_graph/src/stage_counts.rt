@@ -48,11 +48,14 @@ impl StageCounts {
         self.stages[item as usize]
     }
 
-    /// The least stage at which an item stands, or the last stage where there is no item. Time: the stages.
-    pub(crate) fn least(&self) -> u32
+    /// The least stage at which an item stands, or the last stage where there is no item. None stands before
+    /// `low`. Time: the stages from there on.
+    pub(crate) fn least_from(&self, low: u32) -> u32
+        requires low { low ≤ self.now.last }
+        requires none { (k : ℕ) → k < length self.now.stages → low ≤ slice_index self.now.stages k }
         ensures { result ≡ least_below (length self.now.stages) self.now.last (slice_index self.now.stages) }
     {
-        for stage in 0..self.last() {
+        for stage in low..self.last() {
             if self.count(stage) > 0 {
                 return stage;
             }

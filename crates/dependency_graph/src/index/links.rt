@@ -1,37 +1,31 @@
-ghost use Rattle.std.specs.Prelude.{◌≡◌, ◌<◌, length, IfOk};
-ghost use Rattle.rollout_rules.specs.Wan as wan;
-ghost use Rattle.dependency_graph.specs.Index.{IsCrossing, AreCrossings};
+ghost use Rattle.std.specs.Prelude.{◌+◌, ◌<◌, length, IfOk, OnOk};
+ghost use Rattle.dependency_graph.specs.Index.{AreCrossings, AreCrossingsTo};
 
-use lists::{Ids, Many, Memory};
+use crate::index::many_rows::{empty_rows, push_at};
+use lists::{Ids, Memory};
 use std::alloc::Global;
 use wan_model::CheckedPlan;
 
-/// Per link the tunnels that cross it.
-pub(crate) fn crossings(alloc: Global, plan: &CheckedPlan) -> Result<Many<Ids>, Memory>
-    ensures { IfOk result (λ rows. AreCrossings plan.now.problem rows (length plan.now.problem.links)) }
+/// Per link the tunnels that cross it. Time: the links of all tunnels.
+pub(crate) fn crossings(alloc: Global, plan: &CheckedPlan) -> Result<Vec<Ids>, Memory>
+    ensures { IfOk result (λ rows. AreCrossings plan.now.problem rows.items (length plan.now.problem.links)) }
 {
-    let mut rows = Many::new(alloc);
-    for l in 0..plan.problem().links().len() {
-        rows.push(crossing(alloc, plan, l as u32)?)?;
+    let mut rows = empty_rows(alloc, plan.problem().links().len())?;
+    for t in 0..plan.problem().tunnels().len() {
+        push_tunnel(&mut rows, plan, t)?;
     }
     Ok(rows)
 }
 
-fn crossing(alloc: Global, plan: &CheckedPlan, l: u32) -> Result<Ids, Memory>
-    ensures { IfOk result (λ row. IsCrossing plan.now.problem l (length plan.now.problem.tunnels) row) }
+/// Adds a tunnel to the row of each link that it follows.
+fn push_tunnel(rows: &mut Vec<Ids>, plan: &CheckedPlan, t: usize) -> Result<(), Memory>
+    requires tunnel { t < length plan.now.problem.tunnels }
+    requires before { AreCrossingsTo plan.now.problem t 0 rows.old.items }
+    ensures { OnOk result (AreCrossingsTo plan.now.problem (t + 1) 0 rows.new.items) }
 {
-    let mut row = Ids::new(alloc);
-    for t in 0..plan.problem().tunnels().len() {
-        if crosses(plan, t, l) {
-            row.push(t as u32)?;
-        }
+    let links = plan.links_of(t);
+    for k in 0..links.len() {
+        push_at(rows, links[k] as usize, t as u32)?;
     }
-    Ok(row)
-}
-
-pub(crate) fn crosses(plan: &CheckedPlan, t: usize, l: u32) -> bool
-    requires { t < length plan.now.problem.tunnels }
-    ensures { result ≡ wan.crosses plan.now.problem t l }
-{
-    plan.links_of(t).iter().any(|link| *link == l)
+    Ok(())
 }

@@ -1,20 +1,11 @@
-use Rattle.std.proofs.Common.{◌≡◌, ◌+◌, ap, arith}
-use Rattle.rollout_rules.specs.Items.{use_at}
-use Rattle.rollout_laws.proofs.Shares.{next_stage-before}
+use Rattle.std.proofs.Common.{◌∙◌, sym, ap, slice_index}
 use Rattle.dependency_graph.specs.Cells.{resource_at}
-use Rattle.dependency_graph.proofs.Steps.{use-brought}
+use Rattle.dependency_graph.specs.Touched.{gain}
+use Rattle.dependency_graph.proofs.Gains.{falls-gain}
 use Rattle.dependency_graph.proofs.amounts.fall.Goals as goal
-
-pub overflow_sub-result : goal.overflow_sub-result
-overflow_sub-result c =
-    let r = c.args.plan.now in
-    let u = resource_at r.problem c.args.resource in
-    let next : c.next_stage-next.result ≡ c.args.x + 1 = omega (arith, c.next_stage-next.ensures.value, next_stage-before r.plan c.args.x c.requires.stage) in
-    omega (arith, c.most-most.ensures, c.uses.ensures, ap (λ n. use_at r.problem r.plan n c.args.item u) next, use-brought r.problem r.plan c.args.item u c.args.x c.requires.stage)
 
 pub returns : goal.returns
 returns c =
     let r = c.args.plan.now in
-    let u = resource_at r.problem c.args.resource in
-    let next : c.next_stage-next.result ≡ c.args.x + 1 = omega (arith, c.next_stage-next.ensures.value, next_stage-before r.plan c.args.x c.requires.stage) in
-    omega (arith, c.most-most.ensures, c.uses.ensures, ap (λ n. use_at r.problem r.plan n c.args.item u) next)
+    let q = slice_index c.args.row.now.resources c.args.k in
+    c.gain.ensures ∙ ap (λ n. gain r.problem r.plan n c.args.x c.args.item (resource_at r.problem q)) c.next_stage.ensures.value ∙ sym (falls-gain r c.args.item c.args.x q c.requires.stage)

@@ -1,7 +1,11 @@
-use Rattle.std.proofs.Common.{arith}
-use Rattle.rollout_laws.proofs.Contents.{step-begins}
+use Rattle.std.proofs.Common.{◌∙◌, sym, ap, slice_index}
 use Rattle.dependency_graph.specs.Cells.{resource_at}
+use Rattle.dependency_graph.specs.Touched.{gain}
+use Rattle.dependency_graph.proofs.Gains.{rises-gain}
 use Rattle.dependency_graph.proofs.amounts.rise.Goals as goal
 
-pub overflow_sub-result : goal.overflow_sub-result
-overflow_sub-result c = omega (arith, c.most-most.ensures, c.uses.ensures, step-begins c.args.plan.now.problem c.args.plan.now.plan c.args.item (resource_at c.args.plan.now.problem c.args.resource) c.args.x)
+pub returns : goal.returns
+returns c =
+    let r = c.args.plan.now in
+    let q = slice_index c.args.row.now.resources c.args.k in
+    c.gain.ensures ∙ ap (λ n. gain r.problem r.plan c.args.x n c.args.item (resource_at r.problem q)) c.next_stage.ensures.value ∙ sym (rises-gain r c.args.item c.args.x q)

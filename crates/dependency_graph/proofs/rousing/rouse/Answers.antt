@@ -1,9 +1,8 @@
-use Rattle.std.proofs.Common.{◌≡◌, ℕ, ◌<◌, ◌∙◌, true, length, slice_index, sym, ap, subst, arith}
+use Rattle.std.proofs.Common.{◌≡◌, ◌∙◌, true, sym, ap, subst, arith}
 use Rattle.rollout_rules.specs.Wan.{Rollout}
-use Rattle.rollout_rules.specs.Items.{is_item, item_count, item_at, number_of}
+use Rattle.rollout_rules.specs.Items.{is_item, item_at, number_of}
 use Rattle.rollout_rules.specs.declared.item.Item.{Item}
 use Rattle.rollout_rules.proofs.Numbers.{is_item-item_at}
-use Rattle.dependency_graph.specs.Wakes.{AreWokenFrom}
 use Rattle.dependency_graph.specs.Waiting.{AreRelated, IsRoused}
 use Rattle.dependency_graph.proofs.Waking.{rouses-none}
 use Rattle.dependency_graph.proofs.Relatives.{roused-parts}

@@ -1,4 +1,4 @@
-use Rattle.std.proofs.Common.{◌≡◌, ℕ, ◌+◌, ◌<◌, ◌∙◌, length, sym, ap, subst, arith}
+use Rattle.std.proofs.Common.{◌≡◌, ◌+◌, ◌<◌, ◌∙◌, length, sym, ap, subst, arith}
 use Rattle.rollout_rules.specs.Wan.{Rollout, hops}
 use Rattle.rollout_rules.specs.Items.{item_count, number_of}
 use Rattle.rollout_rules.specs.declared.item.Item.TheVariants as item

@@ -1,7 +1,5 @@
-use Rattle.std.proofs.Common.{◌≡◌, sym, subst}
-use Rattle.rollout_rules.specs.Items.{is_item, number_of}
-use Rattle.rollout_rules.specs.declared.item.Item.{Item}
-use Rattle.dependency_graph.specs.Waiting.{AreRelated, IsRoused}
+use Rattle.std.proofs.Common.{subst}
+use Rattle.dependency_graph.specs.Waiting.{AreRelated}
 use Rattle.dependency_graph.proofs.Relatives.{related-flow}
 use Rattle.dependency_graph.proofs.rousing.rouse_related.Goals as goal
 

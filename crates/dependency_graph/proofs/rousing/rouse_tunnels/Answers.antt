@@ -1,4 +1,4 @@
-use Rattle.std.proofs.Common.{◌≡◌, ℕ, ◌<◌, ◌∙◌, sym, subst, arith}
+use Rattle.std.proofs.Common.{ℕ, ◌<◌, ◌∙◌, subst, arith}
 use Rattle.rollout_rules.specs.Wan.{hops}
 use Rattle.rollout_rules.specs.Items.{number_of}
 use Rattle.rollout_rules.specs.declared.item.Item.TheVariants as item

@@ -1,4 +1,3 @@
-use Rattle.std.proofs.Common.{◌≡◌}
 use Rattle.dependency_graph.specs.Wakes.{Rouses, AreAwake, joined}
 use Rattle.dependency_graph.proofs.Waking.{kept_sum}
 use Rattle.dependency_graph.proofs.wakes.free.Given as goal

@@ -4,6 +4,7 @@ use Rattle.rollout_rules.specs.Wan.{Rollout}
 use Rattle.rollout_rules.specs.Items.{item_count, item_at}
 use Rattle.rollout_rules.specs.History.{stand, flies}
 use Rattle.rollout_rules.specs.Room.{least_stage}
+use Rattle.dependency_graph.specs.Cells.{AreTouched}
 use Rattle.dependency_graph.specs.Graph.{Followed, places, IsGraph}
 use Rattle.dependency_graph.proofs.Looked.{AreLooked, looked-item, looked-order, looked-left, looked-there, looked-ends}
 use Rattle.dependency_graph.proofs.Roused.{done-waits}
@@ -81,7 +82,8 @@ invariant_of-self c =
     } in
     let flying = subst (λ (g : Followed). flies g.history n ≡ true) (sym c.self.view_is) c.requires.flying in
     let rooms = looked-ends s.plan s.course n c.item.result c.least_stage-low.result c.stands-stage.result looked s.cells c.self.invariant.graph.rooms c.history_is_legal.ensures flying c.lower_row.new.cells c.lower_row.ensures in
-    let waiting = done-waits s.plan s.touched s.course c.done.new.self n c.row-row.result.now (not (c.least_stage-after.result == c.least_stage-low.result)) c.least_stage-low.result c.least_stage-after.result s.wakes c.rouse.new.wakes own c.self.invariant.graph.rows
-    c.checked_plan_is_valid.ensures.network c.history_is_legal.ensures looked.inside flying c.done.ensures c.self.invariant.waiting c.row-row.ensures c.rouse.ensures
+    let row = subst (AreTouched s.touched.problem (item_at s.touched.problem n)) (sym c.resources.ensures) c.row-row.ensures.touched in
+    let waiting = done-waits s.plan s.touched s.course c.done.new.self n c.resources.result.now (not (c.least_stage-after.result == c.least_stage-low.result)) c.least_stage-low.result c.least_stage-after.result s.wakes c.rouse.new.wakes own c.self.invariant.graph.rows
+    c.checked_plan_is_valid.ensures.network c.history_is_legal.ensures looked.inside flying c.done.ensures c.self.invariant.waiting row c.rouse.ensures
     (λ e. eqb-true c.least_stage-after.result c.least_stage-low.result (not-false (c.least_stage-after.result == c.least_stage-low.result) e)) looked.least c.least_stage-after.ensures in
     record { graph = subst (λ (g : Followed). IsGraph s.plan s.touched s.chains g c.lower_row.new.cells) (sym c.done.ensures) (record { own = own; rows = c.self.invariant.graph.rows; longest = c.self.invariant.graph.longest; rooms = rooms }); waiting = waiting }

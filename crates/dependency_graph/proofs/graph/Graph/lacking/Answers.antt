@@ -66,7 +66,7 @@ returns-clause-none c =
     let next = subst (λ g. has_next g n ≡ true) (sym c.self.view_is) c.requires.next in
     c.first_lacking.ensures.none
     ∙ looked-holds s.plan s.course n c.item.result c.least_stage-low.result c.stands-stage.result looked s.cells c.self.invariant.graph.rooms c.history_is_legal.ensures c.checked_plan_is_valid.ensures.network c.checked_plan_is_valid.ensures.valid next
-    s.touched c.row-row.result.now c.self.invariant.graph.rows c.row-row.ensures
+    s.touched c.row-row.result.now.resources c.self.invariant.graph.rows c.row-row.ensures.touched
     ∙ ap (λ g. has_room g n) c.self.view_is
 
 pub returns-clause-lacks : goal.returns-clause-lacks

@@ -1,5 +1,5 @@
-use Rattle.dependency_graph.specs.Index.{AreCrossings}
+use Rattle.dependency_graph.specs.Index.{AreCrossingsTo}
 use Rattle.dependency_graph.proofs.index.links.crossings.Given as goal
 
-abbrev pub invariant-loop-l : goal.invariant-loop-l
-invariant-loop-l l = AreCrossings l.plan.problem l.rows l.l
+abbrev pub invariant-loop-t : goal.invariant-loop-t
+invariant-loop-t l = AreCrossingsTo l.plan.problem l.t 0 l.rows.items

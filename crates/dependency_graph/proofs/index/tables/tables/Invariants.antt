@@ -1,5 +1,5 @@
-use Rattle.dependency_graph.specs.Index.{AreTables}
+use Rattle.dependency_graph.specs.Index.{AreTablesTo}
 use Rattle.dependency_graph.proofs.index.tables.tables.Given as goal
 
-abbrev pub invariant-loop-w : goal.invariant-loop-w
-invariant-loop-w l = AreTables l.plan.problem l.rows l.w
+abbrev pub invariant-loop-t : goal.invariant-loop-t
+invariant-loop-t l = AreTablesTo l.plan.problem l.t 0 l.rows.items

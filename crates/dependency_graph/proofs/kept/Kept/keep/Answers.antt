@@ -1,4 +1,4 @@
-use Rattle.std.proofs.Common.{◌≡◌, ◌+◌, ◌<◌, length, set, slice_index, refl, sym, ap, ◌∙◌, subst}
+use Rattle.std.proofs.Common.{◌≡◌, ◌+◌, ◌<◌, length, set, slice_index, refl, sym, subst}
 use Rattle.dependency_graph.specs.Wakes.{Keeping, AreKept}
 use Rattle.dependency_graph.proofs.Elements.{read_from}
 use Rattle.dependency_graph.proofs.Keepings.{kept-more}

@@ -1,4 +1,4 @@
-use Rattle.std.proofs.Common.{◌≡◌, ◌+◌, ◌-◌, ◌<◌, length, set, slice_index, refl, sym, ap, ◌∙◌, subst, arith}
+use Rattle.std.proofs.Common.{◌≡◌, ◌+◌, ◌-◌, ◌<◌, length, set, slice_index, refl, sym, ◌∙◌, subst, arith}
 use Rattle.dependency_graph.specs.Wakes.{Keeping, AreKept, AreFreeOf}
 use Rattle.dependency_graph.proofs.Elements.{read_from}
 use Rattle.dependency_graph.proofs.Keepings.{kept-none, first-inside, first-lacks, kept-less}

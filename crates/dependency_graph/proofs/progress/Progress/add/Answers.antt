@@ -1,24 +1,23 @@
 use Rattle.std.proofs.Common.{◌≡◌, ◌<◌, ◌≤◌, ◌+◌, ◌∙◌, length, refl, sym, ap, subst, arith}
 use Rattle.std.specs.Arc.{arc_value}
 use Rattle.rollout_rules.specs.Wan.{Rollout, last_stage}
-use Rattle.rollout_rules.specs.Items.{item_count}
+use Rattle.rollout_rules.specs.Items.{item_count, item_at}
 use Rattle.rollout_laws.proofs.Standing.{stand-most}
 use Rattle.dependency_graph.specs.Progress.{AreCountsOf, MayCount}
 use Rattle.dependency_graph.proofs.Elements.{read_from}
-use Rattle.dependency_graph.proofs.Standings.{is_item-read, counts-begin, counts-done}
+use Rattle.dependency_graph.proofs.Standings.{counts-begin, counts-done}
 use Rattle.dependency_graph.proofs.progress.Progress.add.Goals as goal
 
-pub stand_after-stage-requires : goal.stand_after-stage-requires
-stand_after-stage-requires c =
-    let same : c.args.plan.now ≡ c.lookup.result.now = c.requires.own ∙ sym c.lookup.ensures in
+pub stage_behind-stage-requires-clause-item : goal.stage_behind-stage-requires-clause-item
+stage_behind-stage-requires-clause-item c =
     let left = subst (MayCount c.args.self.now) c.in-Done.is c.requires.left in
-    let lt = subst (λ (q : Rollout). c.in-Done.op.item < item_count q.problem) (sym c.requires.own) left.0 in
-    is_item-read c.args.plan.now c.lookup.result.now c.in-Done.op.item c.item.result same lt c.item.ensures
+    subst (λ (q : Rollout). c.in-Done.op.item < item_count q.problem) (sym c.requires.own) left.0
 
 pub set-requires-clause-stage : goal.set-requires-clause-stage
 set-requires-clause-stage c =
-    let same : c.args.plan.now ≡ arc_value c.self.inside.index = c.requires.own ∙ sym (ap (λ v. v.rollout) c.self.view_is) in
-    let most = subst (λ x. x ≤ last_stage c.args.plan.now.plan) (sym c.stand_after-stage.ensures) (stand-most c.args.plan.now.problem c.args.plan.now.plan c.item.result _) in
+    let r = c.args.plan.now in
+    let same : r ≡ arc_value c.self.inside.index = c.requires.own ∙ sym (ap (λ v. v.rollout) c.self.view_is) in
+    let most = subst (λ x. x ≤ last_stage r.plan) (sym c.stage_behind-stage.ensures) (stand-most r.problem r.plan (item_at r.problem c.in-Done.op.item) _) in
     omega (arith, most, c.self.invariant.last, ap (λ (q : Rollout). last_stage q.plan) same)
 
 pub returns-in-Begin-clause-counts : goal.returns-in-Begin-clause-counts

@@ -1,4 +1,4 @@
-use Rattle.std.proofs.Common.{◌≡◌, ◌<◌, ap, arith}
+use Rattle.std.proofs.Common.{◌≡◌, ap, arith}
 use Rattle.dependency_graph.specs.Wakes.{Awake}
 use Rattle.dependency_graph.proofs.Waking.{rouses-both, freed-more}
 use Rattle.dependency_graph.proofs.wakes.Wakes.free_all.Goals as goal

@@ -1,4 +1,4 @@
-use Rattle.std.proofs.Common.{◌≡◌, ℕ, ◌<◌}
+use Rattle.std.proofs.Common.{ℕ, ◌<◌}
 use Rattle.dependency_graph.specs.Wakes.{Rouses, AreWokenFrom}
 use Rattle.dependency_graph.proofs.wakes.Wakes.free_all.Given as goal
 

@@ -1,4 +1,4 @@
-use Rattle.std.proofs.Common.{◌≡◌, ◌<◌, nat_lt, length, refl, sym, ap, ◌∙◌, subst, arith}
+use Rattle.std.proofs.Common.{◌<◌, nat_lt, refl, sym, ap, ◌∙◌, subst, arith}
 use Rattle.dependency_graph.specs.Cells.{has}
 use Rattle.dependency_graph.specs.Wakes.{ItemSet}
 use Rattle.dependency_graph.proofs.Elements.{read_from}

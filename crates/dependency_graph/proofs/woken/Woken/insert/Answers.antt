@@ -1,4 +1,4 @@
-use Rattle.std.proofs.Common.{◌≡◌, ◌+◌, ◌<◌, ◌≤◌, ◌||◌, ◌==◌, true, take, nat_lt, length, slice_index, refl, sym, ap, ◌∙◌, subst, arith, lt-ltb}
+use Rattle.std.proofs.Common.{◌≡◌, ◌<◌, ◌||◌, ◌==◌, true, take, slice_index, refl, sym, ap, ◌∙◌, subst, arith, lt-ltb}
 use Rattle.dependency_graph.specs.Cells.{has}
 use Rattle.dependency_graph.specs.Wakes.{ItemSet, AreExchanged}
 use Rattle.dependency_graph.proofs.Elements.{read_from}

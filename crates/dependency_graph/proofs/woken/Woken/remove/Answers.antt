@@ -1,4 +1,4 @@
-use Rattle.std.proofs.Common.{◌≡◌, ◌+◌, ◌-◌, ◌<◌, ◌≤◌, ◌&&◌, not, ◌==◌, false, take, nat_lt, length, slice_index, refl, sym, ap, ◌∙◌, subst, arith, le-ltb}
+use Rattle.std.proofs.Common.{◌≡◌, ◌+◌, ◌-◌, ◌<◌, ◌&&◌, not, ◌==◌, false, take, slice_index, refl, sym, ap, ◌∙◌, subst, arith, le-ltb}
 use Rattle.dependency_graph.specs.Cells.{has}
 use Rattle.dependency_graph.specs.Wakes.{ItemSet, AreExchanged}
 use Rattle.dependency_graph.proofs.Elements.{read_from}
