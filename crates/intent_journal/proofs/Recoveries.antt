@@ -4,7 +4,7 @@ use Rattle.std.proofs.lemmas.Bool.Decides.{nat_tests}
 use Rattle.std.specs.Prelude.{IfErr, IfOk}
 use Rattle.std.specs.Result.{IsErrAnd}
 use Rattle.rollout_rules.specs.Wan.{Rollout}
-use Rattle.rollout_rules.specs.History.{no_start}
+use Rattle.rollout_rules.specs.History.{from_nothing, no_start}
 use Rattle.rollout_rules.specs.declared.op.Entry.{Entry}
 use Rattle.disk_model.specs.Crashes.{IsDurable, Within}
 use Rattle.disk_model.specs.Moments.{LeavesOnly}
@@ -16,8 +16,8 @@ use Rattle.intent_journal.specs.Images.{is_blank, is_placed, journal_in, second_
 use Rattle.intent_journal.specs.Opened.{HasRoom}
 use Rattle.intent_journal.specs.Parts.{Kept, size_of}
 use Rattle.intent_journal.specs.Phases.{Holds, IsBlankOrMade, IsFound, IsOldOrNew, IsRenewed, Planned, end_of, home_of, kept_of}
-use Rattle.intent_journal.specs.Recovered.{IsBroughtTo, IsCause, KeepsNow, MayBeLeft, MayStand, OnRefusal, kept_for}
-use Rattle.intent_journal.specs.Verdicts.{Fresh, IsRefusal, Stands, Verdict, judged_journal, verdict, with_history}
+use Rattle.intent_journal.specs.Recovered.{IsBrought, IsBroughtTo, IsCause, KeepsNow, MayBeLeft, MayStand, OnRefusal, kept_for}
+use Rattle.intent_journal.specs.Verdicts.{Fresh, IsRefusal, NoJournal, NoStart, NotLegal, OfAnother, Stands, Verdict, judged_journal, verdict, with_history}
 use Rattle.intent_journal.specs.Whole.{Causes, IsQuiet}
 use Rattle.wan_edge.specs.Streams.{KeepsTelling, Rose}
 use Rattle.intent_journal.specs.declared.fault.JournalFault.{JournalFault}
@@ -238,3 +238,13 @@ quiet_since {D} bytes moment left_since may_leave old mid new quiet is =
 -- what holds of the disk that was written holds of the one that the journal owns
 pub owned : {D : Type 0} (P : D → Type 0) (has disk : D) → has ≡ disk → P disk → P has
 owned P has disk is holds = subst P (sym is) holds
+
+-- a graph that was brought to the list of a verdict was brought to it from some start
+pub to_list : (v : Verdict) (list : List Entry) (old new : Followed) → old.history ≡ from_nothing old.rollout.problem [] → IsBroughtTo v list old new → IsBrought list old new
+to_list Fresh list old new empty is =
+    (no_start old.rollout.problem, is.1 ∙ ap (λ h. record old { history = h }) empty ∙ ap (with_history old (no_start old.rollout.problem)) (sym is.0))
+to_list (Stands start entries) list old new empty is = (start, is.1 ∙ ap (with_history old start) (sym is.0))
+to_list (NoJournal first) list old new empty is = absurd is
+to_list (OfAnother bytes migration) list old new empty is = absurd is
+to_list NoStart list old new empty is = absurd is
+to_list (NotLegal place) list old new empty is = absurd is

@@ -7,7 +7,7 @@ ghost use Rattle.intent_journal.specs.Images as images;
 ghost use Rattle.intent_journal.specs.Judging.{BeforeList};
 ghost use Rattle.intent_journal.specs.Opened.{HasRoom, IsKept};
 ghost use Rattle.intent_journal.specs.Phases.{Holds};
-ghost use Rattle.intent_journal.specs.Recovered.{IsBroughtTo, IsCause, IsReady, KeepsNow, MayStand, OnRefusal, kept_for};
+ghost use Rattle.intent_journal.specs.Recovered.{IsBrought, IsBroughtTo, IsCause, IsReady, KeepsNow, MayStand, OnRefusal, kept_for};
 ghost use Rattle.intent_journal.specs.Verdicts.{Fresh, judged_journal, verdict};
 ghost use Rattle.intent_journal.specs.Whole.{Causes};
 ghost use Rattle.intent_journal.specs.declared.fault.JournalFault.TheVariants as fault;
@@ -51,6 +51,7 @@ pub fn recover<D: Disk>(
 ) -> Result<(Journal<D>, EntryList), Unopened<D>>
     requires empty { graph.old.history ≡ from_nothing graph.old.rollout.problem [] }
     ensures list { IfOk result (λ opened. IfSome (D.bytes disk) (λ image. IsBroughtTo (verdict graph.old.rollout digest.now image) opened.1 graph.old graph.new)) }
+    ensures brought { IfOk result (λ opened. IsBrought opened.1 graph.old graph.new) }
     ensures keeps { IfOk result (λ opened. IfSome (D.bytes disk) (λ image.
         KeepsNow (kept_for graph.old.rollout digest.now (verdict graph.old.rollout digest.now image)) (D.bytes opened.0.disk) (D.may_leave opened.0.disk))) }
     ensures live { IfOk result (λ opened. opened.0.live ≡ true) }
@@ -106,6 +107,7 @@ fn open<D: Disk>(
     ensures rest { IfOk result (λ ready. IsKept ready.rest.gate ready.rest.end (D.bytes disk.new) (D.may_leave disk.new)) }
     ensures room { IfOk result (λ ready. HasRoom ready.rest.gate ready.rest.end (length ready.list) ready.most (vec_capacity ready.body)) }
     ensures list { IfOk result (λ ready. IfSome (D.bytes disk.old) (λ image. IsBroughtTo (verdict graph.old.rollout digest.now image) ready.list graph.old graph.new)) }
+    ensures brought { IfOk result (λ ready. IsBrought ready.list graph.old graph.new) }
     ensures keeps { IfOk result (λ ready. IfSome (D.bytes disk.old) (λ image.
         KeepsNow (kept_for graph.old.rollout digest.now (verdict graph.old.rollout digest.now image)) (D.bytes disk.new) (D.may_leave disk.new))) }
     ensures most { IfOk result (λ ready. ready.most ≡ 2 * op_total graph.old.rollout) }

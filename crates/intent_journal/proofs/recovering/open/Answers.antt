@@ -1,7 +1,7 @@
 use Rattle.std.proofs.Common.{◌≡◌, ℕ, List, IfSome, refl, sym, subst}
 use Rattle.intent_journal.specs.Recovered.{IsBroughtTo, IsCause, KeepsNow, kept_for}
 use Rattle.intent_journal.specs.Verdicts.{verdict}
-use Rattle.intent_journal.proofs.Recoveries.{err_as, holds_read, ok_as, opened_run, quiet_since, read_run, refused_as, rose_later, tells_still, told_as, told_later}
+use Rattle.intent_journal.proofs.Recoveries.{err_as, holds_read, ok_as, opened_run, quiet_since, read_run, refused_as, rose_later, tells_still, to_list, told_as, told_later}
 use Rattle.intent_journal.proofs.recovering.open.Goals as goal
 
 pub returns-in_err-image-clause-any_moment : goal.returns-in_err-image-clause-any_moment
@@ -24,6 +24,11 @@ returns-clause-list g c =
     let read = subst (λ (image : List ℕ). IfSome (g.D.Disk.bytes c.args.disk.now) (λ all. image ≡ all)) (sym c.as_slice.ensures.value) c.in_ok-image.ensures.read in
     ok_as _ _ c.open_read.result c.open_read.ensures.ok
     (λ ready is. told_as (g.D.Disk.bytes c.args.disk.now) c.as_slice.result.now (λ all. IsBroughtTo (verdict c.args.graph.now.rollout c.args.digest.now all) ready.list c.args.graph.now c.open_read.new.graph) read is.brought)
+
+pub returns-clause-brought : goal.returns-clause-brought
+returns-clause-brought g c =
+    ok_as _ _ c.open_read.result c.open_read.ensures.ok
+    (λ ready is. to_list (verdict c.args.graph.now.rollout c.args.digest.now c.as_slice.result.now) ready.list c.args.graph.now c.open_read.new.graph c.requires.empty is.brought)
 
 pub returns-clause-keeps : goal.returns-clause-keeps
 returns-clause-keeps g c =

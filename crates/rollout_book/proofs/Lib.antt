@@ -1,0 +1,6 @@
+pub mod Short
+pub mod Turned
+pub mod Openings
+pub mod Filling
+pub mod Sendings
+pub mod Rounded

@@ -1,0 +1,240 @@
+ghost use Rattle.std.specs.Prelude.{◌≡◌, ◌*◌, ◌≤◌, ◌++◌, [], length, true, vec_capacity, None, IfErr, IfOk, IfSome, IsTrue, OnErr, OnOk};
+ghost use Rattle.rollout_rules.specs.History.{from_nothing};
+ghost use Rattle.rollout_rules.specs.Items.{item_count};
+ghost use Rattle.rollout_rules.specs.Legal.{is_finished, is_legal};
+ghost use Rattle.dependency_graph.specs.Graph.{op_total};
+ghost use Rattle.dependency_graph.specs.Index.{AreItems};
+ghost use Rattle.disk_model.specs.Crashes.{Within};
+ghost use Rattle.disk_model.specs.Moments.{LeavesOnly};
+ghost use Rattle.order_policy.specs.Answers.{rank_by};
+ghost use Rattle.intent_journal.specs.Recovered.{IsBroughtTo, IsCause, KeepsNow, MayStand, OnRefusal, kept_for};
+ghost use Rattle.intent_journal.specs.Verdicts.{verdict};
+ghost use Rattle.intent_journal.specs.declared.fault.JournalFault.TheVariants as fault;
+ghost use Rattle.rollout_rounds.specs.Rounds as rounds;
+ghost use Rattle.wan_edge.specs.Streams.{KeepsTelling, Rose};
+ghost use Rattle.rollout_book.specs.Aliens as aliens;
+ghost use Rattle.rollout_book.specs.Chronicles.{batch_of, first_book, graph_of, turn_of, with_batch, with_lost, IsFound};
+ghost use Rattle.rollout_book.specs.Commands.{commands_of};
+ghost use Rattle.rollout_book.specs.Lists.{HasBeforeOrAfter, IsKeptList};
+
+use crate::aliens::first_alien;
+use crate::commands::{CommandList, add_asked};
+use crate::fault::BookFault;
+use crate::hearing::hear_each;
+use crate::opening::{Found, Parts, find};
+use crate::turn::Turn;
+use crate::turning::turn;
+use dependency_graph::Graph;
+use disk_model::Disk;
+use intent_journal::{Digest, Journal, JournalFault, Unopened};
+use lists::{Many, Memory};
+use order_policy::Policy;
+use rollout_rounds::Rounds;
+use rollout_rules::{Entry, Item};
+use std::alloc::Global;
+use std::marker::Model;
+use wire_frames::Answer;
+
+/// A rollout's rounds, and the journal on which each of them is written. It owns the disk.
+#[derive(Drop)]
+pub struct Chronicle<D: Disk> {
+    rounds: Rounds,
+    items: Many<Item>,
+    journal: Journal<D>,
+    entries: Vec<Entry>,
+    found: u32,
+}
+
+impl<D: Disk> Model for Chronicle<D> {
+    ghost use Rattle.std.specs.Prelude.{◌≡◌, [], vec_capacity};
+    ghost use Rattle.rollout_rules.specs.Items.{item_count};
+    ghost use Rattle.dependency_graph.specs.Index.{AreItems};
+    ghost use Rattle.rollout_book.specs.Chronicles.{Chronicled, IsChronicle};
+
+    ghost Value = { Chronicled D };
+
+    ghost view = { λ b. record { rollout = b.rounds.rollout; history = b.rounds.history; entries = b.entries.items; disk = b.journal.disk; live = b.journal.live; found = b.found } };
+
+    ghost invariant = { λ b. (b.rounds.heard ≡ []) × AreItems b.rounds.rollout.problem (item_count b.rounds.rollout.problem) b.items × IsChronicle D.bytes D.may_leave b.rounds b.journal b.entries.items (vec_capacity b.entries) };
+}
+
+impl<D: Disk> Chronicle<D> {
+    /// Opens the book on a disk: the journal is recovered, or made where there is none, and the graph is
+    /// brought to its start and its list. All later rounds take no memory. Where it isn't opened, the disk
+    /// comes back; it was written on only after the image was judged to be blank or the rollout's own.
+    pub fn open(
+        alloc: Global,
+        graph: Graph,
+        digest: &Digest,
+        disk: D,
+    ) -> Result<Chronicle<D>, Unopened<D>>
+        requires empty { graph.history ≡ from_nothing graph.rollout.problem [] }
+        ensures live { IfOk result (λ book. book.live ≡ true) }
+        ensures rollout { IfOk result (λ book. book.rollout ≡ graph.rollout) }
+        ensures list { IfOk result (λ book. book.entries ≡ book.history.entries) }
+        ensures found { IfOk result (λ book. book.found ≡ length book.entries) }
+        ensures legal { IfOk result (λ book. IsTrue (is_legal book.rollout.problem book.rollout.plan book.history)) }
+        ensures brought { IfOk result (λ book. IfSome (D.bytes disk) (λ image. IsBroughtTo (verdict graph.rollout digest.now image) book.entries graph (graph_of book))) }
+        ensures keeps { IfOk result (λ book. IfSome (D.bytes disk) (λ image.
+            KeepsNow (kept_for graph.rollout digest.now (verdict graph.rollout digest.now image)) (D.bytes book.disk) (D.may_leave book.disk))) }
+        ensures has { IfOk result (λ book. IfSome (D.bytes book.disk) (IsKeptList book.history.start book.entries (D.may_leave book.disk))) }
+        ensures any_moment { IfOk result (λ book. IfSome (D.bytes disk) (λ image.
+            LeavesOnly D.moment D.left_since disk book.disk (MayStand graph.rollout digest.now image (verdict graph.rollout digest.now image) (D.may_leave disk)))) }
+        ensures told { IfOk result (λ book. KeepsTelling (D.bytes disk) (D.bytes book.disk)) }
+        ensures count { IfOk result (λ book. D.faults disk ≤ D.faults book.disk) }
+        ensures cause { IfErr result (λ unopened. unopened.cause ≡ fault.Disk → Rose (D.faults disk) (D.faults unopened.disk)) }
+        ensures refusal { IfErr result (λ unopened. IfSome (D.bytes disk) (λ image. IsCause unopened.cause digest.now (verdict graph.rollout digest.now image))) }
+        ensures unwritten { IfErr result (λ unopened. OnRefusal unopened.cause ((D.bytes unopened.disk ≡ D.bytes disk) × Within (D.may_leave unopened.disk) (D.may_leave disk))) }
+        ensures meanwhile { IfErr result (λ unopened. IfSome (D.bytes disk) (λ image.
+            LeavesOnly D.moment D.left_since disk unopened.disk (MayStand graph.rollout digest.now image (verdict graph.rollout digest.now image) (D.may_leave disk)))) }
+    {
+        let mut graph = graph;
+        match find(alloc, &mut graph, digest, disk) {
+            Ok(found) => of_found(alloc, graph, found),
+            Err(unopened) => Err(unopened),
+        }
+    }
+
+    /// Makes a round: a Done for each operation in flight that an answer covers, by item, and then the
+    /// release by the policy, as one batch. It is written by one append, and not at all where it is empty. A
+    /// crash at any moment leaves the list before or with the whole batch; after `Ok` each image has the
+    /// batch. It takes no memory.
+    ///
+    /// The first answer that is alien is refused, and then nothing changes. Where the disk fails, the book
+    /// lives no longer.
+    pub fn round(&mut self, policy: &Policy, answers: &[Answer]) -> Result<Turn, BookFault>
+        requires live { self.old.live ≡ true }
+        ensures alien { IfErr result (λ fault. aliens.IsFault fault (aliens.first_alien (graph_of self.old) answers.now)) }
+        ensures known { OnOk result (aliens.first_alien (graph_of self.old) answers.now ≡ None) }
+        ensures unchanged { IfErr result (λ fault. aliens.OnAlien fault (self.new ≡ self.old)) }
+        ensures turn { IfOk result (λ turn. turn ≡ turn_of (batch_of self.old (rank_by policy.now.answers) answers.now)) }
+        ensures written { OnOk result (self.new ≡ with_batch self.old (batch_of self.old (rank_by policy.now.answers) answers.now) self.new.disk) }
+        ensures lost { IfErr result (λ fault. aliens.OnDisk fault (self.new ≡ with_lost self.old (batch_of self.old (rank_by policy.now.answers) answers.now) self.new.disk)) }
+        ensures none { batch_of self.old (rank_by policy.now.answers) answers.now ≡ [] → self.new ≡ self.old }
+        ensures any_moment { IfSome (D.bytes self.old.disk) (λ _. LeavesOnly D.moment D.left_since self.old.disk self.new.disk (HasBeforeOrAfter self.old.history.start self.old.entries (batch_of self.old (rank_by policy.now.answers) answers.now))) }
+        ensures has { OnOk result (IfSome (D.bytes self.new.disk) (IsKeptList self.new.history.start self.new.entries (D.may_leave self.new.disk))) }
+        ensures told { KeepsTelling (D.bytes self.old.disk) (D.bytes self.new.disk) }
+        ensures cause { IfErr result (λ fault. aliens.OnDisk fault (Rose (D.faults self.old.disk) (D.faults self.new.disk))) }
+        ensures count { D.faults self.old.disk ≤ D.faults self.new.disk }
+    {
+        match first_alien(self.rounds.graph(), answers) {
+            Some(fault) => Err(fault),
+            None => {
+                hear_each(&mut self.rounds, answers);
+                turn(
+                    &mut self.rounds,
+                    &mut self.journal,
+                    &mut self.entries,
+                    policy,
+                )
+            }
+        }
+    }
+
+    /// Adds the commands of the operations in flight whose homes are among these switches, by item; nothing
+    /// where the book lives no longer. Want of memory changes nothing.
+    pub fn commands(
+        &self,
+        alloc: Global,
+        switches: &[u32],
+        out: &mut CommandList,
+    ) -> Result<(), Memory>
+        ensures ok { OnOk result (out.new ≡ out.old ++ commands_of self.now switches.now) }
+        ensures err { OnErr result (out.new ≡ out.old) }
+    {
+        let mut asked = CommandList::new(alloc);
+        if self.journal.live() {
+            add_asked(
+                self.rounds.graph(),
+                self.items.as_slice(),
+                self.rounds.flying(),
+                switches,
+                &mut asked,
+            )?;
+        }
+        out.extend_from_slice(asked.as_slice())
+    }
+
+    /// Whether no append has failed.
+    pub fn live(&self) -> bool
+        ensures { result ≡ self.now.live }
+    {
+        self.journal.live()
+    }
+
+    /// Whether every operation is settled.
+    pub fn finished(&self) -> bool
+        ensures { result ≡ is_finished self.now.rollout.problem self.now.rollout.plan self.now.history }
+    {
+        self.rounds.graph().finished()
+    }
+
+    /// How many entries the opening found.
+    pub fn found(&self) -> u32
+        ensures { result ≡ self.now.found }
+    {
+        self.found
+    }
+
+    /// The list of the journal. While the book lives, that is the history's, and each image that a crash
+    /// leaves has it.
+    pub fn entries(&self) -> &[Entry]
+        ensures value { result.now ≡ self.now.entries }
+        ensures same { self.now.live ≡ true → self.now.entries ≡ self.now.history.entries }
+        ensures has { self.now.live ≡ true → IfSome (D.bytes self.now.disk) (IsKeptList self.now.history.start self.now.entries (D.may_leave self.now.disk)) }
+    {
+        self.entries.as_slice()
+    }
+
+    /// The graph of the rollout, whose history is legal.
+    pub fn graph(&self) -> &Graph
+        ensures value { result.now ≡ graph_of self.now }
+        ensures legal { IsTrue (is_legal self.now.rollout.problem self.now.rollout.plan self.now.history) }
+    {
+        self.rounds.graph()
+    }
+
+    /// Gives the graph and the disk back.
+    pub fn into_parts(self) -> (Graph, D)
+        ensures graph { result.0 ≡ graph_of self }
+        ensures disk { result.1 ≡ self.disk }
+    {
+        (self.rounds.into_graph(), self.journal.into_disk())
+    }
+}
+
+// The book of a graph that was brought to the list of its journal.
+fn of_found<D: Disk>(
+    alloc: Global,
+    graph: Graph,
+    found: Found<D>,
+) -> Result<Chronicle<D>, Unopened<D>>
+    requires { IsFound D.bytes D.may_leave graph found.journal found.list }
+    ensures ok { IfOk result (λ book. book ≡ first_book graph found.list found.journal.disk) }
+    ensures err { IfErr result (λ unopened. unopened ≡ record { disk = found.journal.disk; cause = fault.Memory }) }
+{
+    let Found { journal, list } = found;
+    match Parts::new(alloc, graph, list.as_slice()) {
+        Ok(parts) => Ok(of_parts(parts, journal)),
+        Err(_) => Err(Unopened {
+            disk: journal.into_disk(),
+            cause: JournalFault::Memory,
+        }),
+    }
+}
+
+fn of_parts<D: Disk>(parts: Parts, journal: Journal<D>) -> Chronicle<D>
+    requires first { parts.rounds.heard ≡ [] }
+    requires items { AreItems parts.rounds.rollout.problem (item_count parts.rounds.rollout.problem) parts.items }
+    requires room { 2 * op_total parts.rounds.rollout ≤ vec_capacity parts.entries }
+    requires found { IsFound D.bytes D.may_leave (rounds.graph_of parts.rounds) journal parts.entries.items }
+    ensures { result ≡ first_book (rounds.graph_of parts.rounds) parts.entries.items journal.disk }
+{
+    Chronicle {
+        found: journal.entries(),
+        rounds: parts.rounds,
+        items: parts.items,
+        journal,
+        entries: parts.entries,
+    }
+}

@@ -1,0 +1,113 @@
+ghost use Rattle.std.specs.Prelude.{◌≡◌, ◌*◌, ◌≤◌, [], length, true, vec_capacity, IfErr, IfOk, IfSome, IsTrue};
+ghost use Rattle.rollout_rules.specs.History.{from_nothing};
+ghost use Rattle.rollout_rules.specs.Items.{item_count};
+ghost use Rattle.rollout_rules.specs.Legal.{is_legal};
+ghost use Rattle.dependency_graph.specs.Graph.{op_total};
+ghost use Rattle.dependency_graph.specs.Index.{AreItems};
+ghost use Rattle.disk_model.specs.Crashes.{Within};
+ghost use Rattle.disk_model.specs.Moments.{LeavesOnly};
+ghost use Rattle.intent_journal.specs.Recovered.{IsBroughtTo, IsCause, KeepsNow, MayStand, OnRefusal, kept_for};
+ghost use Rattle.intent_journal.specs.Verdicts.{verdict};
+ghost use Rattle.intent_journal.specs.declared.fault.JournalFault.TheVariants as fault;
+ghost use Rattle.rollout_rounds.specs.Rounds.{first_turn};
+ghost use Rattle.rollout_book.specs.Chronicles.{IsFound};
+ghost use Rattle.wan_edge.specs.Streams.{KeepsTelling, Rose};
+
+use dependency_graph::{Graph, items};
+use disk_model::Disk;
+use intent_journal::{Digest, Journal, Unopened, recover};
+use lists::{Many, Memory};
+use rollout_rounds::Rounds;
+use rollout_rules::{Entry, EntryList, Item};
+use std::alloc::{AllocError, Global};
+
+/// The journal that an opening found, and its list.
+#[derive(Drop)]
+pub(crate) struct Found<D: Disk> {
+    pub journal: Journal<D>,
+    pub list: EntryList,
+}
+
+/// Recovers the journal, and brings the graph to its start and its list.
+pub(crate) fn find<D: Disk>(
+    alloc: Global,
+    graph: &mut Graph,
+    digest: &Digest,
+    disk: D,
+) -> Result<Found<D>, Unopened<D>>
+    requires empty { graph.old.history ≡ from_nothing graph.old.rollout.problem [] }
+    ensures found { IfOk result (λ found. IsFound D.bytes D.may_leave graph.new found.journal found.list) }
+    ensures rollout { IfOk result (λ _. graph.new.rollout ≡ graph.old.rollout) }
+    ensures brought { IfOk result (λ found. IfSome (D.bytes disk) (λ image. IsBroughtTo (verdict graph.old.rollout digest.now image) found.list graph.old graph.new)) }
+    ensures keeps { IfOk result (λ found. IfSome (D.bytes disk) (λ image.
+        KeepsNow (kept_for graph.old.rollout digest.now (verdict graph.old.rollout digest.now image)) (D.bytes found.journal.disk) (D.may_leave found.journal.disk))) }
+    ensures any_moment { IfOk result (λ found. IfSome (D.bytes disk) (λ image.
+        LeavesOnly D.moment D.left_since disk found.journal.disk (MayStand graph.old.rollout digest.now image (verdict graph.old.rollout digest.now image) (D.may_leave disk)))) }
+    ensures told { IfOk result (λ found. KeepsTelling (D.bytes disk) (D.bytes found.journal.disk)) }
+    ensures count { IfOk result (λ found. D.faults disk ≤ D.faults found.journal.disk) }
+    ensures cause { IfErr result (λ unopened. unopened.cause ≡ fault.Disk → Rose (D.faults disk) (D.faults unopened.disk)) }
+    ensures refusal { IfErr result (λ unopened. IfSome (D.bytes disk) (λ image. IsCause unopened.cause digest.now (verdict graph.old.rollout digest.now image))) }
+    ensures unwritten { IfErr result (λ unopened. OnRefusal unopened.cause ((D.bytes unopened.disk ≡ D.bytes disk) × Within (D.may_leave unopened.disk) (D.may_leave disk))) }
+    ensures meanwhile { IfErr result (λ unopened. IfSome (D.bytes disk) (λ image.
+        LeavesOnly D.moment D.left_since disk unopened.disk (MayStand graph.old.rollout digest.now image (verdict graph.old.rollout digest.now image) (D.may_leave disk)))) }
+{
+    match recover(alloc, disk, digest, graph) {
+        Ok((journal, list)) => Ok(Found { journal, list }),
+        Err(unopened) => Err(unopened),
+    }
+}
+
+/// What a book has besides its journal: the rounds of its graph, all items by number, and its list with room
+/// for all that may come.
+#[derive(Drop)]
+pub(crate) struct Parts {
+    pub rounds: Rounds,
+    pub items: Many<Item>,
+    pub entries: Vec<Entry>,
+}
+
+impl Parts {
+    /// Those of a graph that was brought to this list.
+    pub(crate) fn new(alloc: Global, graph: Graph, list: &[Entry]) -> Result<Parts, Memory>
+        ensures rounds { IfOk result (λ parts. parts.rounds ≡ first_turn graph) }
+        ensures items { IfOk result (λ parts. AreItems graph.rollout.problem (item_count graph.rollout.problem) parts.items) }
+        ensures list { IfOk result (λ parts. parts.entries.items ≡ list.now) }
+        ensures room { IfOk result (λ parts. 2 * op_total graph.rollout ≤ vec_capacity parts.entries) }
+    {
+        let entries = room_for(alloc, &graph, list)?;
+        let items = items(alloc, graph.plan())?;
+        let rounds = rounds_of(alloc, graph)?;
+        Ok(Parts {
+            rounds,
+            items,
+            entries,
+        })
+    }
+}
+
+// A list with room for two entries of each operation.
+fn room_for(alloc: Global, graph: &Graph, list: &[Entry]) -> Result<Vec<Entry>, Memory>
+    ensures list { IfOk result (λ entries. entries.items ≡ list.now) }
+    ensures room { IfOk result (λ entries. 2 * op_total graph.now.rollout ≤ vec_capacity entries) }
+{
+    let mut entries = Vec::with_capacity(alloc, 2 * graph.op_total() as usize)?;
+    entries.extend_from_slice(list)?;
+    Ok(entries)
+}
+
+fn rounds_of(alloc: Global, graph: Graph) -> Result<Rounds, Memory>
+    ensures { IfOk result (λ rounds. rounds ≡ first_turn graph) }
+{
+    see_legal(&graph);
+    match Rounds::new(alloc, graph) {
+        Ok(rounds) => Ok(rounds),
+        Err(_) => Err(AllocError),
+    }
+}
+
+// The history of a graph is legal.
+fn see_legal(graph: &Graph)
+    ensures { IsTrue (is_legal graph.now.rollout.problem graph.now.rollout.plan graph.now.history) }
+{
+    let _woken = graph.woken();
+}
