@@ -1,12 +1,14 @@
-//! The program: hands the arguments, the standard streams, the journal's file, the allocator and its
-//! policies to the call that does everything, and ends with its status.
+//! The program: hands the arguments, the standard streams, the journal's file, the switches and guests
+//! behind sockets, the allocator and its policies to the call that does everything, and ends with its
+//! status.
 #![tactic(auto)]
 
 ghost use Rattle.std.specs.Prelude.{◌≡◌, ◌≢◌};
 ghost use Rattle.std.specs.IoError.{error_kind};
 ghost use Rattle.swanroll.specs.Policies as spec;
 
-use host_edge::{FileDisk, StdSink, StdSource};
+use devices::{fleet, journal};
+use host_edge::{StdSink, StdSource};
 use lists::Memory;
 use order_policy::{Policies, Policy};
 use policies::{critical, order, policies_of};
@@ -16,6 +18,7 @@ use std::process::ExitCode;
 use swanroll_top::{Unread, start};
 use wan_model::OpView;
 
+mod devices;
 mod policies;
 
 fn main(rt: HostRuntime) -> ExitCode {
@@ -32,6 +35,7 @@ fn main(rt: HostRuntime) -> ExitCode {
                 &mut sink,
                 &mut notes,
                 journal(rt),
+                &mut fleet(rt),
                 &Policies::new(rt.alloc()),
             )
             .status,
@@ -66,15 +70,10 @@ fn run(
         sink,
         notes,
         journal(*rt),
+        &mut fleet(*rt),
         &policies,
     );
     Ok(ended.status)
-}
-
-/// The file that the environment names as the journal. Where it names none, each call fails.
-fn journal(rt: HostRuntime) -> FileDisk<HostRuntime> {
-    let path = env::var(&rt, "SWANROLL_JOURNAL").unwrap_or(String::new(rt.alloc()));
-    FileDisk::new(rt, path)
 }
 
 fn arguments(rt: &HostRuntime) -> Result<Vec<String>, Unread> {

@@ -16,7 +16,7 @@ use Rattle.swanroll_top.specs.Endings.{ending_of}
 use Rattle.swanroll_top.specs.Reports.{rollout_in}
 use Rattle.swanroll_top.specs.Runs.{EndsWith, Follows, Gives}
 use Rattle.swanroll_top.specs.declared.ending.Ending.{Ending}
-use Rattle.swanroll_top.specs.declared.ending.Ending.TheVariants.{Done, Usage, AboveLimit, Input, NotValid, NoPlan, ReadFault, WriteFault, DiskFault, Refused, OutOfMemory}
+use Rattle.swanroll_top.specs.declared.ending.Ending.TheVariants.{Done, Usage, AboveLimit, Input, NotValid, NoPlan, ReadFault, WriteFault, DiskFault, GuestFault, Refused, OutOfMemory}
 use Rattle.swanroll_top.specs.Words.{TextAsked, a_plan, a_check, a_rehearsal}
 use Rattle.swanroll_top.proofs.Documents.{as_rollout, checked-by}
 use Rattle.swanroll_top.proofs.Steps.{fault-ends}
@@ -28,6 +28,7 @@ is_answer Usage = false
 is_answer ReadFault = false
 is_answer WriteFault = false
 is_answer DiskFault = false
+is_answer GuestFault = false
 is_answer (Refused e) = false
 is_answer ending = true
 
@@ -85,6 +86,9 @@ no-usage c input out now h = elim (ends-only _ Usage out now (command-answers c 
 pub no-disk-fault : (c : TextAsked) (input : List ℕ) (out now : Option (List ℕ)) → Follows (answer_in c input) DiskFault out now → ⊥
 no-disk-fault c input out now h = elim (ends-only _ DiskFault out now (command-answers c input) h) [ inl e ↦ cc | inr e ↦ elim e [ inl f ↦ cc | inr f ↦ cc ] ]
 
+pub no-guest-fault : (c : TextAsked) (input : List ℕ) (out now : Option (List ℕ)) → Follows (answer_in c input) GuestFault out now → ⊥
+no-guest-fault c input out now h = elim (ends-only _ GuestFault out now (command-answers c input) h) [ inl e ↦ cc | inr e ↦ elim e [ inl f ↦ cc | inr f ↦ cc ] ]
+
 -- ---- a document alone
 
 broken-answers : (d : DocumentRead) (e : Ending) (broken : Option Broken) → first_broken d.problem d.plan ≡ broken → checked d ≡ Err e → is_answer e ≡ true
@@ -115,6 +119,7 @@ rollout-gives input (NoPlan u) g = refl
 rollout-gives input ReadFault g = rollout-answers input ReadFault g
 rollout-gives input WriteFault g = rollout-answers input WriteFault g
 rollout-gives input DiskFault g = rollout-answers input DiskFault g
+rollout-gives input GuestFault g = rollout-answers input GuestFault g
 rollout-gives input (Refused f) g = rollout-answers input (Refused f) g
 rollout-gives input OutOfMemory g = refl
 

@@ -76,7 +76,7 @@ module _ (asked : TextAsked) (before after : Streams) (status : ℕ) (input : Li
 
   pub answer-written : IsRun (Some (a_text asked)) before after status → before.left ≡ Some input → IsOk (answer_to asked input) → status ≢ 6 → status ≢ 7 → status ≢ 12 → status ≡ 0
   answer-written run told ok source sink memory =
-      well (run.does (λ e. absurd (let none = run.usage.0 e in cc)) source (λ e. absurd ((run.disk_fault e).0)) memory) told ok sink
+      well (run.does (λ e. absurd (let none = run.usage.0 e in cc)) source (λ e. let no : false ≡ true = (run.disk_fault e).0 in cc) memory) told ok sink
 
 -- ---- a report with a text
 

@@ -6,7 +6,7 @@ use Rattle.swanroll_top.specs.Runs.{EndsWith, Follows, FollowsInput, Runs}
 use Rattle.swanroll_top.specs.Safety.{DoesSafely}
 use Rattle.swanroll_top.specs.Taken.{IsTaken}
 use Rattle.swanroll_top.specs.declared.ending.Ending.{Ending}
-use Rattle.swanroll_top.specs.declared.ending.Ending.TheVariants.{Done, Usage, AboveLimit, Input, NotValid, NoPlan, ReadFault, WriteFault, DiskFault, Refused, OutOfMemory}
+use Rattle.swanroll_top.specs.declared.ending.Ending.TheVariants.{Done, Usage, AboveLimit, Input, NotValid, NoPlan, ReadFault, WriteFault, DiskFault, GuestFault, Refused, OutOfMemory}
 use Rattle.swanroll_top.specs.Words.{TextAsked}
 use Rattle.swanroll_top.proofs.Answering.{no-read-fault}
 use Rattle.swanroll_top.proofs.Inputs.{beyond-follows, short-answered}
@@ -31,6 +31,7 @@ short-runs c left now out out_now bytes (NoPlan u) s h safe = short-follows c le
 short-runs c left now out out_now bytes ReadFault s h safe = absurd (no-read-fault c bytes out out_now h)
 short-runs c left now out out_now bytes WriteFault s h safe = short-follows c left now out out_now bytes _ s h (λ m. cc) safe
 short-runs c left now out out_now bytes DiskFault s h safe = short-follows c left now out out_now bytes _ s h (λ m. cc) safe
+short-runs c left now out out_now bytes GuestFault s h safe = short-follows c left now out out_now bytes _ s h (λ m. cc) safe
 short-runs c left now out out_now bytes (Refused f) s h safe = short-follows c left now out out_now bytes _ s h (λ m. cc) safe
 short-runs c left now out out_now bytes OutOfMemory s h safe = h
 
@@ -44,5 +45,6 @@ cut-runs c left now out (NoPlan u) r = absurd r
 cut-runs c left now out ReadFault r = refl
 cut-runs c left now out WriteFault r = absurd r
 cut-runs c left now out DiskFault r = absurd r
+cut-runs c left now out GuestFault r = absurd r
 cut-runs c left now out (Refused f) r = absurd r
 cut-runs c left now out OutOfMemory r = refl

@@ -9,6 +9,7 @@ pub mod Inputs
 pub mod Following
 pub mod Statuses
 pub mod Programs
+pub mod Agents
 pub mod Complete
 pub mod Digits
 pub mod Pairs

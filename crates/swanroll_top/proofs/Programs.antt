@@ -1,20 +1,20 @@
 -- A whole run, from its ending and what was noted.
-use Rattle.std.proofs.Common.{◌≡◌, ℕ, List, [], true, false, Option, Some, None, Result, Ok, Err, refl, sym, ap, ◌∙◌, subst, inl, inr, arith, append-nil}
+use Rattle.std.proofs.Common.{◌≡◌, ℕ, List, [], true, false, Option, Some, None, Result, Ok, Err, IsTrue, refl, sym, ap, ◌∙◌, subst, inl, inr, arith, append-nil}
 use Rattle.wan_edge.specs.Streams.{Appends, Rose}
 use Rattle.swanroll_top.specs.Endings.{status_of, tells_place}
 use Rattle.swanroll_top.specs.Lines.{IsLineOf, IsToldAs}
-use Rattle.swanroll_top.specs.Program.{Streams, IsStatus, DoesAsked, IsRun, IsEnded, NameDisk, NamesDisk, NotesLine, RunsAsked}
+use Rattle.swanroll_top.specs.Program.{Streams, IsStatus, DoesAsked, IsRun, IsEnded, NotesLine, RunsAsked, RunsUnread, names_disk, names_fleet}
 use Rattle.swanroll_top.specs.Reports.{FollowsReport, RunsReport}
 use Rattle.swanroll_top.specs.Runs.{EndsWith, FollowsInput, IsTold, Notes, Runs}
 use Rattle.swanroll_top.specs.declared.ending.Ending.{Ending}
-use Rattle.swanroll_top.specs.declared.ending.Ending.TheVariants.{Done, Usage, AboveLimit, Input, NotValid, NoPlan, ReadFault, WriteFault, DiskFault, Refused, OutOfMemory}
+use Rattle.swanroll_top.specs.declared.ending.Ending.TheVariants.{Done, Usage, AboveLimit, Input, NotValid, NoPlan, ReadFault, WriteFault, DiskFault, GuestFault, Refused, OutOfMemory}
 use Rattle.swanroll_top.specs.declared.line.Line.{Line}
-use Rattle.swanroll_top.specs.Words.{Asked, TextAsked, a_report, a_text}
-use Rattle.swanroll_top.proofs.Statuses.{is-done, is-usage, is-read-fault, is-write-fault, is-disk-fault, is-status}
+use Rattle.swanroll_top.specs.Words.{Asked, TextAsked, a_report, a_text, an_agent}
+use Rattle.swanroll_top.proofs.Statuses.{is-done, is-usage, is-read-fault, is-write-fault, is-disk-fault, is-guest-fault, is-status}
 
 -- ---- what an ending says of the input and the sink
 
-ends-unwritten : (answer : Result (List ℕ) Ending) (e : Ending) (out now : Option (List ℕ)) → EndsWith answer e out now → (e ≡ Done → ⊥) → (e ≡ WriteFault → ⊥) → now ≡ out
+pub ends-unwritten : (answer : Result (List ℕ) Ending) (e : Ending) (out now : Option (List ℕ)) → EndsWith answer e out now → (e ≡ Done → ⊥) → (e ≡ WriteFault → ⊥) → now ≡ out
 ends-unwritten (Ok text) e out now (inl done) d w = absurd (d done.0)
 ends-unwritten (Ok text) e out now (inr cut) d w = absurd (w cut.0)
 ends-unwritten (Err x) e out now h d w = h.1
@@ -30,6 +30,7 @@ module _ (c : TextAsked) (left left_now out out_now : Option (List ℕ)) where
   follows-of ReadFault r read memory = absurd (read refl)
   follows-of WriteFault r read memory = r
   follows-of DiskFault r read memory = r
+  follows-of GuestFault r read memory = r
   follows-of (Refused f) r read memory = r
   follows-of OutOfMemory r read memory = absurd (memory refl)
 
@@ -43,6 +44,7 @@ module _ (c : TextAsked) (left left_now out out_now : Option (List ℕ)) where
   text-unwritten ReadFault r done cut = r
   text-unwritten WriteFault r done cut = absurd (cut refl)
   text-unwritten DiskFault r done cut = ends-unwritten _ _ out out_now r.answer (λ e. cc) (λ e. cc)
+  text-unwritten GuestFault r done cut = ends-unwritten _ _ out out_now r.answer (λ e. cc) (λ e. cc)
   text-unwritten (Refused f) r done cut = ends-unwritten _ _ out out_now r.answer (λ e. cc) (λ e. cc)
   text-unwritten OutOfMemory r done cut = r
 
@@ -58,6 +60,7 @@ module _ (m : ℕ) (left left_now stored out out_now : Option (List ℕ)) where
   reports-of ReadFault r read disk memory = absurd (read refl)
   reports-of WriteFault r read disk memory = r
   reports-of DiskFault r read disk memory = absurd (disk refl)
+  reports-of GuestFault r read disk memory = r
   reports-of (Refused f) r read disk memory = r
   reports-of OutOfMemory r read disk memory = absurd (memory refl)
 
@@ -71,6 +74,7 @@ module _ (m : ℕ) (left left_now stored out out_now : Option (List ℕ)) where
   report-unwritten ReadFault r done cut = r
   report-unwritten WriteFault r done cut = r.silent done cut
   report-unwritten DiskFault r done cut = r
+  report-unwritten GuestFault r done cut = r.silent done cut
   report-unwritten (Refused f) r done cut = r.silent done cut
   report-unwritten OutOfMemory r done cut = r
 
@@ -85,6 +89,7 @@ place-silent (NoPlan u) h = (λ e. omega (arith, e), λ e. omega (arith, e))
 place-silent ReadFault h = cc
 place-silent WriteFault h = cc
 place-silent DiskFault h = cc
+place-silent GuestFault h = cc
 place-silent (Refused f) h = (λ e. omega (arith, e), λ e. omega (arith, e))
 place-silent OutOfMemory h = cc
 
@@ -92,16 +97,18 @@ module _ (left left_now stored out out_now : Option (List ℕ)) where
   unwritten-of : (c : Asked) (t : Ending) → RunsAsked c left left_now stored t out out_now → (status_of t ≡ 0 → ⊥) → (status_of t ≡ 7 → ⊥) → out_now ≡ out
   unwritten-of (a_text what) t r done cut = text-unwritten what left left_now out out_now t r done cut
   unwritten-of (a_report m) t r done cut = report-unwritten m left left_now stored out out_now t r done cut
+  unwritten-of (an_agent n) t r done cut = r.silent done cut
 
-  memory-runs : (c : Asked) → out_now ≡ out → RunsAsked c left left_now stored OutOfMemory out out_now
-  memory-runs (a_text what) same = same
-  memory-runs (a_report m) same = same
+  memory-runs : (c : Asked) (e : Ending) → RunsAsked c left left_now stored e out out_now → out_now ≡ out → RunsAsked c left left_now stored OutOfMemory out out_now
+  memory-runs (a_text what) e r same = same
+  memory-runs (a_report m) e r same = same
+  memory-runs (an_agent n) e r same = record { unread = r.unread; silent = λ done cut. same }
 
   told-runs : (c : Asked) (e t : Ending) → IsToldAs e t → RunsAsked c left left_now stored e out out_now → RunsAsked c left left_now stored t out out_now
   told-runs c e t (inl same) r = subst (λ x. RunsAsked c left left_now stored x out out_now) (sym same) r
   told-runs c e t (inr memory) r =
       let silent = place-silent e memory.1 in
-      subst (λ x. RunsAsked c left left_now stored x out out_now) (sym memory.0) (memory-runs c (unwritten-of c e r silent.0 silent.1))
+      subst (λ x. RunsAsked c left left_now stored x out out_now) (sym memory.0) (memory-runs c e r (unwritten-of c e r silent.0 silent.1))
 
 -- an ending is told by the line that was written
 pub told-by : (e t : Ending) (line : Line) (status : ℕ) (before now : Option (List ℕ)) (faults faults_now : ℕ) → IsLineOf e t line → status ≡ status_of t → Notes t before now faults faults_now → IsTold e status before now faults faults_now
@@ -139,14 +146,16 @@ does-asked (a_report m) before after t status is runs line read disk memory = re
   follows = reports-of m before.left after.left before.stored before.written after.written t runs read disk memory;
   line = line;
 }
+does-asked (an_agent n) before after t status is runs line read disk memory = runs.unread
 
 -- a run of a command
 pub command-run : (asked : Option Asked) (c : Asked) (before after : Streams) (e : Ending) (status : ℕ) → asked ≡ Some c
     → RunsAsked c before.left after.left before.stored e before.written after.written
     → (e ≡ ReadFault → Rose before.source_faults after.source_faults) → (e ≡ WriteFault → Rose before.sink_faults after.sink_faults)
-    → (e ≡ DiskFault → NamesDisk c × Rose before.disk_faults after.disk_faults) → (e ≡ Usage → ⊥)
+    → (e ≡ DiskFault → IsTrue (names_disk (Some c)) × Rose before.disk_faults after.disk_faults)
+    → (e ≡ GuestFault → IsTrue (names_fleet (Some c)) × Rose before.fleet_faults after.fleet_faults) → (e ≡ Usage → ⊥)
     → IsTold e status before.noted after.noted before.notes_faults after.notes_faults → IsRun asked before after status
-command-run asked c before after e status is runs read write disk ran told =
+command-run asked c before after e status is runs read write disk guest ran told =
     let t = told.told in
     let runs_told = told-runs before.left after.left before.stored before.written after.written c e t told.is runs in
     let was : (x : Ending) → (x ≡ OutOfMemory → ⊥) → t ≡ x → e ≡ x = λ x other same. told-same e t told.is (λ m. other (sym same ∙ m)) ∙ same in
@@ -155,7 +164,8 @@ command-run asked c before after e status is runs read write disk ran told =
       usage = (λ h. absurd (ran (was Usage (λ m. cc) (is-usage t (sym told.is_status ∙ h)))), λ h. absurd (let no : Some c ≡ None = sym is ∙ h in cc));
       read_fault = λ h. read (was ReadFault (λ m. cc) (is-read-fault t (sym told.is_status ∙ h)));
       write_fault = λ h. write (was WriteFault (λ m. cc) (is-write-fault t (sym told.is_status ∙ h)));
-      disk_fault = λ h. let found = disk (was DiskFault (λ m. cc) (is-disk-fault t (sym told.is_status ∙ h))) in (subst NameDisk (sym is) found.0, found.1);
+      disk_fault = λ h. let found = disk (was DiskFault (λ m. cc) (is-disk-fault t (sym told.is_status ∙ h))) in (subst (λ a. IsTrue (names_disk a)) (sym is) found.0, found.1);
+      guest_fault = λ h. let found = guest (was GuestFault (λ m. cc) (is-guest-fault t (sym told.is_status ∙ h))) in (subst (λ a. IsTrue (names_fleet a)) (sym is) found.0, found.1);
       does = λ usage fault device memory. subst (λ a. DoesAsked a before after status) (sym is)
           (does-asked c before after t status told.is_status runs_told told.line (λ h. fault (told.is_status ∙ h)) (λ h. device (told.is_status ∙ h)) (λ h. memory (told.is_status ∙ h)));
       silent = λ done cut. unwritten-of before.left after.left before.stored before.written after.written c t runs_told (λ h. done (told.is_status ∙ h)) (λ h. cut (told.is_status ∙ h));
@@ -163,7 +173,7 @@ command-run asked c before after e status is runs read write disk ran told =
     }
 
 -- an ending whose line is known is told as it is
-known-told : (e t : Ending) → tells_place e ≡ false → IsToldAs e t → t ≡ e
+pub known-told : (e t : Ending) → tells_place e ≡ false → IsToldAs e t → t ≡ e
 known-told e t known (inl same) = same
 known-told e t known (inr memory) = absurd (let no : true ≡ false = sym memory.1 ∙ known in cc)
 
@@ -191,6 +201,7 @@ usage-run asked before after status is left written told =
       read_fault = λ h. absurd (omega (arith, h, two));
       write_fault = λ h. absurd (omega (arith, h, two));
       disk_fault = λ h. absurd (omega (arith, h, two));
+      guest_fault = λ h. absurd (omega (arith, h, two));
       does = λ usage fault device memory. absurd (usage e.is_status);
       silent = λ done cut. written;
       noted = record { ending = Usage; is_status = e.is_status; line = e.line };

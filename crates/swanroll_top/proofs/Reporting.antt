@@ -21,7 +21,7 @@ use Rattle.swanroll_top.specs.Runs.{EndsWith, Gives, IsInput}
 use Rattle.swanroll_top.specs.Safety.{IsValid}
 use Rattle.swanroll_top.specs.Taken.{IsValidDocument}
 use Rattle.swanroll_top.specs.declared.ending.Ending.{Ending}
-use Rattle.swanroll_top.specs.declared.ending.Ending.TheVariants.{Done, Usage, AboveLimit, Input, NotValid, NoPlan, ReadFault, WriteFault, DiskFault, Refused, OutOfMemory}
+use Rattle.swanroll_top.specs.declared.ending.Ending.TheVariants.{Done, Usage, AboveLimit, Input, NotValid, NoPlan, ReadFault, WriteFault, DiskFault, GuestFault, Refused, OutOfMemory}
 use Rattle.swanroll_top.proofs.Answering.{is_answer, rollout-answers, rollout-gives}
 use Rattle.swanroll_top.proofs.Documents.{checked-by}
 use Rattle.swanroll_top.proofs.Steps.{fault-ends}
@@ -81,6 +81,7 @@ late-status (Err (NoPlan u)) e out now late h three = late
 late-status (Err ReadFault) e out now late h three = late
 late-status (Err WriteFault) e out now late h three = late
 late-status (Err DiskFault) e out now late h three = late
+late-status (Err GuestFault) e out now late h three = late
 late-status (Err OutOfMemory) e out now late h three = late
 
 unwritten : (answer : Result (List ℕ) Ending) (e : Ending) (out now : Option (List ℕ)) → EndsWith answer e out now → (status_of e ≡ 0 → ⊥) → (status_of e ≡ 7 → ⊥) → now ≡ out
@@ -121,6 +122,7 @@ module _ (m : ℕ) (left now told out out_now : Option (List ℕ)) (input : List
   short-reports ReadFault s h = ends-silent m told out out_now input ReadFault (rollout_in input) h (λ e. omega (arith, e)) (λ e. omega (arith, e))
   short-reports WriteFault s h = follows-report WriteFault s h (λ e. cc)
   short-reports DiskFault s h = h
+  short-reports GuestFault s h = follows-report GuestFault s h (λ e. cc)
   short-reports (Refused f) s h = follows-report (Refused f) s h (λ e. cc)
   short-reports OutOfMemory s h = h
 
@@ -150,6 +152,7 @@ cut-reports m left now told out (NoPlan u) r = absurd r
 cut-reports m left now told out ReadFault r = refl
 cut-reports m left now told out WriteFault r = absurd r
 cut-reports m left now told out DiskFault r = absurd r
+cut-reports m left now told out GuestFault r = absurd r
 cut-reports m left now told out (Refused f) r = absurd r
 cut-reports m left now told out OutOfMemory r = refl
 
@@ -224,6 +227,7 @@ module _ (m : ℕ) (told out : Option (List ℕ)) (r : Result Rollout Ending) wh
   input-refused ReadFault g = refused-by ReadFault g
   input-refused WriteFault g = refused-by WriteFault g
   input-refused DiskFault g = refl
+  input-refused GuestFault g = refused-by GuestFault g
   input-refused (Refused f) g = refused-by (Refused f) g
   input-refused OutOfMemory g = refl
 
@@ -248,6 +252,7 @@ late-ends (Err (NoPlan u)) e out now late h = absurd late
 late-ends (Err ReadFault) e out now late h = absurd late
 late-ends (Err WriteFault) e out now late h = absurd late
 late-ends (Err DiskFault) e out now late h = absurd late
+late-ends (Err GuestFault) e out now late h = absurd late
 late-ends (Err OutOfMemory) e out now late h = absurd late
 
 module _ (m : ℕ) (told out now : Option (List ℕ)) where
@@ -259,8 +264,15 @@ module _ (m : ℕ) (told out now : Option (List ℕ)) where
   no-words (Ok o) answers ends = elim (late-ends ends.answer Usage out now ends.late ends.ends) [ inl h ↦ omega (arith, h) | inr more ↦ elim more [ inl h ↦ omega (arith, h) | inr h ↦ omega (arith, h) ] ]
   no-words (Err x) answers ends = let no : is_answer Usage ≡ true = ap is_answer ends.0 ∙ answers x refl in cc
 
+  no-guests : (r : Result Rollout Ending) → ((x : Ending) → r ≡ Err x → is_answer x ≡ true) → EndsReport m r told GuestFault out now → ⊥
+  no-guests (Ok o) answers ends = elim (late-ends ends.answer GuestFault out now ends.late ends.ends) [ inl h ↦ omega (arith, h) | inr more ↦ elim more [ inl h ↦ omega (arith, h) | inr h ↦ omega (arith, h) ] ]
+  no-guests (Err x) answers ends = let no : is_answer GuestFault ≡ true = ap is_answer ends.0 ∙ answers x refl in cc
+
   pub report-no-read : (input : List ℕ) (e : Ending) → FollowsReported m (rollout_in input) told e out now → e ≡ ReadFault → ⊥
   report-no-read input e h is = no-fault (rollout_in input) (rollout-answers input) (subst (λ x. FollowsReported m (rollout_in input) told x out now) is h)
 
   pub report-no-usage : (input : List ℕ) (e : Ending) → FollowsReported m (rollout_in input) told e out now → e ≡ Usage → ⊥
   report-no-usage input e h is = no-words (rollout_in input) (rollout-answers input) (subst (λ x. FollowsReported m (rollout_in input) told x out now) is h)
+
+  pub report-no-guest : (input : List ℕ) (e : Ending) → FollowsReported m (rollout_in input) told e out now → e ≡ GuestFault → ⊥
+  report-no-guest input e h is = no-guests (rollout_in input) (rollout-answers input) (subst (λ x. FollowsReported m (rollout_in input) told x out now) is h)

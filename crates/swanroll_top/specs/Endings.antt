@@ -13,7 +13,7 @@ use Rattle.scratch_plan.specs.declared.no_plan.NoPlan.TheVariants as cause
 use Rattle.rollout_rules.specs.Wan.{Problem}
 use Rattle.swanroll_top.specs.NoPlanLines.{no_plan_line}
 use Rattle.swanroll_top.specs.declared.ending.Ending.{Ending}
-use Rattle.swanroll_top.specs.declared.ending.Ending.TheVariants.{Done, Usage, AboveLimit, Input, NotValid, NoPlan, ReadFault, WriteFault, DiskFault, Refused, OutOfMemory}
+use Rattle.swanroll_top.specs.declared.ending.Ending.TheVariants.{Done, Usage, AboveLimit, Input, NotValid, NoPlan, ReadFault, WriteFault, DiskFault, GuestFault, Refused, OutOfMemory}
 
 abbrev pub status_of : Ending → ℕ
 status_of Done = 0
@@ -25,6 +25,7 @@ status_of (NoPlan u) = 4
 status_of ReadFault = 6
 status_of WriteFault = 7
 status_of DiskFault = 8
+status_of GuestFault = 9
 status_of (Refused e) = 10
 status_of OutOfMemory = 12
 
@@ -38,6 +39,7 @@ line_of (NoPlan u) = no_plan_line u.problem u.cause
 line_of ReadFault = codes "read fault\n"
 line_of WriteFault = codes "write fault\n"
 line_of DiskFault = codes "journal device fault\n"
+line_of GuestFault = codes "guest fault\n"
 line_of (Refused e) = journal_line e
 line_of OutOfMemory = codes "out of memory\n"
 
@@ -52,6 +54,7 @@ tells_place (NoPlan u) = true
 tells_place ReadFault = false
 tells_place WriteFault = false
 tells_place DiskFault = false
+tells_place GuestFault = false
 tells_place (Refused e) = true
 tells_place OutOfMemory = false
 

@@ -10,5 +10,6 @@ pub mod Reading
 pub mod JournalLines
 pub mod Reports
 pub mod Runs
+pub mod Agents
 pub mod Program
 pub mod Worked

@@ -1,5 +1,5 @@
 -- What the whole program does, by what it read, wrote and noted.
-use Rattle.std.specs.Prelude.{◌≡◌, ◌≢◌, ⊤, ◌↔◌, ◌==◌, ℕ, List, [], ◌∷◌, drop, String, Option, Some, None, Result, Ok, Err, IsTrue}
+use Rattle.std.specs.Prelude.{◌≡◌, ◌≢◌, ⊤, ◌↔◌, Bool, true, false, ◌==◌, ℕ, List, [], ◌∷◌, drop, String, Option, Some, None, Result, Ok, Err, IsTrue}
 use Rattle.std.specs.List.{list_any}
 use Rattle.std.specs.declared.alloc.Global.{Global}
 use Rattle.wan_edge.specs.Streams.{Rose}
@@ -7,14 +7,14 @@ use Rattle.swanroll_top.specs.Endings.{status_of}
 use Rattle.swanroll_top.specs.Reports.{FollowsReport, RunsReport}
 use Rattle.swanroll_top.specs.Runs.{FollowsInput, Notes, Runs}
 use Rattle.rollout_rules.specs.declared.op.OpView.{OpView}
-use Rattle.swanroll_top.specs.Words.{Asked, TextAsked, a_report, a_text, asked_by}
+use Rattle.swanroll_top.specs.Words.{Asked, TextAsked, a_report, a_text, an_agent, asked_by}
 use Rattle.swanroll_top.specs.declared.arguments.Unread.{Unread}
 use Rattle.swanroll_top.specs.declared.arguments.Unread.TheVariants.{NotText, Memory}
 use Rattle.swanroll_top.specs.declared.ending.Ending.{Ending}
 use Rattle.swanroll_top.specs.declared.ending.Ending.TheVariants.{Usage, OutOfMemory}
 
--- what the streams and the disk of a run tell at a moment: the bytes that the source has left, those written to the sink and to the
--- notes, those on the disk, and how often each has failed
+-- what the streams, the disk and the fleet of a run tell at a moment: the bytes that the source has left, those written to the sink and to
+-- the notes, those on the disk, and how often each has failed
 pub record Streams : Type 0 where
   pub left : Option (List ℕ)
   pub written : Option (List ℕ)
@@ -24,6 +24,7 @@ pub record Streams : Type 0 where
   pub sink_faults : ℕ
   pub notes_faults : ℕ
   pub disk_faults : ℕ
+  pub fleet_faults : ℕ
 
 -- the notes have the line of an ending
 abbrev pub NotesLine : Ending → Streams → Streams → Type 0
@@ -31,7 +32,7 @@ NotesLine ending before after = Notes ending before.noted after.noted before.not
 
 -- a status that the program may have
 abbrev pub IsStatus : ℕ → Type 0
-IsStatus status = IsTrue (list_any (λ s. s == status) (0 ∷ 2 ∷ 3 ∷ 4 ∷ 6 ∷ 7 ∷ 8 ∷ 10 ∷ 12 ∷ []))
+IsStatus status = IsTrue (list_any (λ s. s == status) (0 ∷ 2 ∷ 3 ∷ 4 ∷ 6 ∷ 7 ∷ 8 ∷ 9 ∷ 10 ∷ 12 ∷ []))
 
 -- the notes have the line of an ending with this status
 pub record IsNoted (status : ℕ) (before after : Streams) : Type 0 where
@@ -53,31 +54,48 @@ pub record ReportsAndNotes (migration : ℕ) (before after : Streams) (status : 
   pub follows : FollowsReport migration before.left after.left before.stored ending before.written after.written
   pub line : NotesLine ending before after
 
+-- nothing was read, and only a text that was written, or a part of it, is on the sink
+pub record RunsUnread (left left_now : Option (List ℕ)) (ending : Ending) (out out_now : Option (List ℕ)) : Type 0 where
+  pub unread : left_now ≡ left
+  pub silent : (status_of ending ≡ 0 → ⊥) → (status_of ending ≡ 7 → ⊥) → out_now ≡ out
+
 -- what an ending of a run says of the input and the sink, by what the words ask for
 abbrev pub RunsAsked : Asked → Option (List ℕ) → Option (List ℕ) → Option (List ℕ) → Ending → Option (List ℕ) → Option (List ℕ) → Type 0
 RunsAsked (a_text what) left left_now told ending out out_now = Runs what left left_now ending out out_now
 RunsAsked (a_report migration) left left_now told ending out out_now = RunsReport migration left left_now told ending out out_now
+RunsAsked (an_agent guests) left left_now told ending out out_now = RunsUnread left left_now ending out out_now
 
 -- the same of whatever the words ask for
 abbrev pub DoesAsked : Option Asked → Streams → Streams → ℕ → Type 0
 DoesAsked None before after status = ⊥
 DoesAsked (Some (a_text what)) before after status = RunsAndNotes what before after status
 DoesAsked (Some (a_report migration)) before after status = ReportsAndNotes migration before after status
+DoesAsked (Some (an_agent guests)) before after status = after.left ≡ before.left
 
--- the command names the disk
-abbrev pub NamesDisk : Asked → Type 0
-NamesDisk (a_text what) = ⊥
-NamesDisk (a_report migration) = ⊤
+-- whether a command reads the source, and whether it names the disk and the fleet
 
-abbrev pub NameDisk : Option Asked → Type 0
-NameDisk None = ⊥
-NameDisk (Some asked) = NamesDisk asked
+abbrev pub reads_source : Option Asked → Bool
+reads_source None = false
+reads_source (Some (a_text what)) = true
+reads_source (Some (a_report migration)) = true
+reads_source (Some (an_agent guests)) = false
 
--- a disk that isn't named is as it was
-abbrev pub LeavesUnnamed : {D : Type 0} → Option Asked → D → D → Type 0
-LeavesUnnamed None before after = after ≡ before
-LeavesUnnamed (Some (a_text what)) before after = after ≡ before
-LeavesUnnamed (Some (a_report migration)) before after = ⊤
+abbrev pub names_disk : Option Asked → Bool
+names_disk None = false
+names_disk (Some (a_text what)) = false
+names_disk (Some (a_report migration)) = true
+names_disk (Some (an_agent guests)) = false
+
+abbrev pub names_fleet : Option Asked → Bool
+names_fleet None = false
+names_fleet (Some (a_text what)) = false
+names_fleet (Some (a_report migration)) = false
+names_fleet (Some (an_agent guests)) = true
+
+-- what isn't named is as it was
+abbrev pub LeavesUnnamed : {X : Type 0} → Bool → X → X → Type 0
+LeavesUnnamed true before after = ⊤
+LeavesUnnamed false before after = after ≡ before
 
 -- A run of the program, by what its words ask for.
 pub record IsRun (asked : Option Asked) (before after : Streams) (status : ℕ) : Type 0 where
@@ -87,7 +105,8 @@ pub record IsRun (asked : Option Asked) (before after : Streams) (status : ℕ) 
   -- a fault comes only where its object counted one
   pub read_fault : status ≡ 6 → Rose before.source_faults after.source_faults
   pub write_fault : status ≡ 7 → Rose before.sink_faults after.sink_faults
-  pub disk_fault : status ≡ 8 → NameDisk asked × Rose before.disk_faults after.disk_faults
+  pub disk_fault : status ≡ 8 → IsTrue (names_disk asked) × Rose before.disk_faults after.disk_faults
+  pub guest_fault : status ≡ 9 → IsTrue (names_fleet asked) × Rose before.fleet_faults after.fleet_faults
   -- otherwise all follows from the bytes read
   pub does : status ≢ 2 → status ≢ 6 → status ≢ 8 → status ≢ 12 → DoesAsked asked before after status
   pub silent : status ≢ 0 → status ≢ 7 → after.written ≡ before.written
@@ -100,6 +119,11 @@ pub record IsEnded (ending : Ending) (before after : Streams) (status : ℕ) : T
   pub line : NotesLine ending before after
   pub unread : after.left ≡ before.left
   pub unwritten : after.written ≡ before.written
+
+-- what the arguments ask for, by the list that they are seen as: their own name is passed over
+abbrev pub asked_from : {A : Type 0} → List (List ℕ × (OpView → ℕ)) → Result A Unread → (A → List (String Global)) → Option Asked
+asked_from policies (Ok arguments) list = asked_by policies (drop 1 (list arguments))
+asked_from policies (Err unread) list = None
 
 -- The program from its arguments on, by the list that they are seen as, with these policies: its own name is passed over,
 -- words that aren't text are no command line, and without memory for the words it ends for want of it.

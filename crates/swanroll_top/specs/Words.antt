@@ -9,7 +9,7 @@ use Rattle.rollout_rules.specs.declared.op.OpView.{OpView}
 use Rattle.order_policy.specs.Answers.{rank_by}
 use Rattle.order_policy.specs.Named.{policy_named}
 use Rattle.swanroll_top.specs.declared.words.Kind.{Kind}
-use Rattle.swanroll_top.specs.declared.words.Kind.TheVariants.{Plan, Check, Sim, Report}
+use Rattle.swanroll_top.specs.declared.words.Kind.TheVariants.{Plan, Check, Sim, Report, Agent}
 use Rattle.swanroll_top.specs.declared.words.Command.{Command}
 use Rattle.swanroll_top.specs.declared.words.Command.TheVariants as command
 use Rattle.swanroll_top.specs.declared.words.TextCommand.{TextCommand}
@@ -25,6 +25,7 @@ pub data TextAsked : Type 0 where
 pub data Asked : Type 0 where
   a_text : (what : TextAsked) → Asked
   a_report : (migration : ℕ) → Asked
+  an_agent : (guests : ℕ) → Asked
 
 -- a command in code asks for this: a policy is what it answers
 module _ {X : Type 0} {F : X → Type 0} {M : Mut ((x : X) × F x) (OpView × Unit {0}) u64-field.Value} where
@@ -36,6 +37,7 @@ module _ {X : Type 0} {F : X → Type 0} {M : Mut ((x : X) × F x) (OpView × Un
   abbrev pub asked : Command X F M → Asked
   asked (command.Text what) = a_text (text_asked what)
   asked (command.Report migration) = a_report migration
+  asked (command.Agent guests) = an_agent guests
 
 -- ---- each command's word, and the names that it takes
 
@@ -45,6 +47,7 @@ kind_named word =
     else if bytes_eq word (codes "check") then Some Check
     else if bytes_eq word (codes "sim") then Some Sim
     else if bytes_eq word (codes "report") then Some Report
+    else if bytes_eq word (codes "agent") then Some Agent
     else None
 
 abbrev pub names_of : Kind → List (List ℕ)
@@ -52,6 +55,7 @@ names_of Plan = []
 names_of Check = []
 names_of Sim = codes "--policy" ∷ []
 names_of Report = codes "--migration" ∷ []
+names_of Agent = codes "--guests" ∷ []
 
 -- ---- pairs of a name and a value
 
@@ -103,11 +107,20 @@ policy_in policies pairs = option_and_then (λ name. policy_named name policies)
 abbrev pub migration_in : List (List ℕ) → Option ℕ
 migration_in pairs = option_and_then number_in (value_or (codes "--migration") (codes "0") pairs)
 
+-- a number from 1 to a million
+abbrev pub in_millions : ℕ → Option ℕ
+in_millions number = if nat_le 1 number && nat_le number 1000000 then Some number else None
+
+-- how many guests the pairs name
+abbrev pub guests_in : List (List ℕ) → Option ℕ
+guests_in pairs = option_and_then in_millions (option_and_then number_in (value_or (codes "--guests") (codes "1") pairs))
+
 abbrev pub with_pairs : List (List ℕ × (OpView → ℕ)) → List (List ℕ) → Kind → Option Asked
 with_pairs policies pairs Plan = Some (a_text a_plan)
 with_pairs policies pairs Check = Some (a_text a_check)
 with_pairs policies pairs Sim = option_map (λ policy. a_text (a_rehearsal policy)) (policy_in policies pairs)
 with_pairs policies pairs Report = option_map a_report (migration_in pairs)
+with_pairs policies pairs Agent = option_map an_agent (guests_in pairs)
 
 abbrev pub with_kind : List (List ℕ × (OpView → ℕ)) → List (List ℕ) → Kind → Option Asked
 with_kind policies pairs kind = if are_pairs (names_of kind) pairs then with_pairs policies pairs kind else None

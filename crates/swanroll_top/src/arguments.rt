@@ -1,6 +1,7 @@
 ghost use Rattle.std.specs.Prelude.{◌≡◌, drop};
 ghost use Rattle.order_policy.specs.Named.{answers_in};
-ghost use Rattle.swanroll_top.specs.Program.{IsStarted};
+ghost use Rattle.swanroll_top.specs.Agents.{ServesBy};
+ghost use Rattle.swanroll_top.specs.Program.{IsStarted, LeavesUnnamed, asked_from, names_disk, names_fleet, reads_source};
 
 use crate::ending::Ending;
 use crate::notes::note;
@@ -8,7 +9,7 @@ use crate::top::{Ended, swanroll};
 use disk_model::Disk;
 use order_policy::{Policies, Policy};
 use std::alloc::Global;
-use wan_edge::{Sink, Source};
+use wan_edge::{Fleet, Sink, Source};
 
 /// Why the arguments of a program couldn't be read.
 #[derive(Clone, Copy, Debug, PartialEq, Eq)]
@@ -22,26 +23,31 @@ pub enum Unread {
 /// Does what the program's arguments ask for, of which the first is its own name, and answers its exit
 /// status and the disk. Arguments that aren't text are no command line.
 #[tactic(auto, using(crate::proofs::Programs::running))]
-pub fn start<S: Source, K: Sink, D: Disk>(
+pub fn start<S: Source, K: Sink, D: Disk, F: Fleet>(
     alloc: Global,
     arguments: Result<Vec<String>, Unread>,
     source: &mut S,
     sink: &mut K,
     notes: &mut K,
     disk: D,
+    fleet: &mut F,
     policies: &Policies<Policy>,
 ) -> Ended<D>
     ensures started { IsStarted (answers_in policies.now) arguments (λ all. all.items)
-        (record { left = S.left source.old; written = K.written sink.old; noted = K.written notes.old; stored = D.bytes disk; source_faults = S.faults source.old; sink_faults = K.faults sink.old; notes_faults = K.faults notes.old; disk_faults = D.faults disk })
-        (record { left = S.left source.new; written = K.written sink.new; noted = K.written notes.new; stored = D.bytes result.disk; source_faults = S.faults source.new; sink_faults = K.faults sink.new; notes_faults = K.faults notes.new; disk_faults = D.faults result.disk })
+        (record { left = S.left source.old; written = K.written sink.old; noted = K.written notes.old; stored = D.bytes disk; source_faults = S.faults source.old; sink_faults = K.faults sink.old; notes_faults = K.faults notes.old; disk_faults = D.faults disk; fleet_faults = F.faults fleet.old })
+        (record { left = S.left source.new; written = K.written sink.new; noted = K.written notes.new; stored = D.bytes result.disk; source_faults = S.faults source.new; sink_faults = K.faults sink.new; notes_faults = K.faults notes.new; disk_faults = D.faults result.disk; fleet_faults = F.faults fleet.new })
         result.status }
     ensures untouched { result.status ≡ 2 → source.new ≡ source.old }
+    ensures serves { ServesBy (record { left = F.Guest.left; written = F.Guest.written; read_faults = F.Guest.Source.faults; write_faults = F.Guest.Sink.faults }) (asked_from (answers_in policies.now) arguments (λ all. all.items)) (record { coming = F.coming fleet.old; served = F.served fleet.old }) (record { coming = F.coming fleet.new; served = F.served fleet.new }) result.status (K.written sink.old) (K.written sink.new) }
+    ensures unread { LeavesUnnamed (reads_source (asked_from (answers_in policies.now) arguments (λ all. all.items))) source.old source.new }
+    ensures disk { LeavesUnnamed (names_disk (asked_from (answers_in policies.now) arguments (λ all. all.items))) disk result.disk }
+    ensures fleet { LeavesUnnamed (names_fleet (asked_from (answers_in policies.now) arguments (λ all. all.items))) fleet.old fleet.new }
     ensures quiet { result.status ≡ 0 → notes.new ≡ notes.old }
 {
     match arguments {
         Ok(arguments) => {
             let words = words_of(arguments.as_slice());
-            swanroll(alloc, words, source, sink, notes, disk, policies)
+            swanroll(alloc, words, source, sink, notes, disk, fleet, policies)
         }
         Err(Unread::NotText) => Ended {
             status: note(alloc, notes, Ending::Usage),

@@ -32,6 +32,8 @@ pub enum Ending {
     WriteFault,
     /// The disk of the journal failed.
     DiskFault,
+    /// The fleet failed to give the next guest.
+    GuestFault,
     /// The journal on the disk isn't one of this rollout, or can't be followed.
     Refused(JournalFault),
     OutOfMemory,
@@ -54,6 +56,7 @@ impl Ending {
             Ending::ReadFault => 6,
             Ending::WriteFault => 7,
             Ending::DiskFault => 8,
+            Ending::GuestFault => 9,
             Ending::Refused(_) => 10,
             Ending::OutOfMemory => 12,
         }
@@ -75,6 +78,7 @@ impl Ending {
             Ending::ReadFault => Ok(Line::Known("read fault\n")),
             Ending::WriteFault => Ok(Line::Known("write fault\n")),
             Ending::DiskFault => Ok(Line::Known("journal device fault\n")),
+            Ending::GuestFault => Ok(Line::Known("guest fault\n")),
             Ending::Refused(fault) => journal_line(alloc, fault),
             Ending::OutOfMemory => Ok(out_of_memory()),
         }

@@ -31,6 +31,7 @@ pub fn report<S: Source, K: Sink, D: Disk>(
     ensures read_fault { result.ending ≡ Ending.ReadFault → Rose (S.faults source.old) (S.faults source.new) }
     ensures write_fault { result.ending ≡ Ending.WriteFault → Rose (K.faults sink.old) (K.faults sink.new) }
     ensures disk_fault { result.ending ≡ Ending.DiskFault → Rose (D.faults disk) (D.faults result.disk) }
+    ensures no_guest { result.ending ≢ Ending.GuestFault }
     ensures ran { result.ending ≢ Ending.Usage }
 {
     match read_input(alloc, source) {

@@ -4,10 +4,11 @@
 //!
 //! A module a concern: the words, reading all of the source, writing all of the text, how a run ends and
 //! the notes. The commands that make a text of their input stand in `texts`, a module each; none of them
-//! needs a device. `report` opens the journal on a disk. The contract speaks from the bytes read, and those
-//! on the disk, to the bytes written.
+//! needs a device. `report` opens the journal on a disk, and `agent` serves the guests of a fleet. The contract
+//! speaks from the bytes read, those on the disk and those that guests send, to the bytes written.
 #![tactic(auto)]
 
+mod agent;
 mod arguments;
 mod ending;
 mod fault_lines;

@@ -1,11 +1,13 @@
-ghost use Rattle.std.specs.Prelude.{◌≡◌, ◌≢◌, Some};
+ghost use Rattle.std.specs.Prelude.{◌≡◌, ◌≢◌, Some, IsTrue};
 ghost use Rattle.wan_edge.specs.Streams.{Rose};
+ghost use Rattle.swanroll_top.specs.Agents.{ServesAsked};
 ghost use Rattle.swanroll_top.specs.Answers.{answer_in};
-ghost use Rattle.swanroll_top.specs.Program.{LeavesUnnamed, NamesDisk, RunsAsked};
+ghost use Rattle.swanroll_top.specs.Program.{LeavesUnnamed, RunsAsked, names_disk, names_fleet, reads_source};
 ghost use Rattle.swanroll_top.specs.Runs.{Follows, Runs};
 ghost use Rattle.swanroll_top.specs.Safety.{DoesSafely};
 ghost use Rattle.swanroll_top.specs.Words.{asked, text_asked};
 
+use crate::agent::agent;
 use crate::ending::Ending;
 use crate::journal_report::report;
 use crate::reading::read_input;
@@ -14,7 +16,7 @@ use crate::words::{Command, TextCommand};
 use crate::writing::write_text;
 use disk_model::Disk;
 use std::alloc::Global;
-use wan_edge::{Nums8, Sink, Source};
+use wan_edge::{Fleet, Nums8, Sink, Source};
 
 /// How a command ended, and the disk.
 #[derive(Drop)]
@@ -24,19 +26,24 @@ pub struct Closed<D> {
 }
 
 /// Does what a command line asks for.
-pub fn run<S: Source, K: Sink, D: Disk>(
+pub fn run<S: Source, K: Sink, D: Disk, F: Fleet>(
     alloc: Global,
     command: Command<'_>,
     source: &mut S,
     sink: &mut K,
     disk: D,
+    fleet: &mut F,
 ) -> Closed<D>
     ensures runs { RunsAsked (asked command.entry) (S.left source.old) (S.left source.new) (D.bytes disk) result.ending (K.written sink.old) (K.written sink.new) }
+    ensures serves { ServesAsked (record { left = F.Guest.left; written = F.Guest.written; read_faults = F.Guest.Source.faults; write_faults = F.Guest.Sink.faults }) (asked command.entry) (record { coming = F.coming fleet.old; served = F.served fleet.old }) (record { coming = F.coming fleet.new; served = F.served fleet.new }) result.ending (K.written sink.old) (K.written sink.new) }
     ensures read_fault { result.ending ≡ Ending.ReadFault → Rose (S.faults source.old) (S.faults source.new) }
     ensures write_fault { result.ending ≡ Ending.WriteFault → Rose (K.faults sink.old) (K.faults sink.new) }
-    ensures disk_fault { result.ending ≡ Ending.DiskFault → NamesDisk (asked command.entry) × Rose (D.faults disk) (D.faults result.disk) }
+    ensures disk_fault { result.ending ≡ Ending.DiskFault → IsTrue (names_disk (Some (asked command.entry))) × Rose (D.faults disk) (D.faults result.disk) }
+    ensures guest_fault { result.ending ≡ Ending.GuestFault → IsTrue (names_fleet (Some (asked command.entry))) × Rose (F.faults fleet.old) (F.faults fleet.new) }
     ensures ran { result.ending ≢ Ending.Usage }
-    ensures unnamed { LeavesUnnamed (Some (asked command.entry)) disk result.disk }
+    ensures unread { LeavesUnnamed (reads_source (Some (asked command.entry))) source.old source.new }
+    ensures disk { LeavesUnnamed (names_disk (Some (asked command.entry))) disk result.disk }
+    ensures fleet { LeavesUnnamed (names_fleet (Some (asked command.entry))) fleet.old fleet.new }
 {
     match command {
         Command::Text(text) => Closed {
@@ -44,6 +51,10 @@ pub fn run<S: Source, K: Sink, D: Disk>(
             disk,
         },
         Command::Report(migration) => report(alloc, migration, source, sink, disk),
+        Command::Agent(guests) => Closed {
+            ending: agent(alloc, guests, fleet, sink),
+            disk,
+        },
     }
 }
 
@@ -58,6 +69,7 @@ fn run_text<S: Source, K: Sink>(
     ensures read_fault { result ≡ Ending.ReadFault → Rose (S.faults source.old) (S.faults source.new) }
     ensures write_fault { result ≡ Ending.WriteFault → Rose (K.faults sink.old) (K.faults sink.new) }
     ensures no_disk { result ≢ Ending.DiskFault }
+    ensures no_guest { result ≢ Ending.GuestFault }
     ensures ran { result ≢ Ending.Usage }
 {
     match read_input(alloc, source) {

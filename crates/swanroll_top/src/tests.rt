@@ -1,14 +1,13 @@
-ghost use Rattle.std.specs.Prelude.{◌≡◌};
-
 mod schedule;
 
 use crate::{Unread, start};
 use disk_model::MemoryDisk;
+use lossy_link::{FaithfulPort, MemoryFleet, MemoryGuest};
 use order_policy::{Policies, Policy};
 use std::alloc::Global;
+use std::process::Abort;
 use std::test::Fail;
 use wan_edge::{MemorySink, MemorySource, Nums8, Turns};
-use wan_model::OpView;
 
 const ONE: &str =
     "{\"switches\":[{\"name\":\"A\",\"table\":8},{\"name\":\"B\",\"table\":8},{\"name\":\"C\",\"table\":8}],\"links\":[{\"from\":\"A\",\"to\":\"B\",\"capacity\":10},{\"from\":\"A\",\"to\":\"C\",\"capacity\":10},{\"from\":\"C\",\"to\":\"B\",\"capacity\":10}],\"flows\":[{\"name\":\"f\",\"tunnels\":[{\"path\":[\"A\",\"B\"],\"old\":4,\"new\":1},{\"path\":[\"A\",\"C\",\"B\"],\"old\":0,\"new\":3}]}]}";
@@ -22,21 +21,16 @@ const ABOVE: &str =
 
 const USAGE: &str = "usage: swanroll COMMAND [--NAME VALUE]\n";
 
-/// The document of one flow that moves in one step, with a script: a round whose batch is kept as the
-/// controller stops, a restart, and every command sent and answered.
-const REHEARSED: &str =
-    r#"{"plan":{"scale":1,"stages":[{"installed":[true,true],"rates":[4,0]},{"installed":[true,true],"rates":[1,3]}]},"problem":{"flows":[{"name":"f","tunnels":[{"new":1,"old":4,"path":["A","B"]},{"new":3,"old":0,"path":["A","C","B"]}]}],"links":[{"capacity":10,"from":"A","to":"B"},{"capacity":10,"from":"A","to":"C"},{"capacity":10,"from":"C","to":"B"}],"switches":[{"name":"A","table":8},{"name":"B","table":8},{"name":"C","table":8}]},"script":[["crash","kept"],["start"],["round"],["all"],["round"]]}"#;
-
-const REHEARSAL: &str =
-    "0 crash kept\n1 start: entries 1\n2 round: dones 0, begins 0\n3 all: 1\n4 round: dones 1, begins 0\npeak \"A\">\"B\" 4 of 10\npeak \"A\">\"C\" 3 of 10\npeak \"C\">\"B\" 3 of 10\npeak table \"A\" 2 of 8\npeak table \"B\" 2 of 8\npeak table \"C\" 1 of 8\nfinished\n";
-
-// A run of the program over objects in memory.
+// A run of the program over objects in memory: a source, a sink, notes, a disk without a byte, and a fleet.
+// There is no policy: rehearsals are tried from outside.
 #[derive(Drop)]
 struct Run {
     alloc: Global,
     source: MemorySource,
     sink: MemorySink,
     notes: MemorySink,
+    fleet: MemoryFleet<FaithfulPort>,
+    policies: Policies<Policy>,
 }
 
 impl Run {
@@ -59,20 +53,22 @@ impl Run {
             source: MemorySource::new(bytes, turns(alloc, reads)?),
             sink: MemorySink::new(alloc, turns(alloc, writes)?),
             notes: MemorySink::new(alloc, turns(alloc, notes)?),
+            fleet: MemoryFleet::new(alloc),
+            policies: Policies::new(alloc),
         })
     }
 
-    // The words stand behind the program's own name. The disk has no byte.
-    fn of(&mut self, words: &[&str], policies: &Policies<Policy>) -> Result<u8, Fail> {
-        let mut arguments = Vec::new(self.alloc);
-        arguments.push(String::from_str(self.alloc, "swanroll")?)?;
-        for word in words {
-            arguments.push(String::from_str(self.alloc, word)?)?;
-        }
-        Ok(self.start(Ok(arguments), policies))
+    // A controller that sends these bytes.
+    fn guest(&mut self, bytes: &[u8]) -> Result<(), Fail> {
+        let mut sent = Nums8::new(self.alloc);
+        sent.extend_from_slice(bytes)?;
+        let source = MemorySource::new(sent, Turns::new(self.alloc));
+        let sink = MemorySink::new(self.alloc, Turns::new(self.alloc));
+        self.fleet.put_guest(MemoryGuest::new(source, sink))?;
+        Ok(())
     }
 
-    fn start(&mut self, arguments: Result<Vec<String>, Unread>, policies: &Policies<Policy>) -> u8 {
+    fn start(&mut self, arguments: Result<Vec<String>, Unread>) -> u8 {
         let disk = MemoryDisk::new(self.alloc, Nums8::new(self.alloc), Turns::new(self.alloc));
         let ended = start(
             self.alloc,
@@ -81,9 +77,42 @@ impl Run {
             &mut self.sink,
             &mut self.notes,
             disk,
-            policies,
+            &mut self.fleet,
+            &self.policies,
         );
         ended.status
+    }
+
+    // The words stand behind the program's own name.
+    fn arguments(&self, words: &[&str]) -> Result<Vec<String>, Fail> {
+        let mut arguments = Vec::new(self.alloc);
+        arguments.push(String::from_str(self.alloc, "swanroll")?)?;
+        for word in words {
+            arguments.push(String::from_str(self.alloc, word)?)?;
+        }
+        Ok(arguments)
+    }
+
+    // The program asked with these words ends with the status, the text and the line of the notes.
+    fn ends(
+        &mut self,
+        rt: &impl Abort,
+        words: &[&str],
+        status: u8,
+        text: &str,
+        line: &str,
+    ) -> Result<(), Fail> {
+        let arguments = self.arguments(words)?;
+        let ended = self.start(Ok(arguments));
+        assert!(rt; self.told(ended, status, text, line));
+        Ok(())
+    }
+
+    // Whether a run has ended so.
+    fn told(&self, ended: u8, status: u8, text: &str, line: &str) -> bool {
+        ended == status
+            && self.sink.written() == text.as_bytes()
+            && self.notes.written() == line.as_bytes()
     }
 }
 
@@ -95,12 +124,7 @@ fn turns(alloc: Global, numbers: &[u64]) -> Result<Turns, Fail> {
 
 #[test]
 fn a_split_change_in_one_step_is_planned(rt: HostRuntime) -> Result<(), Fail> {
-    let none = Policies::new(rt.alloc());
-    let mut run = Run::over(rt.alloc(), ONE.as_bytes())?;
-    assert_eq!(rt; run.of(&["plan"], &none)?, 0);
-    assert_eq!(rt; run.sink.written(), ONE_PLANNED.as_bytes());
-    assert_eq!(rt; run.notes.written().len(), 0);
-    Ok(())
+    Run::over(rt.alloc(), ONE.as_bytes())?.ends(&rt, &["plan"], 0, ONE_PLANNED, "")
 }
 
 const REPORT: &str =
@@ -108,55 +132,22 @@ const REPORT: &str =
 
 #[test]
 fn a_disk_without_a_journal_is_reported_as_not_begun(rt: HostRuntime) -> Result<(), Fail> {
-    let none = Policies::new(rt.alloc());
     let mut run = Run::over(rt.alloc(), ONE_PLANNED.as_bytes())?;
-    assert_eq!(rt; run.of(&["report", "--migration", "7"], &none)?, 0);
-    assert_eq!(rt; run.sink.written(), REPORT.as_bytes());
-    assert_eq!(rt; run.notes.written().len(), 0);
-    Ok(())
+    run.ends(&rt, &["report", "--migration", "7"], 0, REPORT, "")
 }
 
 #[test]
 fn a_load_above_its_link_has_no_plan(rt: HostRuntime) -> Result<(), Fail> {
-    let none = Policies::new(rt.alloc());
-    let mut run = Run::over(rt.alloc(), ABOVE.as_bytes())?;
-    assert_eq!(rt; run.of(&["plan"], &none)?, 4);
-    assert_eq!(rt;
-        run.notes.written(),
-        b"no plan: link \"A\">\"B\" old load 11 above 10\n".as_slice()
-    );
-    assert_eq!(rt; run.sink.written().len(), 0);
-    Ok(())
+    let line = "no plan: link \"A\">\"B\" old load 11 above 10\n";
+    Run::over(rt.alloc(), ABOVE.as_bytes())?.ends(&rt, &["plan"], 4, "", line)
 }
 
 #[test]
 fn words_that_are_no_command_line_read_nothing(rt: HostRuntime) -> Result<(), Fail> {
     let lines: [&[&str]; 3] = [&[], &["plan", "plan"], &["sim"]];
-    let none = Policies::new(rt.alloc());
     for words in lines {
-        let mut run = Run::over(rt.alloc(), ONE.as_bytes())?;
-        assert_eq!(rt; run.of(words, &none)?, 2);
-        assert_eq!(rt; run.notes.written(), USAGE.as_bytes());
-        assert_eq!(rt; run.sink.written().len(), 0);
+        Run::over(rt.alloc(), ONE.as_bytes())?.ends(&rt, words, 2, "", USAGE)?;
     }
-    Ok(())
-}
-
-#[test]
-fn a_script_with_a_crash_is_rehearsed(rt: HostRuntime) -> Result<(), Fail> {
-    let by_item: Box<dyn Fn(OpView) -> u64 + Send + Sync> = Box::new(
-        rt.alloc(),
-        |_view: OpView| -> u64
-            ensures { result ≡ 0 }
-        { 0 },
-    )?;
-    let policy = Policy::new(by_item);
-    let mut policies = Policies::new(rt.alloc());
-    policies.add("order", policy)?;
-    let mut run = Run::over(rt.alloc(), REHEARSED.as_bytes())?;
-    assert_eq!(rt; run.of(&["sim", "--policy", "order"], &policies)?, 0);
-    assert_eq!(rt; run.sink.written(), REHEARSAL.as_bytes());
-    assert_eq!(rt; run.notes.written().len(), 0);
     Ok(())
 }
 
@@ -170,63 +161,57 @@ const BROKEN: &str = "input: plan: P3 at stage 0, link \"A\">\"X\": 4 against 2\
 fn a_valid_plan_is_checked_and_one_that_exceeds_a_link_is_refused(
     rt: HostRuntime,
 ) -> Result<(), Fail> {
-    let none = Policies::new(rt.alloc());
     let mut valid = Run::over(rt.alloc(), ONE_PLANNED.as_bytes())?;
-    assert_eq!(rt; valid.of(&["check"], &none)?, 0);
-    assert_eq!(rt;
-        valid.sink.written(),
-        b"valid: steps 1, scale 1\n".as_slice()
-    );
-    assert_eq!(rt; valid.notes.written().len(), 0);
-    let mut exceeds = Run::over(rt.alloc(), SWAPPED.as_bytes())?;
-    assert_eq!(rt; exceeds.of(&["check"], &none)?, 3);
-    assert_eq!(rt; exceeds.notes.written(), BROKEN.as_bytes());
-    assert_eq!(rt; exceeds.sink.written().len(), 0);
-    Ok(())
+    valid.ends(&rt, &["check"], 0, "valid: steps 1, scale 1\n", "")?;
+    Run::over(rt.alloc(), SWAPPED.as_bytes())?.ends(&rt, &["check"], 3, "", BROKEN)
+}
+
+#[test]
+fn an_agent_serves_its_guests(rt: HostRuntime) -> Result<(), Fail> {
+    let mut run = Run::over(rt.alloc(), &[])?;
+    // Operation 1 of item 3 in migration 0, twice, and then a byte that begins no command.
+    run.guest(
+        b"M\0\0\0\0\0\0\0\x03\0\0\0\x01\0\0\0\x02\x01\0\0\0\0\0\0\0\x06M\0\0\0\0\0\0\0\x03\0\0\0\x01\0\0\0\x02\x01\0\0\0\0\0\0\0\x06D",
+    )?;
+    let text = "agent: guests 1, commands 2, refused 1\n";
+    run.ends(&rt, &["agent", "--guests", "2"], 0, text, "")
+}
+
+#[test]
+fn a_fleet_that_fails_is_a_guest_fault(rt: HostRuntime) -> Result<(), Fail> {
+    let mut run = Run::over(rt.alloc(), &[])?;
+    run.fleet.fail_guests();
+    run.ends(&rt, &["agent"], 9, "", "guest fault\n")
 }
 
 #[test]
 fn arguments_that_cannot_be_read_end_with_their_line(rt: HostRuntime) -> Result<(), Fail> {
-    let none = Policies::new(rt.alloc());
     let causes: [(Unread, u8, &str); 2] = [
         (Unread::NotText, 2, USAGE),
         (Unread::Memory, 12, "out of memory\n"),
     ];
     for (unread, status, line) in causes {
         let mut run = Run::over(rt.alloc(), ONE.as_bytes())?;
-        assert_eq!(rt; run.start(Err(unread), &none), status);
-        assert_eq!(rt; run.notes.written(), line.as_bytes());
+        let ended = run.start(Err(unread));
+        assert!(rt; run.told(ended, status, "", line));
     }
     Ok(())
 }
 
 #[test]
 fn a_source_that_fails_is_a_read_fault(rt: HostRuntime) -> Result<(), Fail> {
-    let none = Policies::new(rt.alloc());
     let mut run = Run::failing(rt.alloc(), ONE.as_bytes(), &[1], &[], &[])?;
-    assert_eq!(rt; run.of(&["plan"], &none)?, 6);
-    assert_eq!(rt; run.notes.written(), b"read fault\n".as_slice());
-    assert_eq!(rt; run.sink.written().len(), 0);
-    assert_eq!(rt; run.source.failures(), 1);
-    Ok(())
+    run.ends(&rt, &["plan"], 6, "", "read fault\n")
 }
 
 #[test]
 fn a_sink_that_fails_is_a_write_fault(rt: HostRuntime) -> Result<(), Fail> {
-    let none = Policies::new(rt.alloc());
     let mut run = Run::failing(rt.alloc(), ONE.as_bytes(), &[], &[0], &[])?;
-    assert_eq!(rt; run.of(&["plan"], &none)?, 7);
-    assert_eq!(rt; run.notes.written(), b"write fault\n".as_slice());
-    assert_eq!(rt; run.sink.written().len(), 0);
-    assert_eq!(rt; run.sink.failures(), 1);
-    Ok(())
+    run.ends(&rt, &["plan"], 7, "", "write fault\n")
 }
 
 #[test]
 fn notes_that_fail_change_no_status(rt: HostRuntime) -> Result<(), Fail> {
-    let none = Policies::new(rt.alloc());
     let mut run = Run::failing(rt.alloc(), b"[]", &[], &[], &[0])?;
-    assert_eq!(rt; run.of(&["plan"], &none)?, 3);
-    assert_eq!(rt; run.notes.written().len(), 0);
-    Ok(())
+    run.ends(&rt, &["plan"], 3, "", "")
 }

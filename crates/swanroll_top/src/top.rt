@@ -1,7 +1,8 @@
 ghost use Rattle.std.specs.Prelude.{◌≡◌};
 ghost use Rattle.order_policy.specs.Named.{answers_in};
+ghost use Rattle.swanroll_top.specs.Agents.{ServesBy};
 ghost use Rattle.swanroll_top.specs.Words.{asked_by};
-ghost use Rattle.swanroll_top.specs.Program.{IsRun, LeavesUnnamed};
+ghost use Rattle.swanroll_top.specs.Program.{IsRun, LeavesUnnamed, names_disk, names_fleet, reads_source};
 
 use crate::ending::Ending;
 use crate::notes::note;
@@ -10,7 +11,7 @@ use crate::words::command_of;
 use disk_model::Disk;
 use order_policy::{Policies, Policy};
 use std::alloc::Global;
-use wan_edge::{Sink, Source};
+use wan_edge::{Fleet, Sink, Source};
 
 /// How the program ended: its exit status, and the disk.
 #[derive(Debug, Drop)]
@@ -20,7 +21,8 @@ pub struct Ended<D> {
 }
 
 /// Does all that the program does, and answers its exit status and the disk of the journal. The policies
-/// are those that the words may name. A command that doesn't name the disk leaves it as it was.
+/// are those that the words may name. A command leaves each of source, disk and fleet that it doesn't name
+/// as it was: `plan`, `check` and `sim` name the source, `report` the source and the disk, `agent` the fleet.
 ///
 /// | Status | Comes |
 /// |---|---|
@@ -31,29 +33,34 @@ pub struct Ended<D> {
 /// | 6 | the source failed |
 /// | 7 | the sink failed |
 /// | 8 | `report`: the disk failed |
+/// | 9 | `agent`: the fleet failed to give the next guest |
 /// | 10 | `report`: the journal on the disk is none of the rollout, or can't be followed |
 /// | 12 | memory ran out |
 #[tactic(auto, using(crate::proofs::Programs::running))]
-pub fn swanroll<S: Source, K: Sink, D: Disk>(
+pub fn swanroll<S: Source, K: Sink, D: Disk, F: Fleet>(
     alloc: Global,
     words: &[String],
     source: &mut S,
     sink: &mut K,
     notes: &mut K,
     disk: D,
+    fleet: &mut F,
     policies: &Policies<Policy>,
 ) -> Ended<D>
     ensures run { IsRun (asked_by (answers_in policies.now) words.now)
-        (record { left = S.left source.old; written = K.written sink.old; noted = K.written notes.old; stored = D.bytes disk; source_faults = S.faults source.old; sink_faults = K.faults sink.old; notes_faults = K.faults notes.old; disk_faults = D.faults disk })
-        (record { left = S.left source.new; written = K.written sink.new; noted = K.written notes.new; stored = D.bytes result.disk; source_faults = S.faults source.new; sink_faults = K.faults sink.new; notes_faults = K.faults notes.new; disk_faults = D.faults result.disk })
+        (record { left = S.left source.old; written = K.written sink.old; noted = K.written notes.old; stored = D.bytes disk; source_faults = S.faults source.old; sink_faults = K.faults sink.old; notes_faults = K.faults notes.old; disk_faults = D.faults disk; fleet_faults = F.faults fleet.old })
+        (record { left = S.left source.new; written = K.written sink.new; noted = K.written notes.new; stored = D.bytes result.disk; source_faults = S.faults source.new; sink_faults = K.faults sink.new; notes_faults = K.faults notes.new; disk_faults = D.faults result.disk; fleet_faults = F.faults fleet.new })
         result.status }
     ensures untouched { result.status ≡ 2 → source.new ≡ source.old }
     ensures quiet { result.status ≡ 0 → notes.new ≡ notes.old }
-    ensures unnamed { LeavesUnnamed (asked_by (answers_in policies.now) words.now) disk result.disk }
+    ensures serves { ServesBy (record { left = F.Guest.left; written = F.Guest.written; read_faults = F.Guest.Source.faults; write_faults = F.Guest.Sink.faults }) (asked_by (answers_in policies.now) words.now) (record { coming = F.coming fleet.old; served = F.served fleet.old }) (record { coming = F.coming fleet.new; served = F.served fleet.new }) result.status (K.written sink.old) (K.written sink.new) }
+    ensures unread { LeavesUnnamed (reads_source (asked_by (answers_in policies.now) words.now)) source.old source.new }
+    ensures disk { LeavesUnnamed (names_disk (asked_by (answers_in policies.now) words.now)) disk result.disk }
+    ensures fleet { LeavesUnnamed (names_fleet (asked_by (answers_in policies.now) words.now)) fleet.old fleet.new }
 {
     match command_of(words, policies) {
         Some(command) => {
-            let Closed { ending, disk } = run(alloc, command, source, sink, disk);
+            let Closed { ending, disk } = run(alloc, command, source, sink, disk, fleet);
             let status = note(alloc, notes, ending);
             Ended { status, disk }
         }

@@ -2,9 +2,12 @@ ghost use Rattle.std.specs.Prelude.{◌≡◌, map, string_bytes, bytes_eq, opti
 ghost use Rattle.std.specs.List.{list_any};
 ghost use Rattle.order_policy.specs.Answers.{rank_by};
 ghost use Rattle.order_policy.specs.Named.{answers_in, policy_named};
-ghost use Rattle.swanroll_top.specs.Words.{asked, asked_by, kind_named, names_of, begins_with_dash, are_pairs, value_or, policy_in, migration_in, number_in, are_digits, with_kind};
+ghost use Rattle.swanroll_top.specs.Words.{asked, asked_by, kind_named, names_of, begins_with_dash, are_pairs, value_or, policy_in, migration_in, guests_in, in_millions, number_in, are_digits, with_kind};
 
 use order_policy::{Policies, Policy};
+
+/// How many guests an agent may be asked to serve.
+const MOST_GUESTS: u32 = 1_000_000;
 
 /// How many digits a number has at the most.
 const MOST_DIGITS: usize = 19;
@@ -16,6 +19,8 @@ pub enum Command<'a> {
     Text(TextCommand<'a>),
     /// A report of the journal, as that of a migration of this number.
     Report(u32),
+    /// The service of so many guests.
+    Agent(u32),
 }
 
 /// A command that makes a text of its input alone.
@@ -34,6 +39,7 @@ pub enum Kind {
     Check,
     Sim,
     Report,
+    Agent,
 }
 
 /// What the words ask for, if they are a command line: the word of a command, and behind it pairs of a
@@ -56,6 +62,7 @@ fn kind_named(word: &str) -> Option<Kind>
         "check" => Some(Kind::Check),
         "sim" => Some(Kind::Sim),
         "report" => Some(Kind::Report),
+        "agent" => Some(Kind::Agent),
         _ => None,
     }
 }
@@ -75,6 +82,7 @@ fn command_with<'a>(
         Kind::Check => Some(Command::Text(TextCommand::Check)),
         Kind::Sim => Some(Command::Text(TextCommand::Sim(policy_of(pairs, policies)?))),
         Kind::Report => Some(Command::Report(migration_of(pairs)?)),
+        Kind::Agent => Some(Command::Agent(guests_of(pairs)?)),
     }
 }
 
@@ -86,6 +94,7 @@ fn takes(kind: Kind, name: &str) -> bool
         Kind::Plan | Kind::Check => false,
         Kind::Sim => name == "--policy",
         Kind::Report => name == "--migration",
+        Kind::Agent => name == "--guests",
     }
 }
 
@@ -121,6 +130,22 @@ fn migration_of(pairs: &[String]) -> Option<u32>
     ensures { result ≡ migration_in (map string_bytes pairs.now) }
 {
     number_in(value_or(pairs, "--migration", "0")?)
+}
+
+/// The number of guests that the pairs name, from 1 to a million; 1 where they name none.
+fn guests_of(pairs: &[String]) -> Option<u32>
+    ensures { result ≡ guests_in (map string_bytes pairs.now) }
+{
+    in_millions(number_in(value_or(pairs, "--guests", "1")?)?)
+}
+
+fn in_millions(number: u32) -> Option<u32>
+    ensures { result ≡ in_millions number }
+{
+    if number < 1 || number > MOST_GUESTS {
+        return None;
+    }
+    Some(number)
 }
 
 /// A number below 2^32 in 1 to 19 decimal digits.

@@ -1,7 +1,7 @@
 //! Worked examples of command lines: proving each is computing it.
 
 ghost use Rattle.std.specs.Prelude.{◌≡◌, [], ◌∷◌, codes, Some, None};
-ghost use Rattle.swanroll_top.specs.Words.{a_plan, a_check, a_rehearsal, a_report, a_text, asked_in};
+ghost use Rattle.swanroll_top.specs.Words.{a_plan, a_check, a_rehearsal, a_report, a_text, an_agent, asked_in};
 ghost use Rattle.swanroll_top.specs.Worked.{chain_first, by_item, two_policies};
 
 /// A command alone, and a rehearsal under the policy that is named.
@@ -12,6 +12,8 @@ pub fn command_lines()
     ensures critical { asked_in two_policies (codes "sim" ∷ codes "--policy" ∷ codes "critical" ∷ []) ≡ Some (a_text (a_rehearsal chain_first)) }
     ensures order { asked_in two_policies (codes "sim" ∷ codes "--policy" ∷ codes "order" ∷ []) ≡ Some (a_text (a_rehearsal by_item)) }
     ensures report { asked_in two_policies (codes "report" ∷ []) ≡ Some (a_report 0) }
+    ensures agent { asked_in two_policies (codes "agent" ∷ []) ≡ Some (an_agent 1) }
+    ensures guests { asked_in two_policies (codes "agent" ∷ codes "--guests" ∷ codes "40" ∷ []) ≡ Some (an_agent 40) }
     ensures migration { asked_in two_policies (codes "report" ∷ codes "--migration" ∷ codes "007" ∷ []) ≡ Some (a_report 7) }
 {}
 
@@ -41,5 +43,6 @@ pub fn words_with_a_wrong_value()
     ensures empty { asked_in two_policies (codes "sim" ∷ codes "--policy" ∷ [] ∷ []) ≡ None }
     ensures no_digits { asked_in two_policies (codes "report" ∷ codes "--migration" ∷ codes "+1" ∷ []) ≡ None }
     ensures large { asked_in two_policies (codes "report" ∷ codes "--migration" ∷ codes "4294967296" ∷ []) ≡ None }
+    ensures no_guest { asked_in two_policies (codes "agent" ∷ codes "--guests" ∷ codes "0" ∷ []) ≡ None }
     ensures no_default { asked_in [] (codes "sim" ∷ []) ≡ None }
 {}

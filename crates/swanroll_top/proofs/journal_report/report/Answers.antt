@@ -1,4 +1,4 @@
-use Rattle.swanroll_top.proofs.Reporting.{cut-reports, report-no-read, report-no-usage, short-reports}
+use Rattle.swanroll_top.proofs.Reporting.{cut-reports, report-no-guest, report-no-read, report-no-usage, short-reports}
 use Rattle.swanroll_top.proofs.journal_report.report.Goals as goal
 
 pub returns-in-Ok-clause-runs : goal.returns-in-Ok-clause-runs
@@ -12,3 +12,6 @@ returns-in-Ok-clause-ran g c = λ e. report-no-usage _ _ _ _ _ _ c.report_input.
 
 pub returns-in-Err-clause-runs : goal.returns-in-Err-clause-runs
 returns-in-Err-clause-runs g c = cut-reports _ _ _ _ _ _ c.in-Err.ensures.read
+
+pub returns-in-Ok-clause-no_guest : goal.returns-in-Ok-clause-no_guest
+returns-in-Ok-clause-no_guest g c = λ e. report-no-guest _ _ _ _ _ _ c.report_input.ensures.follows e

@@ -1,4 +1,4 @@
-use Rattle.swanroll_top.proofs.Answering.{no-disk-fault, no-read-fault, no-usage}
+use Rattle.swanroll_top.proofs.Answering.{no-disk-fault, no-guest-fault, no-read-fault, no-usage}
 use Rattle.swanroll_top.proofs.Following.{short-runs, cut-runs}
 use Rattle.swanroll_top.proofs.run.run_text.Goals as goal
 
@@ -16,3 +16,6 @@ returns-in-Err-clause-runs g c = cut-runs _ _ _ _ _ c.in-Err.ensures.read
 
 pub returns-in-Ok-clause-no_disk : goal.returns-in-Ok-clause-no_disk
 returns-in-Ok-clause-no_disk g c = λ e. no-disk-fault _ _ _ _ (rw e at c.write_answer.ensures.follows)
+
+pub returns-in-Ok-clause-no_guest : goal.returns-in-Ok-clause-no_guest
+returns-in-Ok-clause-no_guest g c = λ e. no-guest-fault _ _ _ _ (rw e at c.write_answer.ensures.follows)

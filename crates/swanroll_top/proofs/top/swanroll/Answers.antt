@@ -7,7 +7,7 @@ use Rattle.swanroll_top.proofs.top.swanroll.Goals as goal
 pub returns-in-Some-clause-run : goal.returns-in-Some-clause-run
 returns-in-Some-clause-run g c =
     let is : asked_by (answers_in c.args.policies.now) c.args.words.now ≡ Some (asked c.in-Some.command) = sym c.in-Some.ensures in
-    command-run _ (asked c.in-Some.command) _ _ _ _ is c.run-ending.ensures.runs c.run-ending.ensures.read_fault c.run-ending.ensures.write_fault c.run-ending.ensures.disk_fault c.run-ending.ensures.ran c.note-status.ensures.told
+    command-run _ (asked c.in-Some.command) _ _ _ _ is c.run-ending.ensures.runs c.run-ending.ensures.read_fault c.run-ending.ensures.write_fault c.run-ending.ensures.disk_fault c.run-ending.ensures.guest_fault c.run-ending.ensures.ran c.note-status.ensures.told
 
 pub returns-in-Some-clause-untouched : goal.returns-in-Some-clause-untouched
 returns-in-Some-clause-untouched g c = λ h. absurd (not-usage _ _ _ _ _ _ c.run-ending.ensures.ran c.note-status.ensures.told h)

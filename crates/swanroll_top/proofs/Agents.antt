@@ -1,0 +1,66 @@
+-- How a run of an agent follows from the service.
+use Rattle.std.proofs.Common.{◌≡◌, ℕ, List, false, Option, Some, None, Result, Ok, Err, subst, sym, ap, ◌∙◌, inl, inr}
+use Rattle.agent_service.specs.Services.{Guests, Tells}
+use Rattle.swanroll_top.specs.Agents.{EndsOwn, ServesAsked, ServesBy}
+use Rattle.swanroll_top.specs.Endings.{status_of, tells_place}
+use Rattle.swanroll_top.specs.Runs.{EndsWith, Follows, IsTold}
+use Rattle.swanroll_top.specs.Words.{Asked, a_report, a_text, an_agent}
+use Rattle.swanroll_top.specs.declared.ending.Ending.{Ending}
+use Rattle.swanroll_top.specs.declared.ending.Ending.TheVariants.{Done, Usage, AboveLimit, Input, NotValid, NoPlan, ReadFault, WriteFault, DiskFault, GuestFault, Refused, OutOfMemory}
+use Rattle.swanroll_top.proofs.Programs.{ends-unwritten, known-told}
+
+pub text-own : (text : List ℕ) (e : Ending) (out now : Option (List ℕ)) → EndsWith (Ok text) e out now → EndsOwn e
+text-own text e out now (inl done) = inl done.0
+text-own text e out now (inr cut) = inr (inl cut.0)
+
+pub own-known : (e : Ending) → EndsOwn e → tells_place e ≡ false
+own-known e (inl is) = ap tells_place is
+own-known e (inr (inl is)) = ap tells_place is
+own-known e (inr (inr is)) = ap tells_place is
+
+pub own-not : (e other : Ending) → EndsOwn e → (Done ≡ other → ⊥) → (WriteFault ≡ other → ⊥) → (OutOfMemory ≡ other → ⊥) → e ≡ other → ⊥
+own-not e other (inl is) done cut memory h = done (sym is ∙ h)
+own-not e other (inr (inl is)) done cut memory h = cut (sym is ∙ h)
+own-not e other (inr (inr is)) done cut memory h = memory (sym is ∙ h)
+
+-- nothing was written but a text, or a part of it
+pub follows-unwritten : (answer : Result (List ℕ) Ending) (e : Ending) (out now : Option (List ℕ)) → Follows answer e out now → (status_of e ≡ 0 → ⊥) → (status_of e ≡ 7 → ⊥) → now ≡ out
+follows-unwritten answer Done out now h d w = ends-unwritten answer Done out now h (λ is. d (ap status_of is)) (λ is. w (ap status_of is))
+follows-unwritten answer Usage out now h d w = ends-unwritten answer Usage out now h (λ is. d (ap status_of is)) (λ is. w (ap status_of is))
+follows-unwritten answer AboveLimit out now h d w = ends-unwritten answer AboveLimit out now h (λ is. d (ap status_of is)) (λ is. w (ap status_of is))
+follows-unwritten answer (Input f) out now h d w = ends-unwritten answer (Input f) out now h (λ is. d (ap status_of is)) (λ is. w (ap status_of is))
+follows-unwritten answer (NotValid p b) out now h d w = ends-unwritten answer (NotValid p b) out now h (λ is. d (ap status_of is)) (λ is. w (ap status_of is))
+follows-unwritten answer (NoPlan u) out now h d w = ends-unwritten answer (NoPlan u) out now h (λ is. d (ap status_of is)) (λ is. w (ap status_of is))
+follows-unwritten answer ReadFault out now h d w = ends-unwritten answer ReadFault out now h (λ is. d (ap status_of is)) (λ is. w (ap status_of is))
+follows-unwritten answer WriteFault out now h d w = ends-unwritten answer WriteFault out now h (λ is. d (ap status_of is)) (λ is. w (ap status_of is))
+follows-unwritten answer DiskFault out now h d w = ends-unwritten answer DiskFault out now h (λ is. d (ap status_of is)) (λ is. w (ap status_of is))
+follows-unwritten answer GuestFault out now h d w = ends-unwritten answer GuestFault out now h (λ is. d (ap status_of is)) (λ is. w (ap status_of is))
+follows-unwritten answer (Refused f) out now h d w = ends-unwritten answer (Refused f) out now h (λ is. d (ap status_of is)) (λ is. w (ap status_of is))
+follows-unwritten answer OutOfMemory out now h d w = h
+
+-- the status tells the ending, since its line takes no memory
+pub serves-by : {G : Type 0} (tells : Tells G) (c : Asked) (before now : Guests G) (e : Ending) (status : ℕ) (out out_now noted noted_now : Option (List ℕ)) (faults faults_now : ℕ)
+    → ServesAsked tells c before now e out out_now → IsTold e status noted noted_now faults faults_now → ServesBy tells (Some c) before now status out out_now
+serves-by tells (a_text what) before now e status out out_now noted noted_now faults faults_now runs told = tt
+serves-by tells (a_report migration) before now e status out out_now noted noted_now faults faults_now runs told = tt
+serves-by tells (an_agent guests) before now e status out out_now noted noted_now faults faults_now runs told = record {
+  ending = e;
+  is_status = told.is_status ∙ ap status_of (known-told e told.told runs.known told.is);
+  runs = runs;
+}
+
+-- a text that was written is the one that was asked for
+pub text-follows : (text line : List ℕ) (e : Ending) (out now : Option (List ℕ)) → text ≡ line → EndsWith (Ok text) e out now → Follows (Ok line) e out now
+text-follows text line Done out now same h = subst (λ t. EndsWith (Ok t) Done out now) same h
+text-follows text line Usage out now same h = subst (λ t. EndsWith (Ok t) Usage out now) same h
+text-follows text line AboveLimit out now same h = subst (λ t. EndsWith (Ok t) AboveLimit out now) same h
+text-follows text line (Input f) out now same h = subst (λ t. EndsWith (Ok t) (Input f) out now) same h
+text-follows text line (NotValid p b) out now same h = subst (λ t. EndsWith (Ok t) (NotValid p b) out now) same h
+text-follows text line (NoPlan u) out now same h = subst (λ t. EndsWith (Ok t) (NoPlan u) out now) same h
+text-follows text line ReadFault out now same h = subst (λ t. EndsWith (Ok t) ReadFault out now) same h
+text-follows text line WriteFault out now same h = subst (λ t. EndsWith (Ok t) WriteFault out now) same h
+text-follows text line DiskFault out now same h = subst (λ t. EndsWith (Ok t) DiskFault out now) same h
+text-follows text line GuestFault out now same h = subst (λ t. EndsWith (Ok t) GuestFault out now) same h
+text-follows text line (Refused f) out now same h = subst (λ t. EndsWith (Ok t) (Refused f) out now) same h
+text-follows text line OutOfMemory out now same (inl h) = let no : OutOfMemory ≡ Done = h.0 in cc
+text-follows text line OutOfMemory out now same (inr h) = let no : OutOfMemory ≡ WriteFault = h.0 in cc

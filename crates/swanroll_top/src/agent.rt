@@ -1,0 +1,53 @@
+//! The command `agent`, over the guests of a fleet.
+
+ghost use Rattle.std.specs.Prelude.{◌≡◌, ◌≢◌, Ok, IfOk};
+ghost use Rattle.wan_edge.specs.Streams.{Rose};
+ghost use Rattle.swanroll_top.specs.Agents.{EndsOwn, RunsAgent, service_line};
+ghost use Rattle.swanroll_top.specs.Runs.{Follows};
+
+use crate::ending::Ending;
+use crate::writing::write_text;
+use agent_service::{Service, ServiceFault, serve_guests};
+use lists::{Memory, Text};
+use std::alloc::Global;
+use wan_edge::{Fleet, Sink};
+
+/// One agent serves this many guests of the fleet, or fewer where no more come, and a line says how many
+/// came, how many commands were carried out, and how many guests were refused.
+pub fn agent<K: Sink, F: Fleet>(alloc: Global, guests: u32, fleet: &mut F, sink: &mut K) -> Ending
+    ensures runs { RunsAgent (record { left = F.Guest.left; written = F.Guest.written; read_faults = F.Guest.Source.faults; write_faults = F.Guest.Sink.faults }) guests (record { coming = F.coming fleet.old; served = F.served fleet.old }) (record { coming = F.coming fleet.new; served = F.served fleet.new }) result (K.written sink.old) (K.written sink.new) }
+    ensures guest_fault { result ≡ Ending.GuestFault → Rose (F.faults fleet.old) (F.faults fleet.new) }
+    ensures write_fault { result ≡ Ending.WriteFault → Rose (K.faults sink.old) (K.faults sink.new) }
+    ensures visiting { F.visiting fleet.new ≡ F.visiting fleet.old }
+    ensures ports { (F.waiting fleet.new ≡ F.waiting fleet.old) × (F.kept fleet.new ≡ F.kept fleet.old) × (F.lent fleet.new ≡ F.lent fleet.old) }
+    ensures others { (result ≢ Ending.Usage) × (result ≢ Ending.ReadFault) × (result ≢ Ending.DiskFault) }
+{
+    match serve_guests(alloc, fleet, guests) {
+        Ok(service) => write_service(alloc, &service, sink),
+        Err(ServiceFault::Fleet) => Ending::GuestFault,
+        Err(ServiceFault::Memory) => Ending::OutOfMemory,
+    }
+}
+
+fn write_service<K: Sink>(alloc: Global, service: &Service, sink: &mut K) -> Ending
+    ensures own { EndsOwn result }
+    ensures follows { Follows (Ok (service_line service.now)) result (K.written sink.old) (K.written sink.new) }
+    ensures cause { result ≡ Ending.WriteFault → Rose (K.faults sink.old) (K.faults sink.new) }
+{
+    match line_of(alloc, service) {
+        Ok(line) => write_text(sink, line.as_str()),
+        Err(_) => Ending::OutOfMemory,
+    }
+}
+
+fn line_of(alloc: Global, service: &Service) -> Result<Text, Memory>
+    ensures { IfOk result (λ text. text ≡ service_line service.now) }
+{
+    let guests = service.guests;
+    let commands = service.commands;
+    let refused = service.refused;
+    let line = format!(in alloc;
+        "agent: guests {guests}, commands {commands}, refused {refused}\n"
+    )?;
+    Ok(Text::from(line))
+}
