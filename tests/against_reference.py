@@ -7,17 +7,21 @@ REFERENCE is the folder with the reference's `diff.py`. COUNT is that of each ki
 and fails where one differs.
 """
 
+import collections
+import json
 import os
 import random
 import subprocess
 import sys
 import tempfile
 
+from fractions_of_plans import problems
+
 KINDS = {"plan": 3000, "bad": 3000, "check": 2000, "sim": 2000, "report": 2000, "words": 2000, "mutated": 2000}
-# Problems whose plan comes from a program with thirds or quarters, by seed and number: among the first thousands there are only halves.
-FRACTIONS = [("2", 1), ("2", 347), ("3", 249), ("5", 467)]
+# Scales that the plans of linear programs have to have, and how many such plans there have to be.
+SCALES, PROGRAMS = (2, 3, 4, 5, 6), 200
 # What the program does by now.
-FEATURES = "none,places,planner,lp,widths,marks,crashes,sim,check,policies,migration,report,journal=r16"
+FEATURES = "none,places,planner,lp,widths,marks,crashes,sim,check,policies,migration,report,agent,journal=r16"
 PIECES = [b"null", b"true", b"-", b"1", b"1.5", b"99999999999", b'"A"', b"[]", b"{}", b",", b":", b"[", b"}", b'"', b"\\", b"\xff", b" "]
 
 
@@ -54,19 +58,36 @@ def mutations(gen, cli, features, program, count):
     return wrong
 
 
+def fractions(cli, planner, features, program):
+    """How many problems of the families of fractions end otherwise than by the reference, or 1 where too few of their plans come from a linear
+    program, or none of them has one of the scales."""
+    met, wrong = collections.Counter(), 0
+    for problem in problems():
+        data = json.dumps(problem).encode()
+        status, out, notes = cli.run(["plan"], data, {}, None, features)
+        if "linear program" in planner.trace:
+            met[json.loads(out)["plan"]["scale"]] += 1
+        done = subprocess.run([program, "plan"], input=data, capture_output=True)
+        if (done.returncode, done.stdout, done.stderr) != (status, out, notes):
+            wrong += 1
+            print(f"MISMATCH fractions: wanted {status} {notes!r}, got {done.returncode} {done.stderr!r}\n  {data!r}")
+    print(f"kind fractions: {len(problems())} cases, {wrong} mismatches, plans of linear programs by scale {dict(sorted(met.items()))}")
+    return wrong or int(sum(met.values()) < PROGRAMS or any(not met[scale] for scale in SCALES))
+
+
 def main():
     reference, program = os.path.abspath(sys.argv[1]), os.path.abspath(sys.argv[2])
     sys.dont_write_bytecode = True
     sys.path.insert(0, reference)
     import diff
     import gen
-    from oracle import cli, features
+    from oracle import cli, features, planner
 
-    failed = False
     with tempfile.TemporaryDirectory() as found:
         given = sys.argv[3:]
         rows = [(kind, "1", 0, int(given[0]) if given else count) for kind, count in KINDS.items()]
-        for kind, seed, start, count in rows + [("plan", seed, number, 1) for seed, number in FRACTIONS]:
+        failed = bool(fractions(cli, planner, features.from_env({}, None, FEATURES), program))
+        for kind, seed, start, count in rows:
             if kind == "mutated":
                 failed = bool(mutations(gen, cli, features.from_env({}, None, FEATURES), program, count)) or failed
                 continue
