@@ -1,6 +1,6 @@
 """The command `agent` over loopback: controllers connect to the built program one after the other, send commands cut anywhere, and read the
-answers. Answers, the line at the end and the status are compared with an independent reference where there is one, else with the worked
-cases alone.
+answers. Without a reference these are worked cases, the words, and addresses at which nothing can listen; with one, drawn guests, of which
+answers, the line at the end and the status are compared with it.
 
     python3 tests/agents.py PROGRAM [REFERENCE]
 """
@@ -45,7 +45,7 @@ def exchange(rng, guest, data):
             guest.sendall(data[at:at + piece])
             at += piece
         guest.shutdown(socket.SHUT_WR)
-    except (BrokenPipeError, ConnectionResetError):
+    except OSError:  # broken, reset or no longer connected: the agent has ended the connection of a guest that it refused
         pass
     try:
         while more := guest.recv(1 << 16):
@@ -120,9 +120,9 @@ def drawn(program, reference):
 
 
 def main():
-    cases = list(worked(sys.argv[1])) + list(without_guests(sys.argv[1])) + list(words(sys.argv[1]))
-    if len(sys.argv) > 2:
-        cases += list(drawn(sys.argv[1], sys.argv[2]))
+    program = sys.argv[1]
+    kinds = [drawn(program, sys.argv[2])] if len(sys.argv) > 2 else [worked(program), without_guests(program), words(program)]
+    cases = [case for kind in kinds for case in kind]
     wrong = [name for name, right in cases if not right]
     print(f"agents: {len(cases)} cases, {len(wrong)} wrong")
     if wrong:
