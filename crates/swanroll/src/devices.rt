@@ -1,24 +1,30 @@
 //! The devices that the environment names. One that isn't named fails at each call.
 
-ghost use Rattle.std.specs.Prelude.{◌<◌};
+ghost use Rattle.std.specs.Prelude.{◌≡◌};
+ghost use Rattle.swanroll.specs.Limits.{limit_in};
 
 use host_edge::{FileDisk, TcpFleet};
 use std::env;
+use swanroll_top::number_in;
 
 /// How long connecting, hearing and writing may take, in milliseconds, where the environment doesn't say.
-const LIMIT: u64 = 1_000;
+const USUAL: u64 = 1_000;
 
 /// The most digits of a time limit.
 const MOST_DIGITS: usize = 7;
 
 /// The journal's file: `SWANROLL_JOURNAL`.
-pub fn journal(rt: HostRuntime) -> FileDisk<HostRuntime> {
+pub fn journal(rt: HostRuntime) -> FileDisk<HostRuntime>
+    ensures { result.faults ≡ 0 }
+{
     FileDisk::new(rt, named(rt, "SWANROLL_JOURNAL"))
 }
 
 /// The switches of the file that `SWANROLL_FLEET` names, and the guests that come to the address
 /// `SWANROLL_LISTEN`.
-pub fn fleet(rt: HostRuntime) -> TcpFleet<HostRuntime> {
+pub fn fleet(rt: HostRuntime) -> TcpFleet<HostRuntime>
+    ensures { result.faults ≡ 0 }
+{
     let path = named(rt, "SWANROLL_FLEET");
     let listen = named(rt, "SWANROLL_LISTEN");
     let limit = time_limit(named(rt, "SWANROLL_TIMEOUT").as_str());
@@ -32,13 +38,13 @@ fn named(rt: HostRuntime, name: &str) -> String {
 
 /// A time limit of 1 to 7 decimal digits above 0, and else the usual one.
 fn time_limit(word: &str) -> u64
-    ensures { 0 < result }
+    ensures { result ≡ limit_in word.now }
 {
-    if word.len() > MOST_DIGITS || !word.as_bytes().iter().all(u8::is_ascii_digit) {
-        return LIMIT;
+    if word.len() > MOST_DIGITS {
+        return USUAL;
     }
-    match word.parse::<u64>() {
-        Ok(number) if number > 0 => number,
-        _ => LIMIT,
+    match number_in(word) {
+        Some(number) if number > 0 => u64::from(number),
+        _ => USUAL,
     }
 }

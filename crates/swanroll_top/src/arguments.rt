@@ -42,6 +42,8 @@ pub fn start<S: Source, K: Sink, D: Disk, F: Fleet>(
     ensures unread { LeavesUnnamed (reads_source (asked_from (answers_in policies.now) arguments (λ all. all.items))) source.old source.new }
     ensures disk { LeavesUnnamed (names_disk (asked_from (answers_in policies.now) arguments (λ all. all.items))) disk result.disk }
     ensures fleet { LeavesUnnamed (names_fleet (asked_from (answers_in policies.now) arguments (λ all. all.items))) fleet.old fleet.new }
+    ensures visiting { F.visiting fleet.new ≡ F.visiting fleet.old }
+    ensures ports { (F.waiting fleet.new ≡ F.waiting fleet.old) × (F.kept fleet.new ≡ F.kept fleet.old) × (F.lent fleet.new ≡ F.lent fleet.old) }
     ensures quiet { result.status ≡ 0 → notes.new ≡ notes.old }
 {
     match arguments {

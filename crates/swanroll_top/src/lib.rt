@@ -31,3 +31,4 @@ mod writing;
 pub use arguments::{Unread, start};
 pub use ending::Ending;
 pub use top::{Ended, swanroll};
+pub use words::number_in;

@@ -44,6 +44,8 @@ pub fn run<S: Source, K: Sink, D: Disk, F: Fleet>(
     ensures unread { LeavesUnnamed (reads_source (Some (asked command.entry))) source.old source.new }
     ensures disk { LeavesUnnamed (names_disk (Some (asked command.entry))) disk result.disk }
     ensures fleet { LeavesUnnamed (names_fleet (Some (asked command.entry))) fleet.old fleet.new }
+    ensures visiting { F.visiting fleet.new ≡ F.visiting fleet.old }
+    ensures ports { (F.waiting fleet.new ≡ F.waiting fleet.old) × (F.kept fleet.new ≡ F.kept fleet.old) × (F.lent fleet.new ≡ F.lent fleet.old) }
 {
     match command {
         Command::Text(text) => Closed {

@@ -22,7 +22,8 @@ pub struct Ended<D> {
 
 /// Does all that the program does, and answers its exit status and the disk of the journal. The policies
 /// are those that the words may name. A command leaves each of source, disk and fleet that it doesn't name
-/// as it was: `plan`, `check` and `sim` name the source, `report` the source and the disk, `agent` the fleet.
+/// as it was: `plan`, `check` and `sim` name the source, `report` the source and the disk, `agent` the fleet,
+/// whose ports it leaves and whose guests it gives back.
 ///
 /// | Status | Comes |
 /// |---|---|
@@ -57,6 +58,8 @@ pub fn swanroll<S: Source, K: Sink, D: Disk, F: Fleet>(
     ensures unread { LeavesUnnamed (reads_source (asked_by (answers_in policies.now) words.now)) source.old source.new }
     ensures disk { LeavesUnnamed (names_disk (asked_by (answers_in policies.now) words.now)) disk result.disk }
     ensures fleet { LeavesUnnamed (names_fleet (asked_by (answers_in policies.now) words.now)) fleet.old fleet.new }
+    ensures visiting { F.visiting fleet.new ≡ F.visiting fleet.old }
+    ensures ports { (F.waiting fleet.new ≡ F.waiting fleet.old) × (F.kept fleet.new ≡ F.kept fleet.old) × (F.lent fleet.new ≡ F.lent fleet.old) }
 {
     match command_of(words, policies) {
         Some(command) => {

@@ -149,7 +149,7 @@ fn in_millions(number: u32) -> Option<u32>
 }
 
 /// A number below 2^32 in 1 to 19 decimal digits.
-fn number_in(word: &str) -> Option<u32>
+pub fn number_in(word: &str) -> Option<u32>
     ensures { result ≡ number_in word.now }
 {
     if word.len() > MOST_DIGITS || !are_digits(word.as_bytes()) {
