@@ -5,6 +5,7 @@ pub mod Commands
 pub mod Answering
 pub mod Refused
 pub mod Reporting
+pub mod Leaving
 pub mod Inputs
 pub mod Following
 pub mod Statuses

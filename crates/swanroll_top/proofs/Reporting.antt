@@ -58,7 +58,7 @@ rollout-judged : (input : List ℕ) → length input ≤ MOST_INPUT → IsJudged
 unfolding rollout_in
 rollout-judged input within = read-judged input (document_in input) refl within
 
-short-rollout : (input : List ℕ) → length input ≤ MOST_INPUT → rollout_to input ≡ rollout_in input
+pub short-rollout : (input : List ℕ) → length input ≤ MOST_INPUT → rollout_to input ≡ rollout_in input
 unfolding rollout_to
 short-rollout input short = rw (le-ltb MOST_INPUT (length input) short) refl
 

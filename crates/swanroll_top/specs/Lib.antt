@@ -9,6 +9,7 @@ pub mod Taken
 pub mod Reading
 pub mod JournalLines
 pub mod Reports
+pub mod Leavings
 pub mod Runs
 pub mod Agents
 pub mod Program

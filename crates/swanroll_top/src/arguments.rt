@@ -1,6 +1,7 @@
 ghost use Rattle.std.specs.Prelude.{◌≡◌, drop};
 ghost use Rattle.order_policy.specs.Named.{answers_in};
 ghost use Rattle.swanroll_top.specs.Agents.{ServesBy};
+ghost use Rattle.swanroll_top.specs.Leavings.{LeavesAsked};
 ghost use Rattle.swanroll_top.specs.Program.{IsStarted, LeavesUnnamed, asked_from, names_disk, names_fleet, reads_source};
 
 use crate::ending::Ending;
@@ -41,6 +42,7 @@ pub fn start<S: Source, K: Sink, D: Disk, F: Fleet>(
     ensures serves { ServesBy (record { left = F.Guest.left; written = F.Guest.written; read_faults = F.Guest.Source.faults; write_faults = F.Guest.Sink.faults }) (asked_from (answers_in policies.now) arguments (λ all. all.items)) (record { coming = F.coming fleet.old; served = F.served fleet.old }) (record { coming = F.coming fleet.new; served = F.served fleet.new }) result.status (K.written sink.old) (K.written sink.new) }
     ensures unread { LeavesUnnamed (reads_source (asked_from (answers_in policies.now) arguments (λ all. all.items))) source.old source.new }
     ensures disk { LeavesUnnamed (names_disk (asked_from (answers_in policies.now) arguments (λ all. all.items))) disk result.disk }
+    ensures leaves { LeavesAsked D.bytes D.may_leave D.moment D.left_since (asked_from (answers_in policies.now) arguments (λ all. all.items)) (S.left source.old) result.status disk result.disk }
     ensures fleet { LeavesUnnamed (names_fleet (asked_from (answers_in policies.now) arguments (λ all. all.items))) fleet.old fleet.new }
     ensures visiting { F.visiting fleet.new ≡ F.visiting fleet.old }
     ensures ports { (F.waiting fleet.new ≡ F.waiting fleet.old) × (F.kept fleet.new ≡ F.kept fleet.old) × (F.lent fleet.new ≡ F.lent fleet.old) }

@@ -1,9 +1,12 @@
 //! The command `report`, over the journal on a disk.
 
-ghost use Rattle.std.specs.Prelude.{◌≡◌, ◌≢◌, IsErrOf, Ok};
+ghost use Rattle.std.specs.Prelude.{◌≡◌, ◌≢◌, IfSome, IsErrOf, Ok};
 ghost use Rattle.intent_journal.specs.declared.fault.JournalFault.TheVariants as fault;
 ghost use Rattle.wan_edge.specs.Streams.{Rose};
-ghost use Rattle.swanroll_top.specs.Reports.{EndsJournal, FollowsReported, RunsReport, rollout_in};
+ghost use Rattle.rollout_report.specs.Journals.{digest_for};
+ghost use Rattle.swanroll_top.specs.Endings.{status_of};
+ghost use Rattle.swanroll_top.specs.Leavings.{LeavesJournal, LeavesReported};
+ghost use Rattle.swanroll_top.specs.Reports.{EndsJournal, FollowsReported, RunsReport, rollout_in, rollout_to};
 
 use crate::ending::Ending;
 use crate::reading::read_input;
@@ -28,6 +31,7 @@ pub fn report<S: Source, K: Sink, D: Disk>(
     disk: D,
 ) -> Closed<D>
     ensures runs { RunsReport migration (S.left source.old) (S.left source.new) (D.bytes disk) result.ending (K.written sink.old) (K.written sink.new) }
+    ensures leaves { IfSome (S.left source.old) (λ input. LeavesReported D.bytes D.may_leave D.moment D.left_since migration (rollout_to input) (status_of result.ending) disk result.disk) }
     ensures read_fault { result.ending ≡ Ending.ReadFault → Rose (S.faults source.old) (S.faults source.new) }
     ensures write_fault { result.ending ≡ Ending.WriteFault → Rose (K.faults sink.old) (K.faults sink.new) }
     ensures disk_fault { result.ending ≡ Ending.DiskFault → Rose (D.faults disk) (D.faults result.disk) }
@@ -48,6 +52,7 @@ fn report_input<K: Sink, D: Disk>(
     disk: D,
 ) -> Closed<D>
     ensures follows { FollowsReported migration (rollout_in input) (D.bytes disk) result.ending (K.written sink.old) (K.written sink.new) }
+    ensures leaves { LeavesReported D.bytes D.may_leave D.moment D.left_since migration (rollout_in input) (status_of result.ending) disk result.disk }
     ensures write_fault { result.ending ≡ Ending.WriteFault → Rose (K.faults sink.old) (K.faults sink.new) }
     ensures disk_fault { result.ending ≡ Ending.DiskFault → Rose (D.faults disk) (D.faults result.disk) }
 {
@@ -65,6 +70,7 @@ fn report_plan<K: Sink, D: Disk>(
     disk: D,
 ) -> Closed<D>
     ensures follows { FollowsReported migration (Ok plan) (D.bytes disk) result.ending (K.written sink.old) (K.written sink.new) }
+    ensures leaves { IfSome (D.bytes disk) (λ image. LeavesJournal D.bytes D.may_leave D.moment D.left_since plan (digest_for plan migration) image (status_of result.ending) disk result.disk) }
     ensures write_fault { result.ending ≡ Ending.WriteFault → Rose (K.faults sink.old) (K.faults sink.new) }
     ensures disk_fault { result.ending ≡ Ending.DiskFault → Rose (D.faults disk) (D.faults result.disk) }
 {

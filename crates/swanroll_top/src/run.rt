@@ -2,6 +2,8 @@ ghost use Rattle.std.specs.Prelude.{◌≡◌, ◌≢◌, Some, IsTrue};
 ghost use Rattle.wan_edge.specs.Streams.{Rose};
 ghost use Rattle.swanroll_top.specs.Agents.{ServesAsked};
 ghost use Rattle.swanroll_top.specs.Answers.{answer_in};
+ghost use Rattle.swanroll_top.specs.Endings.{status_of};
+ghost use Rattle.swanroll_top.specs.Leavings.{LeavesAsked};
 ghost use Rattle.swanroll_top.specs.Program.{LeavesUnnamed, RunsAsked, names_disk, names_fleet, reads_source};
 ghost use Rattle.swanroll_top.specs.Runs.{Follows, Runs};
 ghost use Rattle.swanroll_top.specs.Safety.{DoesSafely};
@@ -43,6 +45,7 @@ pub fn run<S: Source, K: Sink, D: Disk, F: Fleet>(
     ensures ran { result.ending ≢ Ending.Usage }
     ensures unread { LeavesUnnamed (reads_source (Some (asked command.entry))) source.old source.new }
     ensures disk { LeavesUnnamed (names_disk (Some (asked command.entry))) disk result.disk }
+    ensures leaves { LeavesAsked D.bytes D.may_leave D.moment D.left_since (Some (asked command.entry)) (S.left source.old) (status_of result.ending) disk result.disk }
     ensures fleet { LeavesUnnamed (names_fleet (Some (asked command.entry))) fleet.old fleet.new }
     ensures visiting { F.visiting fleet.new ≡ F.visiting fleet.old }
     ensures ports { (F.waiting fleet.new ≡ F.waiting fleet.old) × (F.kept fleet.new ≡ F.kept fleet.old) × (F.lent fleet.new ≡ F.lent fleet.old) }

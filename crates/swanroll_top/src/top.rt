@@ -1,6 +1,7 @@
 ghost use Rattle.std.specs.Prelude.{◌≡◌};
 ghost use Rattle.order_policy.specs.Named.{answers_in};
 ghost use Rattle.swanroll_top.specs.Agents.{ServesBy};
+ghost use Rattle.swanroll_top.specs.Leavings.{LeavesAsked};
 ghost use Rattle.swanroll_top.specs.Words.{asked_by};
 ghost use Rattle.swanroll_top.specs.Program.{IsRun, LeavesUnnamed, names_disk, names_fleet, reads_source};
 
@@ -23,7 +24,7 @@ pub struct Ended<D> {
 /// Does all that the program does, and answers its exit status and the disk of the journal. The policies
 /// are those that the words may name. A command leaves each of source, disk and fleet that it doesn't name
 /// as it was: `plan`, `check` and `sim` name the source, `report` the source and the disk, `agent` the fleet,
-/// whose ports it leaves and whose guests it gives back.
+/// whose ports it leaves and whose guests it gives back. `report` keeps the journal's list on the disk.
 ///
 /// | Status | Comes |
 /// |---|---|
@@ -57,6 +58,7 @@ pub fn swanroll<S: Source, K: Sink, D: Disk, F: Fleet>(
     ensures serves { ServesBy (record { left = F.Guest.left; written = F.Guest.written; read_faults = F.Guest.Source.faults; write_faults = F.Guest.Sink.faults }) (asked_by (answers_in policies.now) words.now) (record { coming = F.coming fleet.old; served = F.served fleet.old }) (record { coming = F.coming fleet.new; served = F.served fleet.new }) result.status (K.written sink.old) (K.written sink.new) }
     ensures unread { LeavesUnnamed (reads_source (asked_by (answers_in policies.now) words.now)) source.old source.new }
     ensures disk { LeavesUnnamed (names_disk (asked_by (answers_in policies.now) words.now)) disk result.disk }
+    ensures leaves { LeavesAsked D.bytes D.may_leave D.moment D.left_since (asked_by (answers_in policies.now) words.now) (S.left source.old) result.status disk result.disk }
     ensures fleet { LeavesUnnamed (names_fleet (asked_by (answers_in policies.now) words.now)) fleet.old fleet.new }
     ensures visiting { F.visiting fleet.new ≡ F.visiting fleet.old }
     ensures ports { (F.waiting fleet.new ≡ F.waiting fleet.old) × (F.kept fleet.new ≡ F.kept fleet.old) × (F.lent fleet.new ≡ F.lent fleet.old) }

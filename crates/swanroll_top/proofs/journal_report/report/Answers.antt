@@ -1,3 +1,5 @@
+use Rattle.std.proofs.Common.{refl}
+use Rattle.swanroll_top.proofs.Leaving.{cut-leaves, input-leaves}
 use Rattle.swanroll_top.proofs.Reporting.{cut-reports, report-no-guest, report-no-read, report-no-usage, short-reports}
 use Rattle.swanroll_top.proofs.journal_report.report.Goals as goal
 
@@ -15,3 +17,9 @@ returns-in-Err-clause-runs g c = cut-reports _ _ _ _ _ _ c.in-Err.ensures.read
 
 pub returns-in-Ok-clause-no_guest : goal.returns-in-Ok-clause-no_guest
 returns-in-Ok-clause-no_guest g c = λ e. report-no-guest _ _ _ _ _ _ c.report_input.ensures.follows e
+
+pub returns-in-Ok-clause-leaves : goal.returns-in-Ok-clause-leaves
+returns-in-Ok-clause-leaves g c = input-leaves g.D.Disk.bytes g.D.Disk.may_leave g.D.Disk.moment g.D.Disk.left_since _ _ _ _ _ _ _ c.in-Ok.ensures.read c.report_input.ensures.leaves
+
+pub returns-in-Err-clause-leaves : goal.returns-in-Err-clause-leaves
+returns-in-Err-clause-leaves g c = cut-leaves g.D.Disk.bytes g.D.Disk.may_leave g.D.Disk.moment g.D.Disk.left_since _ _ _ _ _ _ c.in-Err.ensures.read (g.met.D.Disk.only_now c.args.disk) refl

@@ -1,5 +1,6 @@
-use Rattle.std.proofs.Common.{subst, sym}
+use Rattle.std.proofs.Common.{refl, subst, sym}
 use Rattle.swanroll_top.specs.Reports.{FollowsReported}
+use Rattle.swanroll_top.proofs.Leaving.{read-leaves, unread-leaves}
 use Rattle.swanroll_top.proofs.Reporting.{input-no-disk, input-no-write, input-refused}
 use Rattle.swanroll_top.proofs.journal_report.report_input.Goals as goal
 
@@ -14,3 +15,9 @@ returns-in-Err-clause-write_fault g c = λ e. absurd (input-no-write _ _ c.in-Er
 
 pub returns-in-Err-clause-disk_fault : goal.returns-in-Err-clause-disk_fault
 returns-in-Err-clause-disk_fault g c = λ e. absurd (input-no-disk _ _ c.in-Err.ensures e)
+
+pub returns-in-Ok-clause-leaves : goal.returns-in-Ok-clause-leaves
+returns-in-Ok-clause-leaves g c = read-leaves g.D.Disk.bytes g.D.Disk.may_leave g.D.Disk.moment g.D.Disk.left_since _ _ _ _ _ _ c.in-Ok.ensures c.report_plan.ensures.leaves
+
+pub returns-in-Err-clause-leaves : goal.returns-in-Err-clause-leaves
+returns-in-Err-clause-leaves g c = unread-leaves g.D.Disk.bytes g.D.Disk.may_leave g.D.Disk.moment g.D.Disk.left_since _ _ _ _ _ c.in-Err.ensures (g.met.D.Disk.only_now c.args.disk) refl

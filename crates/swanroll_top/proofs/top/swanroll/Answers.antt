@@ -1,6 +1,8 @@
-use Rattle.std.proofs.Common.{◌≡◌, Some, None, refl, sym}
+use Rattle.std.proofs.Common.{◌≡◌, Some, None, refl, subst, sym}
 use Rattle.order_policy.specs.Named.{answers_in}
 use Rattle.swanroll_top.specs.Words.{asked, asked_by}
+use Rattle.swanroll_top.specs.Leavings.{LeavesAsked}
+use Rattle.swanroll_top.proofs.Leaving.{told-leaves}
 use Rattle.swanroll_top.proofs.Programs.{command-run, usage-run, not-usage}
 use Rattle.swanroll_top.proofs.top.swanroll.Goals as goal
 
@@ -16,3 +18,14 @@ pub returns-in-None-clause-run : goal.returns-in-None-clause-run
 returns-in-None-clause-run g c =
     let is : asked_by (answers_in c.args.policies.now) c.args.words.now ≡ None = sym c.in-None.ensures in
     usage-run _ _ _ _ is refl refl c.note.ensures.told
+
+pub returns-in-Some-clause-leaves : goal.returns-in-Some-clause-leaves
+returns-in-Some-clause-leaves g c =
+    let is : asked_by (answers_in c.args.policies.now) c.args.words.now ≡ Some (asked c.in-Some.command) = sym c.in-Some.ensures in
+    subst (λ a. LeavesAsked g.D.Disk.bytes g.D.Disk.may_leave g.D.Disk.moment g.D.Disk.left_since a _ _ _ _) (sym is)
+    (told-leaves g.D.Disk.bytes g.D.Disk.may_leave g.D.Disk.moment g.D.Disk.left_since _ _ _ _ _ _ _ _ _ _ c.note-status.ensures.told c.run-ending.ensures.leaves)
+
+pub returns-in-None-clause-leaves : goal.returns-in-None-clause-leaves
+returns-in-None-clause-leaves g c =
+    let is : asked_by (answers_in c.args.policies.now) c.args.words.now ≡ None = sym c.in-None.ensures in
+    subst (λ a. LeavesAsked g.D.Disk.bytes g.D.Disk.may_leave g.D.Disk.moment g.D.Disk.left_since a _ _ _ _) (sym is) tt

@@ -1,0 +1,181 @@
+-- What a report leaves on its disk.
+use Rattle.std.proofs.Common.{◌≡◌, ◌⊎◌, ℕ, List, Option, Some, None, IfOk, IfErr, IfSome, Result, Ok, Err, refl, sym, ap, ◌∙◌, subst, inl, inr, arith}
+use Rattle.rollout_rules.specs.Wan.{Rollout}
+use Rattle.disk_model.specs.Crashes.{Within}
+use Rattle.disk_model.specs.Moments.{LeavesOnly}
+use Rattle.intent_journal.specs.declared.digest.Digest.{Digest}
+use Rattle.intent_journal.specs.declared.fault.JournalFault.{JournalFault}
+use Rattle.intent_journal.specs.declared.fault.JournalFault.TheVariants as journal
+use Rattle.intent_journal.specs.Recovered.{KeepsNow, MayStand, OnRefusal, kept_for}
+use Rattle.intent_journal.specs.Verdicts.{verdict}
+use Rattle.rollout_report.specs.Journals.{digest_for}
+use Rattle.rollout_report.proofs.Journaling.{still_each}
+use Rattle.swanroll_top.specs.Endings.{ending_of_journal, status_of}
+use Rattle.swanroll_top.specs.Leavings.{LeavesAsked, LeavesJournal, LeavesReported}
+use Rattle.swanroll_top.specs.Lines.{IsToldAs}
+use Rattle.swanroll_top.specs.Reading.{IsCut, IsShortInput}
+use Rattle.swanroll_top.specs.Reports.{EndsJournal, rollout_in, rollout_to}
+use Rattle.swanroll_top.specs.Runs.{EndsWith, Gives, IsTold}
+use Rattle.swanroll_top.specs.Words.{Asked, a_report, a_text, an_agent}
+use Rattle.swanroll_top.specs.declared.ending.Ending.{Ending}
+use Rattle.swanroll_top.specs.declared.ending.Ending.TheVariants.{Done, Usage, AboveLimit, Input, NotValid, NoPlan, ReadFault, WriteFault, DiskFault, GuestFault, Refused, OutOfMemory}
+use Rattle.swanroll_top.proofs.Reporting.{short-rollout}
+
+-- ---- which statuses speak of the journal
+
+-- a status other than those that say what became of the journal
+abbrev IsSilent : ℕ → Type 0
+IsSilent status = (status ≡ 0 → ⊥) × ((status ≡ 7 → ⊥) × (status ≡ 10 → ⊥))
+
+text-not-refused : (text : List ℕ) (e : Ending) (out now : Option (List ℕ)) → EndsWith (Ok text) e out now → status_of e ≡ 10 → ⊥
+text-not-refused text e out now (inl done) ten = omega (arith, ap status_of done.0, ten)
+text-not-refused text e out now (inr cut) ten = omega (arith, ap status_of cut.0, ten)
+
+fault-not-reported : (cause : JournalFault) → (status_of (ending_of_journal cause) ≡ 0) ⊎ (status_of (ending_of_journal cause) ≡ 7) → ⊥
+fault-not-reported journal.Disk (inl h) = omega (arith, h)
+fault-not-reported journal.Disk (inr h) = omega (arith, h)
+fault-not-reported journal.Memory (inl h) = omega (arith, h)
+fault-not-reported journal.Memory (inr h) = omega (arith, h)
+fault-not-reported (journal.NotJournal first) (inl h) = omega (arith, h)
+fault-not-reported (journal.NotJournal first) (inr h) = omega (arith, h)
+fault-not-reported (journal.OtherPlan kept wanted) (inl h) = omega (arith, h)
+fault-not-reported (journal.OtherPlan kept wanted) (inr h) = omega (arith, h)
+fault-not-reported (journal.Illegal place) (inl h) = omega (arith, h)
+fault-not-reported (journal.Illegal place) (inr h) = omega (arith, h)
+fault-not-reported journal.BadStart (inl h) = omega (arith, h)
+fault-not-reported journal.BadStart (inr h) = omega (arith, h)
+
+on-refusal : (cause : JournalFault) (U : Type 0) → status_of (ending_of_journal cause) ≡ 10 → OnRefusal cause U → U
+on-refusal journal.Disk U h holds = absurd (omega (arith, h))
+on-refusal journal.Memory U h holds = absurd (omega (arith, h))
+on-refusal (journal.NotJournal first) U h holds = holds
+on-refusal (journal.OtherPlan kept wanted) U h holds = holds
+on-refusal (journal.Illegal place) U h holds = holds
+on-refusal journal.BadStart U h holds = holds
+
+cut-silent : (left now : Option (List ℕ)) (e : Ending) → IsCut left e now → IsSilent (status_of e)
+cut-silent left now Done r = absurd r
+cut-silent left now Usage r = absurd r
+cut-silent left now AboveLimit r = (λ h. omega (arith, h), (λ h. omega (arith, h), λ h. omega (arith, h)))
+cut-silent left now (Input f) r = absurd r
+cut-silent left now (NotValid p b) r = absurd r
+cut-silent left now (NoPlan u) r = absurd r
+cut-silent left now ReadFault r = (λ h. omega (arith, h), (λ h. omega (arith, h), λ h. omega (arith, h)))
+cut-silent left now WriteFault r = absurd r
+cut-silent left now DiskFault r = absurd r
+cut-silent left now GuestFault r = absurd r
+cut-silent left now (Refused f) r = absurd r
+cut-silent left now OutOfMemory r = (λ h. omega (arith, h), (λ h. omega (arith, h), λ h. omega (arith, h)))
+
+memory-silent : IsSilent 12
+memory-silent = (λ h. omega (arith, h), (λ h. omega (arith, h), λ h. omega (arith, h)))
+
+-- ---- of whatever is told
+
+ok-each : (r : Result Rollout Ending) (P : Rollout → Type 0) → ((o : Rollout) → P o) → IfOk r P
+ok-each (Ok o) P each = each o
+ok-each (Err e) P each = tt
+
+ok-more : (r : Result Rollout Ending) (P Q : Rollout → Type 0) → ((o : Rollout) → P o → Q o) → IfOk r P → IfOk r Q
+ok-more (Ok o) P Q more h = more o h
+ok-more (Err e) P Q more h = tt
+
+some-each : (told : Option (List ℕ)) (P : List ℕ → Type 0) → ((bytes : List ℕ) → P bytes) → IfSome told P
+some-each None P each = tt
+some-each (Some bytes) P each = each bytes
+
+some-more : (told : Option (List ℕ)) (P Q : List ℕ → Type 0) → ((bytes : List ℕ) → P bytes → Q bytes) → IfSome told P → IfSome told Q
+some-more None P Q more h = tt
+some-more (Some bytes) P Q more h = more bytes h
+
+-- ---- the disk
+
+module _ {D : Type 0} (tells : D → Option (List ℕ)) (leaves : D → List ℕ → Type 0) (moment : D → ℕ) (left_since : D → ℕ → List ℕ → Type 0) (old new : D) where
+  -- a journal was opened, and its report made or refused
+  journal-each : (o : Rollout) (d : Digest) (told : Option (List ℕ)) (answer : Result (List ℕ) JournalFault) (e : Ending) (out now : Option (List ℕ)) → EndsJournal answer e out now
+      → IfOk answer (λ _. IfSome told (λ image. KeepsNow (kept_for o d (verdict o d image)) (tells new) (leaves new)))
+      → IfSome told (λ image. LeavesOnly moment left_since old new (MayStand o d image (verdict o d image) (leaves old)))
+      → IfErr answer (λ cause. OnRefusal cause ((tells new ≡ tells old) × Within (leaves new) (leaves old)))
+      → IfSome told (λ image. LeavesJournal tells leaves moment left_since o d image (status_of e) old new)
+  journal-each o d None answer e out now ends keeps any unwritten = tt
+  journal-each o d (Some image) (Ok text) e out now ends keeps any unwritten = record {
+    any_moment = any;
+    reported = λ h. keeps;
+    refused = λ h. absurd (text-not-refused text e out now ends h);
+  }
+  journal-each o d (Some image) (Err cause) e out now ends keeps any unwritten = record {
+    any_moment = any;
+    reported = λ h. absurd (fault-not-reported cause (subst (λ x. (status_of x ≡ 0) ⊎ (status_of x ≡ 7)) ends.0 h));
+    refused = λ h. on-refusal cause _ (sym (ap status_of ends.0) ∙ h) unwritten;
+  }
+
+  pub journal-leaves : (o : Rollout) (m : ℕ) (answer : Result (List ℕ) JournalFault) (e : Ending) (out now : Option (List ℕ)) → EndsJournal answer e out now
+      → IfOk answer (λ _. IfSome (tells old) (λ image. KeepsNow (kept_for o (digest_for o m) (verdict o (digest_for o m) image)) (tells new) (leaves new)))
+      → IfSome (tells old) (λ image. LeavesOnly moment left_since old new (MayStand o (digest_for o m) image (verdict o (digest_for o m) image) (leaves old)))
+      → IfErr answer (λ cause. OnRefusal cause ((tells new ≡ tells old) × Within (leaves new) (leaves old)))
+      → IfSome (tells old) (λ image. LeavesJournal tells leaves moment left_since o (digest_for o m) image (status_of e) old new)
+  journal-leaves o m answer e out now ends keeps any unwritten = journal-each o (digest_for o m) (tells old) answer e out now ends keeps any unwritten
+
+  -- a disk that is as it was, and a status that says nothing of it
+  untouched : (m : ℕ) (r : Result Rollout Ending) (status : ℕ) → ((c : List ℕ) → left_since old (moment old) c → leaves old c) → new ≡ old → IsSilent status
+      → LeavesReported tells leaves moment left_since m r status old new
+  untouched m r status only same silent = ok-each r _ (λ o. some-each (tells old) _ (λ image. record {
+    any_moment = still_each moment left_since leaves o (digest_for o m) (Some image) old new only same;
+    reported = λ h. absurd (elim h [ inl zero ↦ silent.0 zero | inr seven ↦ silent.1.0 seven ]);
+    refused = λ h. absurd (silent.1.1 h);
+  }))
+
+  pub input-leaves : (m : ℕ) (left now : Option (List ℕ)) (input : List ℕ) (status : ℕ) → IsShortInput left now input → LeavesReported tells leaves moment left_since m (rollout_in input) status old new
+      → IfSome left (λ x. LeavesReported tells leaves moment left_since m (rollout_to x) status old new)
+  input-leaves m None now input status s h = tt
+  input-leaves m (Some left) now input status s h =
+      let short = subst (λ r. LeavesReported tells leaves moment left_since m r status old new) (sym (short-rollout input s.within)) h in
+      subst (λ x. LeavesReported tells leaves moment left_since m (rollout_to x) status old new) (sym s.input.whole) short
+
+  pub cut-leaves : (m : ℕ) (left now : Option (List ℕ)) (e : Ending) → IsCut left e now → ((c : List ℕ) → left_since old (moment old) c → leaves old c) → new ≡ old
+      → IfSome left (λ x. LeavesReported tells leaves moment left_since m (rollout_to x) (status_of e) old new)
+  cut-leaves m left now e cut only same = some-each left _ (λ x. untouched m (rollout_to x) (status_of e) only same (cut-silent left now e cut))
+
+  refused-leaves : (m : ℕ) (r : Result Rollout Ending) (e : Ending) → r ≡ Err e → LeavesReported tells leaves moment left_since m r (status_of e) old new
+  refused-leaves m r e is = subst (λ x. LeavesReported tells leaves moment left_since m x (status_of e) old new) (sym is) tt
+
+  pub unread-leaves : (m : ℕ) (r : Result Rollout Ending) (e : Ending) → Gives {A = Rollout} (Err e) r → ((c : List ℕ) → left_since old (moment old) c → leaves old c) → new ≡ old
+      → LeavesReported tells leaves moment left_since m r (status_of e) old new
+  unread-leaves m r Done g only same = refused-leaves m r Done g
+  unread-leaves m r Usage g only same = refused-leaves m r Usage g
+  unread-leaves m r AboveLimit g only same = refused-leaves m r AboveLimit g
+  unread-leaves m r (Input f) g only same = refused-leaves m r (Input f) g
+  unread-leaves m r (NotValid p b) g only same = refused-leaves m r (NotValid p b) g
+  unread-leaves m r (NoPlan u) g only same = refused-leaves m r (NoPlan u) g
+  unread-leaves m r ReadFault g only same = refused-leaves m r ReadFault g
+  unread-leaves m r WriteFault g only same = refused-leaves m r WriteFault g
+  unread-leaves m r DiskFault g only same = refused-leaves m r DiskFault g
+  unread-leaves m r GuestFault g only same = refused-leaves m r GuestFault g
+  unread-leaves m r (Refused f) g only same = refused-leaves m r (Refused f) g
+  unread-leaves m r OutOfMemory g only same = untouched m r 12 only same memory-silent
+
+  pub read-leaves : (m : ℕ) (r : Result Rollout Ending) (o : Rollout) (status : ℕ) → r ≡ Ok o
+      → IfSome (tells old) (λ image. LeavesJournal tells leaves moment left_since o (digest_for o m) image status old new) → LeavesReported tells leaves moment left_since m r status old new
+  read-leaves m r o status is h = subst (λ x. LeavesReported tells leaves moment left_since m x status old new) (sym is) h
+
+  -- the status that is told
+  told-status : (e : Ending) (status : ℕ) (before now : Option (List ℕ)) (faults faults_now : ℕ) → IsTold e status before now faults faults_now → (n : ℕ) → (n ≡ 12 → ⊥) → status ≡ n → status_of e ≡ n
+  told-status e status before now faults faults_now told n other is = elim told.is [
+    | inl same ↦ ap status_of (sym same) ∙ (sym told.is_status ∙ is)
+    | inr memory ↦ absurd (other (sym is ∙ (told.is_status ∙ ap status_of memory.0)))
+  ]
+
+  pub told-leaves : (asked : Option Asked) (left : Option (List ℕ)) (e : Ending) (status : ℕ) (before now : Option (List ℕ)) (faults faults_now : ℕ) → IsTold e status before now faults faults_now
+      → LeavesAsked tells leaves moment left_since asked left (status_of e) old new → LeavesAsked tells leaves moment left_since asked left status old new
+  told-leaves None left e status before now faults faults_now told h = tt
+  told-leaves (Some (a_text what)) left e status before now faults faults_now told h = tt
+  told-leaves (Some (an_agent guests)) left e status before now faults faults_now told h = tt
+  told-leaves (Some (a_report m)) left e status before now faults faults_now told h =
+      some-more left _ _ (λ input. ok-more (rollout_to input) _ _ (λ o. some-more (tells old) _ _ (λ image j. record {
+        any_moment = j.any_moment;
+        reported = λ s. j.reported (elim s [
+          | inl zero ↦ inl (told-status e status before now faults faults_now told 0 (λ n. omega (arith, n)) zero)
+          | inr seven ↦ inr (told-status e status before now faults faults_now told 7 (λ n. omega (arith, n)) seven)
+        ]);
+        refused = λ s. j.refused (told-status e status before now faults faults_now told 10 (λ n. omega (arith, n)) s);
+      }))) h
