@@ -1,0 +1,4 @@
+pub mod Bytes
+pub mod Offers
+pub mod Reading
+pub mod Sessions

@@ -1,0 +1,152 @@
+ghost use Rattle.std.specs.Prelude.{◌≡◌, ◌⊎◌, ◌<◌, ◌≤◌, [], length, None, Some, IfErr, IfOk, IsErrOf, IsOk, IsTrue, OnErr, OnOk};
+ghost use Rattle.std.specs.Bool.{OnTrue};
+ghost use Rattle.wan_edge.specs.Frames.{IsCutAnswer};
+ghost use Rattle.wan_edge.specs.Ports.{IsHonestStep, IsOneMore, IsPromptState, NothingToCome};
+ghost use Rattle.wan_edge.specs.Streams.{Appends, KeepsTelling, Rose};
+ghost use Rattle.port_session.specs.Offers.{OffersUntil, frames_of};
+ghost use Rattle.port_session.specs.Sessions.{EndsAnswer, HearsAnswers, IsHeardOut, awaiting, first_talk, listening};
+
+use crate::frames::write_frames;
+use crate::stream::AnswerStream;
+use crate::{AnswerList, SessionFault};
+use std::alloc::Global;
+use std::marker::Model;
+use wan_edge::Port;
+use wire_frames::Command;
+
+/// How many bytes one call hears at most.
+const BUFFER: usize = 4_096;
+
+/// A worker's talk with one switch. It lives through all rounds, so that an answer that is cut at the
+/// end of a round is whole in the next.
+#[derive(Drop)]
+pub struct Session<T: Port> {
+    switch: u32,
+    port: T,
+    stream: AnswerStream,
+    frames: Vec<u8>,
+}
+
+impl<T: Port> Model for Session<T> {
+    ghost use Rattle.std.specs.Prelude.{IsTrue};
+    ghost use Rattle.wan_edge.specs.Frames.{IsCutAnswer};
+    ghost use Rattle.port_session.specs.Sessions.{Talk};
+
+    ghost Value = { Talk T };
+
+    ghost view = { λ s. record { switch = s.switch; port = s.port; stream = s.stream } };
+
+    ghost invariant = { λ s. IsTrue s.stream.live → IsCutAnswer s.stream.kept };
+}
+
+impl<T: Port> Session<T> {
+    /// A session that has offered and heard nothing.
+    pub fn new(alloc: Global, switch: u32, port: T) -> Self
+        ensures { result ≡ first_talk switch port }
+    {
+        Session {
+            switch,
+            port,
+            stream: AnswerStream::new(),
+            frames: Vec::new(alloc),
+        }
+    }
+
+    /// The switch at the port's end.
+    pub fn switch(&self) -> u32
+        ensures { result ≡ self.now.switch }
+    {
+        self.switch
+    }
+
+    /// Whether all that was heard was read. It is not so after a fault of what came, or of memory for an
+    /// answer; then nothing more may be heard.
+    pub fn live(&self) -> bool
+        ensures { result ≡ self.now.stream.live }
+    {
+        self.stream.live()
+    }
+
+    /// Begins a round: the frames of all the commands, each of this migration, are offered in one call,
+    /// and as many answers are awaited. Without a command the port isn't called.
+    ///
+    /// # Errors
+    ///
+    /// `Port` where the port fails, which may have sent the first of the bytes; `Memory` for the bytes,
+    /// and then nothing was sent. No answer is awaited then.
+    pub fn offer_all(&mut self, commands: &[Command], migration: u32) -> Result<(), SessionFault>
+        ensures all { OnOk result (Appends (T.offered self.old.port) (frames_of migration commands.now) (T.offered self.new.port)) }
+        ensures until { IfErr result (λ fault. OffersUntil fault (T.offered self.old.port) (frames_of migration commands.now) (T.offered self.new.port)) }
+        ensures awaits { OnOk result (self.new ≡ awaiting self.old self.new.port (length commands.now)) }
+        ensures awaits_none { OnErr result (self.new ≡ awaiting self.old self.new.port 0) }
+        ensures idle { commands.now ≡ [] → IsOk result × (self.new.port ≡ self.old.port) }
+        ensures no_memory { IsErrOf result SessionFault.Memory → self.new.port ≡ self.old.port }
+        ensures cause { IsErrOf result SessionFault.Port → Rose (T.faults self.old.port) (T.faults self.new.port) }
+        ensures count { T.faults self.old.port ≤ T.faults self.new.port }
+        ensures unheard { T.heard self.new.port ≡ T.heard self.old.port }
+        ensures no_hear { T.quiet self.new.port ≡ T.quiet self.old.port }
+        ensures told { KeepsTelling (T.held self.old.port) (T.held self.new.port) }
+        ensures still_honest { T.honest self.new.port ≡ T.honest self.old.port }
+        ensures still_prompt { T.prompt self.new.port ≡ T.prompt self.old.port }
+        ensures same_start { T.start self.new.port ≡ T.start self.old.port }
+        ensures by_rule { OnTrue (T.honest self.old.port) ((self.new.port ≡ self.old.port) ⊎ IsHonestStep (T.offered self.new.port) (T.heard self.new.port) (T.held self.old.port) (T.held self.new.port)) }
+        ensures in_order { OnTrue (T.prompt self.old.port) ((self.new.port ≡ self.old.port) ⊎ IsPromptState (T.start self.old.port) (T.offered self.new.port) (T.heard self.new.port) (T.held self.new.port)) }
+    {
+        self.stream.expect(0);
+        if commands.is_empty() {
+            return Ok(());
+        }
+        write_frames(commands, migration, &mut self.frames)?;
+        self.port.offer(self.frames.as_slice())?;
+        self.stream.expect(commands.len());
+        Ok(())
+    }
+
+    /// Hears until as many answers were read as are awaited, or nothing comes. Every whole answer in what
+    /// is heard is read; those of the migration are added, in order, and others tell nothing.
+    ///
+    /// # Errors
+    ///
+    /// `Port` where the port fails; `NoAnswer` exactly where that byte stands in an answer's first place;
+    /// `Memory` for an answer that was to be added. What was read before is told all the same.
+    pub fn hear_all(&mut self, migration: u32, answers: &mut AnswerList) -> Result<(), SessionFault>
+        requires live { IsTrue self.old.stream.live }
+        ensures ok { OnOk result (HearsAnswers migration (listening (T.heard self.old.port) self.old.stream answers.old) None (listening (T.heard self.new.port) self.new.stream answers.new)) }
+        ensures err { IfErr result (λ fault. HearsAnswers migration (listening (T.heard self.old.port) self.old.stream answers.old) (Some fault) (listening (T.heard self.new.port) self.new.stream answers.new)) }
+        ensures heard_out { OnOk result (IsHeardOut self.new.stream.awaited (T.quiet self.old.port) (T.quiet self.new.port)) }
+        ensures answers_or_quiet { OnOk result (0 < self.old.stream.awaited → EndsAnswer self.old.stream.kept (T.heard self.old.port) (T.heard self.new.port) ⊎ IsOneMore (T.quiet self.old.port) (T.quiet self.new.port)) }
+        ensures as_quiet { OnErr result (T.quiet self.new.port ≡ T.quiet self.old.port) }
+        ensures still_live { OnOk result (IsTrue self.new.stream.live) }
+        ensures live_port { IsErrOf result SessionFault.Port → IsTrue self.new.stream.live }
+        ensures cut { IsTrue self.new.stream.live → IsCutAnswer self.new.stream.kept }
+        ensures idle { self.old.stream.awaited ≡ 0 → IsOk result × (self.new ≡ self.old) × (answers.new ≡ answers.old) }
+        ensures switch { self.new.switch ≡ self.old.switch }
+        ensures cause { IsErrOf result SessionFault.Port → Rose (T.faults self.old.port) (T.faults self.new.port) }
+        ensures count { T.faults self.old.port ≤ T.faults self.new.port }
+        ensures unsent { T.offered self.new.port ≡ T.offered self.old.port }
+        ensures told { KeepsTelling (T.held self.old.port) (T.held self.new.port) }
+        ensures still_honest { T.honest self.new.port ≡ T.honest self.old.port }
+        ensures still_prompt { T.prompt self.new.port ≡ T.prompt self.old.port }
+        ensures same_start { T.start self.new.port ≡ T.start self.old.port }
+        ensures by_rule { OnTrue (T.honest self.old.port) ((self.new.port ≡ self.old.port) ⊎ IsHonestStep (T.offered self.new.port) (T.heard self.new.port) (T.held self.old.port) (T.held self.new.port)) }
+        ensures in_order { OnTrue (T.prompt self.old.port) ((self.new.port ≡ self.old.port) ⊎ IsPromptState (T.start self.old.port) (T.offered self.new.port) (T.heard self.new.port) (T.held self.new.port)) }
+        ensures all_given { OnTrue (T.prompt self.old.port) (OnOk result (0 < self.new.stream.awaited → NothingToCome (T.start self.old.port) (T.offered self.new.port) (T.heard self.new.port))) }
+    {
+        let mut buffer = [0; BUFFER];
+        while self.stream.awaited() > 0 {
+            let n = self.port.hear(&mut buffer)?;
+            if n == 0 {
+                return Ok(());
+            }
+            self.stream.read(&buffer[..n], migration, answers)?;
+        }
+        Ok(())
+    }
+
+    /// Gives the port back.
+    pub fn into_port(self) -> T
+        ensures { result ≡ self.port }
+    {
+        self.port
+    }
+}
