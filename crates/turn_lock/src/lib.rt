@@ -4,7 +4,7 @@
 //! `take` gives the value with a history that begins with all that the pass had seen and past that has no entry
 //! of the pass's own seat. `give` takes back a value whose history goes on by entries of that seat alone. So what
 //! several threads did to the value is one history, in which each finds all that it did, and what it knew, in
-//! its place.
+//! its place. `wait_past` sleeps until there is more of it than a pass has seen.
 #![tactic(auto)]
 
 mod counted;

@@ -84,6 +84,22 @@ impl<V: Counted> TurnLock<V> {
         }
     }
 
+    /// Sleeps until the history is no longer as long as what the pass has seen. The pass knows no more for
+    /// it; the next `take` shows what came.
+    pub fn wait_past<R: Wait>(&self, rt: &R, pass: &Pass<V>)
+        requires { IsPassOf self.now pass.now }
+    {
+        let shared = &self.table.shared;
+        for _ in rt.forever() {
+            let entries = shared.peek(ENTRIES);
+            if entries != pass.seen {
+                return;
+            }
+            shared.park(rt, ENTRIES, (entries & 0xffff_ffff) as u32);
+        }
+        unreachable!()
+    }
+
     // Looks until the turn is the ticket's. It sleeps while the turn is another's.
     fn wait<R: Wait>(&self, rt: &R, place: &mut Seat<Option<V>, View<V::Entry>>, ticket: u64)
         requires table { place.old.table_id ≡ self.now.table.shared.table_id }
@@ -131,6 +147,11 @@ impl<V: Counted> TurnLock<V> {
         // wake alone could reach a pass whose turn it isn't.
         if shared.peek(NEXT) != turn.wrapping_add(1) {
             shared.wake_all(TURN);
+        }
+        // Who sleeps until there is more looked at the number of entries before the count above, since a sleep
+        // on a number that has changed isn't begun: so all of them are asleep or on their way to look again.
+        if seen != taken {
+            shared.wake_all(ENTRIES);
         }
         Pass {
             place,

@@ -73,6 +73,38 @@ fn four_work<R: Threads + Wait + Sync>(
     )
 }
 
+// A turn after another seat has added something.
+fn late_turn<R: Wait>(rt: &R, lock: &TurnLock<Notes>, pass: Pass<Notes>) -> Pass<Notes>
+    requires { IsPassOf lock.now pass }
+    ensures { IsPassOf lock.now result × IsSamePass pass result }
+{
+    lock.wait_past(rt, &pass);
+    turn(rt, lock, pass, 0)
+}
+
+fn one_waits<R: Threads + Wait + Sync>(
+    rt: &R,
+    lock: &TurnLock<Notes>,
+    one: Pass<Notes>,
+    other: Pass<Notes>,
+) -> (Pass<Notes>, Pass<Notes>)
+    requires { IsPassOf lock.now one × IsPassOf lock.now other }
+    ensures one { IsPassOf lock.now result.0 × IsSamePass one result.0 }
+    ensures other { IsPassOf lock.now result.1 × IsSamePass other result.1 }
+{
+    join(
+        rt,
+        move || -> Pass<Notes>
+            requires { IsPassOf lock.now one }
+            ensures { IsPassOf lock.entry.now result × IsSamePass one result }
+        { late_turn(rt, lock, one) },
+        move || -> Pass<Notes>
+            requires { IsPassOf lock.now other }
+            ensures { IsPassOf lock.entry.now result × IsSamePass other result }
+        { turn(rt, lock, other, 0) },
+    )
+}
+
 // The numbers of the seat's notes are 0, 1, .. up to the last turn, in this order.
 fn has_all_in_order(notes: &[Note], seat: u32) -> bool {
     notes
@@ -121,6 +153,20 @@ fn join_four(
     let first = lock.join(one.0, one.1);
     let first = lock.join(first, other.0);
     lock.join(first, other.1)
+}
+
+#[test]
+fn a_pass_waits_for_what_another_seat_adds(rt: HostRuntime) -> Result<(), Fail> {
+    let Some((lock, pass)) = new_lock(rt.alloc()) else {
+        return Err(Fail::new("memory ran out"));
+    };
+    let (one, other) = lock.split(pass);
+    let (one, other) = one_waits(&rt, &lock, one, other);
+    let all = lock.join(one, other);
+    assert!(rt; all.seen() == 2 && all.out() == 0);
+    let notes = lock.close(all);
+    assert!(rt; notes.list.iter().map(|note| note.seat).eq([1, 0]));
+    Ok(())
 }
 
 #[test]
