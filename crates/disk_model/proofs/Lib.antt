@@ -1,5 +1,6 @@
 pub mod Agreeing
 pub mod Parting
+pub mod Logged
 pub mod Passing
 pub mod Reaching
 pub mod Running

@@ -1,4 +1,5 @@
 pub mod Crashes
+pub mod Logs
 pub mod Memory
 pub mod Moments
 pub mod Past

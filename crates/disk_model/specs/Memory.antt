@@ -1,5 +1,5 @@
 -- What a disk in memory is seen as: its bytes, the writes since the last sync, what stood before, and which calls fail.
-use Rattle.std.specs.Prelude.{◌≡◌, ◌⊎◌, ⊤, ℕ, nat_le, Bool, true, false, List, [], ◌∷◌, ◌++◌, length, drop, Option, Some, None, if◌then◌else◌}
+use Rattle.std.specs.Prelude.{◌≡◌, ◌⊎◌, ℕ, nat_le, Bool, true, false, List, [], ◌∷◌, ◌++◌, length, drop, Option, Some, None, if◌then◌else◌}
 use Rattle.wan_edge.specs.FailingTurns as turns
 use Rattle.wan_edge.specs.FailingTurns.{Turning}
 use Rattle.disk_model.specs.Writes.{Torn, written}
@@ -9,11 +9,6 @@ pub record Medium : Type 0 where
   pub bytes : List ℕ
   pub synced : List ℕ
   pub pending : List (ℕ × ℕ)
-
--- where nothing was written since the last sync, no write is pending
-abbrev pub HasNone : Option (List ℕ) → List (ℕ × ℕ) → Type 0
-HasNone None pending = pending ≡ []
-HasNone (Some synced) pending = ⊤
 
 -- a medium with these bytes, all of them on the disk
 abbrev pub at_rest : List ℕ → Medium

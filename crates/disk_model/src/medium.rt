@@ -1,33 +1,41 @@
-ghost use Rattle.std.specs.Prelude.{◌≡◌, IfOk, OnErr, OnOk};
+ghost use Rattle.std.specs.Prelude.{◌≡◌, ◌+◌, ◌-◌, ◌<◌, ◌≤◌, ◌++◌, drop, length, replicate, take, IfOk, OnErr, OnOk};
 ghost use Rattle.disk_model.specs.Memory.{after_write, at_rest};
+ghost use Rattle.disk_model.specs.Logs.{applied};
 ghost use Rattle.disk_model.specs.Writes.{written};
 
 use lists::Memory;
-use std::alloc::Global;
-use std::cmp::min;
+use std::alloc::{AllocError, Global};
 use std::marker::Model;
-use std::{mem, vec};
 use wan_edge::Nums8;
 
-/// Bytes, and what a crash needs to know of them: those at the last sync, and where was written since.
+/// Bytes, and what a crash needs to know of them: those at first, each write since then, and how many of
+/// these writes were synced.
 #[derive(Drop)]
 pub struct Medium {
+    first: Nums8,
+    // What a read gives; of no account before the first write.
+    bytes: Vec<u8>,
+    writes: Vec<Write>,
+    synced: usize,
+}
+
+/// Bytes that were written from a place on.
+#[derive(Drop)]
+pub struct Write {
+    at: u64,
     bytes: Nums8,
-    // None where nothing was written since.
-    synced: Option<Nums8>,
-    pending: Vec<(u64, u64)>,
 }
 
 impl Model for Medium {
-    ghost use Rattle.std.specs.Prelude.{◌≡◌, []};
-    ghost use Rattle.std.specs.Option.{unwrap_or};
-    ghost use Rattle.disk_model.specs.Memory.{HasNone, Medium};
+    ghost use Rattle.std.specs.Prelude.{drop, map, take};
+    ghost use Rattle.disk_model.specs.Logs.{IsLogged, applied, range_of};
+    ghost use Rattle.disk_model.specs.Memory.{Medium};
 
     ghost Value = { Medium };
 
-    ghost view = { λ m. record { bytes = m.bytes; synced = unwrap_or m.synced m.bytes; pending = m.pending.items } };
+    ghost view = { λ m. record { bytes = applied m.first m.writes.items; synced = applied m.first (take m.synced m.writes.items); pending = map range_of (drop m.synced m.writes.items) } };
 
-    ghost invariant = { λ m. HasNone m.synced m.pending.items };
+    ghost invariant = { λ m. IsLogged m.first m.bytes.items m.writes.items m.synced };
 }
 
 impl Medium {
@@ -36,39 +44,44 @@ impl Medium {
         ensures { result ≡ at_rest bytes }
     {
         Medium {
-            bytes,
-            synced: None,
-            pending: Vec::new(alloc),
+            first: bytes,
+            bytes: Vec::new(alloc),
+            writes: Vec::new(alloc),
+            synced: 0,
         }
     }
 
     pub fn bytes(&self) -> &[u8]
         ensures { result.now ≡ self.now.bytes }
     {
-        self.bytes.as_slice()
-    }
-
-    /// The bytes at the last sync.
-    pub fn synced(&self) -> &[u8]
-        ensures { result.now ≡ self.now.synced }
-    {
-        match &self.synced {
-            Some(bytes) => bytes.as_slice(),
-            None => self.bytes.as_slice(),
+        if self.writes.is_empty() {
+            self.first.as_slice()
+        } else {
+            self.bytes.as_slice()
         }
     }
 
-    /// Writes the bytes, which are not synced. Want of memory changes nothing.
+    /// The bytes at the last sync. Time: all that was written until then.
+    pub fn synced(&self, alloc: Global) -> Result<Vec<u8>, Memory>
+        ensures { IfOk result (λ bytes. bytes.items ≡ self.now.synced) }
+    {
+        let mut bytes = Vec::new(alloc);
+        bytes.extend_from_slice(self.first.as_slice())?;
+        write_each(&mut bytes, &self.writes[..self.synced])?;
+        Ok(bytes)
+    }
+
+    /// Writes the bytes, which are not synced. Want of memory changes nothing. Time: the bytes; at the first
+    /// write and where the disk grows, all that there are.
     pub fn write(&mut self, alloc: Global, at: u64, from: &[u8]) -> Result<(), Memory>
         ensures ok { OnOk result (self.new ≡ after_write at from.now self.old) }
         ensures err { OnErr result (self.new ≡ self.old) }
     {
-        let bytes = overwritten(alloc, self.bytes.as_slice(), at, from)?;
-        self.pending.push((at, from.len() as u64))?;
-        let before = mem::replace(&mut self.bytes, bytes);
-        if self.synced.is_none() {
-            self.synced = Some(before);
-        }
+        let write = write_of(alloc, at, from)?;
+        self.writes.reserve(1)?;
+        begin(&mut self.bytes, self.first.as_slice(), &self.writes)?;
+        overwrite(&mut self.bytes, at, from)?;
+        self.writes.push_reserved(write);
         Ok(())
     }
 
@@ -76,22 +89,77 @@ impl Medium {
     pub fn sync(&mut self)
         ensures { self.new ≡ at_rest self.old.bytes }
     {
-        self.synced = None;
-        self.pending.clear();
+        self.synced = self.writes.len();
     }
 }
 
-// The old bytes with these written over them from `at` on.
-fn overwritten(alloc: Global, old: &[u8], at: u64, from: &[u8]) -> Result<Nums8, Memory>
-    ensures { IfOk result (λ bytes. bytes ≡ written at from.now old.now) }
+fn write_of(alloc: Global, at: u64, from: &[u8]) -> Result<Write, Memory>
+    ensures at { IfOk result (λ write. write.at ≡ at) }
+    ensures bytes { IfOk result (λ write. write.bytes ≡ from.now) }
+{
+    let mut bytes = Nums8::new(alloc);
+    bytes.extend_from_slice(from)?;
+    Ok(Write { at, bytes })
+}
+
+// Before the first write the bytes are those at first.
+fn begin(bytes: &mut Vec<u8>, first: &[u8], writes: &[Write]) -> Result<(), Memory>
+    requires { 0 < length writes.now → bytes.old.items ≡ applied first.now writes.now }
+    ensures ok { OnOk result (bytes.new.items ≡ applied first.now writes.now) }
+    ensures later { 0 < length writes.now → bytes.new.items ≡ applied first.now writes.now }
+{
+    if writes.is_empty() {
+        return copy_over(bytes, first);
+    }
+    Ok(())
+}
+
+// These bytes in the place of others.
+fn copy_over(bytes: &mut Vec<u8>, from: &[u8]) -> Result<(), Memory>
+    ensures { OnOk result (bytes.new.items ≡ from.now) }
+{
+    bytes.clear();
+    bytes.extend_from_slice(from)?;
+    Ok(())
+}
+
+// Writes one after the other.
+fn write_each(bytes: &mut Vec<u8>, writes: &[Write]) -> Result<(), Memory>
+    ensures { OnOk result (bytes.new.items ≡ applied bytes.old.items writes.now) }
+{
+    for write in writes {
+        overwrite(bytes, write.at, write.bytes.as_slice())?;
+    }
+    Ok(())
+}
+
+// Writes bytes from `at` on over what is there, with zeros in a gap. Want of memory changes nothing.
+fn overwrite(bytes: &mut Vec<u8>, at: u64, from: &[u8]) -> Result<(), Memory>
+    ensures ok { OnOk result (bytes.new.items ≡ written at from.now bytes.old.items) }
+    ensures err { OnErr result (bytes.new.items ≡ bytes.old.items) }
 {
     let start = at as usize;
-    let front = min(start, old.len());
-    let behind = min(start.saturating_add(from.len()), old.len());
-    let mut bytes = Nums8::new(alloc);
-    bytes.extend_from_slice(&old[..front])?;
-    bytes.extend_from_slice(&vec![in alloc; 0; start - front]?)?;
-    bytes.extend_from_slice(from)?;
-    bytes.extend_from_slice(&old[behind..])?;
-    Ok(bytes)
+    let end = start.checked_add(from.len()).ok_or(AllocError)?;
+    fill_up(bytes, end)?;
+    put_over(bytes, start, from);
+    Ok(())
+}
+
+// Zeros behind bytes up to an end.
+fn fill_up(bytes: &mut Vec<u8>, end: usize) -> Result<(), Memory>
+    ensures ok { OnOk result (bytes.new.items ≡ bytes.old.items ++ replicate (end - length bytes.old.items) 0) }
+    ensures err { OnErr result (bytes.new.items ≡ bytes.old.items) }
+{
+    if bytes.len() < end {
+        bytes.resize(end, 0)?;
+    }
+    Ok(())
+}
+
+// Bytes over those of a range.
+fn put_over(bytes: &mut [u8], start: usize, from: &[u8])
+    requires { start + length from.now ≤ length bytes.old }
+    ensures { bytes.new ≡ take start bytes.old ++ (from.now ++ drop (start + length from.now) bytes.old) }
+{
+    bytes[start..start + from.len()].copy_from_slice(from);
 }

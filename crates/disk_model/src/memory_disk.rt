@@ -60,13 +60,13 @@ impl MemoryDisk {
         ensures may_leave { IfOk result (λ image. MayLeave self.now.timeline.medium image) }
     {
         let medium = self.timeline.medium();
-        let image = if keep {
-            medium.bytes()
-        } else {
-            medium.synced()
-        };
         let mut bytes = Nums8::new(self.alloc);
-        bytes.extend_from_slice(image)?;
+        if keep {
+            bytes.extend_from_slice(medium.bytes())?;
+        } else {
+            let synced = medium.synced(self.alloc)?;
+            bytes.extend_from_slice(synced.as_slice())?;
+        }
         Ok(bytes)
     }
 
