@@ -4,3 +4,5 @@ pub mod Openings
 pub mod Filling
 pub mod Sendings
 pub mod Rounded
+pub mod Owners
+pub mod Verdicts

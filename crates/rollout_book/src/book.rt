@@ -11,7 +11,7 @@ ghost use Rattle.wan_edge.specs.Streams.{KeepsTelling, Rose};
 ghost use Rattle.rollout_book.specs.Aliens as aliens;
 ghost use Rattle.rollout_book.specs.Chronicles.{batch_of, graph_of, turn_of, with_batch, with_lost};
 ghost use Rattle.rollout_book.specs.Commands.{commands_of};
-ghost use Rattle.rollout_book.specs.Lists.{HasBeforeOrAfter, IsKeptList};
+ghost use Rattle.rollout_book.specs.Lists.{HasBeforeOrAfter, IsKeptList, KeepsOwner};
 
 use crate::chronicle::Chronicle;
 use crate::commands::CommandList;
@@ -81,6 +81,7 @@ impl<'d, D: Disk> Book<'d, D> {
         ensures any_moment { IfSome (D.bytes self.old.chronicle.disk) (λ _. LeavesOnly D.moment D.left_since self.old.chronicle.disk self.new.chronicle.disk
             (HasBeforeOrAfter self.old.chronicle.history.start self.old.chronicle.entries (batch_of self.old.chronicle (rank_by self.old.policy.now.answers) answers.now))) }
         ensures has { OnOk result (IfSome (D.bytes self.new.chronicle.disk) (IsKeptList self.new.chronicle.history.start self.new.chronicle.entries (D.may_leave self.new.chronicle.disk))) }
+        ensures owner { IfSome (D.bytes self.old.chronicle.disk) (λ image. LeavesOnly D.moment D.left_since self.old.chronicle.disk self.new.chronicle.disk (KeepsOwner image)) }
         ensures told { KeepsTelling (D.bytes self.old.chronicle.disk) (D.bytes self.new.chronicle.disk) }
         ensures cause { IfErr result (λ fault. aliens.OnDisk fault (Rose (D.faults self.old.chronicle.disk) (D.faults self.new.chronicle.disk))) }
         ensures count { D.faults self.old.chronicle.disk ≤ D.faults self.new.chronicle.disk }

@@ -1,7 +1,8 @@
-ghost use Rattle.std.specs.Prelude.{◌≡◌, ◌*◌, ◌≤◌, ◌++◌, [], length, true, vec_capacity, None, IfErr, IfOk, IfSome, IsTrue, OnErr, OnOk};
+ghost use Rattle.std.specs.Prelude.{◌≡◌, ◌*◌, ◌<◌, ◌≤◌, ◌++◌, [], length, true, vec_capacity, All, None, IfErr, IfOk, IfSome, IsTrue, OnErr, OnOk};
 ghost use Rattle.rollout_rules.specs.History.{from_nothing};
 ghost use Rattle.rollout_rules.specs.Items.{item_count};
 ghost use Rattle.rollout_rules.specs.Legal.{is_finished, is_legal};
+ghost use Rattle.rollout_rules.specs.World.{in_flight};
 ghost use Rattle.dependency_graph.specs.Graph.{op_total};
 ghost use Rattle.dependency_graph.specs.Index.{AreItems};
 ghost use Rattle.disk_model.specs.Crashes.{Within};
@@ -15,7 +16,7 @@ ghost use Rattle.wan_edge.specs.Streams.{KeepsTelling, Rose};
 ghost use Rattle.rollout_book.specs.Aliens as aliens;
 ghost use Rattle.rollout_book.specs.Chronicles.{batch_of, first_book, graph_of, turn_of, with_batch, with_lost, IsFound};
 ghost use Rattle.rollout_book.specs.Commands.{commands_of};
-ghost use Rattle.rollout_book.specs.Lists.{HasBeforeOrAfter, IsKeptList};
+ghost use Rattle.rollout_book.specs.Lists.{HasBeforeOrAfter, IsKeptList, KeepsOwner};
 
 use crate::aliens::first_alien;
 use crate::commands::{CommandList, add_asked};
@@ -30,7 +31,7 @@ use intent_journal::{Digest, Journal, JournalFault, Unopened};
 use lists::{Many, Memory};
 use order_policy::Policy;
 use rollout_rounds::Rounds;
-use rollout_rules::{Entry, Item};
+use rollout_rules::{Entry, Item, Op};
 use std::alloc::Global;
 use std::marker::Model;
 use wire_frames::Answer;
@@ -98,7 +99,7 @@ impl<D: Disk> Chronicle<D> {
     /// Makes a round: a Done for each operation in flight that an answer covers, by item, and then the
     /// release by the policy, as one batch. It is written by one append, and not at all where it is empty. A
     /// crash at any moment leaves the list before or with the whole batch; after `Ok` each image has the
-    /// batch. It takes no memory.
+    /// batch, in a journal of the same digest and migration. It takes no memory.
     ///
     /// The first answer that is alien is refused, and then nothing changes. Where the disk fails, the book
     /// lives no longer.
@@ -113,6 +114,7 @@ impl<D: Disk> Chronicle<D> {
         ensures none { batch_of self.old (rank_by policy.now.answers) answers.now ≡ [] → self.new ≡ self.old }
         ensures any_moment { IfSome (D.bytes self.old.disk) (λ _. LeavesOnly D.moment D.left_since self.old.disk self.new.disk (HasBeforeOrAfter self.old.history.start self.old.entries (batch_of self.old (rank_by policy.now.answers) answers.now))) }
         ensures has { OnOk result (IfSome (D.bytes self.new.disk) (IsKeptList self.new.history.start self.new.entries (D.may_leave self.new.disk))) }
+        ensures owner { IfSome (D.bytes self.old.disk) (λ image. LeavesOnly D.moment D.left_since self.old.disk self.new.disk (KeepsOwner image)) }
         ensures told { KeepsTelling (D.bytes self.old.disk) (D.bytes self.new.disk) }
         ensures cause { IfErr result (λ fault. aliens.OnDisk fault (Rose (D.faults self.old.disk) (D.faults self.new.disk))) }
         ensures count { D.faults self.old.disk ≤ D.faults self.new.disk }
@@ -153,6 +155,14 @@ impl<D: Disk> Chronicle<D> {
             )?;
         }
         out.extend_from_slice(asked.as_slice())
+    }
+
+    /// The operations in flight, by item.
+    pub fn flying(&self) -> &[Op]
+        ensures value { result.now ≡ in_flight self.now.rollout.problem self.now.history }
+        ensures items { All (λ op. op.item < item_count self.now.rollout.problem) result.now }
+    {
+        self.rounds.flying()
     }
 
     /// Whether no append has failed.

@@ -7,7 +7,8 @@
 //! [`Book`] keeps a policy beside it.
 //!
 //! `specs/` has the words: `Chronicles` what a book is seen as and what a round makes of it, `Aliens` which
-//! answers are refused, `Lists` which list an image keeps, and `Commands` what may be sent.
+//! answers are refused, `Lists` which list an image keeps, and `Commands` what may be sent. [`laws`] say that what
+//! a book leaves is opened again.
 #![tactic(auto)]
 
 mod aliens;
@@ -18,6 +19,7 @@ mod contents;
 mod fault;
 mod hearing;
 mod homes;
+pub mod laws;
 mod opening;
 mod turn;
 mod turning;

@@ -7,7 +7,7 @@ ghost use Rattle.intent_journal.specs.States.{IsBeforeOrAfter};
 ghost use Rattle.order_policy.specs.Answers.{rank_by};
 ghost use Rattle.rollout_rounds.specs.Rounds.{after_round, batch_of};
 ghost use Rattle.rollout_book.specs.Chronicles.{IsChronicle, turn_of};
-ghost use Rattle.rollout_book.specs.Lists.{HasBeforeOrAfter};
+ghost use Rattle.rollout_book.specs.Lists.{HasBeforeOrAfter, KeepsOwner};
 ghost use Rattle.rollout_book.specs.declared.fault.BookFault.TheVariants as fault;
 ghost use Rattle.wan_edge.specs.Streams.{KeepsTelling, Rose};
 
@@ -37,6 +37,7 @@ pub(crate) fn turn<D: Disk>(
     ensures live { journal.new.live ≡ is_ok result }
     ensures none { batch_of rounds.old (rank_by policy.now.answers) ≡ [] → journal.new ≡ journal.old }
     ensures any_moment { IfSome (D.bytes journal.old.disk) (λ _. LeavesOnly D.moment D.left_since journal.old.disk journal.new.disk (HasBeforeOrAfter rounds.old.history.start entries.old.items (batch_of rounds.old (rank_by policy.now.answers)))) }
+    ensures owner { IfSome (D.bytes journal.old.disk) (λ image. LeavesOnly D.moment D.left_since journal.old.disk journal.new.disk (KeepsOwner image)) }
     ensures told { KeepsTelling (D.bytes journal.old.disk) (D.bytes journal.new.disk) }
     ensures fault { IfErr result (λ given. given ≡ fault.Disk) }
     ensures cause { OnErr result (Rose (D.faults journal.old.disk) (D.faults journal.new.disk)) }

@@ -7,6 +7,8 @@ use Rattle.order_policy.specs.Answers.{rank_by}
 use Rattle.rollout_rounds.specs.Rounds.{Turning, batch_of}
 use Rattle.rollout_rounds.proofs.Turning.{no-entries}
 use Rattle.rollout_book.specs.Lists.{HasBeforeOrAfter, IsKeptList}
+use Rattle.intent_journal.specs.Entries.{entry_rows}
+use Rattle.rollout_book.proofs.Owners.{owner-appended, owner-still}
 use Rattle.rollout_book.proofs.Turned.{batch-fits, chronicle-written, kept-appended, run-appended, run-still}
 use Rattle.rollout_book.proofs.turning.turn.Goals.{then-not-is_empty+in_ok-write_batch, else-not-is_empty}
 use Rattle.rollout_book.proofs.turning.turn.Goals as goal
@@ -77,4 +79,21 @@ returns-clause-any_moment g c =
       | else-not-is_empty w ↦
           rw (w.journal-is)
           (run-still g.D.Disk.bytes g.D.Disk.may_leave g.D.Disk.moment g.D.Disk.left_since start es (batch_of c.args.rounds.now (rank_by c.args.policy.now.answers)) (g.D.Disk.bytes old) old old (g.met.D.Disk.only_now old) refl (c.requires.own.kept c.requires.live))
+    ]
+
+pub returns-in_err-write_batch-clause-owner : goal.returns-in_err-write_batch-clause-owner
+returns-in_err-write_batch-clause-owner g c =
+    let old = c.args.journal.now.disk in
+    owner-appended g.D.Disk.moment g.D.Disk.left_since (g.D.Disk.bytes old) old c.write_batch.new.journal.disk (entry_rows c.batch-batch.result.now) c.write_batch.ensures.any_moment
+
+pub returns-clause-owner : goal.returns-clause-owner
+returns-clause-owner g c =
+    let old = c.args.journal.now.disk in
+    elim c.if-not-is_empty.branch [
+      | then-not-is_empty+in_ok-write_batch w ↦
+          rw (w.journal-is)
+          (owner-appended g.D.Disk.moment g.D.Disk.left_since (g.D.Disk.bytes old) old w.write_batch.new.journal.disk (entry_rows c.batch-batch.result.now) w.write_batch.ensures.any_moment)
+      | else-not-is_empty w ↦
+          rw (w.journal-is)
+          (owner-still g.D.Disk.moment g.D.Disk.left_since (g.D.Disk.bytes old) old old g.D.Disk.may_leave c.args.rounds.now.history.start c.args.entries.now.items (g.met.D.Disk.only_now old) refl (c.requires.own.kept c.requires.live))
     ]

@@ -9,7 +9,8 @@ use Rattle.rollout_rounds.specs.Rounds.{Turning}
 use Rattle.rollout_rounds.specs.Rounds as rounds
 use Rattle.rollout_book.specs.Aliens.{first_alien, told_by}
 use Rattle.rollout_book.specs.Chronicles.{Chronicled, batch_of, graph_of, turn_of, with_batch, with_lost}
-use Rattle.rollout_book.specs.Lists.{HasBeforeOrAfter}
+use Rattle.rollout_book.specs.Lists.{HasBeforeOrAfter, KeepsOwner}
+use Rattle.rollout_book.proofs.Owners.{owner-still}
 use Rattle.rollout_book.proofs.Rounded.{alien-is, alien-only, book-lost, book-still, book-written, book_of, none-alien, on-lost, on-written, stays-still}
 use Rattle.rollout_book.proofs.Turned.{run-still}
 use Rattle.rollout_book.proofs.chronicle.Chronicle.round.Goals as goal
@@ -151,3 +152,15 @@ returns-in-None-clause-any_moment g c =
     subst
     (λ (b : Chronicled g.row.D.Denot). IfSome (g.D.Disk.bytes b.disk) (λ _. LeavesOnly g.D.Disk.moment g.D.Disk.left_since b.disk j'.disk (HasBeforeOrAfter b.history.start b.entries (batch_of c.args.self.now policy answers))))
     c.self.view_is over-batch
+
+pub returns-in-Some-clause-owner : goal.returns-in-Some-clause-owner
+returns-in-Some-clause-owner g c =
+    let t = c.self.inside.rounds in
+    let j = c.self.inside.journal in
+    let live : j.live ≡ true = ap (λ (b : Chronicled g.row.D.Denot). b.live) c.self.view_is ∙ c.requires.live in
+    subst (λ (b : Chronicled g.row.D.Denot). IfSome (g.D.Disk.bytes b.disk) (λ image. LeavesOnly g.D.Disk.moment g.D.Disk.left_since b.disk b.disk (KeepsOwner image))) c.self.view_is
+    (owner-still g.D.Disk.moment g.D.Disk.left_since (g.D.Disk.bytes j.disk) j.disk j.disk g.D.Disk.may_leave t.history.start c.self.inside.entries.items (g.met.D.Disk.only_now j.disk) refl (c.self.invariant.2.kept live))
+
+pub returns-in-None-clause-owner : goal.returns-in-None-clause-owner
+returns-in-None-clause-owner g c =
+    subst (λ (b : Chronicled g.row.D.Denot). IfSome (g.D.Disk.bytes b.disk) (λ image. LeavesOnly g.D.Disk.moment g.D.Disk.left_since b.disk c.turn.new.journal.disk (KeepsOwner image))) c.self.view_is c.turn.ensures.owner
