@@ -22,10 +22,12 @@ returns-in-None-clause-run g c =
 pub returns-in-Some-clause-leaves : goal.returns-in-Some-clause-leaves
 returns-in-Some-clause-leaves g c =
     let is : asked_by (answers_in c.args.policies.now) c.args.words.now ≡ Some (asked c.in-Some.command) = sym c.in-Some.ensures in
-    subst (λ a. LeavesAsked g.D.Disk.bytes g.D.Disk.may_leave g.D.Disk.moment g.D.Disk.left_since a _ _ _ _) (sym is)
-    (told-leaves g.D.Disk.bytes g.D.Disk.may_leave g.D.Disk.moment g.D.Disk.left_since _ _ _ _ _ _ _ _ _ _ c.note-status.ensures.told c.run-ending.ensures.leaves)
+    let told = told-leaves g.D.Disk.bytes g.D.Disk.may_leave g.D.Disk.moment g.D.Disk.left_since c.args.disk c.run-ending.result.disk (Some (asked c.in-Some.command))
+    (g.S.Source.left c.args.source.now) c.run-ending.result.ending c.note-status.result _ _ _ _ c.note-status.ensures.told c.run-ending.ensures.leaves in
+    subst (λ a. LeavesAsked g.D.Disk.bytes g.D.Disk.may_leave g.D.Disk.moment g.D.Disk.left_since a (g.S.Source.left c.args.source.now) c.note-status.result c.args.disk c.run-ending.result.disk)
+    (sym is) told
 
 pub returns-in-None-clause-leaves : goal.returns-in-None-clause-leaves
 returns-in-None-clause-leaves g c =
     let is : asked_by (answers_in c.args.policies.now) c.args.words.now ≡ None = sym c.in-None.ensures in
-    subst (λ a. LeavesAsked g.D.Disk.bytes g.D.Disk.may_leave g.D.Disk.moment g.D.Disk.left_since a _ _ _ _) (sym is) tt
+    subst (λ a. LeavesAsked g.D.Disk.bytes g.D.Disk.may_leave g.D.Disk.moment g.D.Disk.left_since a (g.S.Source.left c.args.source.now) c.note.result c.args.disk c.args.disk) (sym is) tt
