@@ -1,0 +1,42 @@
+ghost use Rattle.std.specs.Prelude.{◌≡◌, ◌<◌};
+ghost use Rattle.case_gen.specs.Draws.{after_draws, drawn, seeded};
+
+use rand_core::SeedableRng;
+use rand_core::utils::NextWord;
+use rand_pcg::Lcg64Xsh32;
+use std::marker::Model;
+
+/// Draws, one after the other: each is the next 32-bit word of one generator, modulo a bound.
+#[derive(Debug, Drop)]
+pub struct Draws {
+    generator: Lcg64Xsh32,
+}
+
+impl Model for Draws {
+    ghost use Rattle.rand_pcg.specs.Lcg.{Lcg};
+
+    ghost Value = { Lcg };
+
+    ghost view = { λ d. d.generator };
+}
+
+impl Draws {
+    /// The draws of a seed, before the first one.
+    pub fn new(seed: u64) -> Self
+        ensures { result ≡ seeded seed }
+    {
+        Draws {
+            generator: Lcg64Xsh32::seed_from_u64(seed),
+        }
+    }
+
+    /// The next draw below a bound. It takes one word, also below 1.
+    pub fn draw(&mut self, below: u32) -> u32
+        requires some { 0 < below }
+        ensures value { result ≡ drawn self.old 0 below }
+        ensures one_word { self.new ≡ after_draws self.old 1 }
+        ensures less { result < below }
+    {
+        self.generator.next_word() % below
+    }
+}
