@@ -60,7 +60,7 @@ reads_on migration a b c bytes more fault first second = record {
   ends = second.ends;
 }
 
-one : (a : AnswerFrame) → IsAnswer a → All IsAnswer (a ∷ [])
+pub one : (a : AnswerFrame) → IsAnswer a → All IsAnswer (a ∷ [])
 one a fits zero d inside = fits
 one a fits (suc k) d inside = absurd (omega arith)
 

@@ -51,7 +51,7 @@ hears_on migration a b c fault first second = record {
   reads = reads_on migration a.reckoning b.reckoning c.reckoning first.bytes second.bytes fault first.reads second.reads;
 }
 
-length-answers : (answers : List AnswerFrame) → length (flat_map answer_bytes answers) ≡ 13 * length answers
+pub length-answers : (answers : List AnswerFrame) → length (flat_map answer_bytes answers) ≡ 13 * length answers
 unfolding answer_bytes
 length-answers [] = refl
 length-answers (a ∷ later) = omega (arith, length-append (answer_bytes a) (flat_map answer_bytes later), length-answers later)

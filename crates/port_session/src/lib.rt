@@ -14,6 +14,7 @@ mod session;
 mod stream;
 #[cfg(test)]
 mod tests;
+pub mod worked;
 
 pub use fault::SessionFault;
 pub use session::Session;

@@ -42,7 +42,8 @@ impl<T: Port> Model for Session<T> {
 impl<T: Port> Session<T> {
     /// A session that has offered and heard nothing.
     pub fn new(alloc: Global, switch: u32, port: T) -> Self
-        ensures { result ≡ first_talk switch port }
+        ensures new { result ≡ first_talk switch port }
+        ensures cut { IsCutAnswer result.stream.kept }
     {
         Session {
             switch,

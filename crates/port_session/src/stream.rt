@@ -33,7 +33,8 @@ impl Model for AnswerStream {
 
 impl AnswerStream {
     pub(crate) fn new() -> Self
-        ensures { result ≡ fresh_stream }
+        ensures new { result ≡ fresh_stream }
+        ensures cut { IsCutAnswer result.kept }
     {
         AnswerStream {
             reader: AnswerReader::new(),
