@@ -31,6 +31,7 @@ impl Draws {
     }
 
     /// The next draw below a bound. It takes one word, also below 1.
+    #[tactic(auto, unfolding(crate::specs::Draws::drawn, crate::specs::Draws::after_draws, rand_pcg::specs::Lcg::state_after))]
     pub fn draw(&mut self, below: u32) -> u32
         requires some { 0 < below }
         ensures value { result ≡ drawn self.old 0 below }
