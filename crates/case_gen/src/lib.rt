@@ -11,4 +11,4 @@ mod laws;
 pub mod worked;
 
 pub use draws::Draws;
-pub use laws::a_case_has_slack_and_table_room;
+pub use laws::{a_case_has_slack_and_table_room, draws_stand_in_a_row};
