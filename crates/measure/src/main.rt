@@ -9,12 +9,16 @@ use subject::Subject;
 mod agent;
 mod checksum;
 mod frames;
+mod journal;
 mod linear;
 mod lock_turns;
 mod log;
 mod mutex_turns;
 mod program;
+mod recovery;
+mod rollout;
 mod subject;
+mod tries;
 mod turns;
 
 fn main(rt: HostRuntime) -> Result<()> {
@@ -23,6 +27,9 @@ fn main(rt: HostRuntime) -> Result<()> {
         Subject::Linear { times } => linear::measure(&rt, times),
         Subject::Frames(load) => frames::measure(&rt, &load),
         Subject::Agent => agent::measure(&rt),
+        Subject::Journal => journal::measure(&rt),
+        Subject::Recovery { times } => recovery::measure(&rt, times),
+        Subject::Tries { times } => tries::measure(&rt, times),
         Subject::Turns(crowd) => turns::measure(&rt, &crowd),
     }
 }

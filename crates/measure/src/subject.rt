@@ -3,7 +3,7 @@ use crate::turns::Crowd;
 use anyhow::{Context, Result, bail};
 
 const SUBJECTS: &str =
-    "linear [TIMES], frames ITEMS COMMANDS PIECE TIMES, agent, or turns THREADS TURNS lock|mutex";
+    "linear [TIMES], frames ITEMS COMMANDS PIECE TIMES, agent, journal, recovery TIMES, tries TIMES, or turns THREADS TURNS lock|mutex";
 
 /// What is measured.
 #[derive(Drop)]
@@ -14,6 +14,12 @@ pub(crate) enum Subject {
     Frames(Load),
     /// The serving of the guest whose bytes are standard input.
     Agent,
+    /// Calls of a journal over the images on standard input.
+    Journal,
+    /// So many openings of the journal on standard input.
+    Recovery { times: u32 },
+    /// So many releases, each behind one operation that is done.
+    Tries { times: u32 },
     /// Turns of threads at one value.
     Turns(Crowd),
 }
@@ -33,6 +39,13 @@ pub(crate) fn of(words: &[String]) -> Result<Subject> {
             number(times)?,
         )?)),
         ("agent", []) => Ok(Subject::Agent),
+        ("journal", []) => Ok(Subject::Journal),
+        ("recovery", [times]) => Ok(Subject::Recovery {
+            times: number(times)?,
+        }),
+        ("tries", [times]) => Ok(Subject::Tries {
+            times: number(times)?,
+        }),
         ("turns", [threads, turns, guard]) => Ok(Subject::Turns(Crowd::new(
             number(threads)?,
             number(turns)?,
