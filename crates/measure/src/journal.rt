@@ -1,220 +1,145 @@
 //! A journal on a disk in memory, a case a line. Standard input is a document on its first line, and then
-//! on each line a call, the number of the migration, the image in hexadecimal digits (`-` for none), the
-//! call of the disk at which it stops, or behind a `!` the one call that fails (`-` for none), and for
-//! `append` the entries, each `b:ITEM:NUMBER` or `d:ITEM:NUMBER`. Of each case it prints what came of it, how many calls the disk had, and both images
+//! on each line a case. Of each it prints what came of it, how many calls the disk had, and both images
 //! that a crash may leave.
-ghost use Rattle.std.specs.Prelude.{◌≡◌, ◌+◌, ◌<◌, ◌≤◌, ℕ, [], true, false, length};
+ghost use Rattle.std.specs.Prelude.{◌≡◌, ◌*◌, ◌<◌, ℕ, [], true, false};
 ghost use Rattle.rollout_rules.specs.History.{flies, from_nothing};
 ghost use Rattle.rollout_rules.specs.Items.{item_count};
 
+use crate::case::{Call, Case};
 use crate::rollout;
-use anyhow::{Context, Result, bail, ensure};
+use anyhow::{Context, Result};
 use dependency_graph::Graph;
 use disk_model::MemoryDisk;
 use intent_journal::{Digest, Journal, JournalFault, place, recover};
-use rollout_rules::{Entry, EntryList, Op};
-use std::alloc::{AllocError, Global};
+use rollout_rules::{Entry, EntryList};
+use std::alloc::Global;
 use std::io::{BufRead, BufReader};
-use wan_edge::{Failed, Nums8, Turns};
-use wan_model::CheckedPlan;
-
-/// One case: a call over an image.
-#[derive(Drop)]
-struct Case {
-    call: Call,
-    migration: u32,
-    image: Nums8,
-    trouble: Trouble,
-}
-
-/// What the disk does beside its work.
-#[derive(Clone, Copy)]
-enum Trouble {
-    Nothing,
-    /// It stops at this call.
-    Stops(u64),
-    /// This call alone fails.
-    Fails(u64),
-}
-
-#[derive(Drop)]
-enum Call {
-    Recover,
-    Place,
-    Append(EntryList),
-}
+use wan_edge::Failed;
 
 pub(crate) fn measure(rt: &HostRuntime) -> Result<()> {
     let alloc = rt.alloc();
     let mut lines = BufReader::new(alloc, rt.reader())?.lines(alloc);
-    let first = lines.next().context("no document")??;
-    let mut plan = rollout::read(alloc, first.as_bytes())?;
-    let bytes = rollout::digest(alloc, &plan, 0)?.bytes;
+    let document = lines.next().context("no document")??;
     for line in lines {
-        let line = line?;
-        let case = case_of(alloc, line.as_str())?;
-        plan = answered(rt, plan, bytes, case)?;
+        answer(rt, document.as_bytes(), line?.as_str())?;
     }
     Ok(())
 }
 
-fn case_of(alloc: Global, line: &str) -> Result<Case> {
-    let mut words = line.split_whitespace();
-    let call = words.next().context("a call")?;
-    let migration = words
-        .next()
-        .context("a migration")?
-        .parse::<u32>()
-        .context("a whole number")?;
-    let image = image_of(alloc, words.next().context("an image")?)?;
-    let trouble = trouble_of(words.next().context("a call to stop at, or -")?)?;
-    let mut batch = EntryList::new(alloc);
-    for word in words {
-        batch.push(entry_of(word)?)?;
-    }
-    let call = match call {
-        "recover" => Call::Recover,
-        "place" => Call::Place,
-        "append" => Call::Append(batch),
-        _ => bail!("recover, place or append"),
-    };
-    Ok(Case {
-        call,
-        migration,
-        image,
-        trouble,
-    })
+fn answer(rt: &HostRuntime, document: &[u8], line: &str) -> Result<()> {
+    let case = Case::of(rt.alloc(), line)?;
+    let mut graph = rollout::graph(rt.alloc(), document)?;
+    answer_case(rt, &case, &mut graph)
 }
 
-fn image_of(alloc: Global, word: &str) -> Result<Nums8> {
-    let mut image = Nums8::new(alloc);
-    if word != "-" {
-        image.extend_from_slice(&hex::decode(alloc, word)?)?;
-    }
-    Ok(image)
-}
-
-fn trouble_of(word: &str) -> Result<Trouble> {
-    if word == "-" {
-        return Ok(Trouble::Nothing);
-    }
-    match word.strip_prefix('!') {
-        Some(call) => Ok(Trouble::Fails(call_of(call)?)),
-        None => Ok(Trouble::Stops(call_of(word)?)),
-    }
-}
-
-fn call_of(word: &str) -> Result<u64> {
-    Ok(word.parse::<u64>().context("a whole number")?)
-}
-
-// A disk in memory with an image and with this trouble.
-fn disk_with(alloc: Global, image: Nums8, trouble: Trouble) -> Result<MemoryDisk> {
-    let mut fails = Turns::new(alloc);
-    if let Trouble::Fails(call) = trouble {
-        fails.push(call)?;
-    }
-    let mut disk = MemoryDisk::new(alloc, image, fails);
-    if let Trouble::Stops(call) = trouble {
-        disk.stop_at(call);
-    }
-    Ok(disk)
-}
-
-fn entry_of(word: &str) -> Result<Entry> {
-    let (kind, rest) = word.split_once(':').context("an entry")?;
-    let (item, number) = rest.split_once(':').context("an item and a number")?;
-    let op = Op {
-        item: item.parse().context("a whole number")?,
-        number: number.parse().context("a whole number")?,
-    };
-    match kind {
-        "b" => Ok(Entry::Begin(op)),
-        "d" => Ok(Entry::Done(op)),
-        _ => bail!("b or d"),
-    }
-}
-
-// Carries a case out, prints what came of it, and gives the plan back.
-fn answered(
-    rt: &HostRuntime,
-    plan: CheckedPlan,
-    bytes: [u8; 32],
-    case: Case,
-) -> Result<CheckedPlan> {
+fn answer_case(rt: &HostRuntime, case: &Case, graph: &mut Graph) -> Result<()>
+    requires empty { graph.old.history ≡ from_nothing graph.old.rollout.problem [] }
+{
     let alloc = rt.alloc();
-    let Case {
-        call,
-        migration,
-        image,
-        trouble,
-    } = case;
-    let digest = Digest { bytes, migration };
-    let Ok(mut graph) = Graph::new(alloc, plan) else {
-        bail!("memory is short");
+    let digest = rollout::digest(alloc, graph.plan(), case.migration)?;
+    let disk = case.disk(alloc)?;
+    let outcome = match case.call {
+        Call::Place => placed(alloc, disk, &digest, graph),
+        Call::Recover => recovered(alloc, disk, &digest, graph, case.batch.as_slice()),
     };
-    let disk = disk_with(alloc, image, trouble)?;
-    match call {
-        Call::Place => placed(rt, disk, &digest, &graph)?,
-        Call::Recover => recovered(rt, disk, &digest, &mut graph, &[])?,
-        Call::Append(batch) => recovered(rt, disk, &digest, &mut graph, batch.as_slice())?,
-    }
-    Ok(graph.into_plan())
+    print(rt, &outcome)
 }
 
-fn placed(rt: &HostRuntime, disk: MemoryDisk, digest: &Digest, graph: &Graph) -> Result<()>
+/// What came of a call, and the disk behind it.
+#[derive(Drop)]
+struct Outcome {
+    end: End,
+    disk: MemoryDisk,
+}
+
+#[derive(Drop)]
+enum End {
+    Placed,
+    /// The journal is open with this list, and this came of the batch.
+    Open(EntryList, Added),
+    Fault(JournalFault),
+}
+
+#[derive(Clone, Copy)]
+enum Added {
+    /// There was no batch.
+    Nothing,
+    /// There is no room for so many entries.
+    TooMany,
+    All,
+    /// The disk failed.
+    Failed,
+}
+
+fn placed(alloc: Global, disk: MemoryDisk, digest: &Digest, graph: &Graph) -> Outcome
     requires still { (item : ℕ) → item < item_count graph.now.rollout.problem → flies graph.now.history item ≡ false }
 {
     let mut disk = disk;
-    match place(rt.alloc(), &mut disk, digest, graph) {
-        Ok(()) => println!(rt; "placed")?,
-        Err(cause) => print_fault(rt, cause)?,
-    }
-    print_disk(rt, &disk)
+    let end = match place(alloc, &mut disk, digest, graph) {
+        Ok(()) => End::Placed,
+        Err(cause) => End::Fault(cause),
+    };
+    Outcome { end, disk }
 }
 
 fn recovered(
-    rt: &HostRuntime,
+    alloc: Global,
     disk: MemoryDisk,
     digest: &Digest,
     graph: &mut Graph,
     batch: &[Entry],
-) -> Result<()>
+) -> Outcome
     requires empty { graph.old.history ≡ from_nothing graph.old.rollout.problem [] }
 {
     let most = 2 * u64::from(graph.op_total());
-    match recover(rt.alloc(), disk, digest, graph) {
-        Ok((journal, list)) => {
-            print_list(rt, list.as_slice())?;
-            ensure!(
-                u64::from(journal.entries()) + batch.len() as u64 <= most,
-                "too many entries"
-            );
-            appended(rt, journal, batch)
-        }
-        Err(unopened) => {
-            print_fault(rt, unopened.cause)?;
-            print_disk(rt, &unopened.disk)
-        }
+    match recover(alloc, disk, digest, graph) {
+        Ok((journal, list)) => appended(journal, list, batch, most),
+        Err(unopened) => Outcome {
+            end: End::Fault(unopened.cause),
+            disk: unopened.disk,
+        },
     }
 }
 
-// Adds the batch where there is one.
-fn appended(rt: &HostRuntime, journal: Journal<MemoryDisk>, batch: &[Entry]) -> Result<()>
+fn appended(journal: Journal<MemoryDisk>, list: EntryList, batch: &[Entry], most: u64) -> Outcome
     requires live { journal.live ≡ true }
-    requires room { journal.entries + length batch.now ≤ journal.most }
+    requires most { journal.most ≡ most }
 {
     let mut journal = journal;
-    if !batch.is_empty() {
-        match journal.append(batch) {
-            Ok(()) => println!(rt; "appended")?,
-            Err(Failed) => println!(rt; "failed")?,
-        }
+    let added = add(&mut journal, batch, most);
+    Outcome {
+        end: End::Open(list, added),
+        disk: journal.into_disk(),
     }
-    print_disk(rt, &journal.into_disk())
 }
 
-fn print_list(rt: &HostRuntime, list: &[Entry]) -> Result<()> {
+// Adds the batch where there is one, to a journal with room for so many entries in all.
+fn add(journal: &mut Journal<MemoryDisk>, batch: &[Entry], most: u64) -> Added
+    requires live { journal.old.live ≡ true }
+    requires most { journal.old.most ≡ most }
+{
+    if batch.is_empty() {
+        return Added::Nothing;
+    }
+    if batch.len() as u64 > most.saturating_sub(u64::from(journal.entries())) {
+        return Added::TooMany;
+    }
+    match journal.append(batch) {
+        Ok(()) => Added::All,
+        Err(Failed) => Added::Failed,
+    }
+}
+
+fn print(rt: &HostRuntime, outcome: &Outcome) -> Result<()> {
+    match &outcome.end {
+        End::Placed => println!(rt; "placed")?,
+        End::Open(list, added) => print_open(rt, list.as_slice(), *added)?,
+        End::Fault(cause) => print_fault(rt, *cause)?,
+    }
+    print_disk(rt, &outcome.disk)
+}
+
+fn print_open(rt: &HostRuntime, list: &[Entry], added: Added) -> Result<()> {
     print!(rt; "open")?;
     for entry in list {
         match entry {
@@ -223,7 +148,12 @@ fn print_list(rt: &HostRuntime, list: &[Entry]) -> Result<()> {
         }
     }
     println!(rt; "")?;
-    Ok(())
+    Ok(match added {
+        Added::Nothing => Ok(()),
+        Added::TooMany => println!(rt; "too many entries"),
+        Added::All => println!(rt; "appended"),
+        Added::Failed => println!(rt; "failed"),
+    }?)
 }
 
 fn print_fault(rt: &HostRuntime, fault: JournalFault) -> Result<()> {

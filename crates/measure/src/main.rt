@@ -7,6 +7,7 @@ use std::env;
 use subject::Subject;
 
 mod agent;
+mod case;
 mod checksum;
 mod frames;
 mod journal;

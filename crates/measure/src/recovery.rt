@@ -18,39 +18,42 @@ pub(crate) fn measure(rt: &HostRuntime, times: u32) -> Result<()> {
     let alloc = rt.alloc();
     let mut lines = BufReader::new(alloc, rt.reader())?.lines(alloc);
     let document = lines.next().context("no document")??;
-    let image = lines.next().context("no image")??;
-    let bytes = hex::decode(alloc, image.as_str())?;
-    let mut plan = rollout::read(alloc, document.as_bytes())?;
+    let image = hex::decode(alloc, lines.next().context("no image")??.as_str())?;
+    let plan = rollout::plan(alloc, document.as_bytes())?;
     let digest = rollout::digest(alloc, &plan, 0)?;
+    open_each_time(rt, plan, &digest, &image, times)
+}
+
+fn open_each_time(
+    rt: &HostRuntime,
+    plan: CheckedPlan,
+    digest: &Digest,
+    image: &[u8],
+    times: u32,
+) -> Result<()> {
+    let mut plan = plan;
     let mut entries = 0;
     for _time in 0..times {
-        (plan, entries) = opened(alloc, plan, &digest, bytes.as_slice())?;
+        let mut graph = rollout::graph_of(rt.alloc(), plan)?;
+        entries = entries_of(rt.alloc(), &mut graph, digest, image)?;
+        plan = graph.into_plan();
     }
     println!(rt; "entries {entries}")?;
     Ok(())
 }
 
-// How many entries a journal of these bytes keeps, and the plan back.
-fn opened(
-    alloc: Global,
-    plan: CheckedPlan,
-    digest: &Digest,
-    bytes: &[u8],
-) -> Result<(CheckedPlan, usize)> {
-    let Ok(mut graph) = Graph::new(alloc, plan) else {
-        bail!("memory is short");
-    };
-    let entries = entries_of(alloc, &mut graph, digest, bytes)?;
-    Ok((graph.into_plan(), entries))
-}
-
-fn entries_of(alloc: Global, graph: &mut Graph, digest: &Digest, bytes: &[u8]) -> Result<usize>
+// How many entries a journal of these bytes has.
+fn entries_of(alloc: Global, graph: &mut Graph, digest: &Digest, image: &[u8]) -> Result<usize>
     requires empty { graph.old.history ≡ from_nothing graph.old.rollout.problem [] }
 {
-    let mut image = Nums8::new(alloc);
-    image.extend_from_slice(bytes)?;
-    let disk = MemoryDisk::new(alloc, image, Turns::new(alloc));
-    match recover(alloc, disk, digest, graph) {
+    let mut bytes = Nums8::new(alloc);
+    bytes.extend_from_slice(image)?;
+    match recover(
+        alloc,
+        MemoryDisk::new(alloc, bytes, Turns::new(alloc)),
+        digest,
+        graph,
+    ) {
         Ok((_, list)) => Ok(list.as_slice().len()),
         Err(_) => bail!("no journal of this rollout"),
     }

@@ -6,27 +6,18 @@ ghost use Rattle.rollout_rules.specs.History.{flies};
 ghost use Rattle.rollout_rules.specs.Items.{item_count};
 
 use crate::rollout;
-use anyhow::{Result, bail};
+use anyhow::Result;
 use dependency_graph::Graph;
 use order_policy::Policy;
-use std::alloc::Global;
 use std::io::Read;
 use update_scheduler::{Bench, release};
 use wan_model::{OpView, item_count};
 
 pub(crate) fn measure(rt: &HostRuntime, times: u32) -> Result<()> {
-    let alloc = rt.alloc();
-    let mut given = Vec::new(alloc);
+    let mut given = Vec::new(rt.alloc());
     rt.stdin().read_to_end(&mut given)?;
-    let mut graph = read_graph(alloc, &given)?;
+    let mut graph = rollout::graph(rt.alloc(), &given)?;
     try_releases(rt, &mut graph, times)
-}
-
-fn read_graph(alloc: Global, given: &[u8]) -> Result<Graph> {
-    match Graph::new(alloc, rollout::read(alloc, given)?) {
-        Ok(graph) => Ok(graph),
-        Err(_) => bail!("memory is short"),
-    }
 }
 
 // Releases by item, whose policy ranks all alike.
