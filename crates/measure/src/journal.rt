@@ -1,9 +1,8 @@
 //! A journal on a disk in memory, a case a line. Standard input is a document on its first line, and then
 //! on each line a case. Of each it prints what came of it, how many calls the disk had, and both images
 //! that a crash may leave.
-ghost use Rattle.std.specs.Prelude.{◌≡◌, ◌*◌, ◌<◌, ℕ, [], true, false};
-ghost use Rattle.rollout_rules.specs.History.{flies, from_nothing};
-ghost use Rattle.rollout_rules.specs.Items.{item_count};
+ghost use Rattle.std.specs.Prelude.{◌≡◌, [], true};
+ghost use Rattle.rollout_rules.specs.History.{from_nothing};
 
 use crate::case::{Call, Case};
 use crate::rollout;
@@ -21,28 +20,30 @@ pub(crate) fn measure(rt: &HostRuntime) -> Result<()> {
     let mut lines = BufReader::new(alloc, rt.reader())?.lines(alloc);
     let document = lines.next().context("no document")??;
     for line in lines {
-        answer(rt, document.as_bytes(), line?.as_str())?;
+        let line = line?;
+        answer(rt, document.as_bytes(), line.as_str())?;
     }
     Ok(())
 }
 
 fn answer(rt: &HostRuntime, document: &[u8], line: &str) -> Result<()> {
     let case = Case::of(rt.alloc(), line)?;
-    let mut graph = rollout::graph(rt.alloc(), document)?;
-    answer_case(rt, &case, &mut graph)
+    answer_over(rt, &case, rollout::graph(rt.alloc(), document)?)
+}
+
+fn answer_over(rt: &HostRuntime, case: &Case, graph: Graph) -> Result<()>
+    requires empty { graph.history ≡ from_nothing graph.rollout.problem [] }
+{
+    let mut graph = graph;
+    answer_case(rt, case, &mut graph)
 }
 
 fn answer_case(rt: &HostRuntime, case: &Case, graph: &mut Graph) -> Result<()>
     requires empty { graph.old.history ≡ from_nothing graph.old.rollout.problem [] }
 {
-    let alloc = rt.alloc();
-    let digest = rollout::digest(alloc, graph.plan(), case.migration)?;
-    let disk = case.disk(alloc)?;
-    let outcome = match case.call {
-        Call::Place => placed(alloc, disk, &digest, graph),
-        Call::Recover => recovered(alloc, disk, &digest, graph, case.batch.as_slice()),
-    };
-    print(rt, &outcome)
+    let digest = rollout::digest(rt.alloc(), graph.plan(), case.migration)?;
+    let disk = case.disk(rt.alloc())?;
+    print(rt, &carried_out(rt.alloc(), case, disk, &digest, graph))
 }
 
 /// What came of a call, and the disk behind it.
@@ -71,8 +72,24 @@ enum Added {
     Failed,
 }
 
+fn carried_out(
+    alloc: Global,
+    case: &Case,
+    disk: MemoryDisk,
+    digest: &Digest,
+    graph: &mut Graph,
+) -> Outcome
+    requires empty { graph.old.history ≡ from_nothing graph.old.rollout.problem [] }
+{
+    match case.call {
+        Call::Place => placed(alloc, disk, digest, graph),
+        Call::Recover => recovered(alloc, disk, digest, graph, case.batch.as_slice()),
+    }
+}
+
+#[tactic(auto, using(crate::proofs::Starting::nothing_flies))]
 fn placed(alloc: Global, disk: MemoryDisk, digest: &Digest, graph: &Graph) -> Outcome
-    requires still { (item : ℕ) → item < item_count graph.now.rollout.problem → flies graph.now.history item ≡ false }
+    requires empty { graph.now.history ≡ from_nothing graph.now.rollout.problem [] }
 {
     let mut disk = disk;
     let end = match place(alloc, &mut disk, digest, graph) {
@@ -121,7 +138,7 @@ fn add(journal: &mut Journal<MemoryDisk>, batch: &[Entry], most: u64) -> Added
     if batch.is_empty() {
         return Added::Nothing;
     }
-    if batch.len() as u64 > most.saturating_sub(u64::from(journal.entries())) {
+    if u64::from(journal.entries()) + batch.len() as u64 > most {
         return Added::TooMany;
     }
     match journal.append(batch) {

@@ -34,12 +34,34 @@ fn open_each_time(
     let mut plan = plan;
     let mut entries = 0;
     for _time in 0..times {
-        let mut graph = rollout::graph_of(rt.alloc(), plan)?;
-        entries = entries_of(rt.alloc(), &mut graph, digest, image)?;
-        plan = graph.into_plan();
+        let opened = open_over(
+            rt.alloc(),
+            rollout::graph_of(rt.alloc(), plan)?,
+            digest,
+            image,
+        );
+        plan = opened.plan;
+        entries = opened.entries?;
     }
     println!(rt; "entries {entries}")?;
     Ok(())
+}
+
+/// How many entries a journal has, and the plan again that it is over.
+#[derive(Drop)]
+struct Opened {
+    entries: Result<usize>,
+    plan: CheckedPlan,
+}
+
+fn open_over(alloc: Global, graph: Graph, digest: &Digest, image: &[u8]) -> Opened
+    requires empty { graph.history ≡ from_nothing graph.rollout.problem [] }
+{
+    let mut graph = graph;
+    Opened {
+        entries: entries_of(alloc, &mut graph, digest, image),
+        plan: graph.into_plan(),
+    }
 }
 
 // How many entries a journal of these bytes has.

@@ -16,7 +16,11 @@ use wan_model::{OpView, item_count};
 pub(crate) fn measure(rt: &HostRuntime, times: u32) -> Result<()> {
     let mut given = Vec::new(rt.alloc());
     rt.stdin().read_to_end(&mut given)?;
-    let mut graph = rollout::graph(rt.alloc(), &given)?;
+    try_over(rt, rollout::graph(rt.alloc(), &given)?, times)
+}
+
+fn try_over(rt: &HostRuntime, graph: Graph, times: u32) -> Result<()> {
+    let mut graph = graph;
     try_releases(rt, &mut graph, times)
 }
 
