@@ -21,7 +21,7 @@ HERE = os.path.dirname(os.path.abspath(__file__))
 PROGRAM = os.path.join(HERE, "..", "crates", "measure", "out", "measure")
 # The two formats of a part, as the reference names them.
 FIRST, SECOND = "r13", "r16"
-IMAGES, HEADS, LENGTHS, SMALL, LAST = 40, 72, 200, 24, 2 ** 32 - 1
+IMAGES, HEADS, LENGTHS, SMALL, MIXED, LAST = 40, 72, 200, 24, 2, 2 ** 32 - 1
 # An open and a closed gate, a slot's and a journal's open byte, both kinds of an entry, and bytes that mean nothing.
 KINDS = b"\x47\0\x53\x54\1\2\x40\xff"
 
@@ -202,23 +202,27 @@ def written(before, after):
 
 
 def torn(rng, kept, synced, ranges):
-    """Images of every length between both, whose bytes in these ranges are of one kind, or each old, new or any; and for a single byte,
-    any of all."""
+    """Images of every length between both, whose bytes in these ranges are all of one kind, or each old, new or any. A single byte is each of all."""
     places = [at for first, end in ranges for at in range(first, end)]
     if not places:
         return []
     length = max(len(kept), len(synced))
-    longer, shorter = (one.ljust(length, b"\0") for one in (kept, synced))
-    whole = [fill for fill in KINDS] if len(places) > 1 else range(256)
-    fills = [lambda at, fill=fill: fill for fill in whole]
-    fills += [lambda at: rng.choice((longer[at], shorter[at])), lambda at: rng.choice(KINDS), lambda at: rng.choice((longer[at], rng.randrange(256)))] * 2
-    made = []
-    for fill in fills:
-        one = bytearray(longer)
-        for at in places:
-            one[at] = fill(at)
-        made.append(bytes(one[:rng.choice((length, rng.randint(min(len(kept), len(synced)), length)))]))
-    return made
+    new, old = (one.ljust(length, b"\0") for one in (kept, synced))
+    fills = [lambda at, fill=fill: fill for fill in (KINDS if len(places) > 1 else range(256))]
+    fills += MIXED * [
+        lambda at: rng.choice((new[at], old[at])),
+        lambda at: rng.choice(KINDS),
+        lambda at: rng.choice((new[at], rng.randrange(256))),
+    ]
+    return [filled(rng, new, places, fill, min(len(kept), len(synced))) for fill in fills]
+
+
+def filled(rng, image, places, fill, shortest):
+    """The image with other bytes at these places, and half of the time shorter."""
+    made = bytearray(image)
+    for at in places:
+        made[at] = fill(at)
+    return bytes(made[:rng.choice((len(image), rng.randint(shortest, len(image))))])
 
 
 def main():
