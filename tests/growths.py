@@ -86,7 +86,7 @@ def cases():
 
 def is_kept(image, lists):
     """Whether an image is a journal of a migration with one of its lists."""
-    return any(printed([f"recover {migration} {image} -"])[1][0] in wanted for migration, wanted in lists.items())
+    return any(printed([f"recover {migration} {image or '-'} -"])[1][0] in wanted for migration, wanted in lists.items())
 
 
 def main():
