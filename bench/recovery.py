@@ -26,7 +26,7 @@ def main():
     words.add_argument("--check", action="store_true")
     given = words.parse_args()
     document = json.dumps({"problem": network(FLOWS, STEPS, 2, 4), "plan": plan(FLOWS, STEPS, 2)})
-    made = printed([PROGRAM, "journal"], input=f"{document}\n{' '.join(['append 0 - -'] + batch())}\n")
+    made = printed([PROGRAM, "journal"], input=f"{document}\n{' '.join(['recover 0 - -'] + batch())}\n")
     image = made.splitlines()[-1].split(" ")[3]
     text = f"{document}\n{image}\n"
     entries = printed([PROGRAM, "recovery", "1"], input=text).split()
