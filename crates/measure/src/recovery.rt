@@ -18,10 +18,18 @@ pub(crate) fn measure(rt: &HostRuntime, times: u32) -> Result<()> {
     let alloc = rt.alloc();
     let mut lines = BufReader::new(alloc, rt.reader())?.lines(alloc);
     let document = lines.next().context("no document")??;
-    let image = hex::decode(alloc, lines.next().context("no image")??.as_str())?;
-    let plan = rollout::plan(alloc, document.as_bytes())?;
-    let digest = rollout::digest(alloc, &plan, 0)?;
-    open_each_time(rt, plan, &digest, &image, times)
+    let image = lines.next().context("no image")??;
+    open_text(rt, document.as_bytes(), image.as_str(), times)
+}
+
+fn open_text(rt: &HostRuntime, document: &[u8], image: &str, times: u32) -> Result<()> {
+    let image = hex::decode(rt.alloc(), image)?;
+    open_plan(rt, rollout::plan(rt.alloc(), document)?, &image, times)
+}
+
+fn open_plan(rt: &HostRuntime, plan: CheckedPlan, image: &[u8], times: u32) -> Result<()> {
+    let digest = rollout::digest(rt.alloc(), &plan, 0)?;
+    open_each_time(rt, plan, &digest, image, times)
 }
 
 fn open_each_time(
