@@ -1,0 +1,3 @@
+pub mod Dealing
+pub mod Told
+pub mod Rowed

@@ -1,0 +1,6 @@
+pub mod Views
+pub mod Causes
+pub mod Lots
+pub mod Offering
+pub mod Hearing
+pub mod Rows

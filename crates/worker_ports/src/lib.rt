@@ -1,0 +1,16 @@
+//! The ports of one worker, and one round over all of them: [`WorkerPorts::offer`] offers at every port
+//! before [`WorkerPorts::hear`] hears at the first, so that a round costs the slowest switch's answer and
+//! not the sum of all.
+//!
+//! Contracts see the ports as a row of what each tells, with the place where the worker stands in its
+//! answers. Each port is offered the commands whose items' home is its switch, in order and in one call.
+//! What is told in a round is told by each port in turn, of items of its own switch alone: an answer of
+//! another's item is refused before anything is made of it.
+#![tactic(auto)]
+
+mod lots;
+mod ports;
+mod round;
+mod talk;
+
+pub use ports::{Berth, WorkerPorts};

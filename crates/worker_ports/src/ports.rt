@@ -1,0 +1,105 @@
+ghost use Rattle.std.specs.Prelude.{◌≡◌, ◌==◌, ◌++◌, [], ◌∷◌, List, All, length, map, take, IfErr, IfSome, IsTrue, MatchOption, OnErr, OnOk, false};
+ghost use Rattle.std.specs.List.{list_any};
+ghost use Rattle.wan_edge.specs.Frames.{Answer};
+ghost use Rattle.worker_ports.specs.Rows.{HearsEach, IsCauseOfHear, IsCauseOfOffer, ListensEach, OffersAllEach, OffersEach};
+ghost use Rattle.worker_ports.specs.Views.{telling};
+
+use crate::lots::Lots;
+use crate::round::{hear_each, offer_each};
+use port_session::{AnswerList, Session};
+use shared_history::Cause;
+use std::alloc::Global;
+use std::marker::Model;
+use wan_edge::Port;
+use wire_frames::Command;
+
+/// A switch, and the port to it.
+#[derive(Drop)]
+pub struct Berth<T> {
+    pub switch: u32,
+    pub port: T,
+}
+
+/// The ports of one worker, each to a switch of its own.
+#[derive(Drop)]
+pub struct WorkerPorts<T: Port> {
+    sessions: Vec<Session<T>>,
+    lots: Lots,
+}
+
+impl<T: Port> Model for WorkerPorts<T> {
+    ghost use Rattle.std.specs.Prelude.{◌≡◌, List, map};
+    ghost use Rattle.port_session.specs.Sessions.{Talk};
+
+    ghost Value = { List (Talk T) };
+
+    ghost view = { λ w. w.sessions.items };
+
+    ghost invariant = { λ w. w.lots.switches ≡ map (λ s. s.switch) w.sessions.items };
+}
+
+impl<T: Port> WorkerPorts<T> {
+    pub fn new(alloc: Global) -> Self
+        ensures { result ≡ [] }
+    {
+        WorkerPorts {
+            sessions: Vec::new(alloc),
+            lots: Lots::new(alloc),
+        }
+    }
+
+    /// The switches, in the order of the ports.
+    pub fn switches(&self) -> &[u32]
+        ensures { result.now ≡ map (λ s. s.switch) self.now }
+    {
+        self.lots.switches()
+    }
+
+    /// Begins a round: each port is offered the commands whose items' home is its switch, in order and in
+    /// one call. `homes` has the home of each item.
+    ///
+    /// # Errors
+    ///
+    /// `Port` with the switch whose port fails, `Memory`. Ports behind it are offered nothing.
+    pub fn offer(
+        &mut self,
+        commands: &[Command],
+        homes: &[Option<u32>],
+        migration: u32,
+    ) -> Result<(), Cause>
+        ensures each { OffersEach (telling T.offered T.heard T.held T.quiet T.faults T.honest T.prompt T.start) migration homes.now commands.now self.old self.new }
+        ensures all { OnOk result (OffersAllEach (telling T.offered T.heard T.held T.quiet T.faults T.honest T.prompt T.start) migration homes.now commands.now self.old self.new) }
+        ensures cause { IfErr result (λ cause. IsCauseOfOffer (telling T.offered T.heard T.held T.quiet T.faults T.honest T.prompt T.start) cause self.old self.new) }
+    {
+        offer_each(
+            self.sessions.as_mut_slice(),
+            &mut self.lots,
+            commands,
+            homes,
+            migration,
+        )
+    }
+
+    /// Ends a round: each port in turn is heard out, until as many answers were read as commands were
+    /// offered there, or nothing comes. Those of the migration are added in this order.
+    ///
+    /// # Errors
+    ///
+    /// `Port` with the switch whose port fails, `NotMine` with that of a port that tells of an item whose
+    /// home is another, `NoAnswer` with that of one that gives a byte with which no answer begins, `Memory`.
+    /// Ports behind it aren't heard.
+    pub fn hear(
+        &mut self,
+        homes: &[Option<u32>],
+        migration: u32,
+        answers: &mut AnswerList,
+    ) -> Result<(), Cause>
+        requires live { All (λ s. IsTrue s.stream.live) self.old }
+        ensures each { ListensEach (telling T.offered T.heard T.held T.quiet T.faults T.honest T.prompt T.start) self.old self.new }
+        ensures ok { OnOk result ((told : List Answer) × (answers.new ≡ answers.old ++ told) × HearsEach (telling T.offered T.heard T.held T.quiet T.faults T.honest T.prompt T.start) migration homes.now self.old self.new told) }
+        ensures live { OnOk result (All (λ s. IsTrue s.stream.live) self.new) }
+        ensures cause { IfErr result (λ cause. IsCauseOfHear (telling T.offered T.heard T.held T.quiet T.faults T.honest T.prompt T.start) migration homes.now cause self.old self.new) }
+    {
+        hear_each(self.sessions.as_mut_slice(), homes, migration, answers)
+    }
+}

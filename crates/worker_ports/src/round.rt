@@ -1,0 +1,53 @@
+//! One round over ports in a row.
+ghost use Rattle.std.specs.Prelude.{◌≡◌, ◌++◌, List, All, map, IfErr, IsTrue, OnOk};
+ghost use Rattle.wan_edge.specs.Frames.{Answer};
+ghost use Rattle.worker_ports.specs.Rows.{HearsEach, IsCauseOfHear, IsCauseOfOffer, ListensEach, OffersAllEach, OffersEach};
+ghost use Rattle.worker_ports.specs.Views.{telling};
+
+use crate::lots::Lots;
+use crate::talk::{hear_at, offer_at};
+use port_session::{AnswerList, Session};
+use shared_history::Cause;
+use wan_edge::Port;
+use wire_frames::Command;
+
+/// Deals the commands out, and offers at each port what lies ready for its switch.
+pub(crate) fn offer_each<T: Port>(
+    sessions: &mut [Session<T>],
+    lots: &mut Lots,
+    commands: &[Command],
+    homes: &[Option<u32>],
+    migration: u32,
+) -> Result<(), Cause>
+    requires { lots.old.switches ≡ map (λ s. s.switch) sessions.old }
+    ensures each { OffersEach (telling T.offered T.heard T.held T.quiet T.faults T.honest T.prompt T.start) migration homes.now commands.now sessions.old sessions.new }
+    ensures all { OnOk result (OffersAllEach (telling T.offered T.heard T.held T.quiet T.faults T.honest T.prompt T.start) migration homes.now commands.now sessions.old sessions.new) }
+    ensures cause { IfErr result (λ cause. IsCauseOfOffer (telling T.offered T.heard T.held T.quiet T.faults T.honest T.prompt T.start) cause sessions.old sessions.new) }
+    ensures switches { lots.new.switches ≡ lots.old.switches }
+{
+    if let Err(_) = lots.deal(commands, homes) {
+        return Err(Cause::Memory);
+    }
+    for (place, session) in sessions.iter_mut().enumerate() {
+        offer_at(session, lots.lot(place), migration)?;
+    }
+    Ok(())
+}
+
+/// Hears each port out, one after the other.
+pub(crate) fn hear_each<T: Port>(
+    sessions: &mut [Session<T>],
+    homes: &[Option<u32>],
+    migration: u32,
+    answers: &mut AnswerList,
+) -> Result<(), Cause>
+    requires live { All (λ s. IsTrue s.stream.live) sessions.old }
+    ensures each { ListensEach (telling T.offered T.heard T.held T.quiet T.faults T.honest T.prompt T.start) sessions.old sessions.new }
+    ensures ok { OnOk result ((told : List Answer) × (answers.new ≡ answers.old ++ told) × HearsEach (telling T.offered T.heard T.held T.quiet T.faults T.honest T.prompt T.start) migration homes.now sessions.old sessions.new told) }
+    ensures cause { IfErr result (λ cause. IsCauseOfHear (telling T.offered T.heard T.held T.quiet T.faults T.honest T.prompt T.start) migration homes.now cause sessions.old sessions.new) }
+{
+    for session in sessions.iter_mut() {
+        hear_at(session, homes, migration, answers)?;
+    }
+    Ok(())
+}
