@@ -1,7 +1,7 @@
 -- A row is gone through, and one after the other is changed.
 use Rattle.std.proofs.Math.Seq.{take-append_seam}
-use Rattle.std.proofs.Common.{take, drop, ◌+◌, ◌≡◌, ◌⊎◌, ℕ, zero, suc, ◌≤◌, ◌<◌, List, [], ◌∷◌, ◌++◌, length, get_or, set, refl, sym, ap, ◌∙◌, inl, inr, subst, arith, append-nil, append_assoc, Option}
-use Rattle.std.specs.List.{AllZip}
+use Rattle.std.proofs.Common.{take, drop, ◌+◌, Bool, ◌||◌, map, ap₂, ◌≡◌, ◌⊎◌, ℕ, zero, suc, ◌≤◌, ◌<◌, List, [], ◌∷◌, ◌++◌, length, get_or, set, refl, sym, ap, ◌∙◌, inl, inr, subst, arith, append-nil, append_assoc, Option}
+use Rattle.std.specs.List.{AllZip, list_any}
 use Rattle.std.specs.Prelude.{All, IsTrue, ⊤}
 use Rattle.wan_edge.specs.Frames.{Answer}
 use Rattle.port_session.specs.Sessions.{Talk}
@@ -94,6 +94,25 @@ module _ {A : Type 0} where
   -- what held of each at first holds of the next
   pub of_next : (R : A → A → Type 0) (P : A → Type 0) (n : ℕ) (ps bs : List A) (d : A) → SoFar R n ps bs → n < length bs → All P ps → P (get_or bs n d)
   of_next R P n ps bs d so inside each = subst P (sym (as_it_was R n ps bs d so)) (each n d (omega (arith, inside, same_long R n ps bs so)))
+
+-- calls leave the switches as they are
+pub same_switches : {P : Type 0} (Q : Talk P → Talk P → Type 0) → ((a b : Talk P) → Q a b → b.switch ≡ a.switch) → (ps bs : List (Talk P)) → AllZip Q ps bs → map (λ (s : Talk P). s.switch) bs ≡ map (λ (s : Talk P). s.switch) ps
+same_switches Q same [] [] each = refl
+same_switches Q same [] (b ∷ bs) each = absurd each
+same_switches Q same (a ∷ ps) [] each = absurd each
+same_switches Q same (a ∷ ps) (b ∷ bs) each = ap₂ (λ w ws. w ∷ ws) (same a b each.0) (same_switches Q same ps bs each.1)
+
+-- and they leave live what is live
+pub same_live : {P : Type 0} (Q : Talk P → Talk P → Type 0) → ((a b : Talk P) → Q a b → b.stream.live ≡ a.stream.live) → (ps bs : List (Talk P)) → AllZip Q ps bs → All (λ (s : Talk P). IsTrue s.stream.live) ps → All (λ (s : Talk P). IsTrue s.stream.live) bs
+same_live Q same [] [] each live k d inside = live k d inside
+same_live Q same [] (b ∷ bs) each live k d inside = absurd each
+same_live Q same (a ∷ ps) [] each live k d inside = absurd each
+same_live Q same (a ∷ ps) (b ∷ bs) each live zero d inside = subst IsTrue (sym (same a b each.0)) (live 0 d (omega arith))
+same_live Q same (a ∷ ps) (b ∷ bs) each live (suc k) d inside = same_live Q same ps bs each.1 (λ n e within. live (suc n) e (omega (arith, within))) k d (omega (arith, inside))
+
+pub any_switch : {P : Type 0} (test : ℕ → Bool) (ps : List (Talk P)) → list_any test (map (λ (s : Talk P). s.switch) ps) ≡ list_any (λ (s : Talk P). test s.switch) ps
+any_switch test [] = refl
+any_switch test (a ∷ ps) = ap (λ b. test a.switch || b) (any_switch test ps)
 
 -- a cause that holds of one port
 pub of_one : {A : Type 0} (R : A → A → Type 0) (why : Cause) (ps bs : List A) → AtOne R ps bs → AtOneOrMemory R why ps bs

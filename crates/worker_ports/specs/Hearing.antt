@@ -1,7 +1,7 @@
 -- What comes from the ports in a round.
 use Rattle.std.specs.Prelude.{◌≡◌, ◌⊎◌, ℕ, ◌<◌, true, false, List, [], ◌∷◌, ◌++◌, All, Option, None, Some, IsTrue}
 use Rattle.std.specs.Bool.{OnTrue}
-use Rattle.wan_edge.specs.Frames.{Answer}
+use Rattle.wan_edge.specs.Frames.{Answer, IsCutAnswer}
 use Rattle.wan_edge.specs.Ports.{IsOneMore, NothingToCome}
 use Rattle.wan_edge.specs.Streams.{Rose}
 use Rattle.port_session.specs.Sessions.{EndsAnswer, HearsAnswers, IsHeardOut, listening}
@@ -26,13 +26,14 @@ Reads migration why before told now = HearsAnswers migration (listening before.p
 abbrev pub IsOwn : List (Option ℕ) → ℕ → Answer → Type 0
 IsOwn homes switch a = is_switch switch (home_at homes a.item) ≡ true
 
--- A port was heard out: until as many answers were read as were awaited, or nothing came. Those of the migration are told, and each is of the port's
--- own switch.
+-- A port was heard out: until as many answers were read as were awaited, or nothing came. Of what came every whole answer was read, and what is kept
+-- is the front of one. Those of the migration are told, and each is of the port's own switch.
 pub record HearsOut (migration : ℕ) (homes : List (Option ℕ)) (before : PortView) (told : List Answer) (now : PortView) : Type 0 where
   pub listens : Listens before now
   pub reads : Reads migration None before told now
   pub own : All (IsOwn homes before.switch) told
   pub live : IsTrue now.stream.live
+  pub cut : IsCutAnswer now.stream.kept
   pub idle : before.stream.awaited ≡ 0 → (now ≡ before) × (told ≡ [])
   pub heard_out : IsHeardOut now.stream.awaited before.port.quiet now.port.quiet
   pub comes : 0 < before.stream.awaited → EndsAnswer before.stream.kept before.port.heard now.port.heard ⊎ IsOneMore before.port.quiet now.port.quiet

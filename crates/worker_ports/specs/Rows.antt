@@ -53,3 +53,10 @@ IsCauseOfOffer tell why = AtOneOrMemory (λ before now. IsOfferCause why (view t
 
 abbrev pub IsCauseOfHear : {P : Type 0} → (P → Telling) → ℕ → List (Option ℕ) → Cause → List (Talk P) → List (Talk P) → Type 0
 IsCauseOfHear tell migration homes why = AtOneOrMemory (λ before now. IsHearCause migration homes why (view tell before) (view tell now)) why
+
+-- the port of the last talk was taken out
+pub record IsLast {P : Type 0} (switch : ℕ) (port : P) (before now : List (Talk P)) : Type 0 where
+  pub talk : Talk P
+  pub parts : before ≡ now ++ talk ∷ []
+  pub switch_is : talk.switch ≡ switch
+  pub port_is : talk.port ≡ port

@@ -12,5 +12,7 @@ mod lots;
 mod ports;
 mod round;
 mod talk;
+#[cfg(test)]
+mod tests;
 
 pub use ports::{Berth, WorkerPorts};

@@ -1,4 +1,4 @@
-ghost use Rattle.std.specs.Prelude.{◌≡◌, ◌==◌, ◌<◌, [], ◌∷◌, ◌++◌, length, map, slice_index_or, IfSome, OnErr, OnOk, false};
+ghost use Rattle.std.specs.Prelude.{◌≡◌, ◌-◌, ◌==◌, ◌<◌, [], ◌∷◌, ◌++◌, length, map, slice_index_or, take, IfSome, OnErr, OnOk, false};
 ghost use Rattle.std.specs.List.{list_any};
 ghost use Rattle.worker_ports.specs.Lots.{home_at, own, place_of, with_put};
 
@@ -62,6 +62,15 @@ impl Lots {
         self.switches.insert(switch)?;
         self.lots.push_reserved(Lot::new(alloc));
         Ok(())
+    }
+
+    /// Takes the last switch out, with what lies ready for it.
+    pub(crate) fn drop_last(&mut self)
+        requires some { 0 < length self.old.switches }
+        ensures switches { self.new.switches ≡ take (length self.old.switches - 1) self.old.switches }
+    {
+        self.switches.pop();
+        self.lots.pop();
     }
 
     /// Deals commands out, in the place of those of before: each goes to its item's home, where that is one

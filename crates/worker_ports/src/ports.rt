@@ -1,7 +1,8 @@
 ghost use Rattle.std.specs.Prelude.{◌≡◌, ◌==◌, ◌++◌, [], ◌∷◌, List, All, length, map, take, IfErr, IfSome, IsTrue, MatchOption, OnErr, OnOk, false};
 ghost use Rattle.std.specs.List.{list_any};
 ghost use Rattle.wan_edge.specs.Frames.{Answer};
-ghost use Rattle.worker_ports.specs.Rows.{HearsEach, IsCauseOfHear, IsCauseOfOffer, ListensEach, OffersAllEach, OffersEach};
+ghost use Rattle.port_session.specs.Sessions.{first_talk};
+ghost use Rattle.worker_ports.specs.Rows.{IsLast, HearsEach, IsCauseOfHear, IsCauseOfOffer, ListensEach, OffersAllEach, OffersEach};
 ghost use Rattle.worker_ports.specs.Views.{telling};
 
 use crate::lots::Lots;
@@ -55,6 +56,33 @@ impl<T: Port> WorkerPorts<T> {
         self.lots.switches()
     }
 
+    /// Adds a port to a switch that none of these is to, before its first round. The port comes back where
+    /// memory runs out.
+    pub fn add(&mut self, alloc: Global, switch: u32, port: T) -> Result<(), T>
+        requires new { list_any (λ s. switch == s.switch) self.old ≡ false }
+        ensures ok { OnOk result (self.new ≡ self.old ++ first_talk switch port ∷ []) }
+        ensures err { IfErr result (λ back. (back ≡ port) × (self.new ≡ self.old)) }
+    {
+        if self.sessions.reserve(1).is_err() || self.lots.add(alloc, switch).is_err() {
+            return Err(port);
+        }
+        self.sessions
+            .push_reserved(Session::new(alloc, switch, port));
+        Ok(())
+    }
+
+    /// Takes the last port out. It takes no memory.
+    pub fn take(&mut self) -> Option<Berth<T>>
+        ensures { MatchOption result ((self.old ≡ []) × (self.new ≡ [])) (λ berth. IsLast berth.switch berth.port self.old self.new) }
+    {
+        let session = self.sessions.pop()?;
+        self.lots.drop_last();
+        Some(Berth {
+            switch: session.switch(),
+            port: session.into_port(),
+        })
+    }
+
     /// Begins a round: each port is offered the commands whose items' home is its switch, in order and in
     /// one call. `homes` has the home of each item.
     ///
@@ -69,6 +97,7 @@ impl<T: Port> WorkerPorts<T> {
     ) -> Result<(), Cause>
         ensures each { OffersEach (telling T.offered T.heard T.held T.quiet T.faults T.honest T.prompt T.start) migration homes.now commands.now self.old self.new }
         ensures all { OnOk result (OffersAllEach (telling T.offered T.heard T.held T.quiet T.faults T.honest T.prompt T.start) migration homes.now commands.now self.old self.new) }
+        ensures live { All (λ s. IsTrue s.stream.live) self.old → All (λ s. IsTrue s.stream.live) self.new }
         ensures cause { IfErr result (λ cause. IsCauseOfOffer (telling T.offered T.heard T.held T.quiet T.faults T.honest T.prompt T.start) cause self.old self.new) }
     {
         offer_each(

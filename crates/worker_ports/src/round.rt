@@ -44,6 +44,7 @@ pub(crate) fn hear_each<T: Port>(
     requires live { All (λ s. IsTrue s.stream.live) sessions.old }
     ensures each { ListensEach (telling T.offered T.heard T.held T.quiet T.faults T.honest T.prompt T.start) sessions.old sessions.new }
     ensures ok { OnOk result ((told : List Answer) × (answers.new ≡ answers.old ++ told) × HearsEach (telling T.offered T.heard T.held T.quiet T.faults T.honest T.prompt T.start) migration homes.now sessions.old sessions.new told) }
+    ensures live { OnOk result (All (λ s. IsTrue s.stream.live) sessions.new) }
     ensures cause { IfErr result (λ cause. IsCauseOfHear (telling T.offered T.heard T.held T.quiet T.faults T.honest T.prompt T.start) migration homes.now cause sessions.old sessions.new) }
 {
     for session in sessions.iter_mut() {

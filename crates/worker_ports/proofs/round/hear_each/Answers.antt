@@ -3,7 +3,7 @@ use Rattle.std.specs.Prelude.{IsTrue}
 use Rattle.worker_ports.specs.Hearing.{HearsOut, IsHearCause, Listens}
 use Rattle.worker_ports.specs.Rows.{IsCauseOfHear}
 use Rattle.worker_ports.specs.Views.{telling, view}
-use Rattle.worker_ports.proofs.Rowed.{HeardSoFar, SoFar, all_heard, at_one, heard_next, heard_so, in_all, in_all_with, of_next, of_one}
+use Rattle.worker_ports.proofs.Rowed.{HeardSoFar, SoFar, all_heard, all_live, at_one, heard_next, heard_so, in_all, in_all_with, of_next, of_one}
 use Rattle.port_session.proofs.Chaining.{if_err}
 use Rattle.worker_ports.proofs.Told.{listens_to_nothing}
 use Rattle.worker_ports.proofs.round.hear_each.Goals as goal
@@ -24,10 +24,12 @@ pub loop-session-preserved : goal.loop-session-preserved
 loop-session-preserved g c =
     let tell = (telling g.T.Port.offered g.T.Port.heard g.T.Port.held g.T.Port.quiet g.T.Port.faults g.T.Port.honest g.T.Port.prompt g.T.Port.start) in
     let heard = c.in_ok-hear_at.ensures.ok in
-    let so = c.loop-session.invariant in
-    (so.0 ++ heard.0, heard.1 ∙ ap (λ told. told ++ heard.0) so.1 ∙ append_assoc c.args.answers.now so.0 heard.0,
+    let so = c.loop-session.invariant in (
+      so.0 ++ heard.0,
+      heard.1 ∙ ap (λ told. told ++ heard.0) so.1 ∙ append_assoc c.args.answers.now so.0 heard.0,
       heard_next tell c.args.migration c.args.homes.now c.loop-session.session-index c.args.sessions.now c.loop-session.sessions so.0 heard.0 c.hear_at.new.session c.session-item.result so.2
-      (omega (arith, c.loop-session-test.true, c.loop-session.auto.sessions)) heard.2)
+          (omega (arith, c.loop-session-test.true, c.loop-session.auto.sessions)) heard.2,
+    )
 
 pub returns-in_err-hear_at-clause-each : goal.returns-in_err-hear_at-clause-each
 returns-in_err-hear_at-clause-each g c =
@@ -58,3 +60,9 @@ returns-clause-ok g c =
     let tell = (telling g.T.Port.offered g.T.Port.heard g.T.Port.held g.T.Port.quiet g.T.Port.faults g.T.Port.honest g.T.Port.prompt g.T.Port.start) in
     let so = c.loop-session.invariant in
     (so.0, so.1, all_heard tell c.args.migration c.args.homes.now c.loop-session.session-index c.args.sessions.now c.loop-session.sessions so.0 so.2 (omega (arith, c.loop-session-test.false, c.loop-session.auto.sessions)))
+
+pub returns-clause-live : goal.returns-clause-live
+returns-clause-live g c =
+    let tell = (telling g.T.Port.offered g.T.Port.heard g.T.Port.held g.T.Port.quiet g.T.Port.faults g.T.Port.honest g.T.Port.prompt g.T.Port.start) in
+    let heard = returns-clause-ok g c in
+    all_live tell c.args.migration c.args.homes.now c.args.sessions.now c.loop-session.sessions heard.0 heard.2

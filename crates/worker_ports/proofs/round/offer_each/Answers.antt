@@ -34,8 +34,8 @@ loop-place-preserved g c =
     next (λ a b. OffersAll c.args.migration (own c.args.homes.now a.switch c.args.commands.now) (view tell a) (view tell b)) c.loop-place.place c.args.sessions.now c.loop-place.sessions c.offer_at.new.session c.index-sessions-place.result
     c.loop-place.invariant (omega (arith, c.loop-place-test.true, c.loop-place.auto.sessions))
     (subst (λ lot. OffersAll c.args.migration lot (view tell (get_or c.loop-place.sessions c.loop-place.place c.index-sessions-place.result)) (view tell c.offer_at.new.session)) (own_lot c.args.homes.now c.args.commands.now c.args.sessions.now c.loop-place.sessions c.loop-place.place c.index-sessions-place.result c.lot.result.now c.deal.new.self.lots c.args.lots.now.switches
-        (λ a b. OffersAll c.args.migration (own c.args.homes.now a.switch c.args.commands.now) (view tell a) (view tell b)) c.loop-place.invariant
-        (omega (arith, c.loop-place-test.true, c.loop-place.auto.sessions)) c.lot.ensures c.in_default.ensures.ok c.requires) c.in_ok-offer_at.ensures.all)
+    (λ a b. OffersAll c.args.migration (own c.args.homes.now a.switch c.args.commands.now) (view tell a) (view tell b)) c.loop-place.invariant
+    (omega (arith, c.loop-place-test.true, c.loop-place.auto.sessions)) c.lot.ensures c.in_default.ensures.ok c.requires) c.in_ok-offer_at.ensures.all)
 
 pub returns-in_err-offer_at-clause-each : goal.returns-in_err-offer_at-clause-each
 returns-in_err-offer_at-clause-each g c =
@@ -45,8 +45,8 @@ returns-in_err-offer_at-clause-each g c =
     (λ a. offers_nothing c.args.migration (own c.args.homes.now a.switch c.args.commands.now) (view tell a)) c.loop-place.place c.args.sessions.now c.loop-place.sessions c.offer_at.new.session c.index-sessions-place.result
     c.loop-place.invariant (omega (arith, c.loop-place-test.true, c.loop-place.auto.sessions))
     (subst (λ lot. Offers c.args.migration lot (view tell (get_or c.loop-place.sessions c.loop-place.place c.index-sessions-place.result)) (view tell c.offer_at.new.session)) (own_lot c.args.homes.now c.args.commands.now c.args.sessions.now c.loop-place.sessions c.loop-place.place c.index-sessions-place.result c.lot.result.now c.deal.new.self.lots c.args.lots.now.switches
-        (λ a b. OffersAll c.args.migration (own c.args.homes.now a.switch c.args.commands.now) (view tell a) (view tell b)) c.loop-place.invariant
-        (omega (arith, c.loop-place-test.true, c.loop-place.auto.sessions)) c.lot.ensures c.in_default.ensures.ok c.requires) c.offer_at.ensures.some)
+    (λ a b. OffersAll c.args.migration (own c.args.homes.now a.switch c.args.commands.now) (view tell a) (view tell b)) c.loop-place.invariant
+    (omega (arith, c.loop-place-test.true, c.loop-place.auto.sessions)) c.lot.ensures c.in_default.ensures.ok c.requires) c.offer_at.ensures.some)
 
 pub returns-in_err-offer_at-clause-cause : goal.returns-in_err-offer_at-clause-cause
 returns-in_err-offer_at-clause-cause g c =

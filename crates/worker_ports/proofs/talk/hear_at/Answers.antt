@@ -49,6 +49,7 @@ returns-in-None-clause-ok g c =
             (subst (λ xs. All (IsOwn c.args.homes.now c.switch-switch.result) xs)
             (tail_told c.args.answers.now apart.0 c.hear_all.new.answers c.as_slice-before.result.now c.as_slice.result.now c.as_slice-before.ensures c.as_slice.ensures apart.1) c.in-None.ensures.none);
         live = c.in_default.ensures.still_live;
+        cut = c.hear_all.ensures.cut c.in_default.ensures.still_live;
         idle = λ none. (ap (view tell) (c.in_default.ensures.idle none).1, sym (behind c.args.answers.now apart.0 c.hear_all.new.answers apart.1) ∙ ap (drop (length c.args.answers.now)) (c.in_default.ensures.idle none).2 ∙ drop-length c.args.answers.now);
         heard_out = c.in_default.ensures.heard_out;
         comes = c.in_default.ensures.answers_or_quiet;
