@@ -58,6 +58,7 @@ disk-stops ws w disk = ap is_some (first_stop-append ws (w ∷ [])) ∙ some-or 
     some-or : (a b : Option Halt) → is_some b ≡ true → is_some (option_or a b) ≡ true
     some-or (Some x) b e = refl
     some-or None b e = e
+
     stops : (note : Note) → note.what ≡ what.Disk → is_some (option_or (halt_by note) None) ≡ true
     stops note is = ap (λ said. is_some (option_or (halt_by (record note { what = said })) None)) is
 

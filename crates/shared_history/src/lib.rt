@@ -14,8 +14,9 @@ mod reply;
 pub mod worked;
 
 pub use laws::{
-    a_first_stop_stays, a_history_goes_on_by_one_note, a_round_makes_a_batch, every_prefix_is_legal, nothing_is_added_behind_a_stop,
-    seats_number_their_calls, the_list_is_legal, the_pair_tells_all, what_is_told_may_be_noted,
+    a_first_stop_stays, a_history_goes_on_by_one_note, a_round_makes_a_batch,
+    every_prefix_is_legal, nothing_is_added_behind_a_stop, seats_number_their_calls,
+    the_list_is_legal, the_pair_tells_all, what_is_told_may_be_noted,
 };
 pub use note::{Cause, Note, NoteList, What, Written};
 pub use reply::{Halt, ListReply, Wake};

@@ -86,12 +86,10 @@ pub fn a_seat_numbers_its_calls()
 
 /// The entries in a row are those of each note, by its counts, and the rest is of a failed append.
 pub fn notes_tell_which_entries_are_theirs()
-    ensures {
-        written (begin_of 0 1 ∷ begin_of 1 1 ∷ done_of 0 1 ∷ begin_of 0 2 ∷ done_of 1 1 ∷ [])
-            (notes_of (says 0 0 (What.Turned 0 2) ∷ says 0 1 What.Listed ∷ says 0 2 (What.Turned 1 1) ∷ says 1 0 What.Disk ∷ says 0 3 What.Stopped ∷ []))
+    ensures { written (begin_of 0 1 ∷ begin_of 1 1 ∷ done_of 0 1 ∷ begin_of 0 2 ∷ done_of 1 1 ∷ [])
+        (notes_of (says 0 0 (What.Turned 0 2) ∷ says 0 1 What.Listed ∷ says 0 2 (What.Turned 1 1) ∷ says 1 0 What.Disk ∷ says 0 3 What.Stopped ∷ []))
         ≡ says_with 0 0 (What.Turned 0 2) (begin_of 0 1 ∷ begin_of 1 1 ∷ []) ∷ says 0 1 What.Listed ∷ says_with 0 2 (What.Turned 1 1) (done_of 0 1 ∷ begin_of 0 2 ∷ [])
-            ∷ says_with 1 0 What.Disk (done_of 1 1 ∷ []) ∷ says 0 3 What.Stopped ∷ []
-    }
+        ∷ says_with 1 0 What.Disk (done_of 1 1 ∷ []) ∷ says 0 3 What.Stopped ∷ [] }
 {}
 
 /// The list is what was found, and then the segments.
