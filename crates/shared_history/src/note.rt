@@ -1,4 +1,3 @@
-use lists::Many;
 use rollout_rules::Entry;
 use std::collections::LinkedList;
 
@@ -54,8 +53,8 @@ pub struct Note {
     pub what: What,
 }
 
-/// Notes in a row.
-pub type NoteList = Many<Note>;
+/// Notes in a row: a vector, in which a place can be taken ahead for a note that may find no memory later.
+pub type NoteList = Vec<Note>;
 
 /// A note with the entries that came with it: with `Turned` those that its round added, with `Disk` those
 /// of which the append failed, and with any other none. Contracts alone speak of it; no value of it is

@@ -5,7 +5,7 @@ use Rattle.std.proofs.Common.{Bool, true, false, cond, max}
 use Rattle.std.proofs.lemmas.Bool.{ltb-true}
 use Rattle.std.proofs.lemmas.Bool.Decides.{nat_tests}
 use Rattle.std.proofs.lemmas.List.{append-nil}
-use Rattle.std.proofs.lemmas.List.Elements.{All-append, All-nil, All-weaker, All-tail}
+use Rattle.std.proofs.lemmas.List.Elements.{All-append, All-cons, All-head, All-nil, All-weaker, All-tail}
 use Rattle.turn_lock.specs.Histories.{Follows, longer}
 
 module _ {E : Type 0} (seat_of : E → ℕ) where
@@ -31,9 +31,9 @@ module _ {E : Type 0} (seat_of : E → ℕ) where
   all_right P [] ys h = h
   all_right P (x ∷ xs) ys h = all_right P xs ys (All-tail P x (xs ++ ys) h)
 
-  all_left : (P : E → Type 0) (xs ys : List E) → All P (xs ++ ys) → All P xs
+  pub all_left : (P : E → Type 0) (xs ys : List E) → All P (xs ++ ys) → All P xs
   all_left P [] ys h = All-nil P
-  all_left P (x ∷ xs) ys h = Rattle.std.proofs.lemmas.List.Elements.All-cons P x xs (Rattle.std.proofs.lemmas.List.Elements.All-head P x (xs ++ ys) h) (all_left P xs ys (All-tail P x (xs ++ ys) h))
+  all_left P (x ∷ xs) ys h = All-cons P x xs (All-head P x (xs ++ ys) h) (all_left P xs ys (All-tail P x (xs ++ ys) h))
 
   abbrev Other : List ℕ → E → Type 0
   Other seats e = All (λ k. k ≢ seat_of e) seats

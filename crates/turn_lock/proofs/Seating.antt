@@ -18,7 +18,7 @@ use Rattle.turn_lock.specs.Rule.{AtHome, IsOut, Kept}
 use Rattle.turn_lock.specs.Steps.{with_stage, giving, given_seat, joining, spent, settled}
 use Rattle.turn_lock.proofs.Totals.{total_set, total_append, live_counts, live_total, one_live, at_within, same_at}
 use Rattle.turn_lock.proofs.Queues.{each_set, pairs_set, queue_same}
-use Rattle.turn_lock.proofs.Prefixes.{all_right, longer_follows}
+use Rattle.turn_lock.proofs.Prefixes.{all_left, all_right, longer_follows}
 use Rattle.turn_lock.proofs.Knows.{known_same, whole_set}
 use Rattle.turn_lock.proofs.Turning.{value_stays, turning_lives}
 
@@ -179,10 +179,18 @@ module _ {V E : Type 0} (history : V → List E) (seat_of : E → ℕ) where
             (value_stays history seat_of s.homes r.log s.views id v both at (λ h. subst IsTurning idle h) (λ h. h) r.value);
       }
 
-  -- a view that has taken another in tells what it knows, and is idle again
-  pub settles : (slots id : ℕ) (me : Me (Option V) (View E)) (a : List ℕ) (x : List E) (b : List ℕ) (y : List E) (n : ℕ) → me.0.stage ≡ Joining a x b y n → Allows Rule slots id me 0 (λ k. k) (settled seat_of (step slots 0 0 0 maybe.none) me)
-  settles slots id me a x b y n joins s r _ at _ = let v : View E = me.0 in let w : View E = with_stage Idle v in let live : IsLive v.stage = subst IsLive (sym joins) tt in
-      let none : tickets v.stage ≡ 0 = ap tickets joins in let sum = total_set tickets s.views id v w at in
+  -- all that seat 0 has seen is of seats that were made
+  seen_made : (log : List E) (views : List (View E)) (known : Known seat_of log views) (id : ℕ) (v : View E) → At views id v → IsLive v.stage → v.seat ≡ 0 → All (λ e. seat_of e < v.given) v.seen
+  seen_made log views known id v at live first_seat =
+      let zero_is : id ≡ 0 = sym (known.numbered id v at live) ∙ first_seat in
+      let given : v.given ≡ length views = (known.first v (subst (λ (k : ℕ). At views k v) zero_is at)).1 in
+      let f = known.follows id v at live in
+      subst (λ (k : ℕ). All (λ e. seat_of e < k) v.seen) (sym given) (all_left seat_of (λ e. seat_of e < length views) v.seen f.past (subst (All (λ e. seat_of e < length views)) f.is known.made))
+
+  -- a view with no ticket tells what it knows, and is idle
+  tells : (slots id : ℕ) (me : Me (Option V) (View E)) → IsLive me.0.stage → tickets me.0.stage ≡ 0 → (IsTurning me.0.stage → ⊥) → Allows Rule slots id me 0 (λ k. k) (settled seat_of (step slots 0 0 0 maybe.none) me)
+  tells slots id me live none idle s r _ at _ = let v : View E = me.0 in let w : View E = with_stage Idle v in
+      let sum = total_set tickets s.views id v w at in
       let same : r.turn + total tickets s.views ≡ r.turn + total tickets (set s.views id w) = omega arith in (
         w,
         keeps,
@@ -193,10 +201,17 @@ module _ {V E : Type 0} (history : V → List E) (seat_of : E → ℕ) where
           words = set-get_or s.words 0 0 ∙ (r.words ∙ ap (λ (n : ℕ). (n % 2 ^ 64) ∷ (r.turn % 2 ^ 64) ∷ length r.log ∷ []) same);
           queue = queue_same r.turn s.views r.queue id v w at (sym none) (λ t h. absurd h) (λ h. absurd h);
           known = known_same seat_of r.log s.views r.known id v w at record { was_live = live; live = tt; seat = refl; joined = refl; given = refl; out = refl } (r.known.follows id v at live) (λ e. e) (λ h. absurd h) tt;
-          value = value_stays history seat_of s.homes r.log s.views id v w at (λ h. subst IsTurning joins h) (λ h. h) r.value;
+          value = value_stays history seat_of s.homes r.log s.views id v w at idle (λ h. h) r.value;
         },
-        (refl, r.known.meets id v at),
+        (refl, r.known.meets id v at, seen_made r.log s.views r.known id v at live),
       )
+
+  -- one that has taken another in, and one that is idle
+  pub settles : (slots id : ℕ) (me : Me (Option V) (View E)) (a : List ℕ) (x : List E) (b : List ℕ) (y : List E) (n : ℕ) → me.0.stage ≡ Joining a x b y n → Allows Rule slots id me 0 (λ k. k) (settled seat_of (step slots 0 0 0 maybe.none) me)
+  settles slots id me a x b y n joins = tells slots id me (subst IsLive (sym joins) tt) (ap tickets joins) (λ h. subst IsTurning joins h)
+
+  pub rests : (slots id : ℕ) (me : Me (Option V) (View E)) → me.0.stage ≡ Idle → Allows Rule slots id me 0 (λ k. k) (settled seat_of (step slots 0 0 0 maybe.none) me)
+  rests slots id me idle = tells slots id me (subst IsLive (sym idle) tt) (ap tickets idle) (λ h. subst IsTurning idle h)
 
   -- what the value is in the end
   pub closes : (id : ℕ) (v : View E) (ws : List ℕ) (xs : List (Option V)) → v.stage ≡ Idle → v.seat ≡ 0 → v.out ≡ 0 → Final (Seen Rule id v) ws xs

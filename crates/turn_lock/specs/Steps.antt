@@ -1,5 +1,5 @@
 -- What each atomic step tells its caller.
-use Rattle.std.specs.Prelude.{◌≡◌, ◌≢◌, ℕ, ◌+◌, ◌-◌, ◌%◌, ◌^◌, List, [], ◌∷◌, ◌++◌, Option, Some, None}
+use Rattle.std.specs.Prelude.{◌≡◌, ◌≢◌, ◌<◌, All, ℕ, ◌+◌, ◌-◌, ◌%◌, ◌^◌, List, [], ◌∷◌, ◌++◌, Option, Some, None}
 use Rattle.atomic_table.specs.Table.{Me, Step}
 use Rattle.turn_lock.specs.declared.view.View.{View}
 use Rattle.turn_lock.specs.declared.view.Stage.{Stage}
@@ -48,8 +48,10 @@ module _ {S E : Type 0} where
   passed st m found m' = m' ≡ (with_stage Idle m.0, [])
 
 module _ {S E : Type 0} (seat_of : E → ℕ) where
+  -- what a seat knows that is idle or has just joined another, and of seat 0 that all it has seen is of seats that were made
   abbrev pub settled : Step S → Me S (View E) → ℕ → Me S (View E) → Type 0
-  settled st m found m' = (m' ≡ (with_stage Idle m.0, m.1)) × Meets seat_of m.0.stage m.0.seen m.0.out
+  settled st m found m' =
+      (m' ≡ (with_stage Idle m.0, m.1)) × Meets seat_of m.0.stage m.0.seen m.0.out × (m.0.seat ≡ 0 → All (λ e. seat_of e < m.0.given) m.0.seen)
 
 module _ {V E : Type 0} (history : V → List E) where
   abbrev pub shown : Option V → List E

@@ -38,7 +38,8 @@ impl<V: Counted> Pass<V> {
 }
 
 impl<V: Counted> TurnLock<V> {
-    /// Splits the next seat off the pass of seat 0. Both passes have seen what the one had.
+    /// Splits the next seat off the pass of seat 0. Both passes have seen what the one had, in which there is
+    /// nothing of the new seat.
     pub fn split(&self, pass: Pass<V>) -> (Pass<V>, Pass<V>)
         requires lock { IsPassOf self.now pass }
         requires first { seat_of_pass pass ≡ 0 }
@@ -46,6 +47,7 @@ impl<V: Counted> TurnLock<V> {
         ensures lock { IsPassOf self.now result.0 × IsPassOf self.now result.1 }
         ensures first { HasGiven pass result.0 }
         ensures second { IsNewPass pass result.1 }
+        ensures made { All (λ e. V.seat_of e < given_of pass) (seen_of pass) }
     {
         let Pass {
             mut place,
@@ -54,7 +56,9 @@ impl<V: Counted> TurnLock<V> {
             given,
             out,
         } = pass;
-        let next = self.table.shared.split_seat::<Give>(&mut place);
+        let shared = &self.table.shared;
+        shared.load::<Settle<V>>(&mut place, 0);
+        let next = shared.split_seat::<Give>(&mut place);
         let first = Pass {
             place,
             seat,
