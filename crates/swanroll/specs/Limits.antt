@@ -1,5 +1,5 @@
 -- The time limit that the environment names.
-use Rattle.std.specs.Prelude.{ℕ, List, Option, None, Some, length, nat_le, if◌then◌else◌}
+use Rattle.std.specs.Prelude.{ℕ, List, Option, None, Some, length, nat_le, nat_lt, if◌then◌else◌}
 use Rattle.swanroll_top.specs.Words.{number_in}
 
 -- how long connecting, hearing and writing may take, in milliseconds, where nothing says it
@@ -8,8 +8,7 @@ usual = 1000
 
 abbrev pub or_usual : Option ℕ → ℕ
 or_usual None = usual
-or_usual (Some 0) = usual
-or_usual (Some (suc n)) = suc n
+or_usual (Some number) = if nat_lt 0 number then number else usual
 
 -- a limit in 1 to 7 decimal digits above 0, and else the usual one
 abbrev pub limit_in : List ℕ → ℕ
