@@ -1,3 +1,4 @@
 pub mod Dealing
 pub mod Told
 pub mod Rowed
+pub mod Stories

@@ -4,3 +4,4 @@ pub mod Lots
 pub mod Offering
 pub mod Hearing
 pub mod Rows
+pub mod Stories

@@ -8,6 +8,7 @@
 //! another's item is refused before anything is made of it.
 #![tactic(auto)]
 
+mod laws;
 mod lots;
 mod ports;
 mod round;
@@ -15,4 +16,8 @@ mod talk;
 #[cfg(test)]
 mod tests;
 
+pub use laws::{
+    a_port_goes_on_and_on, a_round_is_one_more, a_round_that_ends_is_the_last,
+    what_is_told_stays_told,
+};
 pub use ports::{Berth, WorkerPorts};
