@@ -1,2 +1,5 @@
+pub mod Drawing
+pub mod Fresh
 pub mod Room
+pub mod Round
 pub mod Rows

@@ -1,0 +1,69 @@
+-- Each switch, link and flow that is added to a ring is new there, and within the limits.
+use Rattle.std.proofs.Common.{◌≡◌, ℕ, ◌+◌, ◌*◌, ◌/◌, ◌%◌, ◌<◌, ◌≤◌, ◌^◌, ◌==◌, nat_lt, Bool, true, false, cond, ◌&&◌, List, [], ◌∷◌, ◌++◌, length, get_or, slice_index, Some, None, codes, decimal, refl, sym, ap, ap₂, subst, ◌∙◌, inl, inr, eqb-true, le-ltb, position, add-one, arith, length-append}
+use Rattle.std.proofs.Math.Nat.{mod-lt}
+use Rattle.std.proofs.lemmas.Bool.{and_parts, cases_Bool, cond-false}
+use Rattle.std.proofs.lemmas.Fmt.{decimal_injective, length-decimal-le}
+use Rattle.std.proofs.lemmas.List.{append_cancel_left}
+use Rattle.std.proofs.lemmas.List.Sums.{position_or_len_is}
+use Rattle.std.specs.List.{position_or_len}
+use Rattle.rollout_rules.specs.Building.{find_flow, find_link, find_switch, no_problem, MayAddFlow, MayAddLink, MayAddSwitch}
+use Rattle.rollout_rules.specs.Sums.{list_below, same_numbers}
+use Rattle.rollout_rules.specs.Wan.{Flow, Link, Problem, Switch, no_flow, no_link, no_switch}
+use Rattle.case_gen.specs.Conditions.{AreCapacities, AreTables}
+use Rattle.case_gen.specs.Rings.{flow_named, flows_below, link_with, links_below, switch_with, switches_below}
+use Rattle.case_gen.proofs.Rows.{at-below, length-below}
+use Rattle.case_gen.proofs.Round.{same_link}
+
+-- where a test passes nowhere, nothing is found
+nowhere : {X : Type 0} (test : X → Bool) (xs : List X) (d : X) → ((k : ℕ) → k < length xs → test (get_or xs k d) ≡ false) → position test xs ≡ None
+nowhere test xs d fails =
+    let at : position_or_len test xs ≡ length xs = position_or_len_is test xs (length xs) d (omega arith) fails (λ lt. absurd (omega arith)) in
+    ap (λ m. cond (nat_lt m (length xs)) (Some m) None) at ∙ cond-false _ _ _ (le-ltb (length xs) (length xs) (omega arith))
+
+-- a list of rows in which a test passes at no number
+nowhere_below : {X : Type 0} (test : X → Bool) (n : ℕ) (row : ℕ → X) (d : X) → ((k : ℕ) → k < n → test (row k) ≡ false) → position test (list_below n row) ≡ None
+nowhere_below test n row d fails =
+    nowhere test (list_below n row) d (λ k lt. let below : k < n = omega (arith, length-below n row) in ap test (at-below n row k d below) ∙ fails k below)
+
+-- two texts that are the same
+same_is : (xs ys : List ℕ) → same_numbers xs ys ≡ true → xs ≡ ys
+same_is [] [] e = refl
+same_is [] (y ∷ ys) e = cc
+same_is (x ∷ xs) [] e = cc
+same_is (x ∷ xs) (y ∷ ys) e = let both = and_parts (x == y) (same_numbers xs ys) e in ap₂ (λ a b. a ∷ b) (eqb-true x y both.0) (same_is xs ys both.1)
+
+-- names of different numbers are different
+names_apart : (letter : List ℕ) (a b : ℕ) → a < b → b < 2 ^ 64 → same_numbers (letter ++ decimal a) (letter ++ decimal b) ≡ false
+names_apart letter a b less small = elim (cases_Bool (same_numbers (letter ++ decimal a) (letter ++ decimal b))) as (λ _. same_numbers (letter ++ decimal a) (letter ++ decimal b) ≡ false) [
+  | inl same ↦
+      let text : decimal a ≡ decimal b = append_cancel_left letter (decimal a) (decimal b) (same_is (letter ++ decimal a) (letter ++ decimal b) same) in
+      let number : a ≡ b = decimal_injective a b (omega arith) small text in
+      absurd (omega arith)
+  | inr other ↦ other
+]
+
+-- and short
+short_name : (letter : List ℕ) (n : ℕ) → length letter ≤ 1 → n < 10_000 → length (letter ++ decimal n) ≤ 128
+short_name letter n one few = omega (arith, length-append letter (decimal n), length-decimal-le 4 n (omega arith) (omega arith) (omega arith))
+
+module _ (tables : List ℕ) (are : AreTables tables) (w : ℕ) (inside : w < length tables) where
+  switch_fresh : find_switch (record no_problem { switches = switches_below tables w }) (codes "s" ++ decimal w) ≡ None
+  unfolding switches_below
+  switch_fresh = nowhere_below (λ s. same_numbers s.name (codes "s" ++ decimal w)) w (λ v. switch_with v (slice_index tables v)) no_switch (λ v lt. names_apart (codes "s") v w lt (omega (arith, are.most)))
+
+  switch_count : length (switches_below tables w) ≡ w
+  unfolding switches_below
+  switch_count = length-below w (λ v. switch_with v (slice_index tables v))
+
+  pub may_switch : (p : Problem) → p ≡ record no_problem { switches = switches_below tables w } → MayAddSwitch p (codes "s" ++ decimal w) (slice_index tables w)
+  may_switch p is = subst (λ q. MayAddSwitch q (codes "s" ++ decimal w) (slice_index tables w)) (sym is) (record {
+    room = omega (arith, switch_count, inside, are.most);
+    short = short_name (codes "s") w (omega arith) (omega (arith, inside, are.most));
+    fresh = switch_fresh;
+    within = are.within w inside;
+  })
+
+-- a switch more
+pub switch_more : (tables : List ℕ) (w : ℕ) → switches_below tables w ++ switch_with w (slice_index tables w) ∷ [] ≡ switches_below tables (w + 1)
+unfolding switches_below
+switch_more tables w = rw add-one refl
