@@ -1,12 +1,12 @@
 -- A flow and both its tunnels may be added to a ring, and what they make of it.
-use Rattle.std.proofs.Common.{◌≡◌, ℕ, ◌+◌, ◌-◌, ◌*◌, ◌%◌, ◌<◌, ◌≤◌, ◌==◌, Bool, true, ◌&&◌, ◌||◌, List, [], ◌∷◌, ◌++◌, length, get_or, set, slice_index, codes, decimal, Option, Some, None, IfSome, refl, sym, ap, ap₂, subst, ◌∙◌, eq-eqb, append_assoc, arith}
+use Rattle.std.proofs.Common.{◌≡◌, ℕ, zero, suc, ◌+◌, ◌-◌, ◌*◌, ◌%◌, ◌<◌, ◌≤◌, ◌==◌, Bool, true, ◌&&◌, ◌||◌, List, [], ◌∷◌, ◌++◌, length, get_or, set, slice_index, codes, decimal, Option, Some, None, IfSome, refl, sym, ap, ap₂, subst, ◌∙◌, eq-eqb, append_assoc, add-one, arith, length-append}
 use Rattle.std.proofs.lemmas.Bool.{and_from}
 use Rattle.std.proofs.lemmas.List.{get_or_push, length_push, set_at}
 use Rattle.rollout_rules.specs.Building.{has_ends, last_flow, links_along, with_flow, with_one_more, with_tunnel, MayAddTunnel}
 use Rattle.rollout_rules.specs.Network.{IsRate}
 use Rattle.rollout_rules.specs.Wan.{Flow, Problem, Tunnel, flow_at, hops, no_flow, no_tunnel, switch_of, tunnel_at}
 use Rattle.case_gen.specs.Conditions.{AreRates, IsRing, IsTrip}
-use Rattle.case_gen.specs.Rings.{first_tunnel, flow_named, links_of_walk, second_tunnel, tunnel_along, walk, walked}
+use Rattle.case_gen.specs.Rings.{first_tunnel, flow_named, flows_below, links_of_walk, second_tunnel, trip_at, tunnel_along, tunnels_below, walk, walked}
 use Rattle.case_gen.specs.Trips.{Rates, Trip}
 use Rattle.case_gen.proofs.Roads.{path_at, path_long, walk-IsRoute, walk-along}
 
@@ -172,3 +172,44 @@ module _ (n number : ℕ) (q : Problem) (trip : Trip) (ring : IsRing n q) (few :
           pub flow_added : (p3 : Problem) → p3 ≡ with_tunnel p2 way trip.second.old trip.second.new 1
               → p3 ≡ record q { flows = q.flows ++ flow_named number ∷ []; tunnels = q.tunnels ++ first_tunnel n number trip ∷ second_tunnel n number trip ∷ [] }
           flow_added p3 three = three ∙ ap₂ (λ (r : Problem) (w : List ℕ). with_tunnel r w trip.second.old trip.second.new 1) is_half_way leads ∙ to_done ∙ is_done
+
+-- the flows and tunnels of no trip, and of one more
+pub flows_at_first : (n : ℕ) (trips : List Trip) (q : Problem) → q.flows ≡ [] → q.tunnels ≡ [] → q ≡ record q { flows = flows_below 0; tunnels = tunnels_below n trips 0 }
+unfolding flows_below tunnels_below
+flows_at_first n trips q none nothing = ap₂ (λ (rows : List Flow) (ts : List Tunnel). record q { flows = rows; tunnels = ts }) none nothing
+
+one_more_flow : (f : ℕ) → flows_below f ++ flow_named f ∷ [] ≡ flows_below (f + 1)
+unfolding flows_below
+one_more_flow f = rw (add-one f) refl
+
+two_more_tunnels : (n f : ℕ) (trips : List Trip) → tunnels_below n trips f ++ first_tunnel n f (trip_at trips f) ∷ second_tunnel n f (trip_at trips f) ∷ [] ≡ tunnels_below n trips (f + 1)
+unfolding tunnels_below
+two_more_tunnels n f trips = rw (add-one f) refl
+
+pub tunnels_count : (n f : ℕ) (trips : List Trip) → length (tunnels_below n trips f) ≡ 2 * f
+unfolding tunnels_below
+tunnels_count n zero trips = refl
+tunnels_count n (suc f) trips =
+    omega (arith, length-append (tunnels_below n trips f) (first_tunnel n f (trip_at trips f) ∷ second_tunnel n f (trip_at trips f) ∷ []), tunnels_count n f trips)
+
+module _ (n f : ℕ) (trips : List Trip) (trip : Trip) (q p : Problem) (is : trip ≡ trip_at trips f) (so : p ≡ record q { flows = flows_below f; tunnels = tunnels_below n trips f }) where
+  pub ring_so_far : IsRing n q → IsRing n p
+  ring_so_far ring = subst (IsRing n) (sym so) (record {
+    least = ring.least;
+    most = ring.most;
+    plain = ring.plain;
+    all = ring.all;
+    count = ring.count;
+    from = ring.from;
+    to = ring.to;
+  })
+
+  pub tunnels_so_far : length p.tunnels ≡ 2 * f
+  tunnels_so_far = ap (λ (r : Problem). length r.tunnels) so ∙ tunnels_count n f trips
+
+  pub flow_more : (r : Problem) → r ≡ record p { flows = p.flows ++ flow_named f ∷ []; tunnels = p.tunnels ++ first_tunnel n f trip ∷ second_tunnel n f trip ∷ [] }
+      → r ≡ record q { flows = flows_below (f + 1); tunnels = tunnels_below n trips (f + 1) }
+  flow_more r added =
+      added
+      ∙ ap₂ (λ (s : Problem) (t : Trip). record s { flows = s.flows ++ flow_named f ∷ []; tunnels = s.tunnels ++ first_tunnel n f t ∷ second_tunnel n f t ∷ [] }) so is
+      ∙ ap₂ (λ (rows : List Flow) (ts : List Tunnel). record q { flows = rows; tunnels = ts }) (one_more_flow f) (two_more_tunnels n f trips)
