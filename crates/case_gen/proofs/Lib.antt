@@ -1,3 +1,4 @@
+pub mod Counted
 pub mod Drawing
 pub mod Flows
 pub mod Fresh
@@ -5,3 +6,4 @@ pub mod Roads
 pub mod Room
 pub mod Round
 pub mod Rows
+pub mod Whole

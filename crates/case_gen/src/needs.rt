@@ -57,7 +57,7 @@ fn least_capacity(k: u64, load: u64) -> u64
 
 /// Per switch how many entries its table takes where every tunnel is installed.
 pub(crate) fn tables_for(alloc: Global, problem: &Problem) -> Result<Vec<u32>, Memory>
-    requires plain { problem.now.format ≡ 1 }
+    requires { problem.now.format ≡ 1 }
     ensures value { IfOk result (λ tables. tables.items ≡ list_below (length problem.now.switches) (table_for problem.now)) }
     ensures within { IfOk result (λ tables. (w : ℕ) → w < length tables.items → slice_index tables.items w ≤ LARGEST_TABLE) }
 {
