@@ -74,9 +74,9 @@ pub record AreCounts (p : Problem) (tables : List ℕ) (n : ℕ) : Type 0 where
 
 pub counts_none : (p : Problem) (tables : List ℕ) → tables ≡ replicate (length p.switches) 0 → AreCounts p tables 0
 counts_none p tables are = record {
-  count = ap length are ∙ length-replicate (length p.switches) 0;
-  each = λ w lt. ap (λ ts. slice_index ts w) are ∙ get_or-replicate (length p.switches) w 0 0 lt;
-  few = λ w lt. omega (arith, ap (λ ts. slice_index ts w) are, get_or-replicate (length p.switches) w 0 0 lt);
+  count = ap length are ∙ length-replicate {A = ℕ} (length p.switches) 0;
+  each = λ w lt. ap (λ ts. slice_index ts w) are ∙ get_or-replicate {A = ℕ} (length p.switches) w 0 0 lt;
+  few = λ w lt. omega (arith, ap (λ ts. slice_index ts w) are, get_or-replicate {A = ℕ} (length p.switches) w 0 0 lt);
 }
 
 one_wide : (b : Bool) (width : ℕ) → width ≡ 1 → (if b then 1 else 0) ≡ (if b && true then width else 0)

@@ -2,6 +2,7 @@ pub mod Counted
 pub mod Drawing
 pub mod Flows
 pub mod Fresh
+pub mod Made
 pub mod Roads
 pub mod Room
 pub mod Round
