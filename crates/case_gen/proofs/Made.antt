@@ -44,7 +44,7 @@ trip-IsTrip draws n three =
       double = rates-AreRates (after_draws draws 4);
     }
 
-trips-AreTrips : (draws : Lcg) (n flows : ℕ) → 3 ≤ n → flows ≤ 1_024 → AreTrips n (trips_drawn draws n flows)
+pub trips-AreTrips : (draws : Lcg) (n flows : ℕ) → 3 ≤ n → flows ≤ 1_024 → AreTrips n (trips_drawn draws n flows)
 trips-AreTrips draws n flows three few = record {
   few = omega (arith, length-below flows (λ f. trip_drawn (after_draws draws (6 * f)) n));
   each = λ f lt.
@@ -80,10 +80,8 @@ network-HasSmallRates n tables capacities trips are = record {
   becomes = each_tunnel (λ t. new_rate t ≤ 1_000) n trips (length trips) (λ f lt. (small_unwrapped (trip_at trips f).first.new (are.each f lt).single.becomes, small_unwrapped (trip_at trips f).second.new (are.each f lt).double.becomes));
 }
 
-module _ (k n flows : ℕ) (draws : Lcg) (three : 3 ≤ n) (many : n ≤ 1_024) (few : flows ≤ 1_024) (trips : List Trip) (are : trips ≡ trips_drawn draws n flows) where
-  trips_fit : AreTrips n trips
-  trips_fit = subst (AreTrips n) (sym are) (trips-AreTrips draws n flows three few)
-
+module _ (n : ℕ) (three : 3 ≤ n) (many : n ≤ 1_024) (trips : List Trip) (fit : AreTrips n trips) where
+  -- the ring without tables and capacities
   module _ (tables capacities : List ℕ) (none : tables ≡ replicate n 0) (nothing : capacities ≡ replicate (2 * n) 0) where
     long : length tables ≡ n
     long = ap length none ∙ length-replicate {A = ℕ} n 0
@@ -102,55 +100,56 @@ module _ (k n flows : ℕ) (draws : Lcg) (three : 3 ≤ n) (many : n ≤ 1_024) 
     }
 
     pub trips_first : AreTrips (length tables) trips
-    trips_first = subst (λ m. AreTrips m trips) (sym long) trips_fit
+    trips_first = subst (λ m. AreTrips m trips) (sym long) fit
 
-    module _ (bare : Problem) (is : bare ≡ network (length tables) tables capacities trips) where
-      is_bare : bare ≡ bare_ring n trips
-      is_bare = is ∙ ap (λ m. network m tables capacities trips) long ∙ ap₂ (λ ts cs. network n ts cs trips) none nothing
+    pub is_bare : (p : Problem) → p ≡ network (length tables) tables capacities trips → p ≡ bare_ring n trips
+    is_bare p is = is ∙ ap (λ m. network m tables capacities trips) long ∙ ap₂ (λ ts cs. network n ts cs trips) none nothing
 
-      pub bare_plain : bare.format ≡ 1
-      bare_plain = ap (λ (p : Problem). p.format) is_bare
+  -- the ring with what was counted on the bare one
+  module _ (bare : Problem) (is : bare ≡ bare_ring n trips) where
+    pub bare_plain : bare.format ≡ 1
+    bare_plain = ap (λ (p : Problem). p.format) is
 
-      pub bare_small : HasSmallRates bare
-      bare_small = subst HasSmallRates (sym is_bare) (network-HasSmallRates n (replicate n 0) (replicate (2 * n) 0) trips trips_fit)
+    pub bare_small : HasSmallRates bare
+    bare_small = subst HasSmallRates (sym is) (network-HasSmallRates n (replicate n 0) (replicate (2 * n) 0) trips fit)
 
-      bare_switches : length bare.switches ≡ n
-      bare_switches = ap (λ (p : Problem). length p.switches) is_bare ∙ switches_count (replicate n 0) n
+    bare_switches : length bare.switches ≡ n
+    bare_switches = ap (λ (p : Problem). length p.switches) is ∙ switches_count (replicate n 0) n
 
-      bare_links : length bare.links ≡ 2 * n
-      bare_links = ap (λ (p : Problem). length p.links) is_bare ∙ links_count n (replicate (2 * n) 0) (2 * n)
+    bare_links : length bare.links ≡ 2 * n
+    bare_links = ap (λ (p : Problem). length p.links) is ∙ links_count n (replicate (2 * n) 0) (2 * n)
 
-      module _ (sizes : List ℕ) (sized : sizes ≡ list_below (length bare.switches) (table_for bare)) where
-        sizes_are : sizes ≡ list_below n (table_for (bare_ring n trips))
-        sizes_are = sized ∙ ap₂ (λ m (p : Problem). list_below m (table_for p)) bare_switches is_bare
+    module _ (tables : List ℕ) (counted : tables ≡ list_below (length bare.switches) (table_for bare)) where
+      tables_are : tables ≡ list_below n (table_for (bare_ring n trips))
+      tables_are = counted ∙ ap₂ (λ m (p : Problem). list_below m (table_for p)) bare_switches is
 
-        sizes_long : length sizes ≡ n
-        sizes_long = ap length sizes_are ∙ length-below n (table_for (bare_ring n trips))
+      tables_long : length tables ≡ n
+      tables_long = ap length tables_are ∙ length-below n (table_for (bare_ring n trips))
 
-        pub sizes_fit : ((w : ℕ) → w < length sizes → slice_index sizes w ≤ LARGEST_TABLE) → AreTables sizes
-        sizes_fit within = record {
-          least = omega (arith, sizes_long);
-          most = omega (arith, sizes_long);
+      pub tables_fit : ((w : ℕ) → w < length tables → slice_index tables w ≤ LARGEST_TABLE) → AreTables tables
+      tables_fit within = record {
+        least = omega (arith, tables_long);
+        most = omega (arith, tables_long);
+        within = within;
+      }
+
+      pub trips_again : AreTrips (length tables) trips
+      trips_again = subst (λ m. AreTrips m trips) (sym tables_long) fit
+
+      module _ (k : ℕ) (capacities : List ℕ) (carried : capacities ≡ list_below (length bare.links) (capacity_for k bare)) where
+        capacities_are : capacities ≡ list_below (2 * n) (capacity_for k (bare_ring n trips))
+        capacities_are = carried ∙ ap₂ (λ m (p : Problem). list_below m (capacity_for k p)) bare_links is
+
+        pub capacities_fit : ((l : ℕ) → l < length capacities → slice_index capacities l ≤ LARGEST_CAPACITY) → AreCapacities (length tables) capacities
+        capacities_fit within = record {
+          count = omega (arith, ap length capacities_are, length-below (2 * n) (capacity_for k (bare_ring n trips)), tables_long);
           within = within;
         }
 
-        pub trips_again : AreTrips (length sizes) trips
-        trips_again = subst (λ m. AreTrips m trips) (sym sizes_long) trips_fit
+        pub is_fitted : (p : Problem) → p ≡ network (length tables) tables capacities trips → p ≡ fitted_ring k n trips
+        is_fitted p whole = whole ∙ ap (λ m. network m tables capacities trips) tables_long ∙ ap₂ (λ ts cs. network n ts cs trips) tables_are capacities_are
 
-        module _ (widths : List ℕ) (carried : widths ≡ list_below (length bare.links) (capacity_for k bare)) where
-          widths_are : widths ≡ list_below (2 * n) (capacity_for k (bare_ring n trips))
-          widths_are = carried ∙ ap₂ (λ m (p : Problem). list_below m (capacity_for k p)) bare_links is_bare
-
-          pub widths_fit : ((l : ℕ) → l < length widths → slice_index widths l ≤ LARGEST_CAPACITY) → AreCapacities (length sizes) widths
-          widths_fit within = record {
-            count = omega (arith, ap length widths_are, length-below (2 * n) (capacity_for k (bare_ring n trips)), sizes_long);
-            within = within;
-          }
-
-          pub is_case : (made : Problem) → made ≡ network (length sizes) sizes widths trips → made ≡ case k n flows draws
-          unfolding case
-          is_case made whole =
-              whole
-              ∙ ap (λ m. network m sizes widths trips) sizes_long
-              ∙ ap₂ (λ ts cs. network n ts cs trips) sizes_are widths_are
-              ∙ ap (fitted_ring k n) are
+-- a ring that is fitted to the trips that were drawn is the case
+pub is_case : (k n flows : ℕ) (draws : Lcg) (trips : List Trip) (p : Problem) → trips ≡ trips_drawn draws n flows → p ≡ fitted_ring k n trips → p ≡ case k n flows draws
+unfolding case
+is_case k n flows draws trips p are is = is ∙ ap (fitted_ring k n) are

@@ -1,10 +1,12 @@
 ghost use Rattle.std.specs.Prelude.{◌≡◌, ◌≤◌, IfOk, OnOk};
-ghost use Rattle.case_gen.specs.Cases.{after_case, case};
+ghost use Rattle.rollout_rules.specs.declared.limits.TheConstants.{MOST_FLOWS, MOST_SWITCHES};
+ghost use Rattle.case_gen.specs.Cases.{after_case, bare_ring, case, fitted_ring};
+ghost use Rattle.case_gen.specs.Conditions.{AreTrips};
 
 use crate::draws::Draws;
 use crate::needs::{capacities_for, tables_for};
 use crate::ring::network;
-use crate::trip::draw_trips;
+use crate::trip::{Trip, draw_trips};
 use lists::Memory;
 use std::alloc::Global;
 use wan_model::Problem;
@@ -21,17 +23,38 @@ pub fn make_case(
     requires least_k { 2 ≤ k }
     requires most_k { k ≤ 64 }
     requires least_switches { 3 ≤ switches }
-    requires most_switches { switches ≤ 1_024 }
-    requires most_flows { flows ≤ 1_024 }
+    requires most_switches { switches ≤ MOST_SWITCHES }
+    requires most_flows { flows ≤ MOST_FLOWS }
     ensures case { IfOk result (λ problem. problem ≡ case k switches flows draws.old) }
     ensures behind { OnOk result (draws.new ≡ after_case flows draws.old) }
 {
     let trips = draw_trips(alloc, switches, flows, draws)?;
-    // Loads and entries are counted on the bare ring.
-    let tables = vec![in alloc; 0u32; switches as usize]?;
-    let capacities = vec![in alloc; 0u64; 2 * switches as usize]?;
-    let bare = network(alloc, tables.as_slice(), capacities.as_slice(), trips.as_slice())?;
+    fitted_ring(alloc, k, switches, trips.as_slice())
+}
+
+// A ring with the capacities and the tables that its trips need, which are counted on the bare ring.
+fn fitted_ring(alloc: Global, k: u32, switches: u32, trips: &[Trip]) -> Result<Problem, Memory>
+    requires least_k { 2 ≤ k }
+    requires most_k { k ≤ 64 }
+    requires least { 3 ≤ switches }
+    requires most { switches ≤ MOST_SWITCHES }
+    requires trips { AreTrips switches trips.now }
+    ensures { IfOk result (λ problem. problem ≡ fitted_ring k switches trips.now) }
+{
+    let bare = bare_ring(alloc, switches, trips)?;
     let tables = tables_for(alloc, &bare)?;
     let capacities = capacities_for(alloc, k, &bare)?;
-    network(alloc, tables.as_slice(), capacities.as_slice(), trips.as_slice())
+    network(alloc, tables.as_slice(), capacities.as_slice(), trips)
+}
+
+// The ring on which trips are made, without capacities and tables.
+fn bare_ring(alloc: Global, switches: u32, trips: &[Trip]) -> Result<Problem, Memory>
+    requires least { 3 ≤ switches }
+    requires most { switches ≤ MOST_SWITCHES }
+    requires trips { AreTrips switches trips.now }
+    ensures { IfOk result (λ problem. problem ≡ bare_ring switches trips.now) }
+{
+    let tables = vec![in alloc; 0u32; switches as usize]?;
+    let capacities = vec![in alloc; 0u64; 2 * switches as usize]?;
+    network(alloc, tables.as_slice(), capacities.as_slice(), trips)
 }

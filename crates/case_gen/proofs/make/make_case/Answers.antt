@@ -1,17 +1,15 @@
-use Rattle.case_gen.proofs.Made.{bare_plain, bare_small, is_case, no_capacities, no_tables, sizes_fit, trips_again, trips_first, widths_fit}
+use Rattle.std.proofs.Common.{sym, subst, ◌∙◌}
+use Rattle.std.proofs.lemmas.Result.{IfOk-weaker}
+use Rattle.case_gen.specs.Conditions.{AreTrips}
+use Rattle.case_gen.proofs.Made.{is_case, trips-AreTrips}
 use Rattle.case_gen.proofs.make.make_case.Goals as goal
 
-pub network-requires : goal.network-requires
-network-requires c = ?
+pub fitted_ring-requires-clause-trips : goal.fitted_ring-requires-clause-trips
+fitted_ring-requires-clause-trips c =
+    subst (AreTrips c.args.switches) (sym (c.as_slice.ensures.value ∙ c.in_ok-trips.ensures.value)) (trips-AreTrips c.args.draws.now c.args.switches c.args.flows c.requires.least_switches c.requires.most_flows)
 
-pub tables_for-requires : goal.tables_for-requires
-tables_for-requires c = ?
-
-pub capacities_for-requires : goal.capacities_for-requires
-capacities_for-requires c = ?
-
-pub network-requires-2 : goal.network-requires-2
-network-requires-2 c = ?
-
-pub returns : goal.returns
-returns c = ?
+pub returns-clause-case : goal.returns-clause-case
+returns-clause-case c =
+    IfOk-weaker c.fitted_ring.result _ _
+    (λ p. is_case c.args.k c.args.switches c.args.flows c.args.draws.now c.as_slice.result.now p (c.as_slice.ensures.value ∙ c.in_ok-trips.ensures.value))
+    c.fitted_ring.ensures
