@@ -1,11 +1,10 @@
 -- What is counted over tunnels: loads, which stay small, and the entries of tables.
-use Rattle.std.proofs.Common.{◌≡◌, ℕ, zero, suc, ◌+◌, ◌*◌, ◌^◌, ◌<◌, ◌≤◌, ◌==◌, max, Bool, true, false, ◌&&◌, List, [], ◌∷◌, ◌++◌, length, replicate, slice_index, Option, unwrap_or, if◌then◌else◌, refl, sym, ap, ap₂, ◌∙◌, add-one, inl, inr, arith, append-nil, drop, take}
+use Rattle.std.proofs.Common.{◌≡◌, ℕ, zero, suc, ◌+◌, ◌*◌, ◌^◌, ◌<◌, ◌≤◌, ◌==◌, max, Bool, true, false, ◌&&◌, List, [], ◌∷◌, ◌++◌, length, replicate, slice_index, unwrap_or, if◌then◌else◌, refl, sym, ap, ap₂, ◌∙◌, add-one, inl, inr, arith, append-nil, drop, take}
 use Rattle.std.proofs.lemmas.Bool.{cases_lt}
 use Rattle.std.proofs.lemmas.List.{drop_all, ext_get_or, get_or-replicate, length-replicate, take_all}
-use Rattle.rollout_rules.specs.Items.{entries_at}
 use Rattle.rollout_rules.specs.Network.{IsNetwork}
 use Rattle.rollout_rules.specs.Sums.{list_below, sum_below}
-use Rattle.rollout_rules.specs.Wan.{Problem, Tunnel, crosses, hops, new_rate, old_rate, switch_of, tunnel_at, width_of}
+use Rattle.rollout_rules.specs.Wan.{Problem, crosses, hops, switch_of, tunnel_at, width_of}
 use Rattle.rollout_rules.specs.declared.limits.TheConstants.{LARGEST_CAPACITY, LARGEST_TABLE}
 use Rattle.rollout_rules.proofs.Below.{sum_below-same}
 use Rattle.wan_model.specs.declared.side.Side.{Side}

@@ -1,7 +1,6 @@
 -- What several calls draw one behind the other.
-use Rattle.std.proofs.Common.{◌≡◌, ℕ, suc, ◌+◌, ◌*◌, ◌<◌, List, [], ◌∷◌, ◌++◌, length, refl, sym, ap, ap₂, ◌∙◌, add-one, arith}
+use Rattle.std.proofs.Common.{◌≡◌, ℕ, ◌+◌, ◌*◌, List, [], ◌∷◌, ◌++◌, sym, ap, ap₂, ◌∙◌, add-one, arith}
 use Rattle.rand_pcg.specs.Lcg.{Lcg}
-use Rattle.rollout_rules.specs.Sums.{list_below}
 use Rattle.case_gen.specs.Draws.{after_draws, drawn}
 use Rattle.case_gen.specs.Trips.{Rates, Trip, most_steps, rates_drawn, trip_drawn, trips_drawn}
 use Rattle.case_gen.proofs.Rows.{behind, in_a_row, not_yet}

@@ -2,11 +2,11 @@
 use Rattle.std.proofs.Common.{◌≡◌, ℕ, zero, suc, ◌+◌, ◌-◌, ◌*◌, ◌%◌, ◌<◌, ◌≤◌, ◌==◌, Bool, true, ◌&&◌, ◌||◌, List, [], ◌∷◌, ◌++◌, length, get_or, set, slice_index, codes, decimal, Option, Some, None, IfSome, refl, sym, ap, ap₂, subst, ◌∙◌, eq-eqb, append_assoc, add-one, arith, length-append}
 use Rattle.std.proofs.lemmas.Bool.{and_from}
 use Rattle.std.proofs.lemmas.List.{get_or_push, length_push, set_at}
-use Rattle.rollout_rules.specs.Building.{has_ends, last_flow, links_along, with_flow, with_one_more, with_tunnel, MayAddTunnel}
+use Rattle.rollout_rules.specs.Building.{links_along, with_flow, with_one_more, with_tunnel, MayAddTunnel}
 use Rattle.rollout_rules.specs.Network.{IsRate}
-use Rattle.rollout_rules.specs.Wan.{Flow, Problem, Tunnel, flow_at, hops, no_flow, no_tunnel, switch_of, tunnel_at}
+use Rattle.rollout_rules.specs.Wan.{Flow, Problem, Tunnel, hops, no_flow, no_tunnel, switch_of, tunnel_at}
 use Rattle.case_gen.specs.Conditions.{AreRates, IsRing, IsTrip}
-use Rattle.case_gen.specs.Rings.{first_tunnel, flow_named, flows_below, links_of_walk, second_tunnel, trip_at, tunnel_along, tunnels_below, walk, walked}
+use Rattle.case_gen.specs.Rings.{first_tunnel, flow_named, flows_below, second_tunnel, trip_at, tunnel_along, tunnels_below, walk, walked}
 use Rattle.case_gen.specs.Trips.{Rates, Trip}
 use Rattle.case_gen.proofs.Roads.{path_at, path_long, walk-IsRoute, walk-along}
 

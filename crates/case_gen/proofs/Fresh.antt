@@ -1,12 +1,12 @@
 -- Each switch, link and flow that is added to a ring is new there, and within the limits.
-use Rattle.std.proofs.Common.{◌≡◌, ℕ, ◌+◌, ◌*◌, ◌/◌, ◌%◌, ◌<◌, ◌≤◌, ◌^◌, ◌==◌, nat_lt, Bool, true, false, cond, ◌&&◌, List, [], ◌∷◌, ◌++◌, length, get_or, slice_index, Some, None, codes, decimal, refl, sym, ap, ap₂, subst, ◌∙◌, inl, inr, eqb-true, le-ltb, position, add-one, arith, length-append}
+use Rattle.std.proofs.Common.{◌≡◌, ℕ, ◌+◌, ◌/◌, ◌%◌, ◌<◌, ◌≤◌, ◌^◌, ◌==◌, nat_lt, Bool, true, false, cond, ◌&&◌, List, [], ◌∷◌, ◌++◌, length, get_or, slice_index, Some, None, codes, decimal, refl, sym, ap, ap₂, subst, ◌∙◌, inl, inr, eqb-true, le-ltb, position, add-one, arith, length-append}
 use Rattle.std.proofs.Math.Nat.{mod-lt}
 use Rattle.std.proofs.lemmas.Bool.{and_parts, cases_Bool, cond-false}
 use Rattle.std.proofs.lemmas.Fmt.{decimal_injective, length-decimal-le}
 use Rattle.std.proofs.lemmas.List.{append_cancel_left}
 use Rattle.std.proofs.lemmas.List.Sums.{position_or_len_is}
 use Rattle.std.specs.List.{position_or_len}
-use Rattle.rollout_rules.specs.Building.{find_flow, find_link, find_switch, no_problem, with_flow, with_link, with_switch, MayAddFlow, MayAddLink, MayAddSwitch}
+use Rattle.rollout_rules.specs.Building.{find_flow, find_link, find_switch, no_problem, with_link, with_switch, MayAddFlow, MayAddLink, MayAddSwitch}
 use Rattle.rollout_rules.specs.declared.limits.TheConstants.{MOST_SWITCHES}
 use Rattle.rollout_rules.specs.Sums.{list_below, same_numbers}
 use Rattle.rollout_rules.specs.Wan.{Flow, Link, Problem, Switch, no_flow, no_link, no_switch}

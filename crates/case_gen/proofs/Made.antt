@@ -1,5 +1,5 @@
 -- What is drawn makes a ring, and what is counted on it makes the case.
-use Rattle.std.proofs.Common.{◌≡◌, ℕ, zero, suc, ◌+◌, ◌-◌, ◌*◌, ◌/◌, ◌<◌, ◌≤◌, min, Bool, nat_le, List, [], ◌∷◌, ◌++◌, length, replicate, get_or, slice_index, Option, Some, None, IfSome, unwrap_or, if◌then◌else◌, refl, sym, ap, ap₂, subst, ◌∙◌, inl, inr, leb-true, arith}
+use Rattle.std.proofs.Common.{◌≡◌, ℕ, zero, suc, ◌-◌, ◌*◌, ◌<◌, ◌≤◌, Bool, nat_le, List, [], ◌∷◌, ◌++◌, length, replicate, get_or, slice_index, Option, Some, None, IfSome, unwrap_or, if◌then◌else◌, refl, sym, ap, ap₂, subst, ◌∙◌, inl, inr, leb-true, arith}
 use Rattle.std.proofs.Math.Nat.{mod-lt}
 use Rattle.std.proofs.lemmas.Bool.{cases_Bool, cases_eq, cases_lt}
 use Rattle.std.proofs.lemmas.List.{get_or_append_left, get_or-append_right, get_or-replicate, length-replicate}
@@ -12,7 +12,7 @@ use Rattle.case_gen.specs.Cases.{bare_ring, capacity_for, case, fitted_ring, tab
 use Rattle.case_gen.specs.Conditions.{AreCapacities, AreRates, AreTables, AreTrips, HasSmallRates, IsTrip}
 use Rattle.case_gen.specs.Draws.{after_draws, drawn}
 use Rattle.case_gen.specs.Rings.{first_tunnel, network, second_tunnel, trip_at, tunnels_below}
-use Rattle.case_gen.specs.Trips.{Rates, Trip, most_steps, no_trip, rate_of, rates_drawn, trip_drawn, trips_drawn}
+use Rattle.case_gen.specs.Trips.{Trip, most_steps, no_trip, rate_of, rates_drawn, trip_drawn, trips_drawn}
 use Rattle.case_gen.proofs.Flows.{tunnels_count}
 use Rattle.case_gen.proofs.Rows.{at-below, length-below}
 use Rattle.case_gen.proofs.Whole.{links_count, switches_count}

@@ -1,5 +1,5 @@
 -- A walk round a ring is a route, along the links that it is said to take.
-use Rattle.std.proofs.Common.{◌≡◌, ℕ, ◌+◌, ◌-◌, ◌*◌, ◌/◌, ◌%◌, ◌<◌, ◌≤◌, ◌==◌, nat_lt, Bool, true, false, cond, ◌&&◌, List, [], ◌∷◌, length, slice_index, Option, Some, None, is_some, unwrap_or, refl, sym, ap, ap₂, ◌∙◌, inl, inr, eq-eqb, eqb-true, lt-ltb, position, arith}
+use Rattle.std.proofs.Common.{◌≡◌, ℕ, ◌+◌, ◌-◌, ◌*◌, ◌/◌, ◌%◌, ◌<◌, ◌≤◌, ◌==◌, nat_lt, Bool, true, false, cond, ◌&&◌, List, [], ◌∷◌, length, slice_index, Some, None, is_some, unwrap_or, refl, sym, ap, ap₂, ◌∙◌, inl, inr, eq-eqb, eqb-true, lt-ltb, arith}
 use Rattle.std.proofs.Math.Nat.{mod-lt}
 use Rattle.std.proofs.lemmas.Bool.{and_from, and_parts, cases_Bool, cond-true}
 use Rattle.std.proofs.lemmas.List.{ext_get_or}

@@ -1,17 +1,16 @@
 -- That a case has the slack and the table room which it is made for.
-use Rattle.std.proofs.Common.{◌≡◌, ℕ, zero, suc, ◌+◌, ◌-◌, ◌*◌, ◌/◌, ◌%◌, ◌<◌, ◌≤◌, max, Bool, true, false, ◌&&◌, ◌==◌, List, [], ◌∷◌, ◌++◌, length, get_or, slice_index, slice_index_or, nat_le, if◌then◌else◌, refl, sym, ap, ◌∙◌, subst, inl, inr, arith, le-leb, length-append}
+use Rattle.std.proofs.Common.{◌≡◌, ℕ, ◌+◌, ◌-◌, ◌*◌, ◌<◌, ◌≤◌, max, Bool, true, false, ◌&&◌, ◌==◌, List, length, slice_index, slice_index_or, nat_le, if◌then◌else◌, sym, ap, ◌∙◌, subst, arith, le-leb}
 use Rattle.std.proofs.Math.Nat.{div-add-mod, le-max_left, le-max_right, mod-lt, mul-le-mul_left}
-use Rattle.std.proofs.lemmas.Bool.{and_from, cases_lt}
-use Rattle.std.proofs.lemmas.List.{get_or_append_left, get_or_push}
+use Rattle.std.proofs.lemmas.Bool.{and_from}
 use Rattle.rand_pcg.specs.Lcg.{Lcg}
 use Rattle.rollout_rules.specs.Items.{entries_at}
 use Rattle.rollout_rules.specs.Slack.{has_slack, has_table_room, is_wanted_or_carrying, new_load, old_load, was_installed}
-use Rattle.rollout_rules.specs.Sums.{list_below, sum_below}
+use Rattle.rollout_rules.specs.Sums.{list_below}
 use Rattle.rollout_rules.specs.Wan.{Link, Problem, Switch, hops, link_at, no_link, no_switch, switch_at, switch_of, width_of}
 use Rattle.rollout_rules.proofs.Below.{all_below-from, sum_below-mono}
 use Rattle.case_gen.specs.Cases.{bare_ring, capacity_for, case, least_capacity, table_for}
 use Rattle.case_gen.specs.Rings.{link_with, links_below, switch_with, switches_below}
-use Rattle.case_gen.specs.Trips.{Trip, trips_drawn}
+use Rattle.case_gen.specs.Trips.{trips_drawn}
 use Rattle.case_gen.proofs.Rows.{at-below, length-below}
 
 -- the least capacity leaves a share 1/k of it free

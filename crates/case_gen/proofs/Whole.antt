@@ -1,5 +1,5 @@
 -- A network on a ring, made of its switches, its links and its flows.
-use Rattle.std.proofs.Common.{◌≡◌, ℕ, ◌+◌, ◌*◌, ◌/◌, ◌%◌, ◌<◌, List, [], length, slice_index, refl, sym, ap, subst, ◌∙◌, arith}
+use Rattle.std.proofs.Common.{◌≡◌, ℕ, ◌*◌, List, [], length, slice_index, refl, sym, ap, subst, ◌∙◌}
 use Rattle.rollout_rules.specs.Building.{no_problem}
 use Rattle.rollout_rules.specs.Wan.{Link, Problem, no_link}
 use Rattle.case_gen.specs.Conditions.{AreTables, IsRing}

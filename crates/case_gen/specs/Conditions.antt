@@ -1,5 +1,5 @@
 -- What a network on a ring is made of: tables, capacities and trips within the limits, and the ring of links itself.
-use Rattle.std.specs.Prelude.{◌≡◌, ℕ, ◌+◌, ◌*◌, ◌/◌, ◌%◌, ◌<◌, ◌≤◌, List, length, Option, IfSome, slice_index}
+use Rattle.std.specs.Prelude.{◌≡◌, ℕ, ◌+◌, ◌*◌, ◌/◌, ◌%◌, ◌<◌, ◌≤◌, List, length, IfSome, slice_index}
 use Rattle.rollout_rules.specs.Wan.{Problem, link_at, new_rate, old_rate, tunnel_at}
 use Rattle.rollout_rules.specs.declared.limits.TheConstants.{MOST_SWITCHES, MOST_FLOWS, LARGEST_TABLE, LARGEST_CAPACITY}
 use Rattle.case_gen.specs.Trips.{Rates, Trip}

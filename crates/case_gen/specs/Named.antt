@@ -1,6 +1,6 @@
 -- The networks of the worked examples, written out as an independent reference makes them.
-use Rattle.std.specs.Prelude.{ℕ, List, [], ◌∷◌, ◌++◌, codes, decimal, Some}
-use Rattle.rollout_rules.specs.Wan.{Flow, Link, Problem, Switch, Tunnel}
+use Rattle.std.specs.Prelude.{ℕ, [], ◌∷◌, ◌++◌, codes, decimal, Some}
+use Rattle.rollout_rules.specs.Wan.{Link, Problem, Switch}
 
 abbrev pub switch : ℕ → ℕ → Switch
 switch number table = record { name = codes "s" ++ decimal number; table = table }

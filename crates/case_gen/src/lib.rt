@@ -12,6 +12,8 @@ mod make;
 mod needs;
 mod rates;
 mod ring;
+#[cfg(test)]
+mod tests;
 mod trip;
 pub mod worked;
 

@@ -1,4 +1,5 @@
-ghost use Rattle.std.specs.Prelude.{◌≡◌, ◌≤◌, IfOk, OnOk};
+ghost use Rattle.std.specs.Prelude.{◌≡◌, ◌≤◌, IfOk, IsTrue, OnOk};
+ghost use Rattle.rollout_rules.specs.Slack.{has_slack, has_table_room};
 ghost use Rattle.rollout_rules.specs.declared.limits.TheConstants.{MOST_FLOWS, MOST_SWITCHES};
 ghost use Rattle.case_gen.specs.Cases.{after_case, bare_ring, case, fitted_ring};
 ghost use Rattle.case_gen.specs.Conditions.{AreTrips};
@@ -11,8 +12,8 @@ use lists::Memory;
 use std::alloc::Global;
 use wan_model::Problem;
 
-/// The case of a trial, made of the next draws. It has slack 1/k and table room. Time: the switches, and
-/// the lengths of the tunnels.
+/// The case of a trial, made of the next draws, with slack 1/k and table room. Time: the switches, and the
+/// lengths of the tunnels.
 pub fn make_case(
     alloc: Global,
     k: u32,
@@ -26,6 +27,8 @@ pub fn make_case(
     requires most_switches { switches ≤ MOST_SWITCHES }
     requires most_flows { flows ≤ MOST_FLOWS }
     ensures case { IfOk result (λ problem. problem ≡ case k switches flows draws.old) }
+    ensures slack { IfOk result (λ problem. IsTrue (has_slack problem k)) }
+    ensures room { IfOk result (λ problem. IsTrue (has_table_room problem)) }
     ensures behind { OnOk result (draws.new ≡ after_case flows draws.old) }
 {
     let trips = draw_trips(alloc, switches, flows, draws)?;

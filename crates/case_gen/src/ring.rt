@@ -89,8 +89,9 @@ fn add_flow(
     requires tunnels { length problem.old.tunnels ≡ 2 * number }
     requires trip { IsTrip switches trip.now }
     ensures { OnOk result (problem.new ≡ record problem.old {
-        flows = problem.old.flows ++ flow_named number ∷ [];
-        tunnels = problem.old.tunnels ++ first_tunnel switches number trip.now ∷ second_tunnel switches number trip.now ∷ [] }) }
+      flows = problem.old.flows ++ flow_named number ∷ [];
+      tunnels = problem.old.tunnels ++ first_tunnel switches number trip.now ∷ second_tunnel switches number trip.now ∷ [];
+    }) }
 {
     let name = format!(in alloc; "f{number}")?;
     problem.add_flow(&name)?;

@@ -24,7 +24,7 @@ pub loop-t-preserved : goal.loop-t-preserved
 loop-t-preserved c =
     let inside : c.loop-t.t < length c.args.problem.now.tunnels = omega (arith, ap length c.tunnels-t-end.ensures.list) in
     let by : GrownBy c.loop-t.tables.items c.count_along.new.tables (added c.path.result.now 1) (length c.path.result.now) =
-        subst (λ (old : List ℕ). GrownBy old c.count_along.new.tables (added c.path.result.now 1) (length c.path.result.now)) c.as_mut_slice.ensures.value c.count_along.ensures in
+    subst (λ (old : List ℕ). GrownBy old c.count_along.new.tables (added c.path.result.now 1) (length c.path.result.now)) c.as_mut_slice.ensures.value c.count_along.ensures in
     let back = written_back c.loop-t.tables.len c.loop-t.tables.items c.count_along.new.tables (search rules) by.count in
     subst (λ (tables : List ℕ). AreCounts c.args.problem.now tables (c.loop-t.t + 1)) (sym back)
     (counts_more c.args.problem.now c.tunnels-t-end.ensures.network c.loop-t.t inside c.path.result.now c.path.ensures.list c.loop-t.tables.items c.loop-t.invariant c.count_along.new.tables c.requires by)

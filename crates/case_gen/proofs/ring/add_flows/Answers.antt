@@ -1,9 +1,9 @@
-use Rattle.std.proofs.Common.{◌≡◌, ◌<◌, length, ap, subst, sym, arith}
+use Rattle.std.proofs.Common.{◌≡◌, ap, subst, sym, arith}
 use Rattle.std.proofs.lemmas.List.{get_or_read}
 use Rattle.rollout_rules.specs.Wan.{Problem}
 use Rattle.case_gen.specs.Conditions.{IsTrip}
 use Rattle.case_gen.specs.Rings.{trip_at}
-use Rattle.case_gen.specs.Trips.{Trip, no_trip}
+use Rattle.case_gen.specs.Trips.{no_trip}
 use Rattle.case_gen.proofs.Flows.{flow_more, flows_at_first, ring_so_far, tunnels_so_far}
 use Rattle.case_gen.proofs.ring.add_flows.Goals as goal
 

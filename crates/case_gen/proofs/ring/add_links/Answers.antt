@@ -1,4 +1,4 @@
-use Rattle.std.proofs.Common.{◌≡◌, ℕ, List, length, ap, ◌∙◌}
+use Rattle.std.proofs.Common.{◌≡◌, List, length, ap, ◌∙◌}
 use Rattle.rollout_rules.specs.Wan.{Link, Problem}
 use Rattle.case_gen.specs.Rings.{links_below}
 use Rattle.case_gen.proofs.Fresh.{may_link, link_added}

@@ -1,4 +1,4 @@
-use Rattle.std.proofs.Common.{◌≡◌, ap, ◌∙◌}
+use Rattle.std.proofs.Common.{ap, ◌∙◌}
 use Rattle.rand_pcg.specs.Lcg.{Lcg}
 use Rattle.case_gen.specs.Draws.{after_draws}
 use Rattle.case_gen.proofs.Rows.{behind}
