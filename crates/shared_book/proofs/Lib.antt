@@ -1,0 +1,13 @@
+pub mod Sharing
+pub mod Counting
+pub mod Unstopped
+pub mod Rounded
+pub mod Listed
+pub mod Asking
+pub mod Firsts
+pub mod HomeRows
+pub mod Woken
+pub mod Waits
+pub mod Locked
+pub mod Imaged
+pub mod RoundImages

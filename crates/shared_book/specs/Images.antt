@@ -1,0 +1,67 @@
+-- What the disk under a shared book may be left with by a crash.
+use Rattle.std.specs.Prelude.{◌≡◌, ◌⊎◌, ℕ, ◌≤◌, true, List, [], ◌∷◌, ◌++◌, Option, IfSome}
+use Rattle.rollout_rules.specs.History.{with_entries}
+use Rattle.rollout_rules.specs.Legal.{is_legal}
+use Rattle.rollout_rules.specs.declared.op.Entry.{Entry}
+use Rattle.wan_edge.specs.Streams.{Rose}
+use Rattle.rollout_book.specs.Lists.{HasList, HasBeforeOrAfter}
+use Rattle.shared_history.specs.declared.note.What.{What}
+use Rattle.shared_history.specs.declared.note.What.TheVariants as what
+use Rattle.shared_history.specs.declared.note.Written.{Written}
+use Rattle.shared_history.specs.Histories.{Opening, added, history_of}
+
+-- The entries of which the append failed: those of a Disk.
+abbrev pub lost_by : What → List Entry → List Entry
+lost_by (what.Turned dones begins) es = []
+lost_by (what.Alien item held begun) es = []
+lost_by what.Disk es = es
+lost_by what.Listed es = []
+lost_by what.Work es = []
+lost_by what.Finished es = []
+lost_by what.Held es = []
+lost_by what.Stopped es = []
+lost_by (what.Stop why) es = []
+
+abbrev pub lost : List Written → List Entry
+lost [] = []
+lost (w ∷ ws) = lost_by w.note.what w.entries ++ lost ws
+
+-- whether a note says that the disk failed
+abbrev pub IsDisk : What → Type 0
+IsDisk (what.Turned dones begins) = ⊥
+IsDisk (what.Alien item held begun) = ⊥
+IsDisk what.Disk = Unit {0}
+IsDisk what.Listed = ⊥
+IsDisk what.Work = ⊥
+IsDisk what.Finished = ⊥
+IsDisk what.Held = ⊥
+IsDisk what.Stopped = ⊥
+IsDisk (what.Stop why) = ⊥
+
+abbrev pub HasDisk : List Written → Type 0
+HasDisk [] = ⊥
+HasDisk (w ∷ ws) = IsDisk w.note.what ⊎ HasDisk ws
+
+-- The image has the list behind these notes; where the disk failed, maybe with the whole of the batch that was lost.
+abbrev pub HasListBehind : Opening → List Written → List ℕ → Type 0
+HasListBehind o ws image = HasBeforeOrAfter o.found.start (history_of o ws).entries (lost ws) image
+
+-- The image has a legal list that begins with the one found: the list behind a beginning of the notes.
+pub record HasLegalList (o : Opening) (log : List Written) (image : List ℕ) : Type 0 where
+  pub seen : List Written
+  pub later : List Written
+  pub is : log ≡ seen ++ later
+  pub past : List Entry
+  pub legal : is_legal o.rollout.problem o.rollout.plan (with_entries o.found past) ≡ true
+  pub has : HasList o.found.start (o.found.entries ++ past) image
+  pub behind : (past ≡ added seen) ⊎ (past ≡ added seen ++ lost seen)
+
+-- What is known of the disk behind a shared history, which began at a moment with so many failures. Of a disk that tells its
+-- content: every image that a crash may have left since that moment has a legal list that begins with the one found; and each
+-- that a crash now may leave has the list behind all notes. Of every disk: it has failed since then where a note says so.
+pub record HasImages {D : Type 0} (bytes : D → Option (List ℕ)) (may_leave : D → List ℕ → Type 0) (moment : D → ℕ) (left_since : D → ℕ → List ℕ → Type 0) (faults : D → ℕ) (o : Opening) (from count : ℕ) (disk : D) (log : List Written) : Type 0 where
+  pub more : count ≤ faults disk
+  pub later : IfSome (bytes disk) (λ _. from ≤ moment disk)
+  pub since : IfSome (bytes disk) (λ _. (image : List ℕ) → left_since disk from image → HasLegalList o log image)
+  pub now : IfSome (bytes disk) (λ _. (image : List ℕ) → may_leave disk image → HasListBehind o log image)
+  pub failed : HasDisk log → Rose count (faults disk)

@@ -1,0 +1,43 @@
+ghost use Rattle.std.specs.Prelude.{◌≡◌, length, map, None, IsTrue};
+
+use crate::marker::Marker;
+use disk_model::Disk;
+use rollout_book::Chronicle;
+use shared_history::{Halt, Note, Written};
+use std::marker::{Model, PhantomData};
+use turn_lock::Counted;
+
+/// What lies under the lock: a chronicle, and the notes of the calls made to it.
+pub struct Kept<D: Disk, M: Marker> {
+    pub(crate) chronicle: Chronicle<D>,
+    pub(crate) notes: Vec<Note>,
+    pub(crate) halted: Option<Halt>,
+    // How many seats have not asked yet that all stop. There is room for a note of each of them.
+    pub(crate) spare: u32,
+    pub(crate) of: PhantomData<M>,
+}
+
+impl<D: Disk, M: Marker> Model for Kept<D, M> {
+    ghost use Rattle.std.specs.Prelude.{vec_capacity};
+    ghost use Rattle.shared_book.specs.Images.{HasImages};
+    ghost use Rattle.shared_book.specs.Sharing.{Sharing, log_of, IsShared};
+
+    ghost Value = { Sharing D };
+
+    ghost view = { λ k. record { book = k.chronicle; log = log_of k.chronicle k.notes.items } };
+
+    ghost invariant = { λ k. IsShared M.opening M.seats k.chronicle k.notes.items k.halted k.spare (vec_capacity k.notes) (log_of k.chronicle k.notes.items)
+        × HasImages D.bytes D.may_leave D.moment D.left_since D.faults M.opening M.moment M.faults k.chronicle.disk (log_of k.chronicle k.notes.items) };
+}
+
+impl<D: Disk, M: Marker> Counted for Kept<D, M> {
+    type Entry = Written;
+
+    ghost history = { λ k. k.log };
+
+    ghost seat_of = { λ w. w.note.seat };
+
+    fn count(&self) -> u64 {
+        self.notes.len() as u64
+    }
+}

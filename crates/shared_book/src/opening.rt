@@ -1,0 +1,59 @@
+//! What lies under the lock at first, and what is left of it in the end.
+ghost use Rattle.std.specs.Prelude.{◌≡◌, [], IfErr, IfOk, IsTrue};
+ghost use Rattle.shared_history.specs.Legal.{is_legal_shared};
+ghost use Rattle.shared_history.specs.Notes.{notes_of};
+ghost use Rattle.shared_book.specs.Images.{HasImages};
+ghost use Rattle.shared_book.specs.Opened.{IsClosed, IsOpenedOn};
+
+use crate::kept::Kept;
+use crate::marker::Marker;
+use disk_model::Disk;
+use rollout_book::Chronicle;
+use shared_history::NoteList;
+use std::alloc::Global;
+use std::marker::PhantomData;
+
+impl<D: Disk, M: Marker> Kept<D, M> {
+    /// What lies under the lock at first: a book as it was opened, without notes, and with a place for the
+    /// stop of each seat. The book comes back where memory runs out.
+    pub fn first(
+        alloc: Global,
+        chronicle: Chronicle<D>,
+        seats: u32,
+    ) -> Result<Kept<D, M>, Chronicle<D>>
+        requires opened { IsOpenedOn D.bytes D.may_leave D.moment D.faults M.opening M.moment M.faults chronicle }
+        requires seats { M.seats ≡ seats }
+        ensures ok { IfOk result (λ kept. (kept.book ≡ chronicle) × (kept.log ≡ [])) }
+        ensures err { IfErr result (λ back. back ≡ chronicle) }
+    {
+        let mut notes = Vec::new(alloc);
+        if notes.reserve(seats as usize).is_err() {
+            return Err(chronicle);
+        }
+        Ok(Kept {
+            chronicle,
+            notes,
+            halted: None,
+            spare: seats,
+            of: PhantomData,
+        })
+    }
+
+    /// The book and the notes.
+    pub fn into_parts(self) -> (Chronicle<D>, NoteList)
+        ensures book { result.0 ≡ self.book }
+        ensures notes { result.1.items ≡ notes_of self.log }
+        ensures legal { IsTrue (is_legal_shared M.opening self.log) }
+        ensures is { IsClosed M.opening self.log self.book }
+        ensures images { HasImages D.bytes D.may_leave D.moment D.left_since D.faults M.opening M.moment M.faults self.book.disk self.log }
+    {
+        let Kept {
+            chronicle,
+            notes,
+            halted: _,
+            spare: _,
+            of: _,
+        } = self;
+        (chronicle, notes)
+    }
+}

@@ -1,0 +1,89 @@
+ghost use Rattle.std.specs.Prelude.{◌≡◌, ◌≤◌, true, IfSome, IsTrue, None};
+ghost use Rattle.order_policy.specs.Answers.{rank_by};
+ghost use Rattle.disk_model.specs.Moments.{LeavesOnly};
+ghost use Rattle.rollout_book.specs.Aliens.{told_by};
+ghost use Rattle.rollout_book.specs.Chronicles.{batch_of};
+ghost use Rattle.rollout_book.specs.Lists.{HasBeforeOrAfter, IsKeptList};
+ghost use Rattle.shared_history.specs.Histories.{history_of};
+ghost use Rattle.shared_history.specs.Legal.{is_legal_shared};
+ghost use Rattle.shared_history.specs.Notes.{calls_by};
+ghost use Rattle.shared_history.specs.Replies.{batch_at};
+ghost use Rattle.shared_book.specs.Rounds.{IsRoundOf};
+ghost use Rattle.shared_book.specs.Told.{with_noted, round_notes, IsRoundAt, OnBatch, OnFailed, OnTurned, OnWant};
+ghost use Rattle.wan_edge.specs.Streams.{KeepsTelling, Rose};
+
+use crate::kept::Kept;
+use crate::marker::Marker;
+use crate::noting::{make_room, write_if};
+use crate::reply::RoundReply;
+use disk_model::Disk;
+use order_policy::Policy;
+use rollout_book::{BookFault, Chronicle};
+use shared_history::{Halt, What};
+use wire_frames::Answer;
+
+impl<D: Disk, M: Marker> Kept<D, M> {
+    /// A round of a seat, as its call of this number: what the history says that it is told, with the batch
+    /// added to the list. Where an answer is alien or the disk fails, that stops all. Memory is wanted for
+    /// the place of the note alone, before the round is begun.
+    pub fn round(&mut self, policy: &Policy, seat: u32, call: u64, answers: &[Answer]) -> RoundReply
+        requires policy { M.opening.policy ≡ rank_by policy.now.answers }
+        requires call { call ≡ calls_by seat self.old.log }
+        ensures legal { IsTrue (is_legal_shared M.opening self.new.log) }
+        ensures log { self.new.log ≡ with_noted seat self.old.log (round_notes result) (batch_at M.opening (history_of M.opening self.old.log) (told_by answers.now)) }
+        ensures told { IsRoundAt M.opening self.old.log (told_by answers.now) result }
+        ensures want { OnWant result (self.new ≡ self.old) }
+        ensures cause { OnFailed result (Rose (D.faults self.old.book.disk) (D.faults self.new.book.disk)) }
+        ensures count { D.faults self.old.book.disk ≤ D.faults self.new.book.disk }
+    {
+        if make_room(&mut self.notes, self.spare).is_err() {
+            return RoundReply::Memory;
+        }
+        let reply = made(&mut self.chronicle, self.halted, policy, answers);
+        write_if(&mut self.notes, &mut self.halted, seat, call, noted(reply));
+        reply
+    }
+}
+
+// A round of a book, unless a stop has ended it.
+fn made<D: Disk>(
+    chronicle: &mut Chronicle<D>,
+    halted: Option<Halt>,
+    policy: &Policy,
+    answers: &[Answer],
+) -> RoundReply
+    requires { halted ≡ None → chronicle.old.live ≡ true }
+    ensures made { IsRoundOf chronicle.old halted (rank_by policy.now.answers) answers.now result chronicle.new }
+    ensures any_moment { OnBatch result (IfSome (D.bytes chronicle.old.disk) (λ _. LeavesOnly D.moment D.left_since chronicle.old.disk chronicle.new.disk
+        (HasBeforeOrAfter chronicle.old.history.start chronicle.old.entries (batch_of chronicle.old (rank_by policy.now.answers) answers.now)))) }
+    ensures has { OnTurned result (IfSome (D.bytes chronicle.new.disk) (IsKeptList chronicle.new.history.start chronicle.new.entries (D.may_leave chronicle.new.disk))) }
+    ensures told { KeepsTelling (D.bytes chronicle.old.disk) (D.bytes chronicle.new.disk) }
+    ensures cause { OnFailed result (Rose (D.faults chronicle.old.disk) (D.faults chronicle.new.disk)) }
+    ensures count { D.faults chronicle.old.disk ≤ D.faults chronicle.new.disk }
+{
+    if let Some(halt) = halted {
+        return RoundReply::Stopped(halt);
+    }
+    match chronicle.round(policy, answers) {
+        Ok(turn) => RoundReply::Turned(turn),
+        Err(fault) => RoundReply::Refused(fault),
+    }
+}
+
+// What is noted of a reply.
+fn noted(reply: RoundReply) -> Option<What>
+    ensures { result ≡ round_notes reply }
+{
+    match reply {
+        RoundReply::Turned(turn) => Some(What::Turned {
+            dones: turn.dones,
+            begins: turn.begins,
+        }),
+        RoundReply::Refused(BookFault::Alien { item, held, begun }) => {
+            Some(What::Alien { item, held, begun })
+        }
+        RoundReply::Refused(BookFault::Disk) => Some(What::Disk),
+        RoundReply::Stopped(_) => Some(What::Stopped),
+        RoundReply::Memory => None,
+    }
+}
