@@ -3,6 +3,7 @@ pub mod Drawing
 pub mod Flows
 pub mod Fresh
 pub mod Made
+pub mod Planned
 pub mod Roads
 pub mod Room
 pub mod Round

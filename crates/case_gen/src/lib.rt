@@ -18,5 +18,5 @@ mod trip;
 pub mod worked;
 
 pub use draws::Draws;
-pub use laws::{a_case_has_slack_and_table_room, draws_stand_in_a_row};
+pub use laws::{a_case_has_a_plan, a_case_has_slack_and_table_room, draws_stand_in_a_row};
 pub use make::make_case;

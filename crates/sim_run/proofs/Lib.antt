@@ -6,3 +6,4 @@ pub mod Moving
 pub mod Turns
 pub mod Whole
 pub mod Going
+pub mod Drawing

@@ -3,3 +3,6 @@ pub mod Script
 pub mod Rehearsed
 pub mod Passing
 pub mod Rehearsing
+pub mod Trials
+pub mod TrialText
+pub mod Named

@@ -7,6 +7,9 @@
 //! has passed on the network and what the switches have applied, and each act changes what it touches alone.
 //! [`every_rehearsal_is_safe`] says that the worlds of a script are those of a schedule, each of them safe,
 //! that no peak is above its capacity, and that what ends finished is the new split, whatever the policy.
+//!
+//! What a trial's events are, each an act that is drawn, and its text are definitions as yet (`specs/Trials`,
+//! `specs/TrialText`), with two texts of an independent reference as worked examples.
 #![tactic(auto)]
 
 mod act_line;
@@ -16,8 +19,9 @@ mod laws;
 mod lines;
 mod network;
 mod run;
+pub mod worked;
 
-pub use laws::every_rehearsal_is_safe;
+pub use laws::{a_trial_is_a_script, every_rehearsal_is_safe};
 pub use run::run_script;
 
 #[cfg(test)]

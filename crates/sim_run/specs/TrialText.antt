@@ -1,0 +1,71 @@
+-- The text of a trial: its numbers, its plan, what happened, and the link that came to be fullest.
+use Rattle.std.specs.Prelude.{ℕ, zero, suc, ◌+◌, ◌*◌, List, ◌++◌, length, codes, decimal, Option, Some, None, ◌==◌, nat_lt, if◌then◌else◌}
+use Rattle.rand_pcg.specs.Lcg.{Lcg}
+use Rattle.rollout_rules.specs.History.{History}
+use Rattle.rollout_rules.specs.Wan.{Plan, Problem, last_stage, link_at}
+use Rattle.rollout_rules.specs.declared.op.OpView.{OpView}
+use Rattle.wan_text.specs.Names.{link_text}
+use Rattle.rollout_peaks.specs.Ends.{last_line, unsettled}
+use Rattle.rollout_peaks.specs.Peaks.{link_peak}
+use Rattle.sim_run.specs.Acts.{Rehearsal}
+use Rattle.sim_run.specs.Trials.{Trial, after_trial, all_operations, drained, raised, turns}
+
+-- the numbers of a trial
+pub record Shape : Type 0 where
+  pub k : ℕ
+  pub switches : ℕ
+  pub flows : ℕ
+  pub seed : ℕ
+  pub events : ℕ
+
+-- what a link has, in units of 1/scale
+abbrev pub room_of : Problem → Plan → ℕ → ℕ
+room_of p plan l = (link_at p l).capacity * plan.scale
+
+-- the fuller of two links by their peaks' shares, the first where they are equal; a link without capacity is none
+abbrev pub fuller : Problem → Plan → History → Option ℕ → ℕ → Option ℕ
+fuller p plan h None l = if room_of p plan l == 0 then None else Some l
+fuller p plan h (Some best) l =
+    if room_of p plan l == 0 then Some best
+    else if nat_lt (link_peak p plan h best * room_of p plan l) (link_peak p plan h l * room_of p plan best) then Some l
+    else Some best
+
+-- the fullest of the first so many links
+abbrev pub fullest : Problem → Plan → History → ℕ → Option ℕ
+fullest p plan h zero = None
+fullest p plan h (suc l) = fuller p plan h (fullest p plan h l) l
+
+abbrev pub fullest_text : Problem → Plan → History → Option ℕ → List ℕ
+fullest_text p plan h None = codes "none"
+fullest_text p plan h (Some l) = link_text p l ++ codes " " ++ decimal (link_peak p plan h l) ++ codes " of " ++ decimal (room_of p plan l)
+
+abbrev pub shape_line : Shape → List ℕ
+shape_line s =
+    codes "trial: switches " ++ decimal s.switches ++ codes ", links " ++ decimal (2 * s.switches) ++ codes ", flows " ++ decimal s.flows
+    ++ codes ", tunnels " ++ decimal (2 * s.flows) ++ codes ", k " ++ decimal s.k ++ codes ", seed " ++ decimal s.seed ++ codes "\n"
+
+abbrev pub plan_line : Plan → ℕ → List ℕ
+plan_line plan rate_steps =
+    codes "plan: steps " ++ decimal (last_stage plan) ++ codes ", rate steps " ++ decimal rate_steps ++ codes ", scale " ++ decimal plan.scale ++ codes "\n"
+
+abbrev pub events_line : ℕ → ℕ → ℕ → List ℕ
+events_line events skipped drain = codes "events: " ++ decimal events ++ codes ", skipped " ++ decimal skipped ++ codes ", drain " ++ decimal drain ++ codes "\n"
+
+-- what stands behind a rollout: its operations and entries, the fullest link, and whether it is finished
+abbrev pub outcome_lines : Problem → Plan → History → List ℕ
+outcome_lines p plan h =
+    codes "operations: " ++ decimal (all_operations p plan) ++ codes ", entries " ++ decimal (length h.entries) ++ codes "\n"
+    ++ codes "fullest link: " ++ fullest_text p plan h (fullest p plan h (length p.links)) ++ codes "\n"
+    ++ last_line (unsettled p plan h)
+
+-- behind its events a trial is drained
+abbrev pub drain_text : Problem → Plan → (OpView → ℕ) → ℕ → Trial → List ℕ
+drain_text p plan policy events t =
+    let r = raised p plan policy t.rehearsal in
+    let most = all_operations p plan + 1 in
+    events_line events t.skipped (turns p plan policy most r) ++ outcome_lines p plan (drained p plan policy most r).world.durable
+
+-- the text of a trial of a problem with a plan, whose events are drawn from here on
+unfoldable pub trial_text : Problem → Plan → ℕ → (OpView → ℕ) → Shape → Lcg → List ℕ
+trial_text p plan rate_steps policy s draws =
+    shape_line s ++ plan_line plan rate_steps ++ drain_text p plan policy s.events (after_trial p plan policy draws s.events)
