@@ -1,0 +1,68 @@
+-- What a worker finds to do: it waits for work of its switches, and has their commands listed.
+use Rattle.std.specs.Prelude.{◌≡◌, ◌⊎◌, ℕ, List, [], Option, Some}
+use Rattle.rollout_rules.specs.declared.op.Op.{Op}
+use Rattle.wan_edge.specs.Frames.{Command}
+use Rattle.shared_history.specs.declared.note.Cause.{Cause}
+use Rattle.shared_history.specs.declared.note.Cause.TheVariants as cause
+use Rattle.shared_history.specs.declared.note.Written.{Written}
+use Rattle.shared_history.specs.declared.reply.Halt.{Halt}
+use Rattle.shared_history.specs.declared.reply.ListReply.{ListReply}
+use Rattle.shared_history.specs.declared.reply.ListReply.TheVariants as list
+use Rattle.shared_history.specs.declared.reply.Wake.{Wake}
+use Rattle.shared_history.specs.declared.reply.Wake.TheVariants as wake
+use Rattle.shared_history.specs.Histories.{Opening}
+use Rattle.shared_book.specs.Calls.{IsListCall}
+use Rattle.shared_book.specs.Waking.{IsLookCall}
+use Rattle.controller_run.specs.declared.finding.Found.{Found}
+use Rattle.controller_run.specs.declared.finding.Found.TheVariants as found
+
+-- who calls: the opening, the seats for which the pass stands, its own seat, and the switches
+pub record Caller : Type 0 where
+  pub opening : Opening
+  pub seats : List ℕ
+  pub seat : ℕ
+  pub switches : List ℕ
+
+-- a look with this answer, which was the last of its call
+abbrev pub Looks : Caller → List Written → Wake → List Written → Type 0
+Looks w seen woken after = IsLookCall w.opening w.seats w.seat seen w.switches (Some woken) after
+
+-- an operation of the switches was in flight, and then the commands were asked for, with this reply
+pub record Lists (w : Caller) (op : Op) (seen : List Written) (commands : List Command) (reply : ListReply) (after : List Written) : Type 0 where
+  pub awake : List Written
+  pub looks : Looks w seen (wake.Work op) awake
+  pub listed : IsListCall w.opening w.seats w.seat awake w.switches [] commands reply after
+
+-- the end of a wait that isn't work, or a stop in the place of commands
+abbrev pub EndsAt : Caller → List Written → List Command → Wake → List Written → Type 0
+EndsAt w seen commands (wake.Work op) after = ⊥
+EndsAt w seen commands wake.Finished after = Looks w seen wake.Finished after
+EndsAt w seen commands wake.Held after = Looks w seen wake.Held after
+EndsAt w seen commands (wake.Stopped halt) after = Looks w seen (wake.Stopped halt) after ⊎ ((op : Op) × Lists w op seen commands (list.Stopped halt) after)
+EndsAt w seen commands wake.Memory after = ⊥
+
+-- memory ran out for the note of either call, or for a command
+abbrev pub Wants : Caller → List Written → List Command → List Written → Type 0
+Wants w seen commands after = Looks w seen wake.Memory after ⊎ ((op : Op) × Lists w op seen commands list.Memory after)
+
+-- what comes of a list that is asked for, where this operation was in flight
+abbrev pub Asks : Caller → List Written → List Command → ListReply → List Written → Type 0
+Asks w awake commands reply after = IsListCall w.opening w.seats w.seat awake w.switches [] commands reply after
+
+abbrev pub StopsListing : Caller → List Written → List Command → Wake → List Written → Type 0
+StopsListing w awake commands (wake.Work op) after = ⊥
+StopsListing w awake commands wake.Finished after = ⊥
+StopsListing w awake commands wake.Held after = ⊥
+StopsListing w awake commands (wake.Stopped halt) after = Asks w awake commands (list.Stopped halt) after
+StopsListing w awake commands wake.Memory after = ⊥
+
+abbrev pub IsListed : Caller → Op → List Written → List Command → Found → List Written → Type 0
+IsListed w op awake commands (found.Work other) after = (other ≡ op) × Asks w awake commands list.Listed after
+IsListed w op awake commands (found.Ended end) after = StopsListing w awake commands end after
+IsListed w op awake commands found.Memory after = Asks w awake commands list.Memory after
+
+-- what was found
+abbrev pub IsFound : Caller → List Written → List Command → Found → List Written → Type 0
+IsFound w seen commands (found.Work op) after = Lists w op seen commands list.Listed after
+IsFound w seen commands (found.Ended end) after = EndsAt w seen commands end after
+IsFound w seen commands found.Memory after = Wants w seen commands after

@@ -1,0 +1,5 @@
+pub mod Exchanging
+pub mod Finding
+pub mod Settling
+pub mod Working
+pub mod Serving

@@ -1,0 +1,75 @@
+-- What a worker makes of one round.
+use Rattle.std.specs.Prelude.{◌≡◌, ◌⊎◌, ⊤, ℕ, Bool, true, false, List, [], ◌∷◌, Option}
+use Rattle.rollout_rules.specs.declared.op.Op.{Op}
+use Rattle.wan_edge.specs.Frames.{Answer, Command}
+use Rattle.rollout_book.specs.Aliens.{told_by}
+use Rattle.port_session.specs.Sessions.{Talk}
+use Rattle.shared_history.specs.declared.note.Cause.{Cause}
+use Rattle.shared_history.specs.declared.note.Cause.TheVariants as cause
+use Rattle.shared_history.specs.declared.note.Written.{Written}
+use Rattle.shared_history.specs.declared.reply.ListReply.TheVariants as list
+use Rattle.shared_history.specs.Histories.{Opening}
+use Rattle.worker_ports.specs.Views.{Telling}
+use Rattle.controller_run.specs.Exchanging.{Exchanges, StopsInHear, StopsInOffer}
+use Rattle.controller_run.specs.Finding.{Caller, EndsAt, Lists, Wants}
+use Rattle.controller_run.specs.Settling.{IsSettled}
+use Rattle.controller_run.specs.declared.outcome.Outcome.{Outcome}
+use Rattle.controller_run.specs.declared.outcome.Outcome.TheVariants as outcome
+
+abbrev pub is_some_command : List Command → Bool
+is_some_command [] = false
+is_some_command (c ∷ cs) = true
+
+-- what a pass has seen, and the ports
+pub record Standing (P : Type 0) : Type 0 where
+  pub seen : List Written
+  pub ports : List (Talk P)
+
+-- the ports answered, and the book was told
+pub record Settles {P : Type 0} (tell : P → Telling) (o : Opening) (seats : List ℕ) (seat : ℕ) (migration : ℕ) (homes : List (Option ℕ)) (commands : List Command) (before : Standing P) (given : Outcome) (now : Standing P) : Type 0 where
+  pub told : List Answer
+  pub exchanges : Exchanges tell migration homes before.ports commands told now.ports
+  pub settled : IsSettled o seats seat before.seen (told_by told) (is_some_command commands) given now.seen
+
+-- a port failed, or told what it may not, or memory ran out, and the book was told nothing
+abbrev pub Breaks : {P : Type 0} → (P → Telling) → ℕ → List (Option ℕ) → List Command → Standing P → Outcome → Standing P → Type 0
+Breaks tell migration homes commands before (outcome.Whole offered) now = ⊥
+Breaks tell migration homes commands before (outcome.Ended end) now = ⊥
+Breaks tell migration homes commands before (outcome.Stops why) now =
+    (now.seen ≡ before.seen)
+    × (StopsInOffer tell migration homes why before.ports commands now.ports ⊎ StopsInHear tell migration homes why before.ports commands now.ports)
+
+-- what holds of a whole round
+abbrev pub OnWhole : Outcome → Type 0 → Type 0
+OnWhole (outcome.Whole offered) holds = holds
+OnWhole (outcome.Ended end) holds = ⊤
+OnWhole (outcome.Stops why) holds = ⊤
+
+-- Nothing went out: there was nothing to do, memory ran out, or the rounds were spent and an operation was in flight.
+abbrev pub RestsFor : Caller → ℕ → ℕ → List Written → Cause → List Written → Type 0
+RestsFor w left rounds seen (cause.Spent given item number) after =
+    (left ≡ 0) × (given ≡ rounds) × ((commands : List Command) × Lists w (record { item = item; number = number }) seen commands list.Listed after)
+RestsFor w left rounds seen (cause.Port switch) after = ⊥
+RestsFor w left rounds seen (cause.Above item held begun) after = ⊥
+RestsFor w left rounds seen (cause.NotMine switch item) after = ⊥
+RestsFor w left rounds seen (cause.NoAnswer switch byte) after = ⊥
+RestsFor w left rounds seen cause.Disk after = ⊥
+RestsFor w left rounds seen cause.Memory after = (commands : List Command) × Wants w seen commands after
+
+abbrev pub Rests : Caller → ℕ → ℕ → List Written → Outcome → List Written → Type 0
+Rests w left rounds seen (outcome.Whole offered) after = ⊥
+Rests w left rounds seen (outcome.Ended end) after = (commands : List Command) × EndsAt w seen commands end after
+Rests w left rounds seen (outcome.Stops why) after = RestsFor w left rounds seen why after
+
+-- the commands of an operation in flight and of all others of the switches went out, or began to
+pub record Works {P : Type 0} (tell : P → Telling) (w : Caller) (migration : ℕ) (homes : List (Option ℕ)) (before : Standing P) (given : Outcome) (now : Standing P) : Type 0 where
+  pub op : Op
+  pub commands : List Command
+  pub log : List Written
+  pub lists : Lists w op before.seen commands list.Listed log
+  pub exchanged : Settles tell w.opening w.seats w.seat migration homes commands (record { seen = log; ports = before.ports }) given now ⊎ Breaks tell migration homes commands (record { seen = log; ports = before.ports }) given now
+
+-- what a worker makes of a round, where so many of its rounds are left
+abbrev pub IsWorked : {P : Type 0} → (P → Telling) → Caller → ℕ → List (Option ℕ) → ℕ → ℕ → Standing P → Outcome → Standing P → Type 0
+IsWorked tell w migration homes left rounds before given now =
+    ((now.ports ≡ before.ports) × Rests w left rounds before.seen given now.seen) ⊎ Works tell w migration homes before given now

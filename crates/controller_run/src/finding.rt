@@ -1,0 +1,76 @@
+ghost use Rattle.std.specs.Prelude.{◌≡◌, []};
+ghost use Rattle.turn_lock.specs.Passes.{IsPassOf, IsSamePass, seat_of_pass, seats_of, seen_of};
+ghost use Rattle.shared_book.specs.Calls.{IsCounted};
+ghost use Rattle.shared_book.specs.Homes.{homes_of};
+ghost use Rattle.controller_run.specs.Finding.{IsFound, IsListed};
+
+use disk_model::Disk;
+use rollout_book::CommandList;
+use rollout_rules::Op;
+use shared_book::{BookPass, Marker, SharedBook};
+use shared_history::{ListReply, Wake};
+use std::alloc::Global;
+use std::sync::Wait;
+
+/// What a worker finds to do.
+#[derive(Clone, Copy, Debug, Drop, PartialEq, Eq)]
+pub enum Found {
+    /// The first operation in flight of its switches, whose commands are listed.
+    Work(Op),
+    /// Nothing any more, for this reason.
+    Ended(Wake),
+    /// Memory ran out.
+    Memory,
+}
+
+/// Waits until an operation of these switches is in flight, and lists their commands.
+pub(crate) fn find_work<'d, R: Wait, D: Disk, M: Marker>(
+    rt: &R,
+    alloc: Global,
+    book: &SharedBook<'d, D, M>,
+    pass: BookPass<D, M>,
+    switches: &[u32],
+    commands: &mut CommandList,
+) -> (BookPass<D, M>, Found)
+    requires lock { IsPassOf book.now.lock pass.pass }
+    requires homes { book.now.homes ≡ homes_of M.opening.rollout.problem }
+    requires calls { IsCounted pass.calls pass.pass }
+    requires fresh { commands.old ≡ [] }
+    ensures lock { IsPassOf book.now.lock result.0.pass }
+    ensures pass { IsSamePass pass.pass result.0.pass }
+    ensures calls { IsCounted result.0.calls result.0.pass }
+    ensures found { IsFound (record { opening = M.opening; seats = seats_of pass.pass; seat = seat_of_pass pass.pass; switches = switches.now }) (seen_of pass.pass) commands.new result.1 (seen_of result.0.pass) }
+{
+    let (pass, woken) = book.wait_work(rt, pass, switches);
+    match woken {
+        Wake::Work(op) => list_work(rt, alloc, book, pass, switches, op, commands),
+        Wake::Memory => (pass, Found::Memory),
+        end => (pass, Found::Ended(end)),
+    }
+}
+
+// Lists the commands of these switches, where this operation of theirs was in flight.
+fn list_work<'d, R: Wait, D: Disk, M: Marker>(
+    rt: &R,
+    alloc: Global,
+    book: &SharedBook<'d, D, M>,
+    pass: BookPass<D, M>,
+    switches: &[u32],
+    op: Op,
+    commands: &mut CommandList,
+) -> (BookPass<D, M>, Found)
+    requires lock { IsPassOf book.now.lock pass.pass }
+    requires calls { IsCounted pass.calls pass.pass }
+    requires fresh { commands.old ≡ [] }
+    ensures lock { IsPassOf book.now.lock result.0.pass }
+    ensures pass { IsSamePass pass.pass result.0.pass }
+    ensures calls { IsCounted result.0.calls result.0.pass }
+    ensures listed { IsListed (record { opening = M.opening; seats = seats_of pass.pass; seat = seat_of_pass pass.pass; switches = switches.now }) op (seen_of pass.pass) commands.new result.1 (seen_of result.0.pass) }
+{
+    let (pass, reply) = book.commands(rt, alloc, pass, switches, commands);
+    match reply {
+        ListReply::Listed => (pass, Found::Work(op)),
+        ListReply::Stopped(halt) => (pass, Found::Ended(Wake::Stopped(halt))),
+        ListReply::Memory => (pass, Found::Memory),
+    }
+}

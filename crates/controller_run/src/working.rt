@@ -1,0 +1,100 @@
+ghost use Rattle.std.specs.Prelude.{◌≡◌, ◌⊎◌, ◌<◌, All, IsTrue, List, map};
+ghost use Rattle.order_policy.specs.Answers.{rank_by};
+ghost use Rattle.turn_lock.specs.Passes.{IsPassOf, IsSamePass, seat_of_pass, seats_of, seen_of};
+ghost use Rattle.shared_book.specs.Calls.{IsCounted};
+ghost use Rattle.shared_book.specs.Homes.{homes_of};
+ghost use Rattle.worker_ports.specs.Views.{telling};
+ghost use Rattle.controller_run.specs.Working.{Breaks, IsWorked, OnWhole, Settles};
+
+use crate::exchanging::exchange;
+use crate::finding::{Found, find_work};
+use crate::outcome::Outcome;
+use crate::settling::settle;
+use disk_model::Disk;
+use port_session::AnswerList;
+use rollout_book::CommandList;
+use shared_book::{BookPass, Marker, SharedBook};
+use shared_history::Cause;
+use std::alloc::Global;
+use std::sync::Wait;
+use wan_edge::Port;
+use wire_frames::Command;
+use worker_ports::WorkerPorts;
+
+/// What a worker's rounds are given: where each item's home is, in which migration commands go out, and how
+/// many rounds may offer some.
+#[derive(Clone, Copy)]
+pub struct Terms<'h> {
+    pub homes: &'h [Option<u32>],
+    pub migration: u32,
+    pub rounds: u32,
+}
+
+/// One round of a worker, which has so many rounds left: it waits for work, has the commands of its switches
+/// listed, offers them at all its ports before it hears at the first, and hands the book what they told.
+pub(crate) fn work<'d, R: Wait, D: Disk, M: Marker, T: Port>(
+    rt: &R,
+    alloc: Global,
+    book: &SharedBook<'d, D, M>,
+    pass: BookPass<D, M>,
+    ports: &mut WorkerPorts<T>,
+    terms: Terms<'_>,
+    left: u32,
+) -> (BookPass<D, M>, Outcome)
+    requires lock { IsPassOf book.now.lock pass.pass }
+    requires homes { book.now.homes ≡ homes_of M.opening.rollout.problem }
+    requires policy { M.opening.policy ≡ rank_by book.now.policy.now.answers }
+    requires calls { IsCounted pass.calls pass.pass }
+    requires live { All (λ s. IsTrue s.stream.live) ports.old }
+    ensures lock { IsPassOf book.now.lock result.0.pass }
+    ensures pass { IsSamePass pass.pass result.0.pass }
+    ensures calls { IsCounted result.0.calls result.0.pass }
+    ensures live { OnWhole result.1 (All (λ s. IsTrue s.stream.live) ports.new) }
+    ensures some_left { OnWhole result.1 (0 < left) }
+    ensures worked { IsWorked (telling T.offered T.heard T.held T.quiet T.faults T.honest T.prompt T.start) (record { opening = M.opening; seats = seats_of pass.pass; seat = seat_of_pass pass.pass; switches = map (λ s. s.switch) ports.old }) terms.entry.migration terms.entry.homes.now left terms.entry.rounds
+        (record { seen = seen_of pass.pass; ports = ports.old }) result.1 (record { seen = seen_of result.0.pass; ports = ports.new }) }
+{
+    let mut commands = CommandList::new(alloc);
+    let (pass, found) = find_work(rt, alloc, book, pass, ports.switches(), &mut commands);
+    match found {
+        Found::Work(op) if left == 0 => {
+            let spent = Cause::Spent {
+                rounds: terms.rounds,
+                item: op.item,
+                number: op.number,
+            };
+            (pass, Outcome::Stops(spent))
+        }
+        Found::Work(_) => carry_out(rt, alloc, book, pass, ports, terms, commands.as_slice()),
+        Found::Ended(end) => (pass, Outcome::Ended(end)),
+        Found::Memory => (pass, Outcome::Stops(Cause::Memory)),
+    }
+}
+
+// Offers these commands, hears, and hands the book what was told.
+fn carry_out<'d, R: Wait, D: Disk, M: Marker, T: Port>(
+    rt: &R,
+    alloc: Global,
+    book: &SharedBook<'d, D, M>,
+    pass: BookPass<D, M>,
+    ports: &mut WorkerPorts<T>,
+    terms: Terms<'_>,
+    commands: &[Command],
+) -> (BookPass<D, M>, Outcome)
+    requires lock { IsPassOf book.now.lock pass.pass }
+    requires policy { M.opening.policy ≡ rank_by book.now.policy.now.answers }
+    requires calls { IsCounted pass.calls pass.pass }
+    requires live { All (λ s. IsTrue s.stream.live) ports.old }
+    ensures lock { IsPassOf book.now.lock result.0.pass }
+    ensures pass { IsSamePass pass.pass result.0.pass }
+    ensures calls { IsCounted result.0.calls result.0.pass }
+    ensures live { OnWhole result.1 (All (λ s. IsTrue s.stream.live) ports.new) }
+    ensures carried_out { Settles (telling T.offered T.heard T.held T.quiet T.faults T.honest T.prompt T.start) M.opening (seats_of pass.pass) (seat_of_pass pass.pass) terms.entry.migration terms.entry.homes.now commands.now (record { seen = seen_of pass.pass; ports = ports.old }) result.1 (record { seen = seen_of result.0.pass; ports = ports.new })
+        ⊎ Breaks (telling T.offered T.heard T.held T.quiet T.faults T.honest T.prompt T.start) terms.entry.migration terms.entry.homes.now commands.now (record { seen = seen_of pass.pass; ports = ports.old }) result.1 (record { seen = seen_of result.0.pass; ports = ports.new }) }
+{
+    let mut answers = AnswerList::new(alloc);
+    match exchange(ports, commands, terms.homes, terms.migration, &mut answers) {
+        Ok(()) => settle(rt, book, pass, answers.as_slice(), !commands.is_empty()),
+        Err(cause) => (pass, Outcome::Stops(cause)),
+    }
+}
