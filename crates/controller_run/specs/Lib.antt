@@ -3,3 +3,4 @@ pub mod Finding
 pub mod Settling
 pub mod Working
 pub mod Serving
+pub mod Promises
