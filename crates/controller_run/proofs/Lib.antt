@@ -4,5 +4,8 @@ pub mod Elements
 pub mod Begun
 pub mod Answered
 pub mod Ports
+pub mod Noted
+pub mod Reaches
+pub mod Endings
 pub mod Works
 pub mod Serves

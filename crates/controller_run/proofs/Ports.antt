@@ -17,46 +17,46 @@ use Rattle.controller_run.specs.Promises.{IsToldAtHome, WasTold, WasToldEach, sw
 use Rattle.controller_run.proofs.Chains.{told_by_home}
 
 -- ---- rows
-pub zip-weaker : {A : Type 0} (R S : A → A → Type 0) → ((a b : A) → R a b → S a b) → (as bs : List A) → AllZip R as bs → AllZip S as bs
+pub zip-weaker : {A : Type 0} (R S : A → A → Type 0) → ((a b : A) → R a b → S a b) → (xs bs : List A) → AllZip R xs bs → AllZip S xs bs
 zip-weaker R S f [] [] all = tt
 zip-weaker R S f [] (b ∷ bs) all = absurd all
-zip-weaker R S f (a ∷ as) [] all = absurd all
-zip-weaker R S f (a ∷ as) (b ∷ bs) all = (f a b all.0, zip-weaker R S f as bs all.1)
+zip-weaker R S f (a ∷ xs) [] all = absurd all
+zip-weaker R S f (a ∷ xs) (b ∷ bs) all = (f a b all.0, zip-weaker R S f xs bs all.1)
 
-pub zip-chain : {A : Type 0} (R S Q : A → A → Type 0) → ((a b c : A) → R a b → S b c → Q a c) → (as bs cs : List A) → AllZip R as bs → AllZip S bs cs → AllZip Q as cs
+pub zip-chain : {A : Type 0} (R S Q : A → A → Type 0) → ((a b c : A) → R a b → S b c → Q a c) → (xs bs cs : List A) → AllZip R xs bs → AllZip S bs cs → AllZip Q xs cs
 zip-chain R S Q f [] [] [] first second = tt
 zip-chain R S Q f [] [] (c ∷ cs) first second = absurd second
 zip-chain R S Q f [] (b ∷ bs) cs first second = absurd first
-zip-chain R S Q f (a ∷ as) [] cs first second = absurd first
-zip-chain R S Q f (a ∷ as) (b ∷ bs) [] first second = absurd second
-zip-chain R S Q f (a ∷ as) (b ∷ bs) (c ∷ cs) first second = (f a b c first.0 second.0, zip-chain R S Q f as bs cs first.1 second.1)
+zip-chain R S Q f (a ∷ xs) [] cs first second = absurd first
+zip-chain R S Q f (a ∷ xs) (b ∷ bs) [] first second = absurd second
+zip-chain R S Q f (a ∷ xs) (b ∷ bs) (c ∷ cs) first second = (f a b c first.0 second.0, zip-chain R S Q f xs bs cs first.1 second.1)
 
-one-weaker : {A : Type 0} (R S : A → A → Type 0) → ((a b : A) → R a b → S a b) → (as bs : List A) → AtOne R as bs → AtOne S as bs
+one-weaker : {A : Type 0} (R S : A → A → Type 0) → ((a b : A) → R a b → S a b) → (xs bs : List A) → AtOne R xs bs → AtOne S xs bs
 one-weaker R S f [] [] one = one
 one-weaker R S f [] (b ∷ bs) one = one
-one-weaker R S f (a ∷ as) [] one = one
-one-weaker R S f (a ∷ as) (b ∷ bs) (inl here) = inl (f a b here)
-one-weaker R S f (a ∷ as) (b ∷ bs) (inr later) = inr (one-weaker R S f as bs later)
+one-weaker R S f (a ∷ xs) [] one = one
+one-weaker R S f (a ∷ xs) (b ∷ bs) (inl here) = inl (f a b here)
+one-weaker R S f (a ∷ xs) (b ∷ bs) (inr later) = inr (one-weaker R S f xs bs later)
 
-pub one-behind : {A : Type 0} (R S Q : A → A → Type 0) → ((a b c : A) → R a b → S b c → Q a c) → (as bs cs : List A) → AllZip R as bs → AtOne S bs cs → AtOne Q as cs
+pub one-behind : {A : Type 0} (R S Q : A → A → Type 0) → ((a b c : A) → R a b → S b c → Q a c) → (xs bs cs : List A) → AllZip R xs bs → AtOne S bs cs → AtOne Q xs cs
 one-behind R S Q f [] [] [] all one = one
 one-behind R S Q f [] [] (c ∷ cs) all one = one
 one-behind R S Q f [] (b ∷ bs) cs all one = absurd all
-one-behind R S Q f (a ∷ as) [] cs all one = absurd all
-one-behind R S Q f (a ∷ as) (b ∷ bs) [] all one = one
-one-behind R S Q f (a ∷ as) (b ∷ bs) (c ∷ cs) all (inl here) = inl (f a b c all.0 here)
-one-behind R S Q f (a ∷ as) (b ∷ bs) (c ∷ cs) all (inr later) = inr (one-behind R S Q f as bs cs all.1 later)
+one-behind R S Q f (a ∷ xs) [] cs all one = absurd all
+one-behind R S Q f (a ∷ xs) (b ∷ bs) [] all one = one
+one-behind R S Q f (a ∷ xs) (b ∷ bs) (c ∷ cs) all (inl here) = inl (f a b c all.0 here)
+one-behind R S Q f (a ∷ xs) (b ∷ bs) (c ∷ cs) all (inr later) = inr (one-behind R S Q f xs bs cs all.1 later)
 
-one-ahead : {A : Type 0} (R S Q : A → A → Type 0) → ((a b c : A) → R a b → S b c → Q a c) → (as bs cs : List A) → AtOne R as bs → AllZip S bs cs → AtOne Q as cs
+one-ahead : {A : Type 0} (R S Q : A → A → Type 0) → ((a b c : A) → R a b → S b c → Q a c) → (xs bs cs : List A) → AtOne R xs bs → AllZip S bs cs → AtOne Q xs cs
 one-ahead R S Q f [] bs cs one all = absurd (none bs one)
   where
-    none : (xs : List _) → AtOne R [] xs → ⊥
+    none : (ys : List _) → AtOne R [] ys → ⊥
     none [] o = o
-    none (x ∷ xs) o = o
-one-ahead R S Q f (a ∷ as) [] cs one all = absurd one
-one-ahead R S Q f (a ∷ as) (b ∷ bs) [] one all = absurd all
-one-ahead R S Q f (a ∷ as) (b ∷ bs) (c ∷ cs) (inl here) all = inl (f a b c here all.0)
-one-ahead R S Q f (a ∷ as) (b ∷ bs) (c ∷ cs) (inr later) all = inr (one-ahead R S Q f as bs cs later all.1)
+    none (y ∷ ys) o = o
+one-ahead R S Q f (a ∷ xs) [] cs one all = absurd one
+one-ahead R S Q f (a ∷ xs) (b ∷ bs) [] one all = absurd all
+one-ahead R S Q f (a ∷ xs) (b ∷ bs) (c ∷ cs) (inl here) all = inl (f a b c here all.0)
+one-ahead R S Q f (a ∷ xs) (b ∷ bs) (c ∷ cs) (inr later) all = inr (one-ahead R S Q f xs bs cs later all.1)
 
 module _ {P : Type 0} (tell : P → Telling) where
   -- ---- all ports go on
@@ -67,7 +67,7 @@ module _ {P : Type 0} (tell : P → Telling) where
   go-none [] = tt
   go-none (p ∷ ps) = (stays (tell p.port), go-none ps)
 
-  go-chain : (as bs cs : List (Talk P)) → GoOn as bs → GoOn bs cs → GoOn as cs
+  go-chain : (xs bs cs : List (Talk P)) → GoOn xs bs → GoOn bs cs → GoOn xs cs
   go-chain = zip-chain (λ a b. GoesOn (tell a.port) (tell b.port)) (λ a b. GoesOn (tell a.port) (tell b.port)) (λ a b. GoesOn (tell a.port) (tell b.port)) (λ a b c. goes_on_on (tell a.port) (tell b.port) (tell c.port))
 
   module _ (migration : ℕ) (homes : List (Option ℕ)) where
