@@ -7,5 +7,7 @@ pub mod Ports
 pub mod Noted
 pub mod Reaches
 pub mod Endings
+pub mod Quiet
+pub mod Keeps
 pub mod Works
 pub mod Serves

@@ -24,6 +24,7 @@ use Rattle.controller_run.specs.Finding.{Lists}
 use Rattle.controller_run.specs.Promises.{AreAnswered, switches_of}
 use Rattle.controller_run.specs.Serving.{AreWhole, Moment, Whole, caller_of}
 use Rattle.controller_run.specs.Working.{Settles, Standing, Works, is_some_command}
+use Rattle.controller_run.specs.declared.outcome.Outcome.{Outcome}
 use Rattle.controller_run.specs.declared.outcome.Outcome.TheVariants as outcome
 use Rattle.controller_run.proofs.Answered.{batch-covered, told-answer}
 use Rattle.controller_run.proofs.Chains.{stories_begin, stories_go_on}
@@ -92,29 +93,44 @@ module _ {P : Type 0} (tell : P → Telling) (o : Opening) (seat : ℕ) (joined 
     lists-at-first m reaches op commands reply after lists =
         subst (λ (ws : List ℕ). Lists (caller o (seat ∷ joined) seat ws) op m.stands.seen commands reply after) (same-switches tell migration homes reaches.commands before.ports m.stands.ports reaches.story) lists
 
+    -- up to where a round has its commands listed, said at ports that went on since
+    pub so-far : (m : Moment P) (given : Outcome) (now : Standing P) (works : Works tell (caller_of o (seat ∷ joined) seat m.stands.ports) migration homes m.left m.stands given now) (reaches : Reaches m) → GoOn tell m.stands.ports now.ports
+        → Tally o seat (switches_of before.ports) (Good now.ports) before.seen works.log (reaches.commands ++ works.commands) (reaches.count + (if is_some_command works.commands then 1 else 0))
+    so-far m given now works reaches goes =
+        let ws = switches_of before.ports in
+        let first = tally-weaker o seat ws (Good m.stands.ports) (Good now.ports) before.seen m.stands.seen reaches.commands reaches.count (good-on m.stands.ports now.ports goes) reaches.tally in
+        let lists = listed o seat joined ws (Good now.ports) (plain-good now.ports) works.op m.stands.seen works.log works.commands (lists-at-first m reaches works.op works.commands list.Listed works.log works.lists) in
+        tally-chain o seat ws (Good now.ports) before.seen m.stands.seen works.log reaches.commands works.commands reaches.count (if is_some_command works.commands then 1 else 0) first lists
+
+    pub exchanged : (m : Moment P) (given : Outcome) (now : Standing P) (works : Works tell (caller_of o (seat ∷ joined) seat m.stands.ports) migration homes m.left m.stands given now)
+        → Settles tell o (seat ∷ joined) seat migration homes works.commands (record { seen = works.log; ports = m.stands.ports }) given now
+        → (reaches : Reaches m) → Tally o seat (switches_of before.ports) (Good now.ports) before.seen works.log (reaches.commands ++ works.commands) (reaches.count + (if is_some_command works.commands then 1 else 0))
+    exchanged m given now works settles reaches = so-far m given now works reaches (exchange-goes tell migration homes works.commands settles.told m.stands.ports now.ports settles.exchanges)
+
+    pub story-on : (m : Moment P) (given : Outcome) (now : Standing P) (works : Works tell (caller_of o (seat ∷ joined) seat m.stands.ports) migration homes m.left m.stands given now)
+        → Settles tell o (seat ∷ joined) seat migration homes works.commands (record { seen = works.log; ports = m.stands.ports }) given now
+        → (reaches : Reaches m) → StoryEach tell migration homes (reaches.commands ++ works.commands) before.ports now.ports
+    story-on m given now works settles reaches =
+        let went = settles.exchanges in
+        stories_go_on tell migration homes reaches.commands works.commands settles.told before.ports m.stands.ports went.offered now.ports reaches.story went.offers went.hears
+
     stepped : (m n : Moment P) (offered : Bool) → Reaches m → m.left ≡ n.left + (if offered then 1 else 0) → (works : Works tell (caller_of o (seat ∷ joined) seat m.stands.ports) migration homes m.left m.stands (outcome.Whole offered) n.stands)
         → Settles tell o (seat ∷ joined) seat migration homes works.commands (record { seen = works.log; ports = m.stands.ports }) (outcome.Whole offered) n.stands → Reaches n
     stepped m n offered reaches less works settles =
         let ws = switches_of before.ports in
-        let bs = m.stands.ports in
         let ns = n.stands.ports in
-        let G = Good ns in
         let turn = settles.settled.1.0 in
         let call = settles.settled.1.1 in
-        let goes = exchange-goes tell migration homes works.commands settles.told bs ns settles.exchanges in
-        let so_far = tally-weaker o seat ws (Good bs) G before.seen m.stands.seen reaches.commands reaches.count (good-on bs ns goes) reaches.tally in
-        let lists = listed o seat joined ws G (plain-good ns) works.op m.stands.seen works.log works.commands (lists-at-first m reaches works.op works.commands list.Listed works.log works.lists) in
-        let turned = tally-note o seat ws G joined works.log call.log n.stands.seen (what.Turned turn.dones turn.begins) (batch_at o (history_of o call.log) (told_by settles.told)) call.past call.noted
-            (batch-answers reaches.commands works.commands settles.told (history_of o call.log) bs ns reaches.story settles.exchanges, refl) in
+        let turned = tally-note o seat ws (Good ns) joined works.log call.log n.stands.seen (what.Turned turn.dones turn.begins) (batch_at o (history_of o call.log) (told_by settles.told)) call.past call.noted
+            (batch-answers reaches.commands works.commands settles.told (history_of o call.log) m.stands.ports ns reaches.story settles.exchanges, refl) in
         let count : ℕ = if is_some_command works.commands then 1 else 0 in
         let same : (if offered then 1 else 0) ≡ count = ap {B = ℕ} (λ (b : Bool). if b then 1 else 0) settles.settled.0 in
         let had = reaches.left in
         record {
           commands = reaches.commands ++ works.commands;
           count = reaches.count + count;
-          tally = then-none o seat joined ws G (plain-good ns) before.seen works.log n.stands.seen (reaches.commands ++ works.commands) (reaches.count + count)
-              (tally-chain o seat ws G before.seen m.stands.seen works.log reaches.commands works.commands reaches.count count so_far lists) turned;
-          story = stories_go_on tell migration homes reaches.commands works.commands settles.told before.ports bs settles.exchanges.offered ns reaches.story settles.exchanges.offers settles.exchanges.hears;
+          tally = then-none o seat joined ws (Good ns) (plain-good ns) before.seen works.log n.stands.seen (reaches.commands ++ works.commands) (reaches.count + count) (exchanged m (outcome.Whole offered) n.stands works settles reaches) turned;
+          story = story-on m (outcome.Whole offered) n.stands works settles reaches;
           left = omega (arith, had, less, same);
         }
 
