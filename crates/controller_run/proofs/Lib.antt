@@ -8,6 +8,7 @@ pub mod Noted
 pub mod Reaches
 pub mod Endings
 pub mod Quiet
+pub mod Alone
 pub mod Keeps
 pub mod Works
 pub mod Serves

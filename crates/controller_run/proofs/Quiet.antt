@@ -1,8 +1,8 @@
 -- A seat that has stopped nothing yet.
-use Rattle.std.proofs.Common.{◌≡◌, ◌≢◌, ◌⊎◌, ℕ, suc, Bool, true, false, ◌&&◌, ◌||◌, ◌==◌, List, [], ◌∷◌, ◌++◌, All, Option, Some, None, option_map, refl, sym, ap, ◌∙◌, subst, ⊎_elim, inl, inr, arith, eqb-true}
+use Rattle.std.proofs.Common.{◌≡◌, ◌≢◌, ◌⊎◌, ℕ, suc, Bool, true, false, ◌&&◌, ◌||◌, ◌==◌, List, [], ◌∷◌, ◌++◌, All, Option, Some, None, option_map, refl, sym, ap, ◌∙◌, subst, ⊎_elim, inl, inr, arith, eqb-true, ◌+◌, if◌then◌else◌}
 use Rattle.std.specs.Option.{option_or}
-use Rattle.std.proofs.lemmas.Bool.{and_left, and_right, false≢true, or_from}
-use Rattle.std.proofs.lemmas.List.Elements.{All-append, All-head, All-tail, All-weaker}
+use Rattle.std.proofs.lemmas.Bool.{and_left, and_right, eqb-false, or_from}
+use Rattle.std.proofs.lemmas.List.Elements.{All-append, All-cons, All-head, All-nil, All-tail}
 use Rattle.turn_lock.specs.Histories.{Follows}
 use Rattle.shared_history.specs.declared.note.Cause.{Cause}
 use Rattle.shared_history.specs.declared.note.What.{What}
@@ -44,7 +44,21 @@ module _ (seat : ℕ) where
   quiet-asks-not (w ∷ ws) quiet =
       or_from ((w.note.seat == seat) && asks_to_stop w.note.what) (has_asked seat ws) (one-asks-not w (w.note.seat == seat) refl (All-head (IsQuiet seat) w ws quiet)) (quiet-asks-not ws (All-tail (IsQuiet seat) w ws quiet))
 
+  -- who has made no call has stopped nothing
+  uncalled-one : (w : Written) (ws : List Written) (own : Bool) → (w.note.seat == seat) ≡ own → calls_by seat (w ∷ ws) ≡ 0 → (w.note.seat ≢ seat) × (calls_by seat ws ≡ 0)
+  uncalled-one w ws true is none = let one = ap {B = ℕ} (λ (b : Bool). if b then 1 else 0) is in absurd (omega (arith, one, none))
+  uncalled-one w ws false is none = let one = ap {B = ℕ} (λ (b : Bool). if b then 1 else 0) is in (eqb-false w.note.seat seat is, omega (arith, one, none))
+
+  pub quiet-uncalled : (ws : List Written) → calls_by seat ws ≡ 0 → StopsNothing seat ws
+  quiet-uncalled [] none = All-nil (IsQuiet seat)
+  quiet-uncalled (w ∷ ws) none =
+      let parts = uncalled-one w ws (w.note.seat == seat) refl none in
+      All-cons (IsQuiet seat) w ws (λ own. absurd (parts.0 own)) (quiet-uncalled ws parts.1)
+
   -- with notes of others
+  pub quiet-others : (ws past : List Written) → StopsNothing seat ws → All (λ (w : Written). seat ≢ w.note.seat) past → StopsNothing seat (ws ++ past)
+  quiet-others ws past quiet none = All-append (IsQuiet seat) ws past quiet (λ k d inside own. absurd (none k d inside (sym own)))
+
   pub quiet-past : (joined : List ℕ) (seen log : List Written) → StopsNothing seat seen → Follows seat_of (seat ∷ joined) seen log → StopsNothing seat log
   quiet-past joined seen log quiet past =
       subst (StopsNothing seat) (sym past.is)

@@ -48,6 +48,17 @@ module _ (o : Opening) (seat : ℕ) (switches : List ℕ) where
       let rest = others-rounds (log ++ w ∷ []) past (λ k d inside. none (suc k) d (omega (arith, inside))) in
       omega (arith, here, rest)
 
+  -- so others' notes behind add nothing
+  pub listed-past : (log more past : List Written) → All (λ (w : Written). seat ≢ w.note.seat) past → listed_by o seat switches log (more ++ past) ≡ listed_by o seat switches log more
+  listed-past log more past none =
+      listed-append log more past ∙ ap (λ (cs : List Command). listed_by o seat switches log more ++ cs) (others-list (log ++ more) past none) ∙ append-nil (listed_by o seat switches log more)
+
+  pub rounds-past : (log more past : List Written) → All (λ (w : Written). seat ≢ w.note.seat) past → rounds_by o seat switches log (more ++ past) ≡ rounds_by o seat switches log more
+  rounds-past log more past none =
+      let both = rounds-append log more past in
+      let zero_more = others-rounds (log ++ more) past none in
+      omega (arith, both, zero_more)
+
   -- what the seat's own note lists
   abbrev pub lists_by : What → List Written → List Command
   lists_by said log = if says_listed said then commands_at o log switches else []

@@ -110,6 +110,12 @@ AreAnswered tell migration homes before es now = (op : Op) → Contains es (Done
 abbrev pub EndNothing : List Entry → Type 0
 EndNothing es = (op : Op) → Contains es (Done op) → ⊥
 
+-- Behind what was seen no note of the seat says that an operation is done.
+pub record BeginsAlone (seat : ℕ) (seen after : List Written) : Type 0 where
+  pub more : List Written
+  pub goes_on : after ≡ seen ++ more
+  pub ends_nothing : All (λ w. w.note.seat ≡ seat → EndNothing w.entries) more
+
 -- ---- who stops
 -- no note of a seat stops the history
 abbrev pub StopsNothing : ℕ → List Written → Type 0

@@ -5,6 +5,7 @@ mod exchanging;
 mod finding;
 mod laws;
 mod outcome;
+mod promises;
 mod serving;
 mod settling;
 mod working;
@@ -13,5 +14,9 @@ pub use exchanging::exchange;
 pub use finding::Found;
 pub use laws::{answers_are_told_by_their_homes, rounds_make_a_story};
 pub use outcome::Outcome;
+pub use promises::{
+    a_round_without_answers_ends_nothing, a_seat_stops_nothing_at_first,
+    a_worker_keeps_its_promises, listed_commands_are_begun,
+};
 pub use serving::{WorkerEnd, serve};
 pub use working::Terms;
