@@ -43,11 +43,11 @@ use Rattle.controller_run.proofs.Endings.{ends-finished, ends-held, first-stops,
 use Rattle.controller_run.proofs.Noted.{caller, listed, listed-none, listed-stopped, looked, then-none, unnoted}
 use Rattle.controller_run.proofs.Ports.{GoOn, hear-goes, last-of, offer-goes}
 use Rattle.controller_run.proofs.Quiet.{IsQuiet, quiet-asks-not, quiet-past}
-use Rattle.controller_run.proofs.Reaches.{Answers, Good, Reaches, batch-answers, exchanged, lists-at-first, plain-answers, reaches-all, reaches-first, so-far, story-on}
+use Rattle.controller_run.proofs.Reaches.{Answers, Good, Reaches, batch-answers, exchanged, lists-at-first, plain-answers, plain-good, reaches-all, reaches-first, so-far, story-on}
 use Rattle.controller_run.proofs.Tallies.{Tally, tally-chain, tally-note, tally-weaker}
 
 -- ---- causes that come of ports
-no-one : {A : Type 0} (R : A → A → Type 0) → ((a b : A) → R a b → ⊥) → (xs ys : List A) → AtOne R xs ys → ⊥
+pub no-one : {A : Type 0} (R : A → A → Type 0) → ((a b : A) → R a b → ⊥) → (xs ys : List A) → AtOne R xs ys → ⊥
 no-one R none [] [] one = one
 no-one R none [] (y ∷ ys) one = one
 no-one R none (x ∷ xs) [] one = one
@@ -59,7 +59,7 @@ at-most-one true = omega arith
 at-most-one false = omega arith
 
 module _ {P : Type 0} (tell : P → Telling) where
-  offer-breaks : (why : Cause) (bs ns : List (Talk P)) → IsCauseOfOffer tell why bs ns → IsBreak why
+  pub offer-breaks : (why : Cause) (bs ns : List (Talk P)) → IsCauseOfOffer tell why bs ns → IsBreak why
   offer-breaks (cause.Spent given item number) bs ns is = no-one (λ b n. IsOfferCause (cause.Spent given item number) (view tell b) (view tell n)) (λ b n none. none) bs ns is
   offer-breaks (cause.Port switch) bs ns is = tt
   offer-breaks (cause.Above item held begun) bs ns is = no-one (λ b n. IsOfferCause (cause.Above item held begun) (view tell b) (view tell n)) (λ b n none. none) bs ns is
@@ -68,7 +68,7 @@ module _ {P : Type 0} (tell : P → Telling) where
   offer-breaks cause.Disk bs ns is = no-one (λ b n. IsOfferCause cause.Disk (view tell b) (view tell n)) (λ b n none. none) bs ns is
   offer-breaks cause.Memory bs ns is = tt
 
-  hear-breaks : (migration : ℕ) (homes : List (Option ℕ)) (why : Cause) (bs ns : List (Talk P)) → IsCauseOfHear tell migration homes why bs ns → IsBreak why
+  pub hear-breaks : (migration : ℕ) (homes : List (Option ℕ)) (why : Cause) (bs ns : List (Talk P)) → IsCauseOfHear tell migration homes why bs ns → IsBreak why
   hear-breaks migration homes (cause.Spent given item number) bs ns is = no-one (λ b n. IsHearCause migration homes (cause.Spent given item number) (view tell b) (view tell n)) (λ b n none. none) bs ns is
   hear-breaks migration homes (cause.Port switch) bs ns is = tt
   hear-breaks migration homes (cause.Above item held begun) bs ns is = no-one (λ b n. IsHearCause migration homes (cause.Above item held begun) (view tell b) (view tell n)) (λ b n none. none) bs ns is
@@ -78,16 +78,16 @@ module _ {P : Type 0} (tell : P → Telling) where
   hear-breaks migration homes cause.Memory bs ns is = tt
 
 module _ {P : Type 0} (tell : P → Telling) (o : Opening) (seat : ℕ) (joined : List ℕ) (migration : ℕ) (homes : List (Option ℕ)) (rounds : ℕ) (before : Standing P) (quiet_before : StopsNothing seat before.seen) where
-  abbrev ws : List ℕ
+  abbrev pub ws : List ℕ
   ws = switches_of before.ports
 
-  abbrev Sent : List Command → List (Talk P) → Type 0
+  abbrev pub Sent : List Command → List (Talk P) → Type 0
   Sent commands ports = StoryEach tell migration homes commands before.ports ports
 
   abbrev Kept : Wake → Standing P → Type 0
   Kept end now = Promises tell o seat migration homes rounds before end now
 
-  abbrev Has : (Written → Type 0) → List Written → List Command → ℕ → Type 0
+  abbrev pub Has : (Written → Type 0) → List Written → List Command → ℕ → Type 0
   Has G seen commands count = Tally o seat ws G before.seen seen commands count
 
   -- by what is known of all its notes
@@ -116,7 +116,7 @@ module _ {P : Type 0} (tell : P → Telling) (o : Opening) (seat : ℕ) (joined 
   unless wake.Memory now A B ends a = absurd ends
 
   -- so far the seat has stopped nothing
-  quiet-here : (ports : List (Talk P)) (seen : List Written) (commands : List Command) (count : ℕ) → Has (Good tell o seat joined migration homes before ports) seen commands count → StopsNothing seat seen
+  pub quiet-here : (ports : List (Talk P)) (seen : List Written) (commands : List Command) (count : ℕ) → Has (Good tell o seat joined migration homes before ports) seen commands count → StopsNothing seat seen
   quiet-here ports seen commands count tally =
       subst (StopsNothing seat) (sym tally.is)
       (All-append (IsQuiet seat) before.seen tally.more quiet_before (λ k d inside own. (tally.good k d inside own).1))
@@ -128,23 +128,23 @@ module _ {P : Type 0} (tell : P → Telling) (o : Opening) (seat : ℕ) (joined 
   stop-noted ports why halt seen log after false past asked is = tally-note o seat ws (Answers tell o seat joined migration homes before ports) joined seen log after (what.Stop why) [] past is (plain-answers tell o seat joined migration homes before ports log (what.Stop why))
 
   module _ (at : Moment P) (reaches : Reaches tell o seat joined migration homes before rounds at) where
-    abbrev seats : List ℕ
+    abbrev pub seats : List ℕ
     seats = seat ∷ joined
 
     -- what a round, or the front of one, has come to
-    abbrev IsWork : Outcome → Standing P → Type 0
+    abbrev pub IsWork : Outcome → Standing P → Type 0
     IsWork given now = Works tell (caller_of o seats seat at.stands.ports) migration homes at.left at.stands given now
 
-    abbrev Adds : List (Talk P) → List Written → List Written → Type 0
+    abbrev pub Adds : List (Talk P) → List Written → List Written → Type 0
     Adds ports seen after = Tally o seat ws (Answers tell o seat joined migration homes before ports) seen after [] 0
 
-    plain : (ports : List (Talk P)) (log : List Written) (said : What) → cause_of said ≡ None → Answers tell o seat joined migration homes before ports (next_note seat log said [])
+    pub plain : (ports : List (Talk P)) (log : List Written) (said : What) → cause_of said ≡ None → Answers tell o seat joined migration homes before ports (next_note seat log said [])
     plain ports log said none = plain-answers tell o seat joined migration homes before ports log said
 
-    looks-add : (ports : List (Talk P)) (asked : List ℕ) (woken : Wake) (seen after : List Written) → IsLookCall o seats seat seen asked (Some woken) after → Adds ports seen after
+    pub looks-add : (ports : List (Talk P)) (asked : List ℕ) (woken : Wake) (seen after : List Written) → IsLookCall o seats seat seen asked (Some woken) after → Adds ports seen after
     looks-add ports = looked o seat joined ws (Answers tell o seat joined migration homes before ports) (plain ports)
 
-    lists-first : (op : Op) (commands : List Command) (reply : ListReply) (after : List Written) → Lists (caller_of o seats seat at.stands.ports) op at.stands.seen commands reply after → Lists (caller o seats seat ws) op at.stands.seen commands reply after
+    pub lists-first : (op : Op) (commands : List Command) (reply : ListReply) (after : List Written) → Lists (caller_of o seats seat at.stands.ports) op at.stands.seen commands reply after → Lists (caller o seats seat ws) op at.stands.seen commands reply after
     lists-first = lists-at-first tell o seat joined migration homes before rounds at reaches
 
     -- ---- a last round in which nothing went out
@@ -183,7 +183,7 @@ module _ {P : Type 0} (tell : P → Telling) (o : Opening) (seat : ℕ) (joined 
         (still-stopped o seat call.log halt what.Stopped [] now.seen (list-stopped o seat call.log halt call.told) call.noted)
 
     -- ---- a last round in which all went out, and what came was told to the book
-    works-keep : (given : Outcome) (last : Standing P) (works : IsWork given last) → Settles tell o seats seat migration homes works.commands (record { seen = works.log; ports = at.stands.ports }) given last
+    pub works-keep : (given : Outcome) (last : Standing P) (works : IsWork given last) → Settles tell o seats seat migration homes works.commands (record { seen = works.log; ports = at.stands.ports }) given last
         → (end : Wake) (after : List Written) → Adds last.ports works.log after → is_legal_shared o after ≡ true → IsEndAt o after end → Kept end (record { seen = after; ports = last.ports })
     works-keep given last works settles end after adds legal ends =
         let ps = last.ports in
@@ -207,18 +207,30 @@ module _ {P : Type 0} (tell : P → Telling) (o : Opening) (seat : ℕ) (joined 
         call.legal (still-stopped o seat call.log halt what.Stopped [] now.seen call.told call.noted)
 
     -- ---- a last round behind which the worker asks that all stop
-    rests-add : (why : Cause) (after : List Written) → RestsFor (caller_of o seats seat at.stands.ports) at.left rounds at.stands.seen why after → Adds at.stands.ports at.stands.seen after
-    rests-add (cause.Spent given item number) after rests = looks-add at.stands.ports (switches_of at.stands.ports) (wake.Work (record { item = item; number = number })) at.stands.seen after rests.2
-    rests-add (cause.Port switch) after rests = absurd rests
-    rests-add (cause.Above item held begun) after rests = absurd rests
-    rests-add (cause.NotMine switch item) after rests = absurd rests
-    rests-add (cause.NoAnswer switch byte) after rests = absurd rests
-    rests-add cause.Disk after rests = absurd rests
-    rests-add cause.Memory after rests =
-        ⊎_elim (λ looks. looks-add at.stands.ports (switches_of at.stands.ports) wake.Memory at.stands.seen after looks)
-        (λ lists. listed-none o seat joined ws (Answers tell o seat joined migration homes before at.stands.ports) (plain at.stands.ports) lists.0 at.stands.seen after rests.0 (lists-first lists.0 rests.0 list.Memory after lists.1)) rests.1
+    rests-noted : (G : Written → Type 0) → ((log : List Written) (said : What) → cause_of said ≡ None → G (next_note seat log said [])) → (why : Cause) (after : List Written)
+        → RestsFor (caller_of o seats seat at.stands.ports) at.left rounds at.stands.seen why after → Tally o seat ws G at.stands.seen after [] 0
+    rests-noted G good (cause.Spent given item number) after rests = looked o seat joined ws G good (switches_of at.stands.ports) (wake.Work (record { item = item; number = number })) at.stands.seen after rests.2
+    rests-noted G good (cause.Port switch) after rests = absurd rests
+    rests-noted G good (cause.Above item held begun) after rests = absurd rests
+    rests-noted G good (cause.NotMine switch item) after rests = absurd rests
+    rests-noted G good (cause.NoAnswer switch byte) after rests = absurd rests
+    rests-noted G good cause.Disk after rests = absurd rests
+    rests-noted G good cause.Memory after rests =
+        ⊎_elim (λ looks. looked o seat joined ws G good (switches_of at.stands.ports) wake.Memory at.stands.seen after looks)
+        (λ lists. listed-none o seat joined ws G good lists.0 at.stands.seen after rests.0 (lists-first lists.0 rests.0 list.Memory after lists.1)) rests.1
 
-    round-adds : (given : Outcome) (last : Standing P) (works : IsWork given last) (settles : Settles tell o seats seat migration homes works.commands (record { seen = works.log; ports = at.stands.ports }) given last) (why : Cause) (after : List Written)
+    pub rests-add : (why : Cause) (after : List Written) → RestsFor (caller_of o seats seat at.stands.ports) at.left rounds at.stands.seen why after → Adds at.stands.ports at.stands.seen after
+    rests-add = rests-noted (Answers tell o seat joined migration homes before at.stands.ports) (plain at.stands.ports)
+
+    -- and the seat has stopped nothing until then
+    pub rests-quiet : (why : Cause) (after : List Written) → RestsFor (caller_of o seats seat at.stands.ports) at.left rounds at.stands.seen why after → StopsNothing seat after
+    rests-quiet why after rests =
+        let ps = at.stands.ports in
+        let G = Good tell o seat joined migration homes before ps in
+        let good = plain-good tell o seat joined migration homes before ps in
+        quiet-here ps after reaches.commands reaches.count (then-none o seat joined ws G good before.seen at.stands.seen after reaches.commands reaches.count reaches.tally (rests-noted G good why after rests))
+
+    pub round-adds : (given : Outcome) (last : Standing P) (works : IsWork given last) (settles : Settles tell o seats seat migration homes works.commands (record { seen = works.log; ports = at.stands.ports }) given last) (why : Cause) (after : List Written)
         → StopsRound o seats seat works.log (told_by settles.told) why after → Adds last.ports works.log after
     round-adds given last works settles (cause.Spent rounds item number) after stops = absurd stops
     round-adds given last works settles (cause.Port switch) after stops = absurd stops
@@ -233,13 +245,13 @@ module _ {P : Type 0} (tell : P → Telling) (o : Opening) (seat : ℕ) (joined 
     round-adds given last works settles cause.Memory after stops = unnoted o seat joined ws (Answers tell o seat joined migration homes before last.ports) (plain last.ports) works.log stops.log after stops.past stops.noted
 
     -- the stop itself
-    stop-adds : (ports : List (Talk P)) (why : Cause) (halt : Halt) (seen after : List Written) → IsStopCall o seats seat seen why halt after → Adds ports seen after
+    pub stop-adds : (ports : List (Talk P)) (why : Cause) (halt : Halt) (seen after : List Written) → IsStopCall o seats seat seen why halt after → Adds ports seen after
     stop-adds ports why halt seen after call = stop-noted ports why halt seen call.log after (has_asked seat call.log) call.past refl call.noted
 
-    stop-ends : (why : Cause) (halt : Halt) (seen after : List Written) → IsStopCall o seats seat seen why halt after → IsEndAt o after (wake.Stopped halt)
+    pub stop-ends : (why : Cause) (halt : Halt) (seen after : List Written) → IsStopCall o seats seat seen why halt after → IsEndAt o after (wake.Stopped halt)
     stop-ends why halt seen after call = stop-first seat call.log why halt after (has_asked seat call.log) refl call.noted call.told
 
-    both-add : (ports : List (Talk P)) (a b c : List Written) → Adds ports a b → Adds ports b c → Adds ports a c
+    pub both-add : (ports : List (Talk P)) (a b c : List Written) → Adds ports a b → Adds ports b c → Adds ports a c
     both-add ports a b c first second = then-none o seat joined ws (Answers tell o seat joined migration homes before ports) (plain ports) a b c [] 0 first second
 
     -- a round that broke

@@ -10,5 +10,7 @@ pub mod Endings
 pub mod Quiet
 pub mod Alone
 pub mod Keeps
+pub mod Reasoned
+pub mod FirstStops
 pub mod Works
 pub mod Serves

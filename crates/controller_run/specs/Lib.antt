@@ -4,3 +4,4 @@ pub mod Settling
 pub mod Working
 pub mod Serving
 pub mod Promises
+pub mod Reasons

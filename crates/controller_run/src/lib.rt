@@ -16,7 +16,7 @@ pub use laws::{answers_are_told_by_their_homes, rounds_make_a_story};
 pub use outcome::Outcome;
 pub use promises::{
     a_round_without_answers_ends_nothing, a_seat_stops_nothing_at_first,
-    a_worker_keeps_its_promises, listed_commands_are_begun,
+    a_worker_keeps_its_promises, a_worker_stops_for_a_reason, listed_commands_are_begun,
 };
 pub use serving::{WorkerEnd, serve};
 pub use working::Terms;

@@ -6,7 +6,9 @@ ghost use Rattle.rollout_rules.specs.declared.op.Entry.{Entry};
 ghost use Rattle.rollout_book.specs.declared.turn.Turn.{Turn};
 ghost use Rattle.wan_edge.specs.Frames.{Command};
 ghost use Rattle.shared_history.specs.declared.note.Written.{Written};
+ghost use Rattle.shared_history.specs.declared.reply.Halt.{Halt};
 ghost use Rattle.shared_history.specs.declared.reply.Wake.{Wake};
+ghost use Rattle.shared_history.specs.declared.reply.Wake.TheVariants as wake;
 ghost use Rattle.shared_history.specs.Histories.{Opening, history_of};
 ghost use Rattle.shared_history.specs.Legal.{is_legal_shared};
 ghost use Rattle.shared_history.specs.Notes.{calls_by};
@@ -16,6 +18,7 @@ ghost use Rattle.shared_book.specs.declared.reply.RoundReply.{RoundReply};
 ghost use Rattle.shared_book.specs.declared.reply.RoundReply.TheVariants as round;
 ghost use Rattle.worker_ports.specs.Views.{telling};
 ghost use Rattle.controller_run.specs.Promises.{BeginsAlone, EndNothing, IsListedIn, IsOfBegun, Promises, StopsNothing, listed_by, rounds_by};
+ghost use Rattle.controller_run.specs.Reasons.{IsReason};
 ghost use Rattle.controller_run.specs.Serving.{Served};
 ghost use Rattle.controller_run.specs.Working.{Standing};
 
@@ -53,4 +56,12 @@ pub fn a_seat_stops_nothing_at_first()
     ensures uncalled { (seat : ℕ) (ws : List Written) → calls_by seat ws ≡ 0 → StopsNothing seat ws }
     ensures others { (seat : ℕ) (ws past : List Written) → StopsNothing seat ws → All (λ w. seat ≢ w.note.seat) past → StopsNothing seat (ws ++ past) }
     ensures turned { (o : Opening) (seat : ℕ) (joined : List ℕ) (seen after : List Written) (turn : Turn) → StopsNothing seat seen → IsRoundCall o (seat ∷ joined) seat seen [] (round.Turned turn) after → StopsNothing seat after }
+{}
+
+/// Where the first stop that a worker is told is its own, what it names holds.
+pub fn a_worker_stops_for_a_reason<T: Port>()
+    ensures { (o : Opening) (seat : ℕ) (joined : List ℕ) (migration : ℕ) (homes : List (Option ℕ)) (rounds : ℕ) (before : Standing T) (halt : Halt) (now : Standing T)
+        → All (λ t. IsTrue t.stream.live) before.ports → StopsNothing seat before.seen
+        → Served (telling T.offered T.heard T.held T.quiet T.faults T.honest T.prompt T.start) o (seat ∷ joined) seat migration homes rounds before (wake.Stopped halt) now → halt.seat ≡ seat
+        → IsReason (telling T.offered T.heard T.held T.quiet T.faults T.honest T.prompt T.start) o seat migration homes rounds before halt.cause now }
 {}
