@@ -12,5 +12,6 @@ pub mod Alone
 pub mod Keeps
 pub mod Reasoned
 pub mod FirstStops
+pub mod AtHome
 pub mod Works
 pub mod Serves

@@ -17,6 +17,7 @@ pub use outcome::Outcome;
 pub use promises::{
     a_round_without_answers_ends_nothing, a_seat_stops_nothing_at_first,
     a_worker_keeps_its_promises, a_worker_stops_for_a_reason, listed_commands_are_begun,
+    own_commands_are_at_home,
 };
 pub use serving::{WorkerEnd, serve};
 pub use working::Terms;

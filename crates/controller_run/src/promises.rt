@@ -1,6 +1,7 @@
 //! What the rounds of a worker come to in the end, drawn from the row of rounds that its clause is.
-ghost use Rattle.std.specs.Prelude.{◌≡◌, ◌≢◌, ℕ, [], ◌∷◌, ◌++◌, All, List, Option, IsTrue};
+ghost use Rattle.std.specs.Prelude.{◌≡◌, ◌≢◌, ℕ, [], ◌∷◌, ◌++◌, All, List, Option, Some, IsTrue};
 ghost use Rattle.std.specs.List.{Contains};
+ghost use Rattle.rollout_rules.specs.Wan.{Problem};
 ghost use Rattle.rollout_rules.specs.History.{History};
 ghost use Rattle.rollout_rules.specs.declared.op.Entry.{Entry};
 ghost use Rattle.rollout_book.specs.declared.turn.Turn.{Turn};
@@ -14,8 +15,10 @@ ghost use Rattle.shared_history.specs.Legal.{is_legal_shared};
 ghost use Rattle.shared_history.specs.Notes.{calls_by};
 ghost use Rattle.shared_history.specs.Replies.{batch_at};
 ghost use Rattle.shared_book.specs.Calls.{IsRoundCall};
+ghost use Rattle.shared_book.specs.Homes.{home_if_any, homes_of};
 ghost use Rattle.shared_book.specs.declared.reply.RoundReply.{RoundReply};
 ghost use Rattle.shared_book.specs.declared.reply.RoundReply.TheVariants as round;
+ghost use Rattle.worker_ports.specs.Lots.{home_at, own};
 ghost use Rattle.worker_ports.specs.Views.{telling};
 ghost use Rattle.controller_run.specs.Promises.{BeginsAlone, EndNothing, IsListedIn, IsOfBegun, Promises, StopsNothing, listed_by, rounds_by};
 ghost use Rattle.controller_run.specs.Reasons.{IsReason};
@@ -64,4 +67,11 @@ pub fn a_worker_stops_for_a_reason<T: Port>()
         → All (λ t. IsTrue t.stream.live) before.ports → StopsNothing seat before.seen
         → Served (telling T.offered T.heard T.held T.quiet T.faults T.honest T.prompt T.start) o (seat ∷ joined) seat migration homes rounds before (wake.Stopped halt) now → halt.seat ≡ seat
         → IsReason (telling T.offered T.heard T.held T.quiet T.faults T.honest T.prompt T.start) o seat migration homes rounds before halt.cause now }
+{}
+
+/// Where the homes are those of the problem, what is a switch's own among commands is at home there, and so
+/// is what an answer's home is said to be.
+pub fn own_commands_are_at_home()
+    ensures commands { (p : Problem) (homes : List (Option ℕ)) (switch : ℕ) (commands : List Command) (c : Command) → homes ≡ homes_of p → Contains (own homes switch commands) c → Contains commands c × (home_if_any p c.item ≡ Some switch) }
+    ensures items { (p : Problem) (homes : List (Option ℕ)) (switch n : ℕ) → homes ≡ homes_of p → home_at homes n ≡ Some switch → home_if_any p n ≡ Some switch }
 {}
