@@ -74,8 +74,7 @@ module _ (o : Opening) (seat : ℕ) (log : List Written) where
       let h = history_of o log in
       let facts = told-finished (first_stop log) (is_finished o.rollout.problem o.rollout.plan h) (is_still o.rollout.problem h) (asked_at o.rollout.problem h switches) told in
       let w = next_note seat log what.Finished [] in
-      let same = same-list what.Finished after is (history-next o log w) in
-      (
+      let same = same-list what.Finished after is (history-next o log w) in (
         ap first_stop is ∙ first_stop-append log (w ∷ []) ∙ none-more (first_stop log) (first_stop (w ∷ [])) facts.0 refl,
         ap (is_finished o.rollout.problem o.rollout.plan) same ∙ facts.1,
       )
@@ -85,8 +84,7 @@ module _ (o : Opening) (seat : ℕ) (log : List Written) where
       let h = history_of o log in
       let facts = told-held (first_stop log) (is_finished o.rollout.problem o.rollout.plan h) (is_still o.rollout.problem h) (asked_at o.rollout.problem h switches) told in
       let w = next_note seat log what.Held [] in
-      let same = same-list what.Held after is (history-next o log w) in
-      (
+      let same = same-list what.Held after is (history-next o log w) in (
         ap first_stop is ∙ first_stop-append log (w ∷ []) ∙ none-more (first_stop log) (first_stop (w ∷ [])) facts.0 refl,
         ap (is_still o.rollout.problem) same ∙ facts.1,
         ap (is_finished o.rollout.problem o.rollout.plan) same ∙ facts.2,
@@ -115,8 +113,7 @@ module _ (o : Opening) (seat : ℕ) (log : List Written) where
   first-stops said es why after none stops is =
       let w = next_note seat log said es in
       let mine : Halt = record { seat = seat; call = w.note.call; cause = why } in
-      let by : halt_by w.note ≡ Some mine = ap (option_map (λ (c : Cause). record { seat = seat; call = w.note.call; cause = c })) stops in
-      (
+      let by : halt_by w.note ≡ Some mine = ap (option_map (λ (c : Cause). record { seat = seat; call = w.note.call; cause = c })) stops in (
         mine,
         ap first_stop is ∙ first_stop-append log (w ∷ []) ∙ ap (λ (s : Option Halt). option_or s (first_stop (w ∷ []))) none ∙ ap (λ (s : Option Halt). option_or s None) by,
         refl,

@@ -282,7 +282,7 @@ module _ {P : Type 0} (tell : P → Telling) (o : Opening) (seat : ℕ) (joined 
         let good = plain-good tell o seat joined migration homes before ps in
         let call = lists.listed in
         let awake = quiet-here tell o seat joined migration homes rounds before quiet_before ps lists.awake reaches.commands reaches.count
-            (then-none o seat joined sw G good before.seen at.stands.seen lists.awake reaches.commands reaches.count reaches.tally (looked o seat joined sw G good (switches_of ps) (wake.Work op) at.stands.seen lists.awake lists.looks)) in
+        (then-none o seat joined sw G good before.seen at.stands.seen lists.awake reaches.commands reaches.count reaches.tally (looked o seat joined sw G good (switches_of ps) (wake.Work op) at.stands.seen lists.awake lists.looks)) in
         quiet-first seat call.log halt (quiet-past seat joined lists.awake call.log awake call.past) (list-stopped o seat call.log halt call.told)
 
     round-other : (halt : Halt) (now : Standing P) (works : Mine (outcome.Ended (wake.Stopped halt)) now) → Settles tell o (seat ∷ joined) seat migration homes works.commands (record { seen = works.log; ports = at.stands.ports }) (outcome.Ended (wake.Stopped halt)) now → halt.seat ≢ seat

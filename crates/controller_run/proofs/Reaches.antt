@@ -122,7 +122,7 @@ module _ {P : Type 0} (tell : P → Telling) (o : Opening) (seat : ℕ) (joined 
         let turn = settles.settled.1.0 in
         let call = settles.settled.1.1 in
         let turned = tally-note o seat ws (Good ns) joined works.log call.log n.stands.seen (what.Turned turn.dones turn.begins) (batch_at o (history_of o call.log) (told_by settles.told)) call.past call.noted
-            (batch-answers reaches.commands works.commands settles.told (history_of o call.log) m.stands.ports ns reaches.story settles.exchanges, refl) in
+        (batch-answers reaches.commands works.commands settles.told (history_of o call.log) m.stands.ports ns reaches.story settles.exchanges, refl) in
         let count : ℕ = if is_some_command works.commands then 1 else 0 in
         let same : (if offered then 1 else 0) ≡ count = ap {B = ℕ} (λ (b : Bool). if b then 1 else 0) settles.settled.0 in
         let had = reaches.left in
