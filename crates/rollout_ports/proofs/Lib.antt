@@ -1,2 +1,4 @@
 pub mod Places
 pub mod Given
+pub mod Numbers
+pub mod Turns

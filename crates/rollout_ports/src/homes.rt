@@ -57,24 +57,24 @@ fn mark_home(plan: &CheckedPlan, item: Item, marks: &mut [bool])
         return;
     }
     if let Some(home) = home_of(plan, item) {
-        marks[home] = true;
+        marks[home as usize] = true;
     }
 }
 
 // The switch that an item belongs to; a flow without tunnels has none.
-fn home_of(plan: &CheckedPlan, item: Item) -> Option<usize>
+fn home_of(plan: &CheckedPlan, item: Item) -> Option<u32>
     requires { IsTrue (is_item plan.now.problem item) }
     ensures home { result ≡ home_of plan.now.problem item }
     ensures inside { IfSome result (λ home. home < length plan.now.problem.switches) }
 {
     match item {
         Item::Flow(flow) => first_switch(plan, flow as usize),
-        Item::Entry { tunnel, hop } => Some(plan.switch_of(tunnel as usize, hop as usize)),
+        Item::Entry { tunnel, hop } => Some(plan.path(tunnel as usize)[hop as usize]),
     }
 }
 
 // The first switch on a flow's paths.
-fn first_switch(plan: &CheckedPlan, flow: usize) -> Option<usize>
+fn first_switch(plan: &CheckedPlan, flow: usize) -> Option<u32>
     requires { flow < length plan.now.problem.flows }
     ensures home { result ≡ home_of plan.now.problem (variants.Flow flow) }
     ensures inside { IfSome result (λ home. home < length plan.now.problem.switches) }
@@ -82,5 +82,5 @@ fn first_switch(plan: &CheckedPlan, flow: usize) -> Option<usize>
     if plan.tunnel_count(flow) == 0 {
         return None;
     }
-    Some(plan.switch_of(plan.tunnel_of(flow, 0), 0))
+    Some(plan.path(plan.tunnel_of(flow, 0))[0])
 }
