@@ -1,11 +1,14 @@
 -- Berths whose ports were given, and those that are given back.
-use Rattle.std.proofs.Common.{◌≡◌, ℕ, Bool, true, false, cond, List, [], ◌∷◌, ◌++◌, map, Option, Some, None, nat_eq, refl, sym, ap, ◌∙◌, subst, option_map}
+use Rattle.std.proofs.Common.{◌≡◌, ℕ, Bool, true, false, cond, List, [], ◌∷◌, ◌++◌, map, Option, Some, None, nat_eq, refl, sym, ap, ◌∙◌, subst, option_map, append-nil, append_assoc}
 use Rattle.std.specs.Cmp.{nat_eq_equiv}
 use Rattle.std.specs.Prelude.{IfSome}
 use Rattle.std.specs.List.{AllByRecursion, IsDistinct}
 use Rattle.wan_edge.specs.Fleets.{GivesPort, marked, with_one, without}
+use Rattle.port_session.specs.Sessions.{Talk}
+use Rattle.worker_ports.specs.Rows.{IsLast}
 use Rattle.worker_ports.specs.declared.ports.Berth.{Berth}
 use Rattle.rollout_ports.specs.Berths.{AreApart, AreLent, FleetPorts, after_keeping, after_opening, marked_each, switches_of, with_each, without_each}
+use Rattle.rollout_ports.specs.Hands.{all_berths, berths_of}
 use Rattle.rollout_ports.specs.Opening.{AreGiven, GivesBack, IsGiven, Opens}
 use Rattle.rollout_ports.proofs.Places.{back, marked_append, marked_more, put_again, remarked, swapped, switches_append, with_append, without_more, without_others, without_some}
 
@@ -99,6 +102,53 @@ module _ {P : Type 0} where
 
   pub keeping_none : (ports : FleetPorts P) → after_keeping ports [] ≡ ports
   keeping_none ports = ports_by (after_keeping ports []) ports (none_told ports.waiting) refl refl
+
+  -- the last of all these is given back, and then the rest
+  pub keep_one : (before after : FleetPorts P) (rest all : List (Berth P)) (b : Berth P) → all ≡ rest ++ b ∷ []
+      → after.waiting ≡ option_map (λ w. with_one w b.switch b.port) before.waiting → after.kept ≡ with_one before.kept b.switch b.port → after.lent ≡ marked before.lent b.switch false
+      → after_keeping after rest ≡ after_keeping before all
+  keep_one before after rest all b parts waiting kept lent =
+      ap (λ p. after_keeping p rest) (ports_by after (after_keeping before (b ∷ [])) waiting kept lent) ∙ keeping_append before rest (b ∷ []) ∙ ap (after_keeping before) (sym parts)
+
+  pub rest_apart : (rest all behind : List (Berth P)) → all ≡ rest ++ behind → AreApart all → AreApart rest
+  rest_apart rest all behind parts apart = apart_front rest behind (subst (λ (bs : List (Berth P)). AreApart bs) parts apart)
+
+  pub rest_lent : (before after : ℕ → Bool) (rest all : List (Berth P)) (b : Berth P) → all ≡ rest ++ b ∷ [] → after ≡ marked before b.switch false → AreApart all → AreLent before all → AreLent after rest
+  rest_lent before after rest all b parts is apart each =
+      subst (λ (lent : ℕ → Bool). AreLent lent rest) (sym is) (lent_front before rest (b ∷ []) (subst (λ (bs : List (Berth P)). AreApart bs) parts apart) (subst (λ (bs : List (Berth P)). AreLent before bs) parts each))
+
+  pub last_lent : (lent : ℕ → Bool) (rest all : List (Berth P)) (b : Berth P) → all ≡ rest ++ b ∷ [] → AreLent lent all → lent b.switch ≡ true
+  last_lent lent rest all b parts each = (all_behind (λ (c : Berth P). lent c.switch ≡ true) rest (b ∷ []) (subst (λ (bs : List (Berth P)). AreLent lent bs) parts each)).0
+
+  -- the same for the last row of them
+  pub keep_row : (before after : FleetPorts P) (rest row all : List (Berth P)) → all ≡ rest ++ row → after ≡ after_keeping before row → after_keeping after rest ≡ after_keeping before all
+  keep_row before after rest row all parts is = ap (λ p. after_keeping p rest) is ∙ keeping_append before rest row ∙ ap (after_keeping before) (sym parts)
+
+  pub row_apart : (rest row all : List (Berth P)) → all ≡ rest ++ row → AreApart all → AreApart row
+  row_apart rest row all parts apart = apart_behind rest row (subst (λ (bs : List (Berth P)). AreApart bs) parts apart)
+
+  pub row_lent : (lent : ℕ → Bool) (rest row all : List (Berth P)) → all ≡ rest ++ row → AreLent lent all → AreLent lent row
+  row_lent lent rest row all parts each = all_behind (λ (c : Berth P). lent c.switch ≡ true) rest row (subst (λ (bs : List (Berth P)). AreLent lent bs) parts each)
+
+  pub rest_lent_row : (before after : FleetPorts P) (rest row all : List (Berth P)) → all ≡ rest ++ row → after ≡ after_keeping before row → AreApart all → AreLent before.lent all → AreLent after.lent rest
+  rest_lent_row before after rest row all parts is apart each =
+      subst (λ (lent : ℕ → Bool). AreLent lent rest) (sym (ap (λ (p : FleetPorts P). p.lent) is))
+      (lent_front before.lent rest row (subst (λ (bs : List (Berth P)). AreApart bs) parts apart) (subst (λ (bs : List (Berth P)). AreLent before.lent bs) parts each))
+
+  berths_append : (ts us : List (Talk P)) → berths_of (ts ++ us) ≡ berths_of ts ++ berths_of us
+  berths_append [] us = refl
+  berths_append (t ∷ ts) us = ap (λ (bs : List (Berth P)). record { switch = t.switch; port = t.port } ∷ bs) (berths_append ts us)
+
+  -- a worker's last port was taken out
+  pub taken : (b : Berth P) (before now : List (Talk P)) → IsLast b.switch b.port before now → berths_of before ≡ berths_of now ++ b ∷ []
+  taken b before now last =
+      ap berths_of last.parts ∙ berths_append now (last.talk ∷ [])
+      ∙ ap (λ (switch : ℕ). berths_of now ++ record { switch = switch; port = last.talk.port } ∷ []) last.switch_is
+      ∙ ap (λ (port : P). berths_of now ++ record { switch = b.switch; port = port } ∷ []) last.port_is
+
+  pub rows_append : (rows : List (List (Talk P))) (row : List (Talk P)) → all_berths (rows ++ row ∷ []) ≡ all_berths rows ++ berths_of row
+  rows_append [] row = append-nil (berths_of row)
+  rows_append (r ∷ rs) row = ap (λ (bs : List (Berth P)). berths_of r ++ bs) (rows_append rs row) ∙ sym (append_assoc (berths_of r) (all_berths rs) (berths_of row))
 
 -- ---- opened
   -- what waits, once the ports of switches wait no more, and of one more

@@ -1,8 +1,9 @@
 -- Berths, dealt in turn to workers.
-use Rattle.std.specs.Prelude.{ℕ, ◌+◌, ◌%◌, ◌==◌, min, max, Bool, List, [], ◌∷◌, ◌++◌, map, if◌then◌else◌}
+use Rattle.std.specs.Prelude.{◌≡◌, ℕ, ◌+◌, ◌%◌, ◌==◌, min, max, Bool, List, [], ◌∷◌, ◌++◌, map, slice_index_or, slice_set, if◌then◌else◌}
 use Rattle.std.specs.List.{flat_map}
 use Rattle.rollout_rules.specs.Sums.{list_below}
 use Rattle.port_session.specs.Sessions.{Talk, first_talk}
+use Rattle.worker_ports.specs.Rows.{IsLast}
 use Rattle.worker_ports.specs.declared.ports.Berth.{Berth}
 
 -- those of a row whose place passes the test, where places are counted from a number on
@@ -33,3 +34,9 @@ berths_of talks = map (λ t. record { switch = t.switch; port = t.port }) talks
 -- those of all workers, one worker behind the other
 abbrev pub all_berths : {P : Type 0} → List (List (Talk P)) → List (Berth P)
 all_berths workers = flat_map berths_of workers
+
+-- the last port of one of these workers was taken out
+pub record TakesLast {P : Type 0} (workers : List (List (Talk P))) (worker : ℕ) (berth : Berth P) (now : List (List (Talk P))) : Type 0 where
+  pub rest : List (Talk P)
+  pub last : IsLast berth.switch berth.port (slice_index_or workers worker []) rest
+  pub others : now ≡ slice_set workers worker rest

@@ -1,7 +1,10 @@
 //! Berths are dealt to workers.
-ghost use Rattle.std.specs.Prelude.{◌≡◌, ◌<◌, ◌≤◌, [], length, replicate, reverse, vec_capacity, IfErr, IfOk, OnErr, OnOk};
+ghost use Rattle.std.specs.Prelude.{◌≡◌, ◌==◌, ◌+◌, ◌%◌, ◌<◌, ◌≤◌, [], ◌∷◌, ◌++◌, List, false, length, reverse, slice_index_or, slice_set, vec_capacity, IfErr, IfOk, OnErr, OnOk};
+ghost use Rattle.std.specs.List.{list_any};
+ghost use Rattle.port_session.specs.Sessions.{first_talk};
+ghost use Rattle.worker_ports.specs.declared.ports.Berth.{Berth};
 ghost use Rattle.rollout_ports.specs.Berths.{AreApart};
-ghost use Rattle.rollout_ports.specs.Hands.{hand_count, hands};
+ghost use Rattle.rollout_ports.specs.Hands.{TakesLast, hand_count, hands};
 
 use lists::Memory;
 use std::alloc::Global;
@@ -24,12 +27,12 @@ pub fn deal<T: Port + Drop>(
     ensures err { IfErr result (λ back. back.items ≡ berths.items) }
 {
     let count = hand_count(workers, berths.len());
-    let Ok(mut hands) = empty_hands(alloc, count) else {
+    let Ok(mut dealt) = empty_hands(alloc, count) else {
         return Err(berths);
     };
     berths.reverse();
-    if deal_each(alloc, &mut berths, &mut hands).is_ok() {
-        return Ok(hands);
+    if deal_each(alloc, &mut berths, &mut dealt).is_ok() {
+        return Ok(dealt);
     }
     berths.reverse();
     Err(berths)
@@ -47,13 +50,13 @@ fn empty_hands<T: Port + Drop>(
     alloc: Global,
     count: usize,
 ) -> Result<Vec<WorkerPorts<T>>, Memory>
-    ensures { IfOk result (λ hands. hands.items ≡ replicate count []) }
+    ensures { IfOk result (λ workers. workers.items ≡ hands count []) }
 {
-    let mut hands = Vec::with_capacity(alloc, count)?;
+    let mut workers = Vec::with_capacity(alloc, count)?;
     for _ in 0..count {
-        hands.push_reserved(WorkerPorts::new(alloc));
+        workers.push_reserved(WorkerPorts::new(alloc));
     }
-    Ok(hands)
+    Ok(workers)
 }
 
 // Deals berths in turn to workers without ports, from the last one on. Where memory runs out they are all
@@ -65,16 +68,14 @@ fn deal_each<T: Port + Drop>(
 ) -> Result<(), Memory>
     requires some { 0 < length left.old.items → 0 < length workers.old.items }
     requires apart { AreApart (reverse left.old.items) }
-    requires fresh { workers.old.items ≡ replicate (length workers.old.items) [] }
+    requires fresh { workers.old.items ≡ hands (length workers.old.items) [] }
     ensures ok { OnOk result (workers.new.items ≡ hands (length workers.old.items) (reverse left.old.items)) }
     ensures err { OnErr result (left.new.items ≡ left.old.items) }
 {
     let mut dealt = 0;
     while let Some(berth) = left.pop() {
-        let Berth { switch, port } = berth;
-        let worker = dealt % workers.len();
-        if let Err(port) = workers[worker].add(alloc, switch, port) {
-            left.push_reserved(Berth { switch, port });
+        if let Err(berth) = deal_one(alloc, workers, dealt, berth) {
+            left.push_reserved(berth);
             take_back(left, workers, dealt);
             return Err(Memory);
         }
@@ -83,26 +84,54 @@ fn deal_each<T: Port + Drop>(
     Ok(())
 }
 
+// Gives the worker whose turn it is at this place the port of a berth, which comes back where memory runs
+// out.
+fn deal_one<T: Port + Drop>(
+    alloc: Global,
+    workers: &mut Vec<WorkerPorts<T>>,
+    place: usize,
+    berth: Berth<T>,
+) -> Result<(), Berth<T>>
+    requires some { 0 < length workers.old.items }
+    requires new { list_any (λ t. berth.switch == t.switch) (slice_index_or workers.old.items (place % length workers.old.items) []) ≡ false }
+    ensures ok { OnOk result (workers.new.items ≡ slice_set workers.old.items (place % length workers.old.items) (slice_index_or workers.old.items (place % length workers.old.items) [] ++ first_talk berth.switch berth.port ∷ [])) }
+    ensures err { IfErr result (λ back. (back ≡ berth) × (workers.new.items ≡ workers.old.items)) }
+{
+    let worker = place % workers.len();
+    let Berth { switch, port } = berth;
+    match workers[worker].add(alloc, switch, port) {
+        Ok(()) => Ok(()),
+        Err(port) => Err(Berth { switch, port }),
+    }
+}
+
 // Takes so many berths back that were dealt in turn, the last one first.
 fn take_back<T: Port + Drop>(
     left: &mut Vec<Berth<T>>,
     workers: &mut Vec<WorkerPorts<T>>,
     dealt: usize,
 )
-    ghost berths: { List (Berth T) }
-    requires count { length berths ≡ dealt }
-    requires dealt { workers.old.items ≡ hands (length workers.old.items) berths }
     requires some { 0 < dealt → 0 < length workers.old.items }
+    requires dealt { (berths : List (Berth T)) × (length berths ≡ dealt) × (workers.old.items ≡ hands (length workers.old.items) berths) }
     requires room { length left.old.items + dealt ≤ vec_capacity left.old }
-    ensures { left.new.items ≡ left.old.items ++ reverse berths }
+    ensures { (berths : List (Berth T)) → length berths ≡ dealt → workers.old.items ≡ hands (length workers.old.items) berths → left.new.items ≡ left.old.items ++ reverse berths }
 {
     let mut place = dealt;
     while 0 < place {
         place -= 1;
-        let worker = place % workers.len();
-        let Some(berth) = workers[worker].take() else {
-            unreachable!()
-        };
-        left.push_reserved(berth);
+        left.push_reserved(take_one(workers, place));
     }
+}
+
+// Takes the last port of the worker whose turn it was at this place.
+fn take_one<T: Port + Drop>(workers: &mut Vec<WorkerPorts<T>>, place: usize) -> Berth<T>
+    requires some { 0 < length workers.old.items }
+    requires there { 0 < length (slice_index_or workers.old.items (place % length workers.old.items) []) }
+    ensures { TakesLast workers.old.items (place % length workers.old.items) result workers.new.items }
+{
+    let worker = place % workers.len();
+    let Some(berth) = workers[worker].take() else {
+        unreachable!()
+    };
+    berth
 }
