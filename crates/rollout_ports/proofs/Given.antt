@@ -1,5 +1,5 @@
 -- Berths whose ports were given, and those that are given back.
-use Rattle.std.proofs.Common.{◌≡◌, ℕ, Bool, true, false, cond, List, [], ◌∷◌, ◌++◌, map, Option, Some, None, nat_eq, refl, sym, ap, ◌∙◌, subst, option_map, append-nil, append_assoc}
+use Rattle.std.proofs.Common.{◌≡◌, ℕ, zero, suc, ◌<◌, length, take, drop, get_or, arith, Bool, true, false, cond, List, [], ◌∷◌, ◌++◌, map, Option, Some, None, nat_eq, refl, sym, ap, ◌∙◌, subst, option_map, append-nil, append_assoc}
 use Rattle.std.specs.Cmp.{nat_eq_equiv}
 use Rattle.std.specs.Prelude.{IfSome}
 use Rattle.std.specs.List.{AllByRecursion, IsDistinct}
@@ -9,7 +9,7 @@ use Rattle.worker_ports.specs.Rows.{IsLast}
 use Rattle.worker_ports.specs.declared.ports.Berth.{Berth}
 use Rattle.rollout_ports.specs.Berths.{AreApart, AreLent, FleetPorts, after_keeping, after_opening, marked_each, switches_of, with_each, without_each}
 use Rattle.rollout_ports.specs.Hands.{all_berths, berths_of}
-use Rattle.rollout_ports.specs.Opening.{AreGiven, GivesBack, IsGiven, Opens}
+use Rattle.rollout_ports.specs.Opening.{AreGiven, GivesBack, IsGiven, Opens, OpensUntil, StopsAt}
 use Rattle.rollout_ports.proofs.Places.{back, marked_append, marked_more, put_again, remarked, swapped, switches_append, with_append, without_more, without_others, without_some}
 
 module _ {X : Type 0} (R : X → Type 0) where
@@ -28,6 +28,12 @@ module _ {X : Type 0} (R : X → Type 0) where
 pub all_to : {X : Type 0} (R Q : X → Type 0) → ((x : X) → R x → Q x) → (xs : List X) → AllByRecursion R xs → AllByRecursion Q xs
 all_to R Q to [] each = tt
 all_to R Q to (x ∷ xs) each = (to x each.0, all_to R Q to xs each.1)
+
+-- a list is what stands before a place, what stands there, and what stands behind
+pub parted : {A : Type 0} (xs : List A) (i : ℕ) (d : A) → i < length xs → xs ≡ take i xs ++ get_or xs i d ∷ drop (suc i) xs
+parted [] i d inside = absurd (omega (arith, inside))
+parted (x ∷ xs) zero d inside = refl
+parted {A = A} (x ∷ xs) (suc i) d inside = ap (λ (ys : List A). x ∷ ys) (parted xs i d (omega (arith, inside)))
 
 -- ---- no two of one switch
 module _ {P : Type 0} where
@@ -218,3 +224,32 @@ module _ {P : Type 0} where
   pub opened_lent : (faults : P → ℕ) (homes : List ℕ) (before now : FleetPorts P) (berths : List (Berth P)) → Opens faults homes before berths now → AreLent now.lent berths
   opened_lent faults homes before now berths opens =
       subst (λ (lent : ℕ → Bool). AreLent lent berths) (sym (ap (λ (p : FleetPorts P). p.lent) (opens.ports ∙ ap (after_opening before) (sym opens.switches)))) (all_lent before.lent berths)
+
+  opens_still : (faults : P → ℕ) (homes : List ℕ) (before now after : FleetPorts P) (berths : List (Berth P)) → Opens faults homes before berths now
+      → after.waiting ≡ now.waiting → after.kept ≡ now.kept → after.lent ≡ now.lent → Opens faults homes before berths after
+  opens_still faults homes before now after berths opens waiting kept lent = record {
+    switches = opens.switches;
+    given = opens.given;
+    ports = ports_by after now waiting kept lent ∙ opens.ports;
+  }
+
+  -- the fleet has no port for the next
+  pub opened_until : (faults : P → ℕ) (homes earlier later : List ℕ) (switch : ℕ) (before now after : FleetPorts P) (berths : List (Berth P)) → homes ≡ earlier ++ switch ∷ later → AllByRecursion (λ m. nat_eq switch m ≡ false) earlier
+      → Opens faults earlier before berths now → IfSome now.waiting (λ w. w switch ≡ None) → after.waiting ≡ now.waiting → after.kept ≡ now.kept → after.lent ≡ now.lent → OpensUntil faults homes switch before berths after
+  opened_until faults homes earlier later switch before now after berths among others opens none waiting kept lent = record {
+    earlier = earlier;
+    later = later;
+    among = among;
+    opens = opens_still faults earlier before now after berths opens waiting kept lent;
+    none_waits = none_waits before.waiting earlier switch others (subst (λ (told : Option (ℕ → Option P)). IfSome told (λ w. w switch ≡ None)) (ap (λ (p : FleetPorts P). p.waiting) opens.ports) none);
+  }
+
+  -- those that were given before are given back
+  pub stops_at : (faults : P → ℕ) (homes all : List ℕ) (switch : ℕ) (before now after : FleetPorts P) (berths : List (Berth P)) → homes ≡ all → OpensUntil faults homes switch before berths now → after ≡ after_keeping now berths → StopsAt faults all switch before after
+  stops_at faults homes all switch before now after berths are until keeps = record {
+    earlier = until.earlier;
+    later = until.later;
+    among = sym are ∙ until.among;
+    given_back = given_back faults until.earlier before now after berths until.opens keeps;
+    none_waits = until.none_waits;
+  }

@@ -1,11 +1,12 @@
 -- Numbers that pass a test, each once.
-use Rattle.std.proofs.Common.{◌≡◌, ℕ, zero, suc, ◌+◌, ◌<◌, Bool, true, false, cond, ◌||◌, List, [], ◌∷◌, ◌++◌, length, nat_eq, refl, sym, ap, ap₂, ◌∙◌, subst, arith, append-nil, get_or, Ok, Err}
-use Rattle.std.specs.Prelude.{IfOk, Result}
+use Rattle.std.proofs.Common.{◌≡◌, ℕ, zero, suc, ◌+◌, ◌<◌, Bool, true, false, cond, ◌||◌, List, [], ◌∷◌, ◌++◌, length, nat_eq, refl, sym, ap, ap₂, ◌∙◌, subst, arith, append-nil, get_or, take, drop, Ok, Err}
+use Rattle.std.specs.Prelude.{All, IfOk, Result}
+use Rattle.std.proofs.lemmas.List.Elements.{All-from_recursion}
 use Rattle.std.proofs.lemmas.Bool.{ne_eqb}
 use Rattle.std.specs.List.{AllByRecursion, IsDistinct}
 use Rattle.rollout_rules.specs.Wan.{Plan, Problem}
 use Rattle.rollout_ports.specs.Homes.{is_working_home, passing_below, some_below, working_homes}
-use Rattle.rollout_ports.proofs.Given.{all_both, all_front, all_behind, all_to}
+use Rattle.rollout_ports.proofs.Given.{all_both, all_front, all_behind, all_to, parted}
 use Rattle.rollout_ports.proofs.Places.{swapped}
 
 pub passing_more : (n : ℕ) (test : ℕ → Bool) → passing_below (n + 1) test ≡ passing_below n test ++ cond (test n) (n ∷ []) []
@@ -68,3 +69,10 @@ pub homes_marked : {E : Type 0} (p : Problem) (plan : Plan) (marks : List Bool) 
 homes_marked p plan marks long each (Ok ns) is =
     is ∙ ap (λ m. passing_below m (λ n. get_or marks n false)) long ∙ passing_same (length p.switches) (λ n. get_or marks n false) (is_working_home p plan) each
 homes_marked p plan marks long each (Err e) is = tt
+
+pub distinct_at : (ns : List ℕ) (i : ℕ) → i < length ns → IsDistinct nat_eq ns → AllByRecursion (λ m. nat_eq (get_or ns i 0) m ≡ false) (take i ns)
+distinct_at ns i inside distinct = distinct_before (take i ns) (get_or ns i 0) (drop (suc i) ns) (subst (IsDistinct nat_eq) (parted ns i 0 inside) distinct)
+
+-- each of them is below the bound
+pub passing_inside : (n : ℕ) (test : ℕ → Bool) (ns : List ℕ) → ns ≡ passing_below n test → All (λ m. m < n) ns
+passing_inside n test ns are = subst (All (λ m. m < n)) (sym are) (All-from_recursion (λ m. m < n) (passing_below n test) (passing_low n test))

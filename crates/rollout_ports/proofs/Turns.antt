@@ -182,10 +182,13 @@ module _ {P : Type 0} where
       ∙ next_is_new n so.earlier b (reverse rest) some (subst (λ (bs : List (Berth P)). AreApart bs) (goes_on all left rest so.earlier b so.parts ends) apart)
 
   -- what was dealt
-  pub dealt_so : (n : ℕ) (all left : List (Berth P)) (rows now : List (List (Talk P))) (count : ℕ) → Dealt n all left rows count → now ≡ rows → (berths : List (Berth P)) × (length berths ≡ count) × (now ≡ hands (length now) berths)
+  pub dealt_so : (n : ℕ) (all left : List (Berth P)) (rows now : List (List (Talk P))) (count : ℕ) (so : Dealt n all left rows count) → now ≡ rows → now ≡ hands (length now) so.earlier
   dealt_so n all left rows now count so is =
       let are : now ≡ hands n so.earlier = is ∙ so.dealt in
-      (so.earlier, so.long, are ∙ ap (λ m. hands m so.earlier) (sym (ap length are ∙ hands_long n so.earlier)))
+      are ∙ ap (λ m. hands m so.earlier) (sym (ap length are ∙ hands_long n so.earlier))
+
+  pub fresh_so : (n : ℕ) (rows : List (List (Talk P))) → rows ≡ hands n [] → rows ≡ hands (length rows) []
+  fresh_so n rows is = is ∙ ap (λ m. hands m []) (sym (ap length is ∙ hands_long n []))
 
   -- what is left, and what was dealt, taken back
   pub dealt_back : (n : ℕ) (old left : List (Berth P)) (rows : List (List (Talk P))) (count : ℕ) (so : Dealt n (reverse old) left rows count) → left ++ reverse so.earlier ≡ old

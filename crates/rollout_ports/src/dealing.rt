@@ -31,11 +31,13 @@ pub fn deal<T: Port + Drop>(
         return Err(berths);
     };
     berths.reverse();
-    if deal_each(alloc, &mut berths, &mut dealt).is_ok() {
-        return Ok(dealt);
+    match deal_each(alloc, &mut berths, &mut dealt) {
+        Ok(()) => Ok(dealt),
+        Err(_) => {
+            berths.reverse();
+            Err(berths)
+        }
     }
-    berths.reverse();
-    Err(berths)
 }
 
 // How many workers have ports, where there are so many berths.

@@ -32,11 +32,13 @@ loop-berth-preserved g c =
 
 pub take_back-requires-clause-dealt : goal.take_back-requires-clause-dealt
 take_back-requires-clause-dealt g c =
-    dealt_so (length c.args.workers.now.items) (reverse c.args.left.now.items) c.loop-berth.left.items c.loop-berth.workers.items c.deal_one.new.workers.items c.loop-berth.dealt c.loop-berth.invariant.so_far c.in-Err.ensures.err.1
+    let so = c.loop-berth.invariant.so_far in
+    (so.earlier, so.long, dealt_so (length c.args.workers.now.items) (reverse c.args.left.now.items) c.loop-berth.left.items c.loop-berth.workers.items c.deal_one.new.workers.items c.loop-berth.dealt so c.in-Err.ensures.err.1)
 
 pub returns-in-Err-clause-err : goal.returns-in-Err-clause-err
 returns-in-Err-clause-err g c =
-    let d = dealt_so (length c.args.workers.now.items) (reverse c.args.left.now.items) c.loop-berth.left.items c.loop-berth.workers.items c.deal_one.new.workers.items c.loop-berth.dealt c.loop-berth.invariant.so_far c.in-Err.ensures.err.1 in
+    let so = c.loop-berth.invariant.so_far in
+    let are = dealt_so (length c.args.workers.now.items) (reverse c.args.left.now.items) c.loop-berth.left.items c.loop-berth.workers.items c.deal_one.new.workers.items c.loop-berth.dealt so c.in-Err.ensures.err.1 in
     let left = c.push_reserved.ensures.items ∙ ap (λ b. c.pop.new.self.items ++ b ∷ []) c.in-Err.ensures.err.0 ∙ sym c.in-Some.ensures.items in
-    c.take_back.ensures d.0 d.1 d.2 ∙ ap (λ bs. bs ++ reverse d.0) left
-    ∙ dealt_back (length c.args.workers.now.items) c.args.left.now.items c.loop-berth.left.items c.loop-berth.workers.items c.loop-berth.dealt c.loop-berth.invariant.so_far
+    c.take_back.ensures so.earlier so.long are ∙ ap (λ bs. bs ++ reverse so.earlier) left
+    ∙ dealt_back (length c.args.workers.now.items) c.args.left.now.items c.loop-berth.left.items c.loop-berth.workers.items c.loop-berth.dealt so
