@@ -72,7 +72,7 @@ module _ {A : Type 0} where
   all_if R true x holds = (holds, tt)
   all_if R false x holds = tt
 
-  all_places : (R : A → Type 0) (test : ℕ → Bool) (place : ℕ) (xs : List A) → AllByRecursion R xs → AllByRecursion R (at_places test place xs)
+  pub all_places : (R : A → Type 0) (test : ℕ → Bool) (place : ℕ) (xs : List A) → AllByRecursion R xs → AllByRecursion R (at_places test place xs)
   all_places R test place [] each = tt
   all_places R test place (x ∷ xs) each = all_both R (cond (test place) (x ∷ []) []) (at_places test (place + 1) xs) (all_if R (test place) x each.0) (all_places R test (place + 1) xs each.1)
 

@@ -131,8 +131,8 @@ fn take_one<T: Port + Drop>(workers: &mut Vec<WorkerPorts<T>>, place: usize) -> 
     requires there { 0 < length (slice_index_or workers.old.items (place % length workers.old.items) []) }
     ensures { TakesLast workers.old.items (place % length workers.old.items) result workers.new.items }
 {
-    let worker = place % workers.len();
-    let Some(berth) = workers[worker].take() else {
+    let turn = place % workers.len();
+    let Some(berth) = workers[turn].take() else {
         unreachable!()
     };
     berth

@@ -18,4 +18,9 @@ pub mod worked;
 
 pub use dealing::deal;
 pub use keeping::{keep_ports, keep_worker, keep_workers};
+pub use laws::{
+    dealt_berths_are_those_that_were_opened, each_port_stands_at_its_switch,
+    marks_that_were_not_set_stay, ports_that_moved_are_given_back_alike,
+    working_homes_are_distinct,
+};
 pub use opening::{NotOpened, open_ports};
