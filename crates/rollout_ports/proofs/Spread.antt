@@ -13,8 +13,11 @@ use Rattle.rollout_ports.proofs.Places.{swapped}
 use Rattle.rollout_ports.proofs.Turns.{all_places}
 
 all_with : {X : Type 0} (A B C : X → Type 0) → ((x : X) → A x → B x → C x) → (xs : List X) → AllByRecursion A xs → AllByRecursion B xs → AllByRecursion C xs
-all_with A B C to [] as bs = tt
-all_with A B C to (x ∷ xs) as bs = (to x as.0 bs.0, all_with A B C to xs as.1 bs.1)
+all_with A B C to [] first second = tt
+all_with A B C to (x ∷ xs) first second = (to x first.0 second.0, all_with A B C to xs first.1 second.1)
+
+never_both : (n k m : ℕ) → k < m → (place : ℕ) → nat_eq (place % n) k ≡ true → nat_eq (place % n) m ≡ false
+never_both n k m lt place here = ne_eqb (place % n) m (λ same. omega (arith, lt, same, eqb-true (place % n) k here))
 
 module _ {P : Type 0} where
   abbrev Apart : Berth P → Berth P → Type 0
@@ -77,9 +80,6 @@ module _ {P : Type 0} where
       (λ c other rest. and_one (second place) b c (at_places second (place + 1) bs) other rest) (at_places first (place + 1) bs)
       (all_places (λ c. Apart c b) first (place + 1) bs (all_to (Apart b) (λ c. Apart c b) (λ c other. swapped b.switch c.switch other) bs apart.0))
       (crossed first second never (place + 1) bs apart.1))
-
-  never_both : (n k m : ℕ) → k < m → (place : ℕ) → nat_eq (place % n) k ≡ true → nat_eq (place % n) m ≡ false
-  never_both n k m lt place here = ne_eqb (place % n) m (λ same. omega (arith, lt, same, eqb-true (place % n) k here))
 
   crossed_rows : (n k m : ℕ) (bs : List (Berth P)) → k ≤ m → AreApart bs → AllByRecursion (λ b. AllByRecursion (Apart b) (hand n m bs)) (all_berths (list_below k (row n bs)))
   crossed_rows n zero m bs le apart = tt

@@ -1,8 +1,13 @@
+ghost use Rattle.std.specs.Prelude.{IfOk};
+ghost use Rattle.lossy_link.specs.Berths.{lent_at};
+ghost use Rattle.rollout_ports.specs.Berths.{AreApart, AreLent};
+
 use crate::{NotOpened, deal, keep_ports, open_ports};
 use lists::{Marks, Memory, Nums};
 use lossy_link::{MemoryFleet, SilentPort};
 use std::alloc::Global;
 use std::test::Fail;
+use wan_edge::Fleet;
 use wan_model::{CheckedPlan, Plan, Problem, Stage};
 use worker_ports::Berth;
 
@@ -17,18 +22,52 @@ fn plan_of_nothing(alloc: Global) -> Result<CheckedPlan, Memory> {
     Ok(CheckedPlan::seal(problem, plan))
 }
 
-// How many ports are opened for it, and given back.
-fn ports_for_nothing(alloc: Global) -> Result<usize, NotOpened> {
+// How many ports are opened for it, and to how many workers they are dealt.
+fn ports_for_nothing(alloc: Global) -> Result<(usize, usize), NotOpened> {
     let plan = plan_of_nothing(alloc)?;
     let mut fleet: MemoryFleet<SilentPort> = MemoryFleet::new(alloc);
     let berths = open_ports(alloc, &mut fleet, &plan)?;
     let count = berths.len();
     let workers = deal(alloc, berths, 2).map_err(|_| NotOpened::Memory)?;
-    Ok(count + workers.len())
+    Ok((count, workers.len()))
+}
+
+// Ports to the switches 4 and 9 of a fleet.
+fn two_berths(
+    alloc: Global,
+    fleet: &mut MemoryFleet<SilentPort>,
+) -> Result<Vec<Berth<SilentPort>>, Fail>
+    ensures apart { IfOk result (λ berths. AreApart berths.items) }
+    ensures lent { IfOk result (λ berths. AreLent (lent_at fleet.new.places) berths.items) }
+{
+    fleet.put(4, SilentPort::new(alloc))?;
+    fleet.put(9, SilentPort::new(alloc))?;
+    let mut berths = Vec::with_capacity(alloc, 2)?;
+    let first = fleet.port(4, "")?;
+    let second = fleet.port(9, "")?;
+    berths.push_reserved(Berth {
+        switch: 4,
+        port: first,
+    });
+    berths.push_reserved(Berth {
+        switch: 9,
+        port: second,
+    });
+    Ok(berths)
 }
 
 #[test]
 fn a_network_of_nothing_needs_no_port(rt: HostRuntime) -> Result<(), Fail> {
-    assert!(rt; ports_for_nothing(rt.alloc()) == Ok(0));
+    assert!(rt; ports_for_nothing(rt.alloc()) == Ok((0, 0)));
+    Ok(())
+}
+
+#[test]
+fn a_port_that_is_given_back_waits_again(rt: HostRuntime) -> Result<(), Fail> {
+    let mut fleet = MemoryFleet::new(rt.alloc());
+    let berths = two_berths(rt.alloc(), &mut fleet)?;
+    assert!(rt; fleet.port(4, "").is_err());
+    keep_ports(&mut fleet, berths);
+    assert!(rt; fleet.port(4, "").is_ok());
     Ok(())
 }
