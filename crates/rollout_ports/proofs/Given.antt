@@ -70,7 +70,7 @@ module _ {P : Type 0} where
 
   stays_lent : (marks : ℕ → Bool) (n : ℕ) (bs : List (Berth P)) → AreLent marks bs → AreLent (marked marks n true) bs
   stays_lent marks n [] each = tt
-  stays_lent marks n (b ∷ bs) each = (here (nat_eq b.switch n) , stays_lent marks n bs each.1)
+  stays_lent marks n (b ∷ bs) each = (here (nat_eq b.switch n), stays_lent marks n bs each.1)
     where
       here : (at : Bool) → cond at true (marks b.switch) ≡ true
       here true = refl
@@ -84,7 +84,7 @@ module _ {P : Type 0} where
     stays_lent (marked_each marks (switches_of bs) true) b.switch bs (all_lent marks bs),
   )
 
--- ---- given back
+  -- ---- given back
   told_again : (waiting : Option (ℕ → Option P)) (bs cs : List (Berth P)) → option_map (λ w. with_each w (bs ++ cs)) waiting ≡ option_map (λ w. with_each w bs) (option_map (λ w. with_each w cs) waiting)
   told_again None bs cs = refl
   told_again (Some w) bs cs = ap Some (with_append w bs cs)
@@ -156,7 +156,7 @@ module _ {P : Type 0} where
   rows_append [] row = append-nil (berths_of row)
   rows_append (r ∷ rs) row = ap (λ (bs : List (Berth P)). berths_of r ++ bs) (rows_append rs row) ∙ sym (append_assoc (berths_of r) (all_berths rs) (berths_of row))
 
--- ---- opened
+  -- ---- opened
   -- what waits, once the ports of switches wait no more, and of one more
   told_more : (waiting : Option (ℕ → Option P)) (ns : List ℕ) (n : ℕ) → option_map (λ w. without (without_each w ns) n) waiting ≡ option_map (λ w. without_each w (ns ++ n ∷ [])) waiting
   told_more None ns n = refl

@@ -34,15 +34,15 @@ module _ {A : Type 0} where
   pub set-below : (n : ℕ) (f g : ℕ → A) (w : ℕ) (v : A) → w < n → v ≡ g w → ((k : ℕ) → nat_eq w k ≡ false → f k ≡ g k) → set (list_below n f) w v ≡ list_below n g
   set-below n f g w v inside is others =
       ext_get_or v (set (list_below n f) w v) (list_below n g) (omega (arith, length-set (list_below n f) w v, length-below n f, length-below n g)) (λ k lt.
-        let low : k < n = omega (arith, lt, length-set (list_below n f) w v, length-below n f) in
-        elim (cases_Bool (nat_eq w k)) as (λ c. get_or (set (list_below n f) w v) k v ≡ get_or (list_below n g) k v) [
-          | inl here ↦
-              let at : w ≡ k = eqb-true w k here in
-              subst (λ j. get_or (set (list_below n f) w v) j v ≡ get_or (list_below n g) j v) at
-              (get_or-set_same (list_below n f) w v v (omega (arith, inside, length-below n f)) ∙ is ∙ sym (read-below n g w v inside))
-          | inr apart ↦
-              get_or-set_other (list_below n f) w k v v (λ same. eqb-false w k apart (sym same)) ∙ read-below n f k v low ∙ others k apart ∙ sym (read-below n g k v low)
-        ])
+      let low : k < n = omega (arith, lt, length-set (list_below n f) w v, length-below n f) in
+      elim (cases_Bool (nat_eq w k)) as (λ c. get_or (set (list_below n f) w v) k v ≡ get_or (list_below n g) k v) [
+        | inl here ↦
+            let at : w ≡ k = eqb-true w k here in
+            subst (λ j. get_or (set (list_below n f) w v) j v ≡ get_or (list_below n g) j v) at
+            (get_or-set_same (list_below n f) w v v (omega (arith, inside, length-below n f)) ∙ is ∙ sym (read-below n g w v inside))
+        | inr apart ↦
+            get_or-set_other (list_below n f) w k v v (λ same. eqb-false w k apart (sym same)) ∙ read-below n f k v low ∙ others k apart ∙ sym (read-below n g k v low)
+      ])
 
   drop_more : (xs : List A) (k : ℕ) (d : A) → k < length xs → drop k xs ≡ get_or xs k d ∷ drop (k + 1) xs
   drop_more xs k d inside = let same : suc k ≡ k + 1 = omega arith in drop-cons xs k d inside ∙ ap (λ j. get_or xs k d ∷ drop j xs) same

@@ -48,10 +48,7 @@ fn hand_count(workers: u32, berths: usize) -> usize
 }
 
 // So many workers without ports.
-fn empty_hands<T: Port + Drop>(
-    alloc: Global,
-    count: usize,
-) -> Result<Vec<WorkerPorts<T>>, Memory>
+fn empty_hands<T: Port + Drop>(alloc: Global, count: usize) -> Result<Vec<WorkerPorts<T>>, Memory>
     ensures { IfOk result (λ workers. workers.items ≡ hands count []) }
 {
     let mut workers = Vec::with_capacity(alloc, count)?;

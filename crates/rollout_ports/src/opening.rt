@@ -52,7 +52,12 @@ pub fn open_ports<F: Fleet>(
 {
     let homes = working_homes(alloc, plan)?;
     let mut berths = Vec::with_capacity(alloc, homes.as_slice().len())?;
-    let opened = open_each(fleet, plan.problem().switches(), homes.as_slice(), &mut berths);
+    let opened = open_each(
+        fleet,
+        plan.problem().switches(),
+        homes.as_slice(),
+        &mut berths,
+    );
     match opened {
         Ok(()) => Ok(berths),
         Err(switch) => {

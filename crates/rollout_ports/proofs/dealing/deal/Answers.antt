@@ -11,6 +11,6 @@ deal_each-requires-clause-fresh g c = fresh_so c.hand_count-count.result c.in-Ok
 pub returns-in-Ok-deal_each-clause-ok : goal.returns-in-Ok-deal_each-clause-ok
 returns-in-Ok-deal_each-clause-ok g c =
     let count : length c.in-Ok.dealt.items ≡ hand_count c.args.workers (length c.args.berths.items) =
-        ap length c.in-Ok.ensures ∙ hands_long c.hand_count-count.result [] ∙ c.hand_count-count.ensures ∙ ap (hand_count c.args.workers) (c.len.ensures ∙ c.args.berths.ok.0) in
+    ap length c.in-Ok.ensures ∙ hands_long c.hand_count-count.result [] ∙ c.hand_count-count.ensures ∙ ap (hand_count c.args.workers) (c.len.ensures ∙ c.args.berths.ok.0) in
     let same : reverse c.reverse.new.self.items ≡ c.args.berths.items = ap reverse c.reverse.ensures.items ∙ reverse-reverse c.args.berths.items in
     c.in-Ok-deal_each.ensures.ok ∙ ap₂ (λ (n : ℕ) (bs : List (Berth _)). hands n bs) count same

@@ -22,7 +22,7 @@ loop-berth-preserved g c =
     let n = length c.args.workers.now.items in
     let some : 0 < n = c.requires.some (omega (arith, i.count, c.in-Some.ensures.len, c.args.left.now.ok.0)) in
     let next = dealt_next n (reverse c.args.left.now.items) c.loop-berth.left.items c.pop.new.self.items c.loop-berth.workers.items c.deal_one.new.workers.items c.loop-berth.dealt c.in-Some.berth
-        i.so_far c.in-Some.ensures.items some c.in_default-deal_one.ensures.ok in
+    i.so_far c.in-Some.ensures.items some c.in_default-deal_one.ensures.ok in
     record {
       so_far = next;
       long = omega (arith, c.deal_one.new.workers.ok.0, dealt_long _ _ _ _ _ next, c.args.workers.now.ok.0);

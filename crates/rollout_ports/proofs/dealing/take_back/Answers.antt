@@ -28,8 +28,8 @@ loop-place-preserved g c =
     let one : c.loop-place.place ≡ place + 1 = omega (arith, c.loop-place-test.true) in
     let some : 0 < n = c.requires.some (omega (arith, c.loop-place-test.true, i.within)) in
     let next : (berths : List (Berth _)) → length berths ≡ c.args.dealt → c.args.workers.now.items ≡ hands n berths → TakenBack n berths c.args.left.now.items c.push_reserved.new.self.items c.take_one.new.workers.items place =
-        λ berths count are. subst (λ left. TakenBack n berths c.args.left.now.items left c.take_one.new.workers.items place) (sym c.push_reserved.ensures.items)
-        (take_next n berths c.args.left.now.items c.loop-place.left.items c.loop-place.workers.items c.take_one.new.workers.items c.loop-place.place place c.take_one.result (i.so_far berths count are) one some (omega (arith, i.within, count)) c.take_one.ensures) in
+    λ berths count are. subst (λ left. TakenBack n berths c.args.left.now.items left c.take_one.new.workers.items place) (sym c.push_reserved.ensures.items)
+    (take_next n berths c.args.left.now.items c.loop-place.left.items c.loop-place.workers.items c.take_one.new.workers.items c.loop-place.place place c.take_one.result (i.so_far berths count are) one some (omega (arith, i.within, count)) c.take_one.ensures) in
     record {
       so_far = next;
       long = omega (arith, c.take_one.new.workers.ok.0, back_long n d.0 c.args.left.now.items c.push_reserved.new.self.items c.take_one.new.workers.items place (next d.0 d.1 d.2), c.args.workers.now.ok.0);

@@ -12,5 +12,5 @@ mark_home-requires-clause-item c =
     let listed = c.in_ok-items.ensures.list in
     let lt : n < item_count p = omega (arith, c.loop-item-test.true, listed.count, ap (λ (row : List Item). length row) c.as_slice-item-items.ensures) in
     let is : get_or c.as_slice-item-items.result.now n (variants.Flow 0) ≡ item_at p n =
-        ap (λ (row : List Item). get_or row n (variants.Flow 0)) c.as_slice-item-items.ensures ∙ listed.each n (variants.Flow 0) lt in
+    ap (λ (row : List Item). get_or row n (variants.Flow 0)) c.as_slice-item-items.ensures ∙ listed.each n (variants.Flow 0) lt in
     ap (is_item p) is ∙ is_item-item_at p n lt

@@ -10,8 +10,12 @@ use Rattle.rollout_ports.proofs.opening.open_ports.Goals as goal
 pub open_each-opened-requires-clause-inside : goal.open_each-opened-requires-clause-inside
 open_each-opened-requires-clause-inside g c k d lt =
     let p = c.args.plan.now.problem in
-    omega (arith, passing_inside (length p.switches) (is_working_home p c.args.plan.now.plan) c.as_slice-2.result.now (c.as_slice-2.ensures ∙ c.in_ok-homes.ensures) k d lt,
-    ap length c.switches.ensures.list, ap (λ (q : Problem). length q.switches) c.problem.ensures)
+    omega (
+      arith,
+      passing_inside (length p.switches) (is_working_home p c.args.plan.now.plan) c.as_slice-2.result.now (c.as_slice-2.ensures ∙ c.in_ok-homes.ensures) k d lt,
+      ap length c.switches.ensures.list,
+      ap (λ (q : Problem). length q.switches) c.problem.ensures,
+    )
 
 pub open_each-opened-requires-clause-once : goal.open_each-opened-requires-clause-once
 open_each-opened-requires-clause-once g c =
