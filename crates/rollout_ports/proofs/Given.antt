@@ -1,5 +1,5 @@
 -- Berths whose ports were given, and those that are given back.
-use Rattle.std.proofs.Common.{◌≡◌, ℕ, zero, suc, ◌<◌, length, take, drop, get_or, arith, Bool, true, false, cond, List, [], ◌∷◌, ◌++◌, map, Option, Some, None, nat_eq, refl, sym, ap, ◌∙◌, subst, option_map, append-nil, append_assoc}
+use Rattle.std.proofs.Common.{◌≡◌, ℕ, zero, suc, ◌<◌, length, take, drop, get_or, arith, Bool, true, false, cond, List, [], ◌∷◌, ◌++◌, Option, Some, None, nat_eq, refl, sym, ap, ◌∙◌, subst, option_map, append-nil, append_assoc}
 use Rattle.std.specs.Cmp.{nat_eq_equiv}
 use Rattle.std.specs.Prelude.{IfSome}
 use Rattle.std.specs.List.{AllByRecursion, IsDistinct}
@@ -10,7 +10,7 @@ use Rattle.worker_ports.specs.declared.ports.Berth.{Berth}
 use Rattle.rollout_ports.specs.Berths.{AreApart, AreLent, FleetPorts, after_keeping, after_opening, marked_each, switches_of, with_each, without_each}
 use Rattle.rollout_ports.specs.Hands.{all_berths, berths_of}
 use Rattle.rollout_ports.specs.Opening.{AreGiven, GivesBack, IsGiven, Opens, OpensUntil, StopsAt}
-use Rattle.rollout_ports.proofs.Places.{back, marked_append, marked_more, put_again, remarked, swapped, switches_append, with_append, without_more, without_others, without_some}
+use Rattle.rollout_ports.proofs.Places.{back, marked_append, marked_more, put_again, remarked, switches_append, with_append, without_more, without_others, without_some}
 
 module _ {X : Type 0} (R : X → Type 0) where
   pub all_front : (xs ys : List X) → AllByRecursion R (xs ++ ys) → AllByRecursion R xs

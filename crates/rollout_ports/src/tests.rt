@@ -22,14 +22,24 @@ fn plan_of_nothing(alloc: Global) -> Result<CheckedPlan, Memory> {
     Ok(CheckedPlan::seal(problem, plan))
 }
 
-// How many ports are opened for it, and to how many workers they are dealt.
-fn ports_for_nothing(alloc: Global) -> Result<(usize, usize), NotOpened> {
-    let plan = plan_of_nothing(alloc)?;
-    let mut fleet: MemoryFleet<SilentPort> = MemoryFleet::new(alloc);
-    let berths = open_ports(alloc, &mut fleet, &plan)?;
-    let count = berths.len();
-    let workers = deal(alloc, berths, 2).map_err(|_| NotOpened::Memory)?;
-    Ok((count, workers.len()))
+// How many ports are opened for a plan.
+fn opened_for(
+    alloc: Global,
+    fleet: &mut MemoryFleet<SilentPort>,
+    plan: &CheckedPlan,
+) -> Result<usize, NotOpened> {
+    let berths = open_ports(alloc, fleet, plan)?;
+    Ok(berths.len())
+}
+
+// To how many workers berths are dealt, of two that are asked for.
+fn dealt_to(alloc: Global, berths: Vec<Berth<SilentPort>>) -> Option<usize>
+    requires { AreApart berths.items }
+{
+    match deal(alloc, berths, 2) {
+        Ok(workers) => Some(workers.len()),
+        Err(_) => None,
+    }
 }
 
 // Ports to the switches 4 and 9 of a fleet.
@@ -58,7 +68,17 @@ fn two_berths(
 
 #[test]
 fn a_network_of_nothing_needs_no_port(rt: HostRuntime) -> Result<(), Fail> {
-    assert!(rt; ports_for_nothing(rt.alloc()) == Ok((0, 0)));
+    let plan = plan_of_nothing(rt.alloc())?;
+    let mut fleet = MemoryFleet::new(rt.alloc());
+    assert!(rt; opened_for(rt.alloc(), &mut fleet, &plan) == Ok(0));
+    Ok(())
+}
+
+#[test]
+fn two_berths_are_dealt_to_two_workers(rt: HostRuntime) -> Result<(), Fail> {
+    let mut fleet = MemoryFleet::new(rt.alloc());
+    let berths = two_berths(rt.alloc(), &mut fleet)?;
+    assert!(rt; dealt_to(rt.alloc(), berths) == Some(2));
     Ok(())
 }
 

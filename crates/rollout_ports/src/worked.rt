@@ -1,6 +1,6 @@
 //! Worked examples of the switches at which there is work, and of berths dealt in turn: each function
 //! states a fact of a small case.
-ghost use Rattle.std.specs.Prelude.{◌≡◌, ℕ, ◌%◌, ◌==◌, [], ◌∷◌, codes, false, true};
+ghost use Rattle.std.specs.Prelude.{◌≡◌, ℕ, ◌%◌, ◌==◌, [], ◌∷◌, codes, false};
 ghost use Rattle.rollout_rules.specs.Building.{with_flow, with_switch};
 ghost use Rattle.rollout_rules.specs.Named.{one, one_plan, table_network, table_plan};
 ghost use Rattle.rollout_ports.specs.Hands.{at_places, hand_count};

@@ -1,5 +1,5 @@
-use Rattle.std.proofs.Common.{◌≡◌, ◌<◌, ◌∷◌, ◌++◌, [], length, reverse, sym, ap, ◌∙◌, arith}
-use Rattle.rollout_ports.proofs.Turns.{Dealt, dealt_all, dealt_back, dealt_long, dealt_new, dealt_next, dealt_none, dealt_so}
+use Rattle.std.proofs.Common.{◌<◌, ◌∷◌, ◌++◌, [], length, reverse, sym, ap, ◌∙◌, arith}
+use Rattle.rollout_ports.proofs.Turns.{dealt_back, dealt_long, dealt_new, dealt_next, dealt_none, dealt_so}
 use Rattle.rollout_ports.proofs.dealing.deal_each.Goals as goal
 
 pub loop-berth-init : goal.loop-berth-init

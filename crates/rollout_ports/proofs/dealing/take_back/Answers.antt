@@ -1,4 +1,4 @@
-use Rattle.std.proofs.Common.{◌≡◌, ◌+◌, ◌-◌, ◌<◌, ◌≤◌, ◌∷◌, ◌++◌, [], List, length, subst, sym, ap, ◌∙◌, arith}
+use Rattle.std.proofs.Common.{◌≡◌, ◌+◌, ◌-◌, ◌<◌, List, length, subst, sym, arith}
 use Rattle.worker_ports.specs.declared.ports.Berth.{Berth}
 use Rattle.rollout_ports.specs.Hands.{hands}
 use Rattle.rollout_ports.proofs.Turns.{TakenBack, all_back, back_long, none_back, take_next, take_there}

@@ -1,7 +1,6 @@
 use Rattle.std.proofs.Common.{◌≡◌, ◌∷◌, ◌++◌, [], List, ℕ, length, take, drop, get_or, suc, refl, subst, sym, ap, ◌∙◌, arith}
 use Rattle.std.proofs.Math.Seq.{take-length}
 use Rattle.std.proofs.lemmas.List.{take_more}
-use Rattle.worker_ports.specs.declared.ports.Berth.{Berth}
 use Rattle.rollout_ports.specs.Berths.{ports_of}
 use Rattle.rollout_ports.specs.Opening.{Opens}
 use Rattle.rollout_ports.proofs.Given.{opened_none, opened_one, opened_until, parted}
