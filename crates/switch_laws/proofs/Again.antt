@@ -1,25 +1,26 @@
 -- A port behind whole rounds starts the next run as found.
-use Rattle.std.proofs.Common.{◌≡◌, ◌⊎◌, ℕ, ◌^◌, ◌<◌, ◌==◌, true, List, [], ◌∷◌, ◌++◌, Option, Some, None, is_some, IfSome, inl, inr, refl, sym, ap, ap₂, ◌∙◌, subst, append_assoc, append-nil}
+use Rattle.std.proofs.Math.Seq.{take-length}
+use Rattle.std.proofs.Common.{◌≡◌, ◌⊎◌, ℕ, ◌^◌, ◌<◌, ◌≤◌, ◌==◌, true, List, [], ◌∷◌, ◌++◌, length, take, Option, Some, None, is_some, IfSome, inl, inr, refl, sym, ap, ap₂, ◌∙◌, subst, append_assoc, append-nil, arith}
 use Rattle.std.proofs.lemmas.Bool.{OnTrue_at, cond_both}
 use Rattle.std.proofs.lemmas.Grind.{flat_map-append}
 use Rattle.std.proofs.lemmas.List.Elements.{All-append, All-filter, All-weaker}
 use Rattle.std.proofs.lemmas.Option.{same_Some}
-use Rattle.std.specs.List.{All, flat_map}
+use Rattle.std.specs.List.{flat_map}
 use Rattle.rollout_rules.specs.Wan.{Rollout}
 use Rattle.rollout_rules.specs.Network.{IsNetwork}
 use Rattle.rollout_rules.specs.Valid.{is_valid_plan}
 use Rattle.rollout_rules.specs.History.{History, with_entries}
 use Rattle.rollout_rules.specs.Legal.{is_legal}
-use Rattle.rollout_rules.specs.Agent.{Holding, held_after, is_at_most}
+use Rattle.rollout_rules.specs.Agent.{held_after, is_at_most}
 use Rattle.rollout_rules.specs.declared.op.Entry.{Entry}
 use Rattle.rollout_laws.proofs.Pairs.{after-more, at_most-refl, at_most-trans}
 use Rattle.wan_edge.specs.Frames.{Command, CommandFrame, IsAnswer, IsCommand, Splits, answer_bytes, command_bytes}
 use Rattle.wan_edge.specs.Ports.{IsHonestStep, MovesByRule}
-use Rattle.wan_edge.specs.Streams.{Appends, KeepsTelling}
+use Rattle.wan_edge.specs.Streams.{Appends}
 use Rattle.wan_edge.specs.Switches.{Holdings, after_command, after_commands, pair_asked}
 use Rattle.port_session.specs.Offers.{frames_of}
 use Rattle.worker_ports.specs.Lots.{home_at, is_switch, own}
-use Rattle.worker_ports.specs.Stories.{Story, Tells}
+use Rattle.worker_ports.specs.Stories.{LastStory, Story}
 use Rattle.worker_ports.specs.Views.{PortView, Telling}
 use Rattle.switch_laws.specs.Holdings.{AreHeldAt}
 use Rattle.switch_laws.specs.Runs.{AreAnswers, AreCommands, IsBegunCommand, MayCome, RunsAt, StartsAsFound}
@@ -129,3 +130,13 @@ module _ (r : Rollout) (migration : ℕ) (homes : List (Option ℕ)) (found : Hi
             offered_again offered was.0 after offered_is was.1 after_is));
         held = subst (λ (w : ℕ). IfSome now.port.held (AreHeldAt r migration homes w (with_entries found added))) (sym run.story.switch) stands;
       }
+
+-- whole rounds, as a story that ends there
+pub last_of_whole : (migration : ℕ) (homes : List (Option ℕ)) (commands : List Command) (first now : PortView) → Story migration homes commands first now → LastStory migration homes commands first now
+last_of_whole migration homes commands first now story =
+    let bytes = frames_of migration (own homes first.switch commands) in
+    record {
+      switch = story.switch;
+      goes_on = story.goes_on;
+      part = record { count = length bytes; within = omega arith; appended = subst (λ (sent : List ℕ). Appends first.port.offered sent now.port.offered) (sym (take-length bytes)) story.sent };
+    }

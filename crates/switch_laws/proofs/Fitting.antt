@@ -1,5 +1,5 @@
 -- The command of an operation begun has a frame.
-use Rattle.std.proofs.Common.{◌≡◌, ℕ, zero, suc, ◌+◌, ◌*◌, ◌^◌, ◌<◌, ◌≤◌, max, min, Bool, true, false, not, ◌&&◌, if◌then◌else◌, nat_le, List, [], ◌∷◌, length, Option, Some, None, IfSome, unwrap_or, inl, inr, refl, sym, ap, ◌∙◌, subst, arith, leb-true, ltb-true}
+use Rattle.std.proofs.Common.{◌≡◌, ℕ, zero, suc, ◌+◌, ◌*◌, ◌^◌, ◌<◌, ◌≤◌, max, min, Bool, true, false, not, ◌&&◌, if◌then◌else◌, nat_le, List, [], length, Option, Some, None, unwrap_or, inl, inr, sym, ap, subst, arith, leb-true, ltb-true}
 use Rattle.std.proofs.lemmas.Bool.{and_parts, cases_lt}
 use Rattle.std.proofs.lemmas.List.Elements.{All-cons, All-from_get_or, All-nil}
 use Rattle.std.proofs.lemmas.Nat.{mul-le}
@@ -11,7 +11,7 @@ use Rattle.rollout_rules.specs.Network.{IsNetwork, IsRate}
 use Rattle.rollout_rules.specs.Items.{content, is_item, item_at, item_count}
 use Rattle.rollout_rules.specs.Operations.{changes_behind, operations, stand_after}
 use Rattle.rollout_rules.specs.Valid.{begins_at_old, carries_what_flows, ends_at_new, fits_each_step, flow_total, has_shape, is_valid_plan, keeps_total_at, keeps_totals, new_total, old_total}
-use Rattle.rollout_rules.specs.History.{History, begun}
+use Rattle.rollout_rules.specs.History.{History}
 use Rattle.rollout_rules.specs.Legal.{is_legal}
 use Rattle.rollout_rules.specs.declared.item.Item.{Item}
 use Rattle.rollout_rules.specs.declared.item.Item.TheVariants as item
@@ -24,7 +24,7 @@ use Rattle.rollout_laws.proofs.Contents.{list_below-at, list_below-length}
 use Rattle.rollout_laws.proofs.Histories.{is_counted}
 use Rattle.rollout_laws.proofs.Standing.{stand-most}
 use Rattle.rollout_laws.proofs.Validity.{plan-is_valid}
-use Rattle.wan_edge.specs.Frames.{Command, CommandFrame, IsCommand}
+use Rattle.wan_edge.specs.Frames.{Command, IsCommand}
 use Rattle.rollout_book.specs.Commands.{command_of}
 use Rattle.switch_laws.specs.Runs.{IsBegunCommand}
 use Rattle.switch_laws.proofs.Begun.{begun_within}

@@ -1,5 +1,5 @@
 -- What is listed as in flight is begun, and stays so.
-use Rattle.std.proofs.Common.{◌≡◌, ℕ, ◌+◌, ◌<◌, ◌≤◌, ◌==◌, true, List, map, refl, arith, eqb-true}
+use Rattle.std.proofs.Common.{◌≡◌, ℕ, ◌+◌, true, List, refl, arith, eqb-true}
 use Rattle.std.proofs.lemmas.List.Elements.{All-filter, All-map, All-weaker, Contains-append_left, filter_passes}
 use Rattle.std.specs.List.{All, filter}
 use Rattle.rollout_rules.specs.Sums.{list_below}
@@ -9,7 +9,6 @@ use Rattle.rollout_rules.specs.History.{History, begun, flies, settled, with_ent
 use Rattle.rollout_rules.specs.Legal.{is_legal}
 use Rattle.rollout_rules.specs.Release.{next_op}
 use Rattle.rollout_rules.specs.World.{in_flight}
-use Rattle.rollout_rules.specs.declared.op.Op.{Op}
 use Rattle.rollout_rules.specs.declared.op.Entry.{Entry}
 use Rattle.rollout_rules.specs.declared.op.Entry.TheVariants.{Begin}
 use Rattle.rollout_laws.proofs.Histories.{begun_is_there}

@@ -1,5 +1,5 @@
 -- What is held of an item behind commands that may come.
-use Rattle.std.proofs.Common.{◌≡◌, ◌⊎◌, ℕ, ◌+◌, ◌<◌, ◌≤◌, ◌==◌, true, List, [], ◌∷◌, slice_index, refl, sym, ap, ◌∙◌, subst, inl, inr, arith, eqb-true}
+use Rattle.std.proofs.Common.{◌≡◌, ◌⊎◌, ℕ, ◌<◌, ◌≤◌, ◌==◌, true, List, [], ◌∷◌, slice_index, refl, sym, ap, ◌∙◌, subst, inl, inr, arith, eqb-true}
 use Rattle.std.proofs.lemmas.Bool.{cond_both}
 use Rattle.std.proofs.lemmas.List.Elements.{All-head, All-tail}
 use Rattle.std.specs.List.{All, Contains}
@@ -17,8 +17,8 @@ use Rattle.rollout_laws.proofs.Pairs.{IsNextCommand, after-late, at_most-from, a
 use Rattle.wan_edge.specs.Frames.{Command, CommandFrame}
 use Rattle.wan_edge.specs.Switches.{Holdings, after_command, after_commands, pair_asked}
 use Rattle.rollout_book.specs.Commands.{command_of}
-use Rattle.switch_laws.specs.Holdings.{IsHeldAt, IsMovedWithin, IsUntouched}
-use Rattle.switch_laws.specs.Runs.{IsBegunCommand, IsLate, MayCome}
+use Rattle.switch_laws.specs.Holdings.{IsHeldAt, IsMovedWithin}
+use Rattle.switch_laws.specs.Runs.{MayCome}
 use Rattle.switch_laws.proofs.Begun.{begun_within}
 
 -- It is no lower than at first. Its pair is of the migration, with its content, or it is as at first.

@@ -1,15 +1,15 @@
 -- Small runs at a port, of which the worked examples speak.
 use Rattle.std.proofs.Math.Seq.{take-length}
-use Rattle.std.proofs.Common.{◌≡◌, ℕ, zero, suc, ◌^◌, ◌<◌, ◌≤◌, true, List, [], ◌∷◌, ◌++◌, Bool, false, length, take, Option, Some, inl, inr, refl, sym, ap, ◌∙◌, subst, append_assoc, append-nil, arith, length-append}
+use Rattle.std.proofs.Common.{◌≡◌, ℕ, zero, suc, ◌^◌, ◌<◌, true, List, [], ◌∷◌, ◌++◌, Bool, false, length, Option, Some, inr, refl, sym, ap, ◌∙◌, subst, append_assoc, append-nil, arith, length-append}
 use Rattle.std.proofs.lemmas.Bool.{true≢false}
 use Rattle.std.proofs.lemmas.List.Elements.{All-cons, All-contains, All-nil}
 use Rattle.std.specs.List.{All, Contains, flat_map}
-use Rattle.rollout_rules.specs.Worked.{done_of, fresh, op_of}
+use Rattle.rollout_rules.specs.Worked.{fresh, op_of}
 use Rattle.rollout_rules.specs.declared.op.Op.{Op}
 use Rattle.rollout_rules.specs.declared.op.Entry.{Entry}
 use Rattle.rollout_rules.specs.declared.op.Entry.TheVariants.{Begin, Done}
 use Rattle.rollout_rules.specs.History.{with_entries}
-use Rattle.wan_edge.specs.Frames.{Answer, AnswerFrame, Command, CommandFrame, IsAnswer, IsCommand, Splits, answer_bytes, command_bytes, command_head}
+use Rattle.wan_edge.specs.Frames.{Answer, CommandFrame, IsAnswer, IsCommand, answer_bytes, command_bytes, command_head}
 use Rattle.wan_edge.specs.Ports.{AnswersHeld, IsOffered, MovesByRule}
 use Rattle.wan_edge.specs.Switches.{after_command, holding_nothing}
 use Rattle.wire_frames.proofs.OneSpelling.{one_answer}

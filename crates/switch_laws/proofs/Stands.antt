@@ -1,5 +1,5 @@
 -- What a switch holds behind a run, and behind a finished one.
-use Rattle.std.proofs.Common.{◌≡◌, ◌⊎◌, ℕ, ◌+◌, ◌^◌, ◌<◌, ◌≤◌, ◌==◌, Bool, true, false, List, [], ◌∷◌, ◌++◌, take, slice_index, Option, Some, None, is_some, IfSome, inl, inr, ⊎_elim, refl, sym, ap, ap₂, ◌∙◌, subst, append-nil, arith, eqb-true, le_of_eq}
+use Rattle.std.proofs.Common.{◌≡◌, ◌⊎◌, ℕ, ◌+◌, ◌^◌, ◌<◌, ◌≤◌, ◌==◌, true, false, List, ◌++◌, take, slice_index, Option, Some, None, is_some, IfSome, inl, inr, ⊎_elim, refl, sym, ap, ap₂, ◌∙◌, subst, append-nil, arith, eqb-true, le_of_eq}
 use Rattle.std.proofs.lemmas.Bool.{OnTrue_at, false≢true}
 use Rattle.std.proofs.lemmas.List.Elements.{All-append, All-contains, All-filter, All-weaker}
 use Rattle.std.proofs.lemmas.Option.{same_Some}
@@ -20,15 +20,15 @@ use Rattle.rollout_rules.proofs.Numbers.{is_item-item_at, number_of-item_at}
 use Rattle.rollout_laws.specs.Target.{target}
 use Rattle.rollout_laws.proofs.Ends.{finished-target}
 use Rattle.rollout_laws.proofs.Histories.{is_counted, rest_follows}
-use Rattle.rollout_laws.proofs.Pairs.{AtMost, at_most-is}
-use Rattle.wan_edge.specs.Frames.{Answer, Command, CommandFrame, IsCommand, command_bytes}
+use Rattle.rollout_laws.proofs.Pairs.{at_most-is}
+use Rattle.wan_edge.specs.Frames.{Command, CommandFrame, IsCommand, command_bytes}
 use Rattle.wan_edge.specs.Ports.{IsHonestStep, IsOffered, MovesByRule}
 use Rattle.wan_edge.specs.Streams.{KeepsTelling}
-use Rattle.wan_edge.specs.Switches.{Holdings, after_commands}
+use Rattle.wan_edge.specs.Switches.{Holdings}
 use Rattle.port_session.specs.Offers.{frames_of}
 use Rattle.worker_ports.specs.Lots.{home_at, is_switch, own}
 use Rattle.worker_ports.specs.Views.{PortView, Telling}
-use Rattle.switch_laws.specs.Holdings.{AreHeldAt, AreHeldAtEnd, HasGoneOn, HaveGoneOn, IsHeldAt, IsHeldAtEnd, IsLeftAtTarget, IsMovedToTarget, IsMovedWithin, IsUntouched, operations_of}
+use Rattle.switch_laws.specs.Holdings.{AreHeldAt, AreHeldAtEnd, HasGoneOn, HaveGoneOn, IsHeldAt, IsHeldAtEnd, IsMovedWithin, operations_of}
 use Rattle.switch_laws.specs.Runs.{AreCommands, IsBegunCommand, MayCome, RunsAt}
 use Rattle.switch_laws.proofs.Offered.{all_framed, frames-framed, framed, one_offered}
 use Rattle.switch_laws.proofs.Answered.{IsHeld, some_at, told_before, told_is_held}

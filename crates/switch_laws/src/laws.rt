@@ -8,7 +8,7 @@ ghost use Rattle.rollout_rules.specs.World.{in_flight};
 ghost use Rattle.rollout_rules.specs.declared.op.Entry.{Entry};
 ghost use Rattle.wan_edge.specs.Frames.{Command, IsCommand};
 ghost use Rattle.rollout_book.specs.Commands.{asked};
-ghost use Rattle.worker_ports.specs.Stories.{Story};
+ghost use Rattle.worker_ports.specs.Stories.{LastStory, Story};
 ghost use Rattle.worker_ports.specs.Views.{PortView};
 ghost use Rattle.switch_laws.specs.Holdings.{AreHeldAt, AreHeldAtEnd, HaveGoneOn};
 ghost use Rattle.switch_laws.specs.Runs.{IsBegunCommand, RunsAt, StartsAsFound};
@@ -23,6 +23,11 @@ pub fn begun_commands_have_frames()
 pub fn listed_commands_are_begun()
     ensures listed { (r : Rollout) (h : History) (switches : List ℕ) → IsTrue (is_legal r.problem r.plan h) → All (IsBegunCommand r h) (asked r switches (in_flight r.problem h)) }
     ensures stays { (r : Rollout) (h : History) (more : List Entry) (c : Command) → IsBegunCommand r h c → IsBegunCommand r (with_entries h more) c }
+{}
+
+/// Whole rounds are a story that may end there.
+pub fn whole_rounds_may_be_the_last()
+    ensures { (migration : ℕ) (homes : List (Option ℕ)) (commands : List Command) (first now : PortView) → Story migration homes commands first now → LastStory migration homes commands first now }
 {}
 
 /// Behind a run of a legal history each item of a port's switch is held between what is settled and what

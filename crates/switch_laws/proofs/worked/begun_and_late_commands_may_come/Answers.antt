@@ -1,12 +1,11 @@
-use Rattle.std.proofs.Common.{◌≡◌, ℕ, zero, suc, ◌<◌, ◌≤◌, [], ◌∷◌, refl, sym, ap, ◌∙◌, inl, inr, arith}
+use Rattle.std.proofs.Common.{ℕ, zero, suc, ◌≤◌, refl, ap, inl, inr, arith}
 use Rattle.std.specs.List.{Contains}
-use Rattle.rollout_rules.specs.Worked.{begin_of, done_of, op_of}
+use Rattle.rollout_rules.specs.Worked.{op_of}
 use Rattle.rollout_rules.specs.declared.op.Op.{Op}
 use Rattle.rollout_rules.specs.declared.op.Entry.{Entry}
 use Rattle.rollout_rules.specs.declared.op.Entry.TheVariants.{Begin, Done}
 use Rattle.wan_edge.specs.Frames.{Command}
-use Rattle.rollout_book.specs.Commands.{command_of}
-use Rattle.switch_laws.specs.Worked.{two_flows, under_way}
+use Rattle.switch_laws.specs.Worked.{under_way}
 use Rattle.switch_laws.proofs.worked.begun_and_late_commands_may_come.Goals as goal
 
 number_in : Entry → ℕ
