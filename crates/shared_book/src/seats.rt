@@ -99,6 +99,13 @@ impl<'d, D: Disk, M: Marker> Shared<Kept<D, M>, &'d Policy> {
         home_in(self.homes.as_slice(), item)
     }
 
+    /// The switches that apply the operations of all items, by number.
+    pub fn homes(&self) -> &[Option<u32>]
+        ensures { result.now ≡ self.now.homes }
+    {
+        self.homes.as_slice()
+    }
+
     /// Splits the next seat off the pass of seat 0. Both passes have seen what the one had, and the second
     /// has made no call.
     pub fn split(&self, pass: CallPass<Kept<D, M>>) -> (CallPass<Kept<D, M>>, CallPass<Kept<D, M>>)
@@ -110,6 +117,7 @@ impl<'d, D: Disk, M: Marker> Shared<Kept<D, M>, &'d Policy> {
         ensures lock { IsPassOf self.now.lock result.0.pass × IsPassOf self.now.lock result.1.pass }
         ensures first { HasGiven pass.pass result.0.pass }
         ensures second { IsNewPass pass.pass result.1.pass }
+        ensures no_call { result.1.calls ≡ 0 }
         ensures calls { IsCounted result.0.calls result.0.pass × IsCounted result.1.calls result.1.pass }
         ensures below { seat_of_pass result.1.pass < M.seats }
     {
