@@ -1,7 +1,7 @@
 //! What lies under the lock at first, and what is left of it in the end.
 ghost use Rattle.std.specs.Prelude.{◌≡◌, [], IfErr, IfOk, IsTrue};
 ghost use Rattle.shared_history.specs.Legal.{is_legal_shared};
-ghost use Rattle.shared_history.specs.Notes.{notes_of};
+ghost use Rattle.shared_history.specs.Notes.{first_stop, notes_of};
 ghost use Rattle.shared_book.specs.Images.{HasImages};
 ghost use Rattle.shared_book.specs.Opened.{IsClosed, IsOpenedOn};
 
@@ -9,7 +9,7 @@ use crate::kept::Kept;
 use crate::marker::Marker;
 use disk_model::Disk;
 use rollout_book::Chronicle;
-use shared_history::NoteList;
+use shared_history::{Halt, NoteList};
 use std::alloc::Global;
 use std::marker::PhantomData;
 
@@ -39,10 +39,11 @@ impl<D: Disk, M: Marker> Kept<D, M> {
         })
     }
 
-    /// The book and the notes.
-    pub fn into_parts(self) -> (Chronicle<D>, NoteList)
+    /// The book, the notes, and the first stop among them.
+    pub fn into_parts(self) -> (Chronicle<D>, NoteList, Option<Halt>)
         ensures book { result.0 ≡ self.book }
         ensures notes { result.1.items ≡ notes_of self.log }
+        ensures halt { result.2 ≡ first_stop self.log }
         ensures legal { IsTrue (is_legal_shared M.opening self.log) }
         ensures is { IsClosed M.opening self.log self.book }
         ensures images { HasImages D.bytes D.may_leave D.moment D.left_since D.faults M.opening M.moment M.faults self.book.disk self.log }
@@ -50,10 +51,10 @@ impl<D: Disk, M: Marker> Kept<D, M> {
         let Kept {
             chronicle,
             notes,
-            halted: _,
+            halted,
             spare: _,
             of: _,
         } = self;
-        (chronicle, notes)
+        (chronicle, notes, halted)
     }
 }

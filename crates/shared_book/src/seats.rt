@@ -2,7 +2,7 @@
 ghost use Rattle.std.specs.Prelude.{◌≡◌, ◌<◌, length, All, IfErr, IfOk, IsTrue};
 ghost use Rattle.order_policy.specs.Answers.{rank_by};
 ghost use Rattle.shared_history.specs.Legal.{is_legal_shared};
-ghost use Rattle.shared_history.specs.Notes.{notes_of};
+ghost use Rattle.shared_history.specs.Notes.{first_stop, notes_of};
 ghost use Rattle.turn_lock.specs.Histories.{Follows};
 ghost use Rattle.turn_lock.specs.Passes.{IsPassOf, IsFirstPass, HasGiven, HasJoined, IsNewPass, given_of, out_of, seat_of_pass, seats_of, seen_of};
 ghost use Rattle.shared_book.specs.Calls.{seat_of, IsCounted};
@@ -17,7 +17,7 @@ use crate::shared::{CallPass, Shared};
 use disk_model::Disk;
 use order_policy::Policy;
 use rollout_book::Book;
-use shared_history::NoteList;
+use shared_history::{Halt, NoteList};
 use std::alloc::Global;
 use turn_lock::{Counted, TurnLock};
 
@@ -158,13 +158,15 @@ impl<'d, D: Disk, M: Marker> Shared<Kept<D, M>, &'d Policy> {
         }
     }
 
-    /// The book and the notes, once all seats were joined: those of the history that the pass has seen.
-    pub fn close(self, pass: CallPass<Kept<D, M>>) -> (Book<'d, D>, NoteList)
+    /// The book, the notes and the first stop among them, once all seats were joined: those of the history that
+    /// the pass has seen.
+    pub fn close(self, pass: CallPass<Kept<D, M>>) -> (Book<'d, D>, NoteList, Option<Halt>)
         requires lock { IsPassOf self.lock pass.pass }
         requires first { seat_of_pass pass.pass ≡ 0 }
         requires all_in { out_of pass.pass ≡ 0 }
         ensures legal { IsTrue (is_legal_shared M.opening (seen_of pass.pass)) }
         ensures notes { result.1.items ≡ notes_of (seen_of pass.pass) }
+        ensures halt { result.2 ≡ first_stop (seen_of pass.pass) }
         ensures book { IsClosed M.opening (seen_of pass.pass) result.0.chronicle }
         ensures images { HasImages D.bytes D.may_leave D.moment D.left_since D.faults M.opening M.moment M.faults result.0.chronicle.disk (seen_of pass.pass) }
         ensures policy { result.0.policy.now ≡ self.entry.policy.now }
@@ -176,7 +178,7 @@ impl<'d, D: Disk, M: Marker> Shared<Kept<D, M>, &'d Policy> {
             policy,
             homes: _,
         } = self;
-        let (chronicle, notes) = lock.close(pass).into_parts();
-        (Book { chronicle, policy }, notes)
+        let (chronicle, notes, halt) = lock.close(pass).into_parts();
+        (Book { chronicle, policy }, notes, halt)
     }
 }
