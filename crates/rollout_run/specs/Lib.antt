@@ -1,2 +1,7 @@
 pub mod Shifts
 pub mod Sending
+pub mod Together
+pub mod Keeping
+pub mod PortRuns
+pub mod Runs
+pub mod Ran

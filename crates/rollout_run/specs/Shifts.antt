@@ -44,15 +44,15 @@ AreFresh talks = All (λ t. t ≡ first_talk t.switch t.port) talks
 
 -- a pass of a lock, and ports, are what this worker begins with
 pub record Begins {V P : Type 0} {C : Ghosts V Written} (lock : TurnLock V Written) (pass : Pass V Written C) (ports : List (Talk P)) (given : Given P) : Type 0 where
-  pub lock : IsPassOf lock pass
+  pub of_lock : IsPassOf lock pass
   pub seat : seat_of_pass pass ≡ given.seat
   pub alone : joined_of pass ≡ []
   pub seen : seen_of pass ≡ given.before.seen
-  pub ports : ports ≡ given.before.ports
+  pub same_ports : ports ≡ given.before.ports
 
 -- What has come back of it.
 pub record Comes {V P : Type 0} {C : Ghosts V Written} (tell : P → Telling) (o : Opening) (migration : ℕ) (homes : List (Option ℕ)) (rounds : ℕ) (lock : TurnLock V Written) (given : Given P) (pass : Pass V Written C) (calls : ℕ) (end : Option Wake) (now : List (Talk P)) : Type 0 where
-  pub lock : IsPassOf lock pass
+  pub of_lock : IsPassOf lock pass
   pub seat : seat_of_pass pass ≡ given.seat
   pub alone : joined_of pass ≡ []
   pub counted : IsCounted calls pass

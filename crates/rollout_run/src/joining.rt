@@ -12,7 +12,7 @@ use std::thread::Threads;
 use wan_edge::Port;
 
 /// Waits for each thread. What came back of each worker stands in the order in which they were sent.
-pub(crate) fn call_back<'t, R: Threads, D: Disk, M: Marker, T: Port>(
+pub(crate) fn call_back<'t, R: Threads, D: Disk, M: Marker, T: Port + Drop>(
     rt: &R,
     sent: Vec<Sent<'t, D, M, T>>,
     others: &mut Vec<Returned<Kept<D, M>, T>>,
@@ -21,13 +21,24 @@ pub(crate) fn call_back<'t, R: Threads, D: Disk, M: Marker, T: Port>(
     requires places { length sent.items ≤ vec_capacity others.old }
     ensures { AllZip (λ s back. MatchResult s
         (λ h. HasServed (telling T.offered T.heard T.held T.quiet T.faults T.honest T.prompt T.start) M.opening h.promise.terms.migration h.promise.terms.homes.now h.promise.terms.rounds h.promise.given.value.pass.pass h.promise.given.value.ports back.pass.pass back.pass.calls back.end back.ports)
-        (λ left. back ≡ left)) sent.items others.new.items }
+        (λ left. back ≡ left)) sent.entry.items others.new.items }
 {
     for one in sent {
-        let back = match one {
-            Ok(thread) => thread.join(rt),
-            Err(left) => left,
-        };
-        others.push_reserved(back);
+        others.push_reserved(back_of(rt, one));
+    }
+}
+
+// What came back of one worker, once its thread has ended.
+fn back_of<'t, R: Threads, D: Disk, M: Marker, T: Port + Drop>(
+    rt: &R,
+    one: Sent<'t, D, M, T>,
+) -> Returned<Kept<D, M>, T>
+    ensures { MatchResult one.entry
+        (λ h. HasServed (telling T.offered T.heard T.held T.quiet T.faults T.honest T.prompt T.start) M.opening h.promise.terms.migration h.promise.terms.homes.now h.promise.terms.rounds h.promise.given.value.pass.pass h.promise.given.value.ports result.pass.pass result.pass.calls result.end result.ports)
+        (λ left. result ≡ left) }
+{
+    match one {
+        Ok(thread) => thread.join(rt),
+        Err(left) => left,
     }
 }

@@ -4,8 +4,13 @@
 #![tactic(auto)]
 
 mod crew;
-mod halts;
+mod end;
 mod joining;
+mod named;
+mod room;
+mod running;
 mod sending;
 mod together;
 
+pub use end::RunEnd;
+pub use running::{Limits, run};

@@ -1,5 +1,5 @@
 //! Crews are sent out, each in a thread of its own.
-ghost use Rattle.std.specs.Prelude.{◌≡◌, ◌+◌, ◌<◌, ◌≤◌, ◌++◌, [], ◌∷◌, All, IsPermutation, IsTrue, length, map, nat_eq, vec_capacity, vec_len, MatchResult};
+ghost use Rattle.std.specs.Prelude.{◌≡◌, ◌+◌, ◌<◌, ◌≤◌, ◌++◌, [], ◌∷◌, All, IsPermutation, IsTrue, length, map, nat_eq, vec_capacity, vec_len, MatchResult, None};
 ghost use Rattle.std.specs.List.{IsDistinct};
 ghost use Rattle.order_policy.specs.Answers.{rank_by};
 ghost use Rattle.turn_lock.specs.Passes.{HasGiven, IsPassOf, given_of, joined_of, out_of, seat_of_pass, seen_of};
@@ -7,7 +7,7 @@ ghost use Rattle.shared_book.specs.Calls.{IsCounted};
 ghost use Rattle.shared_book.specs.Homes.{homes_of};
 ghost use Rattle.worker_ports.specs.Views.{telling};
 ghost use Rattle.rollout_ports.specs.Hands.{first_talks};
-ghost use Rattle.rollout_run.specs.Shifts.{AreFresh, Begins, Comes, Given};
+ghost use Rattle.rollout_run.specs.Shifts.{AreFresh, Begins, Comes, Given, HasServed};
 ghost use Rattle.rollout_run.specs.Sending.{IsBehind, IsReady, Relieves, Sends, all_ports};
 
 use crate::crew::{Crew, Returned, Serving, serve_crew};
@@ -37,7 +37,7 @@ pub(crate) struct Own<T: Port> {
     pub spare: Vec<Berth<T>>,
 }
 
-impl<T: Port> Own<T> {
+impl<T: Port + Drop> Own<T> {
     /// Takes ports over before their first round.
     fn take_over(&mut self, alloc: Global, mut ports: WorkerPorts<T>)
         requires fresh { AreFresh self.old.ports × AreFresh ports }
@@ -57,9 +57,8 @@ impl<T: Port> Own<T> {
 
     /// Takes over the ports of a worker that never began. What is left of it then has none.
     fn relieve<V: Counted>(&mut self, alloc: Global, back: Returned<V, T>) -> Returned<V, T>
-        requires fresh { AreFresh self.old.ports × AreFresh back.ports }
-        requires apart { IsDistinct nat_eq (map (λ t. t.switch) (self.old.ports ++ back.ports)) }
-        requires room { vec_len self.old.spare + length back.ports ≤ vec_capacity self.old.spare }
+        requires fresh { AreFresh self.old.ports }
+        requires back { back.end ≡ None → AreFresh back.ports × IsDistinct nat_eq (map (λ t. t.switch) (self.old.ports ++ back.ports)) × (vec_len self.old.spare + length back.ports ≤ vec_capacity self.old.spare) }
         ensures fresh { AreFresh self.new.ports }
         ensures room { vec_capacity self.new.spare ≡ vec_capacity self.old.spare }
         ensures pass { result.pass ≡ back.pass }
@@ -83,22 +82,23 @@ impl<T: Port> Own<T> {
 
 // Sends one crew out: its seat is split off, and a thread is started that serves its ports. Where none can
 // be started, its ports are the caller's.
-fn send_one<'s, 'd, R, D, M, T, E>(
+fn send_one<'s, 't, 'd, R, D, M, T, E>(
     rt: &'s R,
     scope: &Scope<'s, E>,
     alloc: Global,
     book: &'s SharedBook<'d, D, M>,
     pass: BookPass<D, M>,
     ports: WorkerPorts<T>,
-    terms: Terms<'s>,
+    terms: Terms<'t>,
     refused: &'s AtomicBool,
     own: &mut Own<T>,
-) -> (BookPass<D, M>, Sent<'s, D, M, T>)
+) -> (BookPass<D, M>, Sent<'t, D, M, T>)
 where
-    R: Wait + Threads + Sync,
-    D: Disk + Drop + Send,
-    M: Marker + Send + Sync,
-    T: Port + Drop + Send,
+    't: 's,
+    R: Wait + Threads + Sync + 's,
+    D: Disk + Drop + Send + 's,
+    M: Marker + Send + Sync + 's,
+    T: Port + Drop + Send + 's,
     requires lock { IsPassOf book.now.lock pass.pass }
     requires homes { book.now.homes ≡ homes_of M.opening.rollout.problem }
     requires policy { M.opening.policy ≡ rank_by book.now.policy.now.answers }
@@ -128,9 +128,19 @@ where
         given: Snapshot::of(&crew),
         terms,
     };
-    let started = scope.spawn_with(promise, move || {
-        serve_crew(rt, alloc, book, crew, terms, refused)
-    });
+    let started = scope.spawn_with(
+        promise,
+        move || -> Returned<Kept<D, M>, T>
+            requires lock { IsPassOf book.now.lock crew.pass.pass }
+            requires homes { book.now.homes ≡ homes_of M.opening.rollout.problem }
+            requires policy { M.opening.policy ≡ rank_by book.now.policy.now.answers }
+            requires calls { IsCounted crew.pass.calls crew.pass.pass }
+            requires seat { seat_of_pass crew.pass.pass < M.seats }
+            requires live { All (λ s. IsTrue s.stream.live) crew.ports }
+            ensures served { HasServed (telling T.offered T.heard T.held T.quiet T.faults T.honest T.prompt T.start) M.opening terms.entry.migration terms.entry.homes.now terms.entry.rounds
+                crew.pass.pass crew.ports result.pass.pass result.pass.calls result.end result.ports }
+        { serve_crew(rt, alloc, book, crew, terms, refused) },
+    );
     match started {
         Ok(thread) => (pass, Ok(thread)),
         Err(error) => {
@@ -142,23 +152,24 @@ where
 }
 
 /// Sends crews out, the last one first, and says of each what became of it, in the order of their seats.
-pub(crate) fn send_all<'s, 'd, R, D, M, T, E>(
+pub(crate) fn send_all<'s, 't, 'd, R, D, M, T, E>(
     rt: &'s R,
     scope: &Scope<'s, E>,
     alloc: Global,
     book: &'s SharedBook<'d, D, M>,
     mut pass: BookPass<D, M>,
     mut crews: Vec<WorkerPorts<T>>,
-    terms: Terms<'s>,
+    terms: Terms<'t>,
     flags: &'s [AtomicBool],
     own: &mut Own<T>,
-    sent: &mut Vec<Sent<'s, D, M, T>>,
+    sent: &mut Vec<Sent<'t, D, M, T>>,
 ) -> BookPass<D, M>
 where
-    R: Wait + Threads + Sync,
-    D: Disk + Drop + Send,
-    M: Marker + Send + Sync,
-    T: Port + Drop + Send,
+    't: 's,
+    R: Wait + Threads + Sync + 's,
+    D: Disk + Drop + Send + 's,
+    M: Marker + Send + Sync + 's,
+    T: Port + Drop + Send + 's,
     requires lock { IsPassOf book.now.lock pass.pass }
     requires homes { book.now.homes ≡ homes_of M.opening.rollout.problem }
     requires policy { M.opening.policy ≡ rank_by book.now.policy.now.answers }

@@ -1,15 +1,15 @@
 //! All workers of a rollout, from the first round to the last.
-ghost use Rattle.std.specs.Prelude.{◌≡◌, ◌+◌, ◌<◌, ◌≤◌, ◌++◌, [], ◌∷◌, All, Some, length, map, nat_eq, vec_capacity};
+ghost use Rattle.std.specs.Prelude.{◌≡◌, ◌+◌, ◌<◌, ◌≤◌, ◌++◌, [], All, length, map, nat_eq, vec_capacity};
 ghost use Rattle.std.specs.List.{IsDistinct};
 ghost use Rattle.order_policy.specs.Answers.{rank_by};
 ghost use Rattle.turn_lock.specs.Passes.{IsPassOf, IsSamePass, given_of, joined_of, out_of, seat_of_pass, seen_of};
-ghost use Rattle.shared_history.specs.Legal.{is_legal_shared};
 ghost use Rattle.shared_book.specs.Calls.{IsCounted};
 ghost use Rattle.shared_book.specs.Homes.{homes_of};
 ghost use Rattle.worker_ports.specs.Views.{telling};
 ghost use Rattle.rollout_ports.specs.Hands.{first_talks};
-ghost use Rattle.rollout_run.specs.Shifts.{AreFresh, Comes, Given, IsQuiet, Returns};
-ghost use Rattle.rollout_run.specs.Sending.{IsReady, Sends, all_ports};
+ghost use Rattle.rollout_run.specs.Shifts.{AreFresh, Comes, IsQuiet};
+ghost use Rattle.rollout_run.specs.Sending.{all_ports};
+ghost use Rattle.rollout_run.specs.Together.{Deal, HasWorked, IsTeam};
 
 use crate::crew::{Returned, Serving};
 use crate::joining::call_back;
@@ -28,9 +28,9 @@ use worker_ports::{Berth, WorkerPorts};
 
 /// Room for all that is kept of the workers while they work.
 #[derive(Drop)]
-pub(crate) struct Places<'t, D: Disk, M: Marker, T: Port> {
-    pub sent: Vec<Sent<'t, D, M, T>>,
-    pub others: Vec<Returned<Kept<D, M>, T>>,
+pub(crate) struct Places<S, V: Counted, T: Port> {
+    pub sent: Vec<S>,
+    pub others: Vec<Returned<V, T>>,
 }
 
 /// All that came back: what the caller served itself, the ports that no memory was left for, and the other
@@ -43,23 +43,24 @@ pub(crate) struct Team<V: Counted, T: Port> {
 }
 
 /// Sends the crews out, serves the caller's own ports, and waits for all.
-pub(crate) fn serve_together<'s, 'd, R, D, M, T, E>(
+pub(crate) fn serve_together<'s, 't, 'd, R, D, M, T, E>(
     rt: &'s R,
     scope: &Scope<'s, E>,
     alloc: Global,
     book: &'s SharedBook<'d, D, M>,
     pass: BookPass<D, M>,
     crews: Vec<WorkerPorts<T>>,
-    terms: Terms<'s>,
+    terms: Terms<'t>,
     flags: &'s [AtomicBool],
     mut own: Own<T>,
-    places: Places<'s, D, M, T>,
+    places: Places<Sent<'t, D, M, T>, Kept<D, M>, T>,
 ) -> Team<Kept<D, M>, T>
 where
-    R: Wait + Threads + Sync,
-    D: Disk + Drop + Send,
-    M: Marker + Send + Sync,
-    T: Port + Drop + Send,
+    't: 's,
+    R: Wait + Threads + Sync + 's,
+    D: Disk + Drop + Send + 's,
+    M: Marker + Send + Sync + 's,
+    T: Port + Drop + Send + 's,
     requires lock { IsPassOf book.now.lock pass.pass }
     requires homes { book.now.homes ≡ homes_of M.opening.rollout.problem }
     requires policy { M.opening.policy ≡ rank_by book.now.policy.now.answers }
@@ -83,10 +84,9 @@ where
     ensures first { (seat_of_pass result.own.pass.pass ≡ 0) × (joined_of result.own.pass.pass ≡ []) }
     ensures given { given_of result.own.pass.pass ≡ 1 + length result.others.items }
     ensures out { out_of result.own.pass.pass ≡ length result.others.items }
-    ensures team { (g : Given T) × (g.seat ≡ 0) × IsReady g
-        × Returns (telling T.offered T.heard T.held T.quiet T.faults T.honest T.prompt T.start) M.opening (0 ∷ []) 0 terms.entry.migration terms.entry.homes.now terms.entry.rounds g.before result.own.end (record { seen = seen_of result.own.pass.pass; ports = result.own.ports })
-        × Sends (λ back h. Comes (telling T.offered T.heard T.held T.quiet T.faults T.honest T.prompt T.start) M.opening terms.entry.migration terms.entry.homes.now terms.entry.rounds book.now.lock h back.pass.pass back.pass.calls back.end back.ports)
-            1 (own.ports ++ all_ports crews.items) g.before.ports (first_talks result.spare.items) [] result.others.items }
+    ensures team { IsTeam (λ back g. Comes (telling T.offered T.heard T.held T.quiet T.faults T.honest T.prompt T.start) M.opening terms.entry.migration terms.entry.homes.now terms.entry.rounds book.now.lock g back.pass.pass back.pass.calls back.end back.ports)
+        (telling T.offered T.heard T.held T.quiet T.faults T.honest T.prompt T.start) M.opening terms.entry.migration terms.entry.homes.now terms.entry.rounds (own.ports ++ all_ports crews.items) (first_talks result.spare.items)
+        result.own.end (record { seen = seen_of result.own.pass.pass; ports = result.own.ports }) result.others.items }
 {
     let Places { mut sent, mut others } = places;
     let pass = send_all(
@@ -129,4 +129,50 @@ fn stop_if_any<'d, R: Wait, D: Disk, M: Marker, T: Port>(
     } else {
         book.stop(rt, pass, Cause::Memory).0
     }
+}
+
+/// Joins the passes of all workers to that of the caller, and has their ports in a row, with those that are
+/// spare beside them.
+pub(crate) fn join_all<'d, D: Disk, M: Marker, T: Port + Drop>(
+    book: &SharedBook<'d, D, M>,
+    team: Team<Kept<D, M>, T>,
+    all: &mut Vec<WorkerPorts<T>>,
+) -> (BookPass<D, M>, Vec<Berth<T>>)
+    ghost deal: { Deal T }
+    requires lock { IsPassOf book.now.lock team.own.pass.pass }
+    requires calls { IsCounted team.own.pass.calls team.own.pass.pass }
+    requires first { (seat_of_pass team.own.pass.pass ≡ 0) × (joined_of team.own.pass.pass ≡ []) }
+    requires given { given_of team.own.pass.pass ≡ 1 + length team.others.items }
+    requires out { out_of team.own.pass.pass ≡ length team.others.items }
+    requires team { IsTeam (λ back g. Comes (telling T.offered T.heard T.held T.quiet T.faults T.honest T.prompt T.start) M.opening deal.migration deal.homes deal.rounds book.now.lock g back.pass.pass back.pass.calls back.end back.ports)
+        (telling T.offered T.heard T.held T.quiet T.faults T.honest T.prompt T.start) M.opening deal.migration deal.homes deal.rounds deal.whole (first_talks team.spare.items)
+        team.own.end (record { seen = seen_of team.own.pass.pass; ports = team.own.ports }) team.others.items }
+    requires none { all.old.items ≡ [] }
+    requires room { 1 + length team.others.items ≤ vec_capacity all.old }
+    ensures lock { IsPassOf book.now.lock result.0.pass }
+    ensures first { seat_of_pass result.0.pass ≡ 0 }
+    ensures all_in { out_of result.0.pass ≡ 0 }
+    ensures worked { HasWorked (telling T.offered T.heard T.held T.quiet T.faults T.honest T.prompt T.start) M.opening deal.migration deal.homes deal.rounds deal.whole (first_talks result.1.items) (given_of result.0.pass) (seen_of result.0.pass) all.new.items }
+{
+    let Team {
+        own,
+        spare,
+        mut others,
+    } = team;
+    let Returned {
+        mut pass,
+        ports,
+        end: _,
+    } = own;
+    all.push_reserved(ports);
+    while let Some(other) = others.pop() {
+        let Returned {
+            pass: theirs,
+            ports,
+            end: _,
+        } = other;
+        pass = book.join(pass, theirs);
+        all.push_reserved(ports);
+    }
+    (pass, spare)
 }
