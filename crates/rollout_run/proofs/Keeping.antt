@@ -20,9 +20,10 @@ use Rattle.shared_history.specs.Histories.{Opening, history_of}
 use Rattle.shared_history.specs.Legal.{is_legal_shared}
 use Rattle.controller_run.specs.Promises.{AreAnswered, Promises, listed_by, switches_of}
 use Rattle.controller_run.specs.Working.{Standing}
+use Rattle.controller_run.proofs.Keeps.{serves-keeps}
 use Rattle.controller_run.proofs.Begun.{begun-stays, listed-begun}
 use Rattle.rollout_run.specs.Keeping.{IsBegun, Keeps}
-use Rattle.rollout_run.specs.Shifts.{IsQuiet, IsShift, Shift}
+use Rattle.rollout_run.specs.Shifts.{IsShift, Returns, Shift}
 
 -- the same row twice, each element as one that stayed
 pub each_stays : {P : Type 0} (tell : P → Telling) (migration : ℕ) (homes : List (Option ℕ)) (ports : List (Talk P)) → LastStoryEach tell migration homes [] ports ports
@@ -44,7 +45,7 @@ module _ {P : Type 0} (tell : P → Telling) (o : Opening) (migration : ℕ) (ho
   past : All Answered shift.follows.past
   past k d inside is = absurd (shift.follows.none k d inside 0 s.given.seat (omega arith) (sym is))
 
-  pub idle : s.now ≡ s.given.before → Keeps tell o migration homes log s
+  idle : s.now ≡ s.given.before → Keeps tell o migration homes log s
   idle same = record {
     sent = [];
     begun = All-nil _;
@@ -52,7 +53,7 @@ module _ {P : Type 0} (tell : P → Telling) (o : Opening) (migration : ℕ) (ho
     answered = subst (λ (ws : List Written). All Answered ws) (sym (shift.follows.is ∙ ap (λ (b : Standing P). b.seen ++ shift.follows.past) same)) (All-append Answered s.given.before.seen shift.follows.past before past);
   }
 
-  pub served : (end : Wake) → Promises tell o s.given.seat migration homes rounds s.given.before end s.now → Keeps tell o migration homes log s
+  served : (end : Wake) → Promises tell o s.given.seat migration homes rounds s.given.before end s.now → Keeps tell o migration homes log s
   served end promises = record {
     sent = listed;
     begun = λ k d inside. begun (slice_index_or listed k d) (Contains-get_or listed k d inside);
@@ -75,3 +76,16 @@ module _ {P : Type 0} (tell : P → Telling) (o : Opening) (migration : ℕ) (ho
             is = known.is;
             begun = subst (λ (ws : List Written). Contains (history_of o ws).entries (entry.Begin known.op)) (sym (shift.follows.is ∙ ap (λ (ws : List Written). ws ++ shift.follows.past) promises.goes_on)) (begun-stays o seen shift.follows.past (entry.Begin known.op) known.begun);
           }
+
+-- either way
+pub keeps : {P : Type 0} (tell : P → Telling) (o : Opening) (migration : ℕ) (homes : List (Option ℕ)) (rounds : ℕ) (log : List Written) (s : Shift P) → IsShift tell o migration homes rounds log s → Keeps tell o migration homes log s
+keeps {P} tell o migration homes rounds log s shift = by_end s.end refl
+  where
+    live : All (λ (t : Talk P). IsTrue t.stream.live) s.given.before.ports
+    live k d inside = subst (λ (t : Talk P). IsTrue t.stream.live) (sym (shift.fresh k d inside)) refl
+
+    by_end : (end : Option Wake) → s.end ≡ end → Keeps tell o migration homes log s
+    by_end None is = idle tell o migration homes rounds log s shift (subst (λ (e : Option Wake). Returns tell o s.given.seat migration homes rounds s.given.before e s.now) is shift.returns)
+    by_end (Some end) is =
+        let returns = subst (λ (e : Option Wake). Returns tell o s.given.seat migration homes rounds s.given.before e s.now) is shift.returns in
+        served tell o migration homes rounds log s shift end (serves-keeps tell o s.given.seat [] migration homes rounds s.given.before returns.0 end s.now live returns.1)

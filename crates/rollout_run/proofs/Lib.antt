@@ -1,9 +1,5 @@
-pub mod Shuffles
-pub mod Rows
-pub mod Histories
-pub mod Coming
-pub mod Joins
 pub mod Keeping
 pub mod Ports
 pub mod Fleets
-pub mod Taking
+pub mod Alone
+pub mod Over

@@ -1,5 +1,4 @@
 pub mod Shifts
-pub mod Sending
 pub mod Together
 pub mod Keeping
 pub mod PortRuns

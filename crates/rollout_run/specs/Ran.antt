@@ -1,11 +1,12 @@
 -- What a run over a fleet leaves: of its book and disk, of its ports, and of the switches behind them.
-use Rattle.std.specs.Prelude.{◌≡◌, ◌⊎◌, ℕ, true, false, nat_eq, List, All, Option}
+use Rattle.std.specs.Prelude.{◌≡◌, ◌⊎◌, ℕ, true, false, nat_eq, List, All, Option, map}
 use Rattle.std.specs.List.{AllByRecursion}
+use Rattle.port_session.specs.Sessions.{Talk}
 use Rattle.worker_ports.specs.Views.{Telling}
 use Rattle.worker_ports.specs.declared.ports.Berth.{Berth}
 use Rattle.rollout_book.specs.Chronicles.{Chronicled}
-use Rattle.rollout_ports.specs.Berths.{FleetPorts, switches_of}
-use Rattle.rollout_ports.specs.Hands.{first_talks}
+use Rattle.rollout_ports.specs.Berths.{FleetPorts, after_keeping, switches_of}
+use Rattle.rollout_ports.specs.Hands.{berths_of, first_talks}
 use Rattle.rollout_ports.specs.Opening.{AreGiven, GivesBack, StopsAt}
 use Rattle.shared_history.specs.declared.note.Written.{Written}
 use Rattle.shared_history.specs.Histories.{Opening}
@@ -38,6 +39,13 @@ pub record NeverRan {D P : Type 0} (port_faults : P → ℕ) (homes : List ℕ) 
   pub same : book ≡ book_before
   pub ports : (now ≡ before) ⊎ GivesBack port_faults homes before now
 
+-- the ports that a run has left are those of the same switches, and were given back
+pub record IsBegunOver {P : Type 0} (before now : FleetPorts P) (berths : List (Berth P)) (begun : List (Talk P) → Type 0) : Type 0 where
+  pub ports : List (Talk P)
+  pub runs : begun ports
+  pub switches : map (λ t. t.switch) ports ≡ switches_of berths
+  pub kept : now ≡ after_keeping before (berths_of ports)
+
 -- what holds of a run by its end
 abbrev pub EndsRun : {D P : Type 0} → (P → ℕ) → List ℕ → Chronicled D → Chronicled D → FleetPorts P → FleetPorts P → Type 0 → RunEnd → Type 0
 EndsRun port_faults homes book_before book before now ran run.Finished = ran
@@ -45,3 +53,11 @@ EndsRun port_faults homes book_before book before now ran run.Held = ran
 EndsRun port_faults homes book_before book before now ran (run.Stopped halt) = ran
 EndsRun port_faults homes book_before book before now ran (run.NoPort switch) = (book ≡ book_before) × StopsAt port_faults homes switch before now
 EndsRun port_faults homes book_before book before now ran run.Memory = NeverRan port_faults homes book_before book before now
+
+-- A run over ports that were opened. They are back as it has left them; where nothing was begun, as they were.
+abbrev pub IsOver : {P : Type 0} → FleetPorts P → FleetPorts P → List (Berth P) → RunEnd → (List (Talk P) → Type 0) → Type 0 → Type 0
+IsOver before now berths run.Finished begun unbegun = IsBegunOver before now berths begun
+IsOver before now berths run.Held begun unbegun = IsBegunOver before now berths begun
+IsOver before now berths (run.Stopped halt) begun unbegun = IsBegunOver before now berths begun
+IsOver before now berths (run.NoPort switch) begun unbegun = ⊥
+IsOver before now berths run.Memory begun unbegun = unbegun × (now ≡ after_keeping before berths)

@@ -1,5 +1,5 @@
 -- What a run comes to.
-use Rattle.std.specs.Prelude.{◌≡◌, ℕ, ◌<◌, Bool, true, false, List, [], All, IsPermutation, Option, Some, None, if◌then◌else◌}
+use Rattle.std.specs.Prelude.{◌≡◌, ℕ, ◌<◌, Bool, true, false, List, [], All, Option, Some, None, if◌then◌else◌}
 use Rattle.rollout_rules.specs.Legal.{is_finished}
 use Rattle.port_session.specs.Sessions.{Talk}
 use Rattle.worker_ports.specs.Views.{Telling}
@@ -18,7 +18,6 @@ use Rattle.shared_book.specs.Images.{HasImages}
 use Rattle.shared_book.specs.Opened.{IsClosed}
 use Rattle.shared_book.specs.declared.reply.RoundReply.{RoundReply}
 use Rattle.shared_book.specs.declared.reply.RoundReply.TheVariants as round
-use Rattle.rollout_run.specs.Sending.{all_ports}
 use Rattle.rollout_run.specs.Together.{HasWorked}
 use Rattle.rollout_run.specs.declared.end.RunEnd.{RunEnd}
 use Rattle.rollout_run.specs.declared.end.RunEnd.TheVariants as run
@@ -43,12 +42,6 @@ pub record Runs {D P : Type 0} (bytes : D → Option (List ℕ)) (may_leave : D 
   pub worked : HasWorked tell o migration (homes_of o.rollout.problem) rounds whole spare seats log ports
   pub ends : IsRunEnd o log end
 
--- Nothing was begun: the book and all ports are as they were.
-pub record IsUnbegun {D P : Type 0} (whole spare : List (Talk P)) (before now : Chronicled D) (ports : List (List (Talk P))) : Type 0 where
-  pub book : now ≡ before
-  pub same : IsPermutation whole (all_ports ports)
-  pub none : spare ≡ []
-
 -- what holds of a run that has begun, and of one that hasn't for want of memory
 abbrev pub IsRun : RunEnd → Type 0 → Type 0 → Type 0
 IsRun run.Finished begun unbegun = begun
@@ -67,5 +60,5 @@ abbrev pub cause_behind : RoundReply → Option Cause
 cause_behind (round.Turned turn) = None
 cause_behind (round.Refused (fault.Alien item held begun)) = Some (cause.Above item held begun)
 cause_behind (round.Refused fault.Disk) = Some cause.Disk
-cause_behind (round.Stopped halt) = None
+cause_behind (round.Stopped halt) = Some halt.cause
 cause_behind round.Memory = Some cause.Memory

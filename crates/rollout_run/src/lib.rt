@@ -1,16 +1,10 @@
-//! A whole rollout with its workers: ports are opened to the switches that have something to do, workers
-//! serve them in threads of their own until nothing is left to do or all is stopped, and the ports are given
-//! back.
+//! A whole rollout over a fleet: ports are opened to the switches at which there is work, a worker serves
+//! them until nothing is left to do or it is stopped, and the ports are given back.
 #![tactic(auto)]
 
-mod crew;
 mod end;
-mod joining;
-mod named;
-mod room;
 mod running;
-mod sending;
-mod together;
+mod working;
 
 pub use end::RunEnd;
 pub use running::{Limits, run};

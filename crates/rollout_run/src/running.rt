@@ -1,29 +1,32 @@
-//! A rollout with all its workers, over a fleet.
-ghost use Rattle.std.specs.Prelude.{◌≡◌, ◌≤◌, ◌<◌, ◌++◌, [], All, length, map, nat_eq, IfSome};
+//! A rollout over a fleet.
+ghost use Rattle.std.specs.Prelude.{◌≡◌, ◌≤◌, ℕ, [], ◌∷◌, IfErr, IfOk, IfSome, map};
+ghost use Rattle.wan_edge.specs.Streams.{Rose};
 ghost use Rattle.order_policy.specs.Answers.{rank_by};
 ghost use Rattle.rollout_book.specs.Lists.{IsKeptList};
 ghost use Rattle.shared_book.specs.Opened.{IsOpened, opening_of};
 ghost use Rattle.worker_ports.specs.Views.{telling};
-ghost use Rattle.rollout_ports.specs.Berths.{ports_of};
-ghost use Rattle.rollout_run.specs.Runs.{Runs};
+ghost use Rattle.rollout_ports.specs.Berths.{AreApart, AreLent, ports_of};
+ghost use Rattle.rollout_ports.specs.Hands.{first_talks};
+ghost use Rattle.rollout_ports.specs.Homes.{working_homes};
+ghost use Rattle.rollout_run.specs.Ran.{EndsRun, IsOver, Ran};
+ghost use Rattle.rollout_run.specs.Runs.{IsRun, Runs};
+ghost use Rattle.rollout_run.specs.Shifts.{AreFresh};
 
 use crate::end::RunEnd;
-use crate::named::{Crews, Ended, run_named};
+use crate::working::{Ended, run_named};
 use disk_model::Disk;
 use rollout_book::Book;
-use rollout_ports::{NotOpened, deal, keep_ports, keep_workers, open_ports};
+use rollout_ports::{NotOpened, deal, keep_ports, keep_worker, open_ports};
 use shared_book::Marker;
 use std::alloc::Global;
 use std::sync::Wait;
-use std::thread::Threads;
 use wan_edge::{Fleet, Port};
 use worker_ports::{Berth, WorkerPorts};
 
-/// How a rollout is run: by so many workers, each of which may offer commands in so many rounds; and the
-/// number of the migration in which they go out.
-#[derive(Clone, Copy, Debug, Drop)]
+/// How a rollout is run: in how many rounds commands may be offered, and the number of the migration in
+/// which they go out.
+#[derive(Clone, Copy, Debug)]
 pub struct Limits {
-    pub workers: u32,
     pub rounds: u32,
     pub migration: u32,
 }
@@ -43,11 +46,11 @@ impl Marker for Named {
     ghost seats = { 0 };
 }
 
-/// Runs a rollout from what its book has found: a port is opened for each switch that is the home of an
-/// operation, a first round begins what may begin, and the ports are served by up to so many workers in
-/// threads of their own until every operation is settled, the rest is held back, or all is stopped. Then the
-/// ports are given back. The ports of a worker whose thread can't be started are served by the caller.
-pub fn run<'d, R, D, F>(
+/// Runs a rollout from what its book has found. A port is opened to each switch at which there is work; a
+/// first round begins what may begin; and the ports are served in rounds until every operation is settled,
+/// the rest is held back, or the run is stopped. Then the ports are given back. The book comes back with
+/// every answer.
+pub fn run<'d, R: Wait, D: Disk, F: Fleet>(
     rt: &R,
     alloc: Global,
     book: Book<'d, D>,
@@ -55,10 +58,16 @@ pub fn run<'d, R, D, F>(
     limits: Limits,
 ) -> (Book<'d, D>, RunEnd)
 where
-    R: Wait + Threads + Sync,
-    D: Disk + Drop + Send,
-    F: Fleet,
-    F::Port: Drop + Send,
+    F::Port: Drop,
+    requires opened { IsOpened (opening_of book.chronicle (rank_by book.policy.now.answers)) book.chronicle }
+    requires has { IfSome (D.bytes book.chronicle.disk) (IsKeptList book.chronicle.history.start book.chronicle.entries (D.may_leave book.chronicle.disk)) }
+    ensures policy { result.0.policy.now ≡ book.entry.policy.now }
+    ensures ran { EndsRun F.Port.faults (working_homes book.entry.chronicle.rollout.problem book.entry.chronicle.rollout.plan) book.entry.chronicle result.0.chronicle (ports_of F.waiting F.kept F.lent fleet.old) (ports_of F.waiting F.kept F.lent fleet.new)
+        (Ran D.bytes D.may_leave D.moment D.left_since D.faults F.Port.faults (telling F.Port.offered F.Port.heard F.Port.held F.Port.quiet F.Port.faults F.Port.honest F.Port.prompt F.Port.start) (opening_of book.entry.chronicle (rank_by book.entry.policy.now.answers)) (D.moment book.entry.chronicle.disk) (D.faults book.entry.chronicle.disk) limits.migration
+            (working_homes book.entry.chronicle.rollout.problem book.entry.chronicle.rollout.plan) (ports_of F.waiting F.kept F.lent fleet.old) result.1 result.0.chronicle (ports_of F.waiting F.kept F.lent fleet.new)) result.1 }
+    ensures guests { (F.coming fleet.new ≡ F.coming fleet.old) × (F.served fleet.new ≡ F.served fleet.old) × (F.visiting fleet.new ≡ F.visiting fleet.old) }
+    ensures cause { (switch : ℕ) → result.1 ≡ RunEnd.NoPort switch → Rose (F.faults fleet.old) (F.faults fleet.new) }
+    ensures count { F.faults fleet.old ≤ F.faults fleet.new }
 {
     match open_ports(alloc, fleet, book.graph().plan()) {
         Ok(berths) => run_over(rt, alloc, book, fleet, berths, limits),
@@ -68,7 +77,7 @@ where
 }
 
 // Runs over the ports that were opened, and gives them back.
-fn run_over<'d, R, D, F>(
+fn run_over<'d, R: Wait, D: Disk, F: Fleet>(
     rt: &R,
     alloc: Global,
     book: Book<'d, D>,
@@ -77,23 +86,22 @@ fn run_over<'d, R, D, F>(
     limits: Limits,
 ) -> (Book<'d, D>, RunEnd)
 where
-    R: Wait + Threads + Sync,
-    D: Disk + Drop + Send,
-    F: Fleet,
-    F::Port: Drop + Send,
+    F::Port: Drop,
+    requires opened { IsOpened (opening_of book.chronicle (rank_by book.policy.now.answers)) book.chronicle }
+    requires has { IfSome (D.bytes book.chronicle.disk) (IsKeptList book.chronicle.history.start book.chronicle.entries (D.may_leave book.chronicle.disk)) }
+    requires apart { AreApart berths.items }
+    requires lent { AreLent (F.lent fleet.old) berths.items }
+    ensures policy { result.0.policy.now ≡ book.entry.policy.now }
+    ensures ran { IsOver (ports_of F.waiting F.kept F.lent fleet.old) (ports_of F.waiting F.kept F.lent fleet.new) berths.items result.1
+        (λ ports. Runs D.bytes D.may_leave D.moment D.left_since D.faults (telling F.Port.offered F.Port.heard F.Port.held F.Port.quiet F.Port.faults F.Port.honest F.Port.prompt F.Port.start) (opening_of book.entry.chronicle (rank_by book.entry.policy.now.answers)) (D.moment book.entry.chronicle.disk) (D.faults book.entry.chronicle.disk) limits.migration limits.rounds (first_talks berths.items) [] result.1 result.0.chronicle (ports ∷ []))
+        (result.0.chronicle ≡ book.entry.chronicle) }
+    ensures guests { (F.coming fleet.new ≡ F.coming fleet.old) × (F.served fleet.new ≡ F.served fleet.old) × (F.visiting fleet.new ≡ F.visiting fleet.old) }
+    ensures count { F.faults fleet.old ≤ F.faults fleet.new }
 {
-    let ports = berths.len();
-    match deal(alloc, berths, limits.workers) {
-        Ok(dealt) => {
-            let ended = run_dealt(rt, alloc, book, Crews::of(alloc, dealt), ports, limits);
-            let Ended {
-                book,
-                ports,
-                spare,
-                end,
-            } = ended;
-            keep_workers(fleet, ports);
-            keep_ports(fleet, spare);
+    match ports_to(alloc, berths) {
+        Ok(ports) => {
+            let Ended { book, ports, end } = run_alone(rt, alloc, book, ports, limits);
+            keep_worker(fleet, ports);
             (book, end)
         }
         Err(berths) => {
@@ -103,19 +111,38 @@ where
     }
 }
 
-// Runs with crews to which so many ports were dealt.
-fn run_dealt<'d, R, D, T>(
+// The ports of these berths, for one worker. Where memory runs out all berths come back.
+fn ports_to<T: Port + Drop>(
+    alloc: Global,
+    berths: Vec<Berth<T>>,
+) -> Result<WorkerPorts<T>, Vec<Berth<T>>>
+    requires { AreApart berths.items }
+    ensures ok { IfOk result (λ ports. ports ≡ first_talks berths.items) }
+    ensures err { IfErr result (λ back. back.items ≡ berths.items) }
+{
+    let mut dealt = deal(alloc, berths, 1)?;
+    match dealt.pop() {
+        Some(ports) => Ok(ports),
+        None => Ok(WorkerPorts::new(alloc)),
+    }
+}
+
+// Runs over the ports of one worker.
+fn run_alone<'d, R: Wait, D: Disk, T: Port>(
     rt: &R,
     alloc: Global,
     book: Book<'d, D>,
-    crews: Crews<T>,
-    ports: usize,
+    ports: WorkerPorts<T>,
     limits: Limits,
 ) -> Ended<'d, D, T>
-where
-    R: Wait + Threads + Sync,
-    D: Disk + Drop + Send,
-    T: Port + Drop + Send,
+    requires opened { IsOpened (opening_of book.chronicle (rank_by book.policy.now.answers)) book.chronicle }
+    requires has { IfSome (D.bytes book.chronicle.disk) (IsKeptList book.chronicle.history.start book.chronicle.entries (D.may_leave book.chronicle.disk)) }
+    requires fresh { AreFresh ports }
+    ensures policy { result.book.policy.now ≡ book.entry.policy.now }
+    ensures switches { map (λ t. t.switch) result.ports ≡ map (λ t. t.switch) ports }
+    ensures ran { IsRun result.end
+        (Runs D.bytes D.may_leave D.moment D.left_since D.faults (telling T.offered T.heard T.held T.quiet T.faults T.honest T.prompt T.start) (opening_of book.entry.chronicle (rank_by book.entry.policy.now.answers)) (D.moment book.entry.chronicle.disk) (D.faults book.entry.chronicle.disk) limits.migration limits.rounds ports [] result.end result.book.chronicle (result.ports ∷ []))
+        ((result.book.chronicle ≡ book.entry.chronicle) × (result.ports ≡ ports)) }
 {
-    run_named::<R, D, Named, T>(rt, alloc, book, crews, ports, limits)
+    run_named::<R, D, Named, T>(rt, alloc, book, ports, limits)
 }
