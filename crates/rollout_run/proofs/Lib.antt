@@ -3,3 +3,5 @@ pub mod Ports
 pub mod Fleets
 pub mod Alone
 pub mod Over
+pub mod Ends
+pub mod Hands

@@ -10,17 +10,20 @@ use Rattle.rollout_book.specs.Chronicles.{Chronicled}
 use Rattle.rollout_ports.specs.Berths.{AreApart, AreLent, FleetPorts, after_keeping, after_opening, switches_of, with_each, without_each}
 use Rattle.rollout_ports.specs.Hands.{berths_of, first_talks}
 use Rattle.rollout_ports.specs.Opening.{Opens}
+use Rattle.rollout_ports.proofs.Given.{given_back}
 use Rattle.rollout_ports.proofs.Places.{without_others}
 use Rattle.rollout_ports.proofs.Spread.{apart_alike, lent_alike}
 use Rattle.shared_history.specs.Histories.{Opening}
 use Rattle.shared_book.specs.Homes.{homes_of}
 use Rattle.rollout_run.specs.Keeping.{Keeps}
 use Rattle.rollout_run.specs.PortRuns.{AreAtHome, IsBack}
-use Rattle.rollout_run.specs.Ran.{IsBegunOver, Ran}
-use Rattle.rollout_run.specs.Runs.{Runs}
+use Rattle.rollout_run.specs.Ran.{EndsRun, IsBegunOver, IsOver, Ran}
+use Rattle.rollout_run.specs.Runs.{IsRun, Runs}
 use Rattle.rollout_run.specs.Shifts.{IsShift, Shift}
 use Rattle.rollout_run.specs.Together.{HasWorked}
 use Rattle.rollout_run.specs.declared.end.RunEnd.{RunEnd}
+use Rattle.rollout_run.specs.declared.end.RunEnd.TheVariants as run
+use Rattle.rollout_run.proofs.Hands.{same_berths}
 use Rattle.rollout_run.proofs.Fleets.{as_it_was, given_back_at}
 use Rattle.rollout_run.proofs.Keeping.{keeps}
 use Rattle.rollout_run.proofs.Ports.{at_home, contains_later, is_back}
@@ -37,15 +40,15 @@ pub berths_switches : {P : Type 0} (talks : List (Talk P)) → switches_of (bert
 berths_switches [] = refl
 berths_switches (t ∷ talks) = ap (λ (l : List ℕ). t.switch ∷ l) (berths_switches talks)
 
+apart_far : {P : Type 0} (n : ℕ) (cs : List (Berth P)) → AllByRecursion (λ c. nat_eq n c.switch ≡ false) cs → AllByRecursion (λ m. nat_eq n m ≡ false) (switches_of cs)
+apart_far n [] all = tt
+apart_far n (c ∷ cs) all = (all.0, apart_far n cs all.1)
+
 -- berths that are apart have switches of their own
 pub distinct_of : {P : Type 0} (berths : List (Berth P)) → AreApart berths → IsDistinct nat_eq (switches_of berths)
 unfolding IsDistinct
 distinct_of [] apart = tt
-distinct_of (b ∷ berths) apart = (far b.switch berths apart.0, distinct_of berths apart.1)
-  where
-    far : (n : ℕ) (cs : List (Berth _)) → AllByRecursion (λ c. nat_eq n c.switch ≡ false) cs → AllByRecursion (λ m. nat_eq n m ≡ false) (switches_of cs)
-    far n [] all = tt
-    far n (c ∷ cs) all = (all.0, far n cs all.1)
+distinct_of (b ∷ berths) apart = (apart_far b.switch berths apart.0, distinct_of berths apart.1)
 
 -- each port is before its first round
 pub all_fresh : {P : Type 0} (berths : List (Berth P)) (k : ℕ) (d : Talk P) → k < length (first_talks berths) → slice_index_or (first_talks berths) k d ≡ first_talk (slice_index_or (first_talks berths) k d).switch (slice_index_or (first_talks berths) k d).port
@@ -105,3 +108,24 @@ module _ {D P : Type 0} (bytes : D → Option (List ℕ)) (may_leave : D → Lis
         at_home = subst (λ (l : List ℕ). AreAtHome (homes_of o.rollout.problem) runs.log l) (talks_switches berths ∙ opens.switches) (at_home tell o migration (homes_of o.rollout.problem) runs.log worked.shifts [] (first_talks berths) runs.seats now.kept all_keep worked.seated runs.made worked.same distinct back left);
         others = λ switch other. ap (λ (k : ℕ → Option P). k switch) kept_is ∙ as_it_was places (berths_of over.ports) switch (subst (λ (l : List ℕ). AllByRecursion (λ n. nat_eq switch n ≡ false) l) (sym (berths_switches over.ports ∙ over.switches ∙ opens.switches)) other) ∙ without_others before.kept homes switch other;
       }
+
+-- ---- by the end of a run
+module _ {P : Type 0} (before now : FleetPorts P) (berths : List (Berth P)) (runs : List (Talk P) → Type 0) (unbegun : Type 0) (ports : List (Talk P)) (kept : now ≡ after_keeping before (berths_of ports)) (same : switches ports ≡ switches (first_talks berths)) where
+  begun_over : runs ports → IsBegunOver before now berths runs
+  begun_over holds = record { ports = ports; runs = holds; switches = same ∙ talks_switches berths; kept = kept }
+
+  pub is_over : (end : RunEnd) → IsRun end (runs ports) (unbegun × (ports ≡ first_talks berths)) → IsOver before now berths end runs unbegun
+  is_over run.Finished holds = begun_over holds
+  is_over run.Held holds = begun_over holds
+  is_over (run.Stopped halt) holds = begun_over holds
+  is_over (run.NoPort switch) holds = absurd holds
+  is_over run.Memory holds = (holds.0, kept ∙ ap (λ (bs : List (Berth P)). after_keeping before bs) (ap berths_of holds.1 ∙ same_berths berths))
+
+-- and over the fleet as it was before the ports were opened
+module _ {D P : Type 0} (port_faults : P → ℕ) (homes : List ℕ) (book_before book : Chronicled D) (before opened now : FleetPorts P) (berths : List (Berth P)) (runs : List (Talk P) → Type 0) (ran : Type 0) (to : IsBegunOver opened now berths runs → ran) (opens : Opens port_faults homes before berths opened) where
+  pub ends_run : (end : RunEnd) → IsOver opened now berths end runs (book ≡ book_before) → EndsRun port_faults homes book_before book before now ran end
+  ends_run run.Finished over = to over
+  ends_run run.Held over = to over
+  ends_run (run.Stopped halt) over = to over
+  ends_run (run.NoPort switch) over = absurd over
+  ends_run run.Memory over = record { same = over.0; ports = inr (given_back port_faults homes before opened now berths opens over.1) }

@@ -17,8 +17,8 @@ use crate::working::{Ended, run_named};
 use disk_model::Disk;
 use rollout_book::Book;
 use rollout_ports::{NotOpened, deal, keep_ports, keep_worker, open_ports};
-use shared_book::Marker;
 use std::alloc::Global;
+use std::marker::Brand;
 use std::sync::Wait;
 use wan_edge::{Fleet, Port};
 use worker_ports::{Berth, WorkerPorts};
@@ -29,21 +29,6 @@ use worker_ports::{Berth, WorkerPorts};
 pub struct Limits {
     pub rounds: u32,
     pub migration: u32,
-}
-
-/// Names the one opening of a run.
-pub(crate) struct Named;
-
-impl Marker for Named {
-    ghost use Rattle.shared_history.specs.Worked.{of_one};
-
-    ghost opening = { of_one };
-
-    ghost moment = { 0 };
-
-    ghost faults = { 0 };
-
-    ghost seats = { 0 };
 }
 
 /// Runs a rollout from what its book has found. A port is opened to each switch at which there is work; a
@@ -61,7 +46,6 @@ where
     F::Port: Drop,
     requires opened { IsOpened (opening_of book.chronicle (rank_by book.policy.now.answers)) book.chronicle }
     requires has { IfSome (D.bytes book.chronicle.disk) (IsKeptList book.chronicle.history.start book.chronicle.entries (D.may_leave book.chronicle.disk)) }
-    ensures policy { result.0.policy.now ≡ book.entry.policy.now }
     ensures ran { EndsRun F.Port.faults (working_homes book.entry.chronicle.rollout.problem book.entry.chronicle.rollout.plan) book.entry.chronicle result.0.chronicle (ports_of F.waiting F.kept F.lent fleet.old) (ports_of F.waiting F.kept F.lent fleet.new)
         (Ran D.bytes D.may_leave D.moment D.left_since D.faults F.Port.faults (telling F.Port.offered F.Port.heard F.Port.held F.Port.quiet F.Port.faults F.Port.honest F.Port.prompt F.Port.start) (opening_of book.entry.chronicle (rank_by book.entry.policy.now.answers)) (D.moment book.entry.chronicle.disk) (D.faults book.entry.chronicle.disk) limits.migration
             (working_homes book.entry.chronicle.rollout.problem book.entry.chronicle.rollout.plan) (ports_of F.waiting F.kept F.lent fleet.old) result.1 result.0.chronicle (ports_of F.waiting F.kept F.lent fleet.new)) result.1 }
@@ -91,7 +75,6 @@ where
     requires has { IfSome (D.bytes book.chronicle.disk) (IsKeptList book.chronicle.history.start book.chronicle.entries (D.may_leave book.chronicle.disk)) }
     requires apart { AreApart berths.items }
     requires lent { AreLent (F.lent fleet.old) berths.items }
-    ensures policy { result.0.policy.now ≡ book.entry.policy.now }
     ensures ran { IsOver (ports_of F.waiting F.kept F.lent fleet.old) (ports_of F.waiting F.kept F.lent fleet.new) berths.items result.1
         (λ ports. Runs D.bytes D.may_leave D.moment D.left_since D.faults (telling F.Port.offered F.Port.heard F.Port.held F.Port.quiet F.Port.faults F.Port.honest F.Port.prompt F.Port.start) (opening_of book.entry.chronicle (rank_by book.entry.policy.now.answers)) (D.moment book.entry.chronicle.disk) (D.faults book.entry.chronicle.disk) limits.migration limits.rounds (first_talks berths.items) [] result.1 result.0.chronicle (ports ∷ []))
         (result.0.chronicle ≡ book.entry.chronicle) }
@@ -138,11 +121,10 @@ fn run_alone<'d, R: Wait, D: Disk, T: Port>(
     requires opened { IsOpened (opening_of book.chronicle (rank_by book.policy.now.answers)) book.chronicle }
     requires has { IfSome (D.bytes book.chronicle.disk) (IsKeptList book.chronicle.history.start book.chronicle.entries (D.may_leave book.chronicle.disk)) }
     requires fresh { AreFresh ports }
-    ensures policy { result.book.policy.now ≡ book.entry.policy.now }
     ensures switches { map (λ t. t.switch) result.ports ≡ map (λ t. t.switch) ports }
     ensures ran { IsRun result.end
         (Runs D.bytes D.may_leave D.moment D.left_since D.faults (telling T.offered T.heard T.held T.quiet T.faults T.honest T.prompt T.start) (opening_of book.entry.chronicle (rank_by book.entry.policy.now.answers)) (D.moment book.entry.chronicle.disk) (D.faults book.entry.chronicle.disk) limits.migration limits.rounds ports [] result.end result.book.chronicle (result.ports ∷ []))
         ((result.book.chronicle ≡ book.entry.chronicle) × (result.ports ≡ ports)) }
 {
-    run_named::<R, D, Named, T>(rt, alloc, book, ports, limits)
+    run_named::<R, D, Brand, T>(rt, alloc, book, ports, limits)
 }

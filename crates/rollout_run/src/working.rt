@@ -43,7 +43,6 @@ pub(crate) fn run_named<'d, R: Wait, D: Disk, M: Marker, T: Port>(
     requires policy { M.opening.policy ≡ rank_by book.policy.now.answers }
     requires seats { M.seats ≡ 1 }
     requires fresh { AreFresh ports }
-    ensures policy { result.book.policy.now ≡ book.entry.policy.now }
     ensures switches { map (λ t. t.switch) result.ports ≡ map (λ t. t.switch) ports }
     ensures ran { IsRun result.end
         (Runs D.bytes D.may_leave D.moment D.left_since D.faults (telling T.offered T.heard T.held T.quiet T.faults T.honest T.prompt T.start) M.opening M.moment M.faults limits.migration limits.rounds ports [] result.end result.book.chronicle (result.ports ∷ []))

@@ -1,6 +1,8 @@
 ghost use Rattle.std.specs.Prelude.{ℕ};
 ghost use Rattle.shared_history.specs.Histories.{Opening};
 
+use std::marker::Brand;
+
 /// Names one opening of a book, by ghost members alone: what is known to be of one marker was opened with
 /// this.
 pub trait Marker {
@@ -15,4 +17,17 @@ pub trait Marker {
 
     /// How many seats may call.
     ghost seats: { ℕ };
+}
+
+// The members that stand where no call picks others.
+impl Marker for Brand {
+    ghost use Rattle.shared_history.specs.Worked.{of_one};
+
+    ghost opening = { of_one };
+
+    ghost moment = { 0 };
+
+    ghost faults = { 0 };
+
+    ghost seats = { 1 };
 }
