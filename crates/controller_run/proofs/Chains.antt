@@ -16,7 +16,7 @@ use Rattle.worker_ports.proofs.Stories.{story_begins, story_ends_in_hear, story_
 use Rattle.controller_run.specs.Exchanging.{Exchanges}
 
 -- the home of what a port tells is its switch
-is-home : (switch : ℕ) (home : Option ℕ) → is_switch switch home ≡ true → home ≡ Some switch
+pub is-home : (switch : ℕ) (home : Option ℕ) → is_switch switch home ≡ true → home ≡ Some switch
 is-home switch None is = absurd (false≢true is)
 is-home switch (Some home) is = ap Some (eqb-true home switch is)
 

@@ -1,3 +1,17 @@
 pub mod Chains
+pub mod Tallies
+pub mod Elements
+pub mod Begun
+pub mod Answered
+pub mod Ports
+pub mod Noted
+pub mod Reaches
+pub mod Endings
+pub mod Quiet
+pub mod Alone
+pub mod Keeps
+pub mod Reasoned
+pub mod FirstStops
+pub mod AtHome
 pub mod Works
 pub mod Serves

@@ -6,7 +6,7 @@ use Rattle.shared_history.specs.declared.note.Cause.{Cause}
 use Rattle.worker_ports.specs.Rows.{HearsEach, IsCauseOfHear, IsCauseOfOffer, ListensEach, OffersAllEach, OffersEach}
 use Rattle.worker_ports.specs.Views.{Telling}
 
--- The commands go out, at all ports before the first is heard, and what comes is told.
+-- The commands go out, and what comes is told. Ports are apart, so this says nothing of the order between an offer at one and a hear at another.
 pub record Exchanges {P : Type 0} (tell : P → Telling) (migration : ℕ) (homes : List (Option ℕ)) (before : List (Talk P)) (commands : List Command) (told : List Answer) (now : List (Talk P)) : Type 0 where
   pub offered : List (Talk P)
   pub offers : OffersAllEach tell migration homes commands before offered

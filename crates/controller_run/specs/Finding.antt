@@ -1,5 +1,5 @@
 -- What a worker finds to do: it waits for work of its switches, and has their commands listed.
-use Rattle.std.specs.Prelude.{◌≡◌, ◌⊎◌, ℕ, List, [], Option, Some}
+use Rattle.std.specs.Prelude.{◌≡◌, ◌⊎◌, ◌<◌, ℕ, List, [], Option, Some}
 use Rattle.rollout_rules.specs.declared.op.Op.{Op}
 use Rattle.wan_edge.specs.Frames.{Command}
 use Rattle.shared_history.specs.declared.note.Cause.{Cause}
@@ -27,11 +27,15 @@ pub record Caller : Type 0 where
 abbrev pub Looks : Caller → List Written → Wake → List Written → Type 0
 Looks w seen woken after = IsLookCall w.opening w.seats w.seat seen w.switches (Some woken) after
 
+-- what comes of commands that are asked for
+abbrev pub Asks : Caller → List Written → List Command → ListReply → List Written → Type 0
+Asks w awake commands reply after = IsListCall w.opening w.seats w.seat awake w.switches [] commands reply after
+
 -- an operation of the switches was in flight, and then the commands were asked for, with this reply
 pub record Lists (w : Caller) (op : Op) (seen : List Written) (commands : List Command) (reply : ListReply) (after : List Written) : Type 0 where
   pub awake : List Written
   pub looks : Looks w seen (wake.Work op) awake
-  pub listed : IsListCall w.opening w.seats w.seat awake w.switches [] commands reply after
+  pub listed : Asks w awake commands reply after
 
 -- the end of a wait that isn't work, or a stop in the place of commands
 abbrev pub EndsAt : Caller → List Written → List Command → Wake → List Written → Type 0
@@ -45,10 +49,7 @@ EndsAt w seen commands wake.Memory after = ⊥
 abbrev pub Wants : Caller → List Written → List Command → List Written → Type 0
 Wants w seen commands after = Looks w seen wake.Memory after ⊎ ((op : Op) × Lists w op seen commands list.Memory after)
 
--- what comes of a list that is asked for, where this operation was in flight
-abbrev pub Asks : Caller → List Written → List Command → ListReply → List Written → Type 0
-Asks w awake commands reply after = IsListCall w.opening w.seats w.seat awake w.switches [] commands reply after
-
+-- a stop in the place of commands that were asked for
 abbrev pub StopsListing : Caller → List Written → List Command → Wake → List Written → Type 0
 StopsListing w awake commands (wake.Work op) after = ⊥
 StopsListing w awake commands wake.Finished after = ⊥
@@ -56,13 +57,16 @@ StopsListing w awake commands wake.Held after = ⊥
 StopsListing w awake commands (wake.Stopped halt) after = Asks w awake commands (list.Stopped halt) after
 StopsListing w awake commands wake.Memory after = ⊥
 
+-- what comes of listing, where this operation was in flight
 abbrev pub IsListed : Caller → Op → List Written → List Command → Found → List Written → Type 0
 IsListed w op awake commands (found.Work other) after = (other ≡ op) × Asks w awake commands list.Listed after
+IsListed w op awake commands (found.Spent other) after = ⊥
 IsListed w op awake commands (found.Ended end) after = StopsListing w awake commands end after
 IsListed w op awake commands found.Memory after = Asks w awake commands list.Memory after
 
--- what was found
-abbrev pub IsFound : Caller → List Written → List Command → Found → List Written → Type 0
-IsFound w seen commands (found.Work op) after = Lists w op seen commands list.Listed after
-IsFound w seen commands (found.Ended end) after = EndsAt w seen commands end after
-IsFound w seen commands found.Memory after = Wants w seen commands after
+-- what was found, where so many rounds are left: where none is, nothing is listed
+abbrev pub IsFound : Caller → ℕ → List Written → List Command → Found → List Written → Type 0
+IsFound w left seen commands (found.Work op) after = (0 < left) × Lists w op seen commands list.Listed after
+IsFound w left seen commands (found.Spent op) after = (left ≡ 0) × Looks w seen (wake.Work op) after
+IsFound w left seen commands (found.Ended end) after = EndsAt w seen commands end after
+IsFound w left seen commands found.Memory after = Wants w seen commands after

@@ -3,3 +3,5 @@ pub mod Finding
 pub mod Settling
 pub mod Working
 pub mod Serving
+pub mod Promises
+pub mod Reasons

@@ -15,30 +15,26 @@ use Rattle.shared_book.specs.declared.reply.RoundReply.TheVariants as round
 use Rattle.controller_run.specs.declared.outcome.Outcome.{Outcome}
 use Rattle.controller_run.specs.declared.outcome.Outcome.TheVariants as outcome
 
--- a round with these answers, and its reply
-abbrev pub Rounds : Opening → List ℕ → ℕ → List Written → List Op → RoundReply → List Written → Type 0
-Rounds o seats seat log answers reply after = IsRoundCall o seats seat log answers reply after
-
 -- a round that a stop has ended
 abbrev pub EndsRound : Opening → List ℕ → ℕ → List Written → List Op → Wake → List Written → Type 0
 EndsRound o seats seat log answers (wake.Work op) after = ⊥
 EndsRound o seats seat log answers wake.Finished after = ⊥
 EndsRound o seats seat log answers wake.Held after = ⊥
-EndsRound o seats seat log answers (wake.Stopped halt) after = Rounds o seats seat log answers (round.Stopped halt) after
+EndsRound o seats seat log answers (wake.Stopped halt) after = IsRoundCall o seats seat log answers (round.Stopped halt) after
 EndsRound o seats seat log answers wake.Memory after = ⊥
 
 -- a round that was refused, or found no memory
 abbrev pub StopsRound : Opening → List ℕ → ℕ → List Written → List Op → Cause → List Written → Type 0
 StopsRound o seats seat log answers (cause.Spent rounds item number) after = ⊥
 StopsRound o seats seat log answers (cause.Port switch) after = ⊥
-StopsRound o seats seat log answers (cause.Above item held begun) after = Rounds o seats seat log answers (round.Refused (fault.Alien item held begun)) after
+StopsRound o seats seat log answers (cause.Above item held begun) after = IsRoundCall o seats seat log answers (round.Refused (fault.Alien item held begun)) after
 StopsRound o seats seat log answers (cause.NotMine switch item) after = ⊥
 StopsRound o seats seat log answers (cause.NoAnswer switch byte) after = ⊥
-StopsRound o seats seat log answers cause.Disk after = Rounds o seats seat log answers (round.Refused fault.Disk) after
-StopsRound o seats seat log answers cause.Memory after = Rounds o seats seat log answers round.Memory after
+StopsRound o seats seat log answers cause.Disk after = IsRoundCall o seats seat log answers (round.Refused fault.Disk) after
+StopsRound o seats seat log answers cause.Memory after = IsRoundCall o seats seat log answers round.Memory after
 
 -- what became of the round
 abbrev pub IsSettled : Opening → List ℕ → ℕ → List Written → List Op → Bool → Outcome → List Written → Type 0
-IsSettled o seats seat log answers offered (outcome.Whole some) after = (some ≡ offered) × ((turn : Turn) × Rounds o seats seat log answers (round.Turned turn) after)
+IsSettled o seats seat log answers offered (outcome.Whole some) after = (some ≡ offered) × ((turn : Turn) × IsRoundCall o seats seat log answers (round.Turned turn) after)
 IsSettled o seats seat log answers offered (outcome.Ended end) after = EndsRound o seats seat log answers end after
 IsSettled o seats seat log answers offered (outcome.Stops why) after = StopsRound o seats seat log answers why after

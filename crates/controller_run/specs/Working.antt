@@ -1,5 +1,5 @@
 -- What a worker makes of one round.
-use Rattle.std.specs.Prelude.{◌≡◌, ◌⊎◌, ⊤, ℕ, Bool, true, false, List, [], ◌∷◌, Option}
+use Rattle.std.specs.Prelude.{◌≡◌, ◌⊎◌, ◌<◌, ⊤, ℕ, Bool, true, false, List, [], ◌∷◌, Option}
 use Rattle.rollout_rules.specs.declared.op.Op.{Op}
 use Rattle.wan_edge.specs.Frames.{Answer, Command}
 use Rattle.rollout_book.specs.Aliens.{told_by}
@@ -8,10 +8,11 @@ use Rattle.shared_history.specs.declared.note.Cause.{Cause}
 use Rattle.shared_history.specs.declared.note.Cause.TheVariants as cause
 use Rattle.shared_history.specs.declared.note.Written.{Written}
 use Rattle.shared_history.specs.declared.reply.ListReply.TheVariants as list
+use Rattle.shared_history.specs.declared.reply.Wake.TheVariants as wake
 use Rattle.shared_history.specs.Histories.{Opening}
 use Rattle.worker_ports.specs.Views.{Telling}
 use Rattle.controller_run.specs.Exchanging.{Exchanges, StopsInHear, StopsInOffer}
-use Rattle.controller_run.specs.Finding.{Caller, EndsAt, Lists, Wants}
+use Rattle.controller_run.specs.Finding.{Caller, EndsAt, Lists, Looks, Wants}
 use Rattle.controller_run.specs.Settling.{IsSettled}
 use Rattle.controller_run.specs.declared.outcome.Outcome.{Outcome}
 use Rattle.controller_run.specs.declared.outcome.Outcome.TheVariants as outcome
@@ -48,7 +49,7 @@ OnWhole (outcome.Stops why) holds = ⊤
 -- Nothing went out: there was nothing to do, memory ran out, or the rounds were spent and an operation was in flight.
 abbrev pub RestsFor : Caller → ℕ → ℕ → List Written → Cause → List Written → Type 0
 RestsFor w left rounds seen (cause.Spent given item number) after =
-    (left ≡ 0) × (given ≡ rounds) × ((commands : List Command) × Lists w (record { item = item; number = number }) seen commands list.Listed after)
+    (left ≡ 0) × (given ≡ rounds) × Looks w seen (wake.Work (record { item = item; number = number })) after
 RestsFor w left rounds seen (cause.Port switch) after = ⊥
 RestsFor w left rounds seen (cause.Above item held begun) after = ⊥
 RestsFor w left rounds seen (cause.NotMine switch item) after = ⊥
@@ -61,8 +62,9 @@ Rests w left rounds seen (outcome.Whole offered) after = ⊥
 Rests w left rounds seen (outcome.Ended end) after = (commands : List Command) × EndsAt w seen commands end after
 Rests w left rounds seen (outcome.Stops why) after = RestsFor w left rounds seen why after
 
--- the commands of an operation in flight and of all others of the switches went out, or began to
-pub record Works {P : Type 0} (tell : P → Telling) (w : Caller) (migration : ℕ) (homes : List (Option ℕ)) (before : Standing P) (given : Outcome) (now : Standing P) : Type 0 where
+-- a round was left, and the commands of an operation in flight and of all others of the switches went out, or began to
+pub record Works {P : Type 0} (tell : P → Telling) (w : Caller) (migration : ℕ) (homes : List (Option ℕ)) (left : ℕ) (before : Standing P) (given : Outcome) (now : Standing P) : Type 0 where
+  pub some_left : 0 < left
   pub op : Op
   pub commands : List Command
   pub log : List Written
@@ -72,4 +74,4 @@ pub record Works {P : Type 0} (tell : P → Telling) (w : Caller) (migration : �
 -- what a worker makes of a round, where so many of its rounds are left
 abbrev pub IsWorked : {P : Type 0} → (P → Telling) → Caller → ℕ → List (Option ℕ) → ℕ → ℕ → Standing P → Outcome → Standing P → Type 0
 IsWorked tell w migration homes left rounds before given now =
-    ((now.ports ≡ before.ports) × Rests w left rounds before.seen given now.seen) ⊎ Works tell w migration homes before given now
+    ((now.ports ≡ before.ports) × Rests w left rounds before.seen given now.seen) ⊎ Works tell w migration homes left before given now

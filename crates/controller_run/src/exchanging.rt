@@ -9,7 +9,8 @@ use wire_frames::Command;
 use worker_ports::WorkerPorts;
 
 /// A round between the ports alone: the commands go out, at all ports before the first is heard, and what
-/// comes is told, port by port.
+/// comes is told, port by port. Ports are apart, so the clauses say nothing of the order between an offer
+/// at one and a hear at another.
 ///
 /// # Errors
 ///

@@ -17,19 +17,22 @@ use std::sync::Wait;
 pub enum Found {
     /// The first operation in flight of its switches, whose commands are listed.
     Work(Op),
+    /// This operation of its switches is in flight, and no round is left. No commands are listed.
+    Spent(Op),
     /// Nothing any more, for this reason.
     Ended(Wake),
     /// Memory ran out.
     Memory,
 }
 
-/// Waits until an operation of these switches is in flight, and lists their commands.
+/// Waits until an operation of these switches is in flight, and lists their commands where a round is left.
 pub(crate) fn find_work<'d, R: Wait, D: Disk, M: Marker>(
     rt: &R,
     alloc: Global,
     book: &SharedBook<'d, D, M>,
     pass: BookPass<D, M>,
     switches: &[u32],
+    left: u32,
     commands: &mut CommandList,
 ) -> (BookPass<D, M>, Found)
     requires lock { IsPassOf book.now.lock pass.pass }
@@ -39,10 +42,11 @@ pub(crate) fn find_work<'d, R: Wait, D: Disk, M: Marker>(
     ensures lock { IsPassOf book.now.lock result.0.pass }
     ensures pass { IsSamePass pass.pass result.0.pass }
     ensures calls { IsCounted result.0.calls result.0.pass }
-    ensures found { IsFound (record { opening = M.opening; seats = seats_of pass.pass; seat = seat_of_pass pass.pass; switches = switches.now }) (seen_of pass.pass) commands.new result.1 (seen_of result.0.pass) }
+    ensures found { IsFound (record { opening = M.opening; seats = seats_of pass.pass; seat = seat_of_pass pass.pass; switches = switches.now }) left (seen_of pass.pass) commands.new result.1 (seen_of result.0.pass) }
 {
     let (pass, woken) = book.wait_work(rt, pass, switches);
     match woken {
+        Wake::Work(op) if left == 0 => (pass, Found::Spent(op)),
         Wake::Work(op) => list_work(rt, alloc, book, pass, switches, op, commands),
         Wake::Memory => (pass, Found::Memory),
         end => (pass, Found::Ended(end)),

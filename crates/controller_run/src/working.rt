@@ -55,9 +55,9 @@ pub(crate) fn work<'d, R: Wait, D: Disk, M: Marker, T: Port>(
         (record { seen = seen_of pass.pass; ports = ports.old }) result.1 (record { seen = seen_of result.0.pass; ports = ports.new }) }
 {
     let mut commands = CommandList::new(alloc);
-    let (pass, found) = find_work(rt, alloc, book, pass, ports.switches(), &mut commands);
+    let (pass, found) = find_work(rt, alloc, book, pass, ports.switches(), left, &mut commands);
     match found {
-        Found::Work(op) if left == 0 => {
+        Found::Spent(op) => {
             let spent = Cause::Spent {
                 rounds: terms.rounds,
                 item: op.item,

@@ -1,0 +1,255 @@
+-- Berths whose ports were given, and those that are given back.
+use Rattle.std.proofs.Common.{◌≡◌, ℕ, zero, suc, ◌<◌, length, take, drop, get_or, arith, Bool, true, false, cond, List, [], ◌∷◌, ◌++◌, Option, Some, None, nat_eq, refl, sym, ap, ◌∙◌, subst, option_map, append-nil, append_assoc}
+use Rattle.std.specs.Cmp.{nat_eq_equiv}
+use Rattle.std.specs.Prelude.{IfSome}
+use Rattle.std.specs.List.{AllByRecursion, IsDistinct}
+use Rattle.wan_edge.specs.Fleets.{GivesPort, marked, with_one, without}
+use Rattle.port_session.specs.Sessions.{Talk}
+use Rattle.worker_ports.specs.Rows.{IsLast}
+use Rattle.worker_ports.specs.declared.ports.Berth.{Berth}
+use Rattle.rollout_ports.specs.Berths.{AreApart, AreLent, FleetPorts, after_keeping, after_opening, marked_each, switches_of, with_each, without_each}
+use Rattle.rollout_ports.specs.Hands.{all_berths, berths_of}
+use Rattle.rollout_ports.specs.Opening.{AreGiven, GivesBack, IsGiven, Opens, OpensUntil, StopsAt}
+use Rattle.rollout_ports.proofs.Places.{back, marked_append, marked_more, put_again, remarked, switches_append, with_append, without_more, without_others, without_some}
+
+module _ {X : Type 0} (R : X → Type 0) where
+  pub all_front : (xs ys : List X) → AllByRecursion R (xs ++ ys) → AllByRecursion R xs
+  all_front [] ys each = tt
+  all_front (x ∷ xs) ys each = (each.0, all_front xs ys each.1)
+
+  pub all_behind : (xs ys : List X) → AllByRecursion R (xs ++ ys) → AllByRecursion R ys
+  all_behind [] ys each = each
+  all_behind (x ∷ xs) ys each = all_behind xs ys each.1
+
+  pub all_both : (xs ys : List X) → AllByRecursion R xs → AllByRecursion R ys → AllByRecursion R (xs ++ ys)
+  all_both [] ys first rest = rest
+  all_both (x ∷ xs) ys first rest = (first.0, all_both xs ys first.1 rest)
+
+pub all_to : {X : Type 0} (R Q : X → Type 0) → ((x : X) → R x → Q x) → (xs : List X) → AllByRecursion R xs → AllByRecursion Q xs
+all_to R Q to [] each = tt
+all_to R Q to (x ∷ xs) each = (to x each.0, all_to R Q to xs each.1)
+
+-- a list is what stands before a place, what stands there, and what stands behind
+pub parted : {A : Type 0} (xs : List A) (i : ℕ) (d : A) → i < length xs → xs ≡ take i xs ++ get_or xs i d ∷ drop (suc i) xs
+parted [] i d inside = absurd (omega (arith, inside))
+parted (x ∷ xs) zero d inside = refl
+parted {A = A} (x ∷ xs) (suc i) d inside = ap (λ (ys : List A). x ∷ ys) (parted xs i d (omega (arith, inside)))
+
+-- ---- no two of one switch
+module _ {P : Type 0} where
+  pub apart_front : (bs cs : List (Berth P)) → AreApart (bs ++ cs) → AreApart bs
+  apart_front [] cs apart = tt
+  apart_front (b ∷ bs) cs apart = (all_front (λ c. nat_eq b.switch c.switch ≡ false) bs cs apart.0, apart_front bs cs apart.1)
+
+  pub apart_behind : (bs cs : List (Berth P)) → AreApart (bs ++ cs) → AreApart cs
+  apart_behind [] cs apart = apart
+  apart_behind (b ∷ bs) cs apart = apart_behind bs cs apart.1
+
+  switches_apart : (b : Berth P) (bs : List (Berth P)) → AllByRecursion (λ n. nat_eq b.switch n ≡ false) (switches_of bs) → AllByRecursion (λ c. nat_eq b.switch c.switch ≡ false) bs
+  switches_apart b [] apart = tt
+  switches_apart b (c ∷ cs) apart = (apart.0, switches_apart b cs apart.1)
+
+  -- where the switches are distinct
+  pub apart_by : (bs : List (Berth P)) → IsDistinct nat_eq (switches_of bs) → AreApart bs
+  unfolding IsDistinct
+  apart_by [] distinct = tt
+  apart_by (b ∷ bs) distinct = (switches_apart b bs distinct.0, apart_by bs distinct.1)
+
+  -- a switch that none of these has keeps its mark
+  marked_others : (marks : ℕ → Bool) (mark : Bool) (n : ℕ) (bs : List (Berth P)) → AllByRecursion (λ c. nat_eq n c.switch ≡ false) bs → marked_each marks (switches_of bs) mark n ≡ marks n
+  marked_others marks mark n [] apart = refl
+  marked_others marks mark n (b ∷ bs) apart = ap (λ c. cond c mark (marked_each marks (switches_of bs) mark n)) apart.0 ∙ marked_others marks mark n bs apart.1
+
+  -- once the ports of those behind are given back, those in front are lent still
+  pub lent_front : (lent : ℕ → Bool) (bs cs : List (Berth P)) → AreApart (bs ++ cs) → AreLent lent (bs ++ cs) → AreLent (marked_each lent (switches_of cs) false) bs
+  lent_front lent [] cs apart each = tt
+  lent_front lent (b ∷ bs) cs apart each = (
+    marked_others lent false b.switch cs (all_behind (λ c. nat_eq b.switch c.switch ≡ false) bs cs apart.0) ∙ each.0,
+    lent_front lent bs cs apart.1 each.1,
+  )
+
+  stays_lent : (marks : ℕ → Bool) (n : ℕ) (bs : List (Berth P)) → AreLent marks bs → AreLent (marked marks n true) bs
+  stays_lent marks n [] each = tt
+  stays_lent marks n (b ∷ bs) each = (here (nat_eq b.switch n), stays_lent marks n bs each.1)
+    where
+      here : (at : Bool) → cond at true (marks b.switch) ≡ true
+      here true = refl
+      here false = each.0
+
+  -- what is marked as lent is
+  pub all_lent : (marks : ℕ → Bool) (bs : List (Berth P)) → AreLent (marked_each marks (switches_of bs) true) bs
+  all_lent marks [] = tt
+  all_lent marks (b ∷ bs) = (
+    ap (λ c. cond c true (marked_each marks (switches_of bs) true b.switch)) (nat_eq_equiv.refl b.switch),
+    stays_lent (marked_each marks (switches_of bs) true) b.switch bs (all_lent marks bs),
+  )
+
+  -- ---- given back
+  told_again : (waiting : Option (ℕ → Option P)) (bs cs : List (Berth P)) → option_map (λ w. with_each w (bs ++ cs)) waiting ≡ option_map (λ w. with_each w bs) (option_map (λ w. with_each w cs) waiting)
+  told_again None bs cs = refl
+  told_again (Some w) bs cs = ap Some (with_append w bs cs)
+
+  abbrev made : Option (ℕ → Option P) → (ℕ → Option P) → (ℕ → Bool) → FleetPorts P
+  made waiting kept lent = record { waiting = waiting; kept = kept; lent = lent }
+
+  pub ports_by : (a b : FleetPorts P) → a.waiting ≡ b.waiting → a.kept ≡ b.kept → a.lent ≡ b.lent → a ≡ b
+  ports_by a b waiting kept lent = ap (λ w. made w a.kept a.lent) waiting ∙ ap (λ k. made b.waiting k a.lent) kept ∙ ap (made b.waiting b.kept) lent
+
+  -- giving back those behind, and then those in front, is giving back all
+  pub keeping_append : (ports : FleetPorts P) (bs cs : List (Berth P)) → after_keeping (after_keeping ports cs) bs ≡ after_keeping ports (bs ++ cs)
+  keeping_append ports bs cs = ports_by (after_keeping (after_keeping ports cs) bs) (after_keeping ports (bs ++ cs))
+      (sym (told_again ports.waiting bs cs))
+      (sym (with_append ports.kept bs cs))
+      (sym (ap (λ ns. marked_each ports.lent ns false) (switches_append bs cs) ∙ marked_append ports.lent (switches_of bs) (switches_of cs) false))
+
+  none_told : (waiting : Option (ℕ → Option P)) → option_map (λ w. with_each w []) waiting ≡ waiting
+  none_told None = refl
+  none_told (Some w) = refl
+
+  pub keeping_none : (ports : FleetPorts P) → after_keeping ports [] ≡ ports
+  keeping_none ports = ports_by (after_keeping ports []) ports (none_told ports.waiting) refl refl
+
+  -- the last of all these is given back, and then the rest
+  pub keep_one : (before after : FleetPorts P) (rest all : List (Berth P)) (b : Berth P) → all ≡ rest ++ b ∷ []
+      → after.waiting ≡ option_map (λ w. with_one w b.switch b.port) before.waiting → after.kept ≡ with_one before.kept b.switch b.port → after.lent ≡ marked before.lent b.switch false
+      → after_keeping after rest ≡ after_keeping before all
+  keep_one before after rest all b parts waiting kept lent =
+      ap (λ p. after_keeping p rest) (ports_by after (after_keeping before (b ∷ [])) waiting kept lent) ∙ keeping_append before rest (b ∷ []) ∙ ap (after_keeping before) (sym parts)
+
+  pub rest_apart : (rest all behind : List (Berth P)) → all ≡ rest ++ behind → AreApart all → AreApart rest
+  rest_apart rest all behind parts apart = apart_front rest behind (subst (λ (bs : List (Berth P)). AreApart bs) parts apart)
+
+  pub rest_lent : (before after : ℕ → Bool) (rest all : List (Berth P)) (b : Berth P) → all ≡ rest ++ b ∷ [] → after ≡ marked before b.switch false → AreApart all → AreLent before all → AreLent after rest
+  rest_lent before after rest all b parts is apart each =
+      subst (λ (lent : ℕ → Bool). AreLent lent rest) (sym is) (lent_front before rest (b ∷ []) (subst (λ (bs : List (Berth P)). AreApart bs) parts apart) (subst (λ (bs : List (Berth P)). AreLent before bs) parts each))
+
+  pub last_lent : (lent : ℕ → Bool) (rest all : List (Berth P)) (b : Berth P) → all ≡ rest ++ b ∷ [] → AreLent lent all → lent b.switch ≡ true
+  last_lent lent rest all b parts each = (all_behind (λ (c : Berth P). lent c.switch ≡ true) rest (b ∷ []) (subst (λ (bs : List (Berth P)). AreLent lent bs) parts each)).0
+
+  -- the same for the last row of them
+  pub keep_row : (before after : FleetPorts P) (rest row all : List (Berth P)) → all ≡ rest ++ row → after ≡ after_keeping before row → after_keeping after rest ≡ after_keeping before all
+  keep_row before after rest row all parts is = ap (λ p. after_keeping p rest) is ∙ keeping_append before rest row ∙ ap (after_keeping before) (sym parts)
+
+  pub row_apart : (rest row all : List (Berth P)) → all ≡ rest ++ row → AreApart all → AreApart row
+  row_apart rest row all parts apart = apart_behind rest row (subst (λ (bs : List (Berth P)). AreApart bs) parts apart)
+
+  pub row_lent : (lent : ℕ → Bool) (rest row all : List (Berth P)) → all ≡ rest ++ row → AreLent lent all → AreLent lent row
+  row_lent lent rest row all parts each = all_behind (λ (c : Berth P). lent c.switch ≡ true) rest row (subst (λ (bs : List (Berth P)). AreLent lent bs) parts each)
+
+  pub rest_lent_row : (before after : FleetPorts P) (rest row all : List (Berth P)) → all ≡ rest ++ row → after ≡ after_keeping before row → AreApart all → AreLent before.lent all → AreLent after.lent rest
+  rest_lent_row before after rest row all parts is apart each =
+      subst (λ (lent : ℕ → Bool). AreLent lent rest) (sym (ap (λ (p : FleetPorts P). p.lent) is))
+      (lent_front before.lent rest row (subst (λ (bs : List (Berth P)). AreApart bs) parts apart) (subst (λ (bs : List (Berth P)). AreLent before.lent bs) parts each))
+
+  berths_append : (ts us : List (Talk P)) → berths_of (ts ++ us) ≡ berths_of ts ++ berths_of us
+  berths_append [] us = refl
+  berths_append (t ∷ ts) us = ap (λ (bs : List (Berth P)). record { switch = t.switch; port = t.port } ∷ bs) (berths_append ts us)
+
+  -- a worker's last port was taken out
+  pub taken : (b : Berth P) (before now : List (Talk P)) → IsLast b.switch b.port before now → berths_of before ≡ berths_of now ++ b ∷ []
+  taken b before now last =
+      ap berths_of last.parts ∙ berths_append now (last.talk ∷ [])
+      ∙ ap (λ (switch : ℕ). berths_of now ++ record { switch = switch; port = last.talk.port } ∷ []) last.switch_is
+      ∙ ap (λ (port : P). berths_of now ++ record { switch = b.switch; port = port } ∷ []) last.port_is
+
+  pub rows_append : (rows : List (List (Talk P))) (row : List (Talk P)) → all_berths (rows ++ row ∷ []) ≡ all_berths rows ++ berths_of row
+  rows_append [] row = append-nil (berths_of row)
+  rows_append (r ∷ rs) row = ap (λ (bs : List (Berth P)). berths_of r ++ bs) (rows_append rs row) ∙ sym (append_assoc (berths_of r) (all_berths rs) (berths_of row))
+
+  -- ---- opened
+  -- what waits, once the ports of switches wait no more, and of one more
+  told_more : (waiting : Option (ℕ → Option P)) (ns : List ℕ) (n : ℕ) → option_map (λ w. without (without_each w ns) n) waiting ≡ option_map (λ w. without_each w (ns ++ n ∷ [])) waiting
+  told_more None ns n = refl
+  told_more (Some w) ns n = ap Some (sym (without_more w ns n))
+
+  -- one port more is given
+  pub given_one : (faults : P → ℕ) (waiting : Option (ℕ → Option P)) (ns : List ℕ) (switch : ℕ) (port : P) (now : Option (ℕ → Option P))
+      → GivesPort faults (option_map (λ w. without_each w ns) waiting) switch port now
+      → IsGiven faults waiting (record { switch = switch; port = port }) × (now ≡ option_map (λ w. without_each w (ns ++ switch ∷ [])) waiting)
+  given_one faults None ns switch port now gives = (gives.1, gives.0)
+  given_one faults (Some w) ns switch port now gives = (without_some w ns switch port gives.0, gives.1 ∙ ap Some (sym (without_more w ns switch)))
+
+  -- no port waits for one more
+  pub none_waits : (waiting : Option (ℕ → Option P)) (ns : List ℕ) (switch : ℕ) → AllByRecursion (λ m. nat_eq switch m ≡ false) ns
+      → IfSome (option_map (λ w. without_each w ns) waiting) (λ w. w switch ≡ None) → IfSome waiting (λ w. w switch ≡ None)
+  none_waits None ns switch others none = tt
+  none_waits (Some w) ns switch others none = sym (without_others w ns switch others) ∙ none
+
+  pub opened_one : (faults : P → ℕ) (homes : List ℕ) (before now after : FleetPorts P) (berths : List (Berth P)) (switch : ℕ) (port : P)
+      → Opens faults homes before berths now
+      → GivesPort faults now.waiting switch port after.waiting → after.kept ≡ without now.kept switch → after.lent ≡ marked now.lent switch true
+      → Opens faults (homes ++ switch ∷ []) before (berths ++ record { switch = switch; port = port } ∷ []) after
+  opened_one faults homes before now after berths switch port opens gives kept lent =
+      let is_now = opens.ports in
+      let one = given_one faults before.waiting homes switch port after.waiting (subst (λ w. GivesPort faults w switch port after.waiting) (ap (λ (p : FleetPorts P). p.waiting) is_now) gives) in
+      record {
+        switches = switches_append berths (record { switch = switch; port = port } ∷ []) ∙ ap (λ ns. ns ++ switch ∷ []) opens.switches;
+        given = all_both (IsGiven faults before.waiting) berths (record { switch = switch; port = port } ∷ []) opens.given (one.0, tt);
+        ports = ports_by after (after_opening before (homes ++ switch ∷ [])) one.1
+            (kept ∙ ap (λ (p : FleetPorts P). without p.kept switch) is_now ∙ sym (without_more before.kept homes switch))
+            (lent ∙ ap (λ (p : FleetPorts P). marked p.lent switch true) is_now ∙ sym (marked_more before.lent homes switch true));
+      }
+
+  pub opened_none : (faults : P → ℕ) (before : FleetPorts P) → Opens faults [] before [] before
+  opened_none faults before = record {
+    switches = refl;
+    given = tt;
+    ports = ports_by before (after_opening before []) (sym (none_taken before.waiting)) refl refl;
+  }
+    where
+      none_taken : (waiting : Option (ℕ → Option P)) → option_map (λ w. without_each w []) waiting ≡ waiting
+      none_taken None = refl
+      none_taken (Some w) = refl
+
+  -- what was given and given back waits as before
+  waits_again : (faults : P → ℕ) (waiting : Option (ℕ → Option P)) (berths : List (Berth P)) → AreGiven faults waiting berths
+      → option_map (λ w. with_each w berths) (option_map (λ w. without_each w (switches_of berths)) waiting) ≡ waiting
+  waits_again faults None berths given = refl
+  waits_again faults (Some w) berths given = ap Some (back w berths ∙ put_again w berths given)
+
+  pub given_back : (faults : P → ℕ) (homes : List ℕ) (before now after : FleetPorts P) (berths : List (Berth P)) → Opens faults homes before berths now → after ≡ after_keeping now berths → GivesBack faults homes before after
+  given_back faults homes before now after berths opens keeps =
+      let are : now ≡ after_opening before (switches_of berths) = opens.ports ∙ ap (after_opening before) (sym opens.switches) in
+      let is : after ≡ after_keeping (after_opening before (switches_of berths)) berths = keeps ∙ ap (λ p. after_keeping p berths) are in
+      record {
+        berths = berths;
+        switches = opens.switches;
+        given = opens.given;
+        waiting = ap (λ (p : FleetPorts P). p.waiting) is ∙ waits_again faults before.waiting berths opens.given;
+        kept = ap (λ (p : FleetPorts P). p.kept) is ∙ back before.kept berths;
+        lent = ap (λ (p : FleetPorts P). p.lent) is ∙ remarked before.lent (switches_of berths) true false ∙ ap (λ ns. marked_each before.lent ns false) opens.switches;
+      }
+
+  -- the ports that were opened are lent
+  pub opened_lent : (faults : P → ℕ) (homes : List ℕ) (before now : FleetPorts P) (berths : List (Berth P)) → Opens faults homes before berths now → AreLent now.lent berths
+  opened_lent faults homes before now berths opens =
+      subst (λ (lent : ℕ → Bool). AreLent lent berths) (sym (ap (λ (p : FleetPorts P). p.lent) (opens.ports ∙ ap (after_opening before) (sym opens.switches)))) (all_lent before.lent berths)
+
+  opens_still : (faults : P → ℕ) (homes : List ℕ) (before now after : FleetPorts P) (berths : List (Berth P)) → Opens faults homes before berths now
+      → after.waiting ≡ now.waiting → after.kept ≡ now.kept → after.lent ≡ now.lent → Opens faults homes before berths after
+  opens_still faults homes before now after berths opens waiting kept lent = record {
+    switches = opens.switches;
+    given = opens.given;
+    ports = ports_by after now waiting kept lent ∙ opens.ports;
+  }
+
+  -- the fleet has no port for the next
+  pub opened_until : (faults : P → ℕ) (homes earlier later : List ℕ) (switch : ℕ) (before now after : FleetPorts P) (berths : List (Berth P)) → homes ≡ earlier ++ switch ∷ later → AllByRecursion (λ m. nat_eq switch m ≡ false) earlier
+      → Opens faults earlier before berths now → IfSome now.waiting (λ w. w switch ≡ None) → after.waiting ≡ now.waiting → after.kept ≡ now.kept → after.lent ≡ now.lent → OpensUntil faults homes switch before berths after
+  opened_until faults homes earlier later switch before now after berths among others opens none waiting kept lent = record {
+    earlier = earlier;
+    later = later;
+    among = among;
+    opens = opens_still faults earlier before now after berths opens waiting kept lent;
+    none_waits = none_waits before.waiting earlier switch others (subst (λ (told : Option (ℕ → Option P)). IfSome told (λ w. w switch ≡ None)) (ap (λ (p : FleetPorts P). p.waiting) opens.ports) none);
+  }
+
+  -- those that were given before are given back
+  pub stops_at : (faults : P → ℕ) (homes all : List ℕ) (switch : ℕ) (before now after : FleetPorts P) (berths : List (Berth P)) → homes ≡ all → OpensUntil faults homes switch before berths now → after ≡ after_keeping now berths → StopsAt faults all switch before after
+  stops_at faults homes all switch before now after berths are until keeps = record {
+    earlier = until.earlier;
+    later = until.later;
+    among = sym are ∙ until.among;
+    given_back = given_back faults until.earlier before now after berths until.opens keeps;
+    none_waits = until.none_waits;
+  }

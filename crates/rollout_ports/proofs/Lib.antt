@@ -1,0 +1,5 @@
+pub mod Places
+pub mod Given
+pub mod Numbers
+pub mod Turns
+pub mod Spread

@@ -1,0 +1,64 @@
+use Rattle.std.proofs.Common.{◌≡◌, ◌∷◌, ◌++◌, [], List, ℕ, length, take, drop, get_or, suc, refl, subst, sym, ap, ◌∙◌, arith}
+use Rattle.std.proofs.Math.Seq.{take-length}
+use Rattle.std.proofs.lemmas.List.{take_more}
+use Rattle.rollout_ports.specs.Berths.{ports_of}
+use Rattle.rollout_ports.specs.Opening.{Opens}
+use Rattle.rollout_ports.proofs.Given.{opened_none, opened_one, opened_until, parted}
+use Rattle.rollout_ports.proofs.Numbers.{distinct_at}
+use Rattle.rollout_ports.proofs.opening.open_each.Goals as goal
+
+pub loop-switch-init : goal.loop-switch-init
+loop-switch-init g c =
+    let before = ports_of g.F.Fleet.waiting g.F.Fleet.kept g.F.Fleet.lent c.args.fleet.now in
+    record {
+      opens = subst (λ bs. Opens g.F.Port.Port.faults [] before bs before) (sym c.requires.fresh) (opened_none g.F.Port.Port.faults before);
+      long = omega (arith, ap length c.requires.fresh, c.args.berths.now.ok.0);
+      room = c.requires.room;
+      coming = refl;
+      served = refl;
+      visiting = refl;
+      count = omega arith;
+    }
+
+pub loop-switch-preserved : goal.loop-switch-preserved
+loop-switch-preserved g c =
+    let i = c.loop-switch.invariant in
+    let told = c.in-Ok.ensures in
+    let homes = c.args.homes.now in
+    let at = c.loop-switch.switch-index in
+    let switch = get_or homes at 0 in
+    let before = ports_of g.F.Fleet.waiting g.F.Fleet.kept g.F.Fleet.lent c.args.fleet.now in
+    let now = ports_of g.F.Fleet.waiting g.F.Fleet.kept g.F.Fleet.lent c.loop-switch.fleet in
+    let after = ports_of g.F.Fleet.waiting g.F.Fleet.kept g.F.Fleet.lent c.port.new.self in
+    let one = opened_one g.F.Port.Port.faults (take at homes) before now after c.loop-switch.berths.items switch c.in-Ok.port i.opens told.given told.taken told.place in
+    record {
+      opens = subst (λ (hs : List ℕ). Opens g.F.Port.Port.faults hs before c.push_reserved.new.self.items after) (sym (take_more homes at 0 c.loop-switch-test.true))
+          (subst (λ bs. Opens g.F.Port.Port.faults (take at homes ++ switch ∷ []) before bs after) (sym c.push_reserved.ensures.items) one);
+      long = omega (arith, i.long, c.push_reserved.ensures.len);
+      room = omega (arith, i.room, c.push_reserved.ensures.capacity);
+      coming = told.guests.0 ∙ i.coming;
+      served = told.guests.1 ∙ i.served;
+      visiting = told.guests.2 ∙ i.visiting;
+      count = omega (arith, i.count, told.count);
+    }
+
+pub returns-in-Err-clause-until : goal.returns-in-Err-clause-until
+returns-in-Err-clause-until g c =
+    let i = c.loop-switch.invariant in
+    let told = c.in-Err.ensures in
+    let homes = c.args.homes.now in
+    let at = c.loop-switch.switch-index in
+    let switch = get_or homes at 0 in
+    let before = ports_of g.F.Fleet.waiting g.F.Fleet.kept g.F.Fleet.lent c.args.fleet.now in
+    let now = ports_of g.F.Fleet.waiting g.F.Fleet.kept g.F.Fleet.lent c.loop-switch.fleet in
+    let after = ports_of g.F.Fleet.waiting g.F.Fleet.kept g.F.Fleet.lent c.port.new.self in
+    opened_until g.F.Port.Port.faults homes (take at homes) (drop (suc at) homes) switch before now after c.loop-switch.berths.items
+    (parted homes at 0 c.loop-switch-test.true) (distinct_at homes at c.loop-switch-test.true c.requires.once)
+    i.opens told.none told.still_waiting told.left told.no_place
+
+pub returns-clause-opened : goal.returns-clause-opened
+returns-clause-opened g c =
+    let homes = c.args.homes.now in
+    let all : c.loop-switch.switch-index ≡ length homes = omega (arith, c.loop-switch-test.false, c.loop-switch.auto.switch-index-end) in
+    subst (λ (hs : List ℕ). Opens g.F.Port.Port.faults hs (ports_of g.F.Fleet.waiting g.F.Fleet.kept g.F.Fleet.lent c.args.fleet.now) c.loop-switch.berths.items (ports_of g.F.Fleet.waiting g.F.Fleet.kept g.F.Fleet.lent c.loop-switch.fleet))
+    (ap (λ k. take k homes) all ∙ take-length homes) c.loop-switch.invariant.opens

@@ -1,0 +1,50 @@
+use Rattle.std.proofs.Common.{◌∷◌, length, nat_eq, subst, sym, ap, ◌∙◌, arith}
+use Rattle.std.specs.List.{IsDistinct}
+use Rattle.rollout_rules.specs.Wan.{Problem}
+use Rattle.rollout_ports.specs.Berths.{ports_of}
+use Rattle.rollout_ports.specs.Homes.{is_working_home, working_homes}
+use Rattle.rollout_ports.proofs.Given.{apart_by, opened_lent, stops_at}
+use Rattle.rollout_ports.proofs.Numbers.{distinct_front, passing_distinct, passing_inside}
+use Rattle.rollout_ports.proofs.opening.open_ports.Goals as goal
+
+pub open_each-opened-requires-clause-inside : goal.open_each-opened-requires-clause-inside
+open_each-opened-requires-clause-inside g c k d lt =
+    let p = c.args.plan.now.problem in
+    omega (
+      arith,
+      passing_inside (length p.switches) (is_working_home p c.args.plan.now.plan) c.as_slice-2.result.now (c.as_slice-2.ensures ∙ c.in_ok-homes.ensures) k d lt,
+      ap length c.switches.ensures.list,
+      ap (λ (q : Problem). length q.switches) c.problem.ensures,
+    )
+
+pub open_each-opened-requires-clause-once : goal.open_each-opened-requires-clause-once
+open_each-opened-requires-clause-once g c =
+    let p = c.args.plan.now.problem in
+    subst (IsDistinct nat_eq) (sym (c.as_slice-2.ensures ∙ c.in_ok-homes.ensures)) (passing_distinct (length p.switches) (is_working_home p c.args.plan.now.plan))
+
+pub returns-in-Ok-clause-apart : goal.returns-in-Ok-clause-apart
+returns-in-Ok-clause-apart g c =
+    let p = c.args.plan.now.problem in
+    apart_by c.open_each-opened.new.berths.items
+    (subst (IsDistinct nat_eq) (sym (c.in-Ok.ensures.opened.switches ∙ c.as_slice-2.ensures ∙ c.in_ok-homes.ensures)) (passing_distinct (length p.switches) (is_working_home p c.args.plan.now.plan)))
+
+pub keep_ports-requires-clause-apart : goal.keep_ports-requires-clause-apart
+keep_ports-requires-clause-apart g c =
+    let p = c.args.plan.now.problem in
+    let until = c.in-Err.ensures.until in
+    apart_by c.open_each-opened.new.berths.items
+    (subst (IsDistinct nat_eq) (sym until.opens.switches) (distinct_front until.earlier (c.in-Err.switch ∷ until.later)
+    (subst (IsDistinct nat_eq) (sym (c.as_slice-2.ensures ∙ c.in_ok-homes.ensures) ∙ until.among) (passing_distinct (length p.switches) (is_working_home p c.args.plan.now.plan)))))
+
+pub keep_ports-requires-clause-lent : goal.keep_ports-requires-clause-lent
+keep_ports-requires-clause-lent g c =
+    let until = c.in-Err.ensures.until in
+    opened_lent g.F.Port.Port.faults until.earlier (ports_of g.F.Fleet.waiting g.F.Fleet.kept g.F.Fleet.lent c.args.fleet.now) (ports_of g.F.Fleet.waiting g.F.Fleet.kept g.F.Fleet.lent c.open_each-opened.new.fleet)
+    c.open_each-opened.new.berths.items until.opens
+
+pub returns-clause-refused : goal.returns-clause-refused
+returns-clause-refused g c =
+    stops_at g.F.Port.Port.faults c.as_slice-2.result.now (working_homes c.args.plan.now.problem c.args.plan.now.plan) c.in-Err.switch
+    (ports_of g.F.Fleet.waiting g.F.Fleet.kept g.F.Fleet.lent c.args.fleet.now) (ports_of g.F.Fleet.waiting g.F.Fleet.kept g.F.Fleet.lent c.open_each-opened.new.fleet)
+    (ports_of g.F.Fleet.waiting g.F.Fleet.kept g.F.Fleet.lent c.keep_ports.new.fleet) c.open_each-opened.new.berths.items
+    (c.as_slice-2.ensures ∙ c.in_ok-homes.ensures) c.in-Err.ensures.until c.keep_ports.ensures.ports

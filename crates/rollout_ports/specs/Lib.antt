@@ -1,0 +1,4 @@
+pub mod Homes
+pub mod Berths
+pub mod Opening
+pub mod Hands

@@ -1,0 +1,9 @@
+pub mod Again
+pub mod Answered
+pub mod Begun
+pub mod Fitting
+pub mod Listed
+pub mod Moves
+pub mod Offered
+pub mod SmallRuns
+pub mod Stands
