@@ -4,6 +4,8 @@
 
 mod end;
 mod running;
+#[cfg(test)]
+mod tests;
 mod working;
 
 pub use end::RunEnd;
