@@ -25,7 +25,9 @@ last_of_one (r ∷ s ∷ rest) x y is = let long = ap length is in absurd (omega
 pub whole_hand : {P : Type 0} (berths : List (Berth P)) (rest : List (List (Talk P))) (ports : List (Talk P)) → hands (hand_count 1 (length berths)) berths ≡ rest ++ ports ∷ [] → ports ≡ first_talks berths
 whole_hand [] [] ports is = let long = ap length is in absurd (omega (arith, long))
 whole_hand [] (r ∷ rest) ports is = let long = ap length is in absurd (omega (arith, long))
-whole_hand (b ∷ berths) rest ports is = last_of_one rest ports (first_talks (b ∷ berths)) (sym (one_hand (b ∷ berths)) ∙ is)
+whole_hand (b ∷ berths) rest ports is =
+    let one : hand_count 1 (length (b ∷ berths)) ≡ 1 = omega arith in
+    last_of_one rest ports (first_talks (b ∷ berths)) (sym (one_hand (b ∷ berths)) ∙ sym (ap (λ n. hands n (b ∷ berths)) one) ∙ is)
 
 pub same_berths : {P : Type 0} (berths : List (Berth P)) → berths_of (first_talks berths) ≡ berths
 same_berths [] = refl
