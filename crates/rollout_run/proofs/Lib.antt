@@ -5,3 +5,4 @@ pub mod Alone
 pub mod Over
 pub mod Ends
 pub mod Hands
+pub mod Standing

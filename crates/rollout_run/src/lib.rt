@@ -3,10 +3,14 @@
 #![tactic(auto)]
 
 mod end;
+mod laws;
 mod running;
 #[cfg(test)]
 mod tests;
 mod working;
 
 pub use end::RunEnd;
+pub use laws::{
+    switches_hold_the_target_where_a_run_is_finished, switches_hold_what_a_run_has_begun,
+};
 pub use running::{Limits, run};
