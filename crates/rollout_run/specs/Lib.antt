@@ -1,0 +1,6 @@
+pub mod Shifts
+pub mod Together
+pub mod Keeping
+pub mod PortRuns
+pub mod Runs
+pub mod Ran

@@ -1,0 +1,48 @@
+-- What a worker began with, and what it came to, said of a history that has gone on since.
+use Rattle.std.specs.Prelude.{◌≡◌, ◌⊎◌, ℕ, List, [], ◌∷◌, All, Option, Some, None}
+use Rattle.turn_lock.specs.Histories.{Follows}
+use Rattle.port_session.specs.Sessions.{Talk, first_talk}
+use Rattle.worker_ports.specs.Views.{Telling}
+use Rattle.shared_history.specs.declared.note.Written.{Written}
+use Rattle.shared_history.specs.declared.reply.Wake.{Wake}
+use Rattle.shared_history.specs.Histories.{Opening}
+use Rattle.shared_book.specs.Calls.{seat_of}
+use Rattle.controller_run.specs.Promises.{EndNothing, StopsNothing}
+use Rattle.controller_run.specs.Serving.{Served}
+use Rattle.controller_run.specs.Working.{Standing}
+
+-- A worker that had stopped nothing has served; or it never began, and is as it was.
+abbrev pub Returns : {P : Type 0} → (P → Telling) → Opening → ℕ → ℕ → List (Option ℕ) → ℕ → Standing P → Option Wake → Standing P → Type 0
+Returns tell o seat migration homes rounds before None now = now ≡ before
+Returns tell o seat migration homes rounds before (Some end) now = StopsNothing seat before.seen × Served tell o (seat ∷ []) seat migration homes rounds before end now
+
+-- what a worker begins with: its seat, what was seen of the history, and its ports
+pub record Given (P : Type 0) : Type 0 where
+  pub seat : ℕ
+  pub before : Standing P
+
+-- so far no note of a seat has ended an operation
+abbrev pub IsQuiet : ℕ → List Written → Type 0
+IsQuiet seat log = All (λ w. seat_of w ≡ seat → EndNothing w.entries) log
+
+-- each port is before its first round
+abbrev pub AreFresh : {P : Type 0} → List (Talk P) → Type 0
+AreFresh talks = All (λ t. t ≡ first_talk t.switch t.port) talks
+
+-- a worker from its first round to its last, and why it ended; no reason where it never began
+pub record Shift (P : Type 0) : Type 0 where
+  pub given : Given P
+  pub end : Option Wake
+  pub now : Standing P
+
+-- The history begins with what it has seen, and past that has no note of its seat.
+pub record IsShift {P : Type 0} (tell : P → Telling) (o : Opening) (migration : ℕ) (homes : List (Option ℕ)) (rounds : ℕ) (log : List Written) (s : Shift P) : Type 0 where
+  pub quiet : IsQuiet s.given.seat s.given.before.seen
+  pub fresh : AreFresh s.given.before.ports
+  pub returns : Returns tell o s.given.seat migration homes rounds s.given.before s.end s.now
+  pub follows : Follows seat_of (s.given.seat ∷ []) s.now.seen log
+
+-- a note's seat is that of one of these
+abbrev pub IsOfOne : {P : Type 0} → List (Shift P) → ℕ → Type 0
+IsOfOne [] seat = ⊥
+IsOfOne (s ∷ later) seat = (s.given.seat ≡ seat) ⊎ IsOfOne later seat
