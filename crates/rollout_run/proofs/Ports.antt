@@ -102,9 +102,9 @@ some_same {A} {x} is = ap (λ (o : Option A). or_else x o) is
     or_else x (Some y) = y
 
 module _ {P : Type 0} (tell : P → Telling) (o : Opening) (migration : ℕ) (homes : List (Option ℕ)) (log : List Written) (shifts : List (Shift P)) (spare whole : List (Talk P)) (seats : ℕ) (kept : ℕ → Option P)
-  (keeps : All (Keeps tell o migration homes log) shifts) (seated : (seat : ℕ) → seat < seats → IsOfOne shifts seat) (made : All (λ w. seat_of w < seats) log)
-  (same : IsPermutation whole (given_ports shifts ++ spare)) (apart : IsDistinct nat_eq (map (λ t. t.switch) whole))
-  (back : (s : Shift P) (t : Talk P) → Contains shifts s → Contains s.now.ports t → kept t.switch ≡ Some t.port) (left : (t : Talk P) → Contains spare t → kept t.switch ≡ Some t.port) where
+    (keeps : All (Keeps tell o migration homes log) shifts) (seated : (seat : ℕ) → seat < seats → IsOfOne shifts seat) (made : All (λ w. seat_of w < seats) log)
+    (same : IsPermutation whole (given_ports shifts ++ spare)) (apart : IsDistinct nat_eq (map (λ t. t.switch) whole))
+    (back : (s : Shift P) (t : Talk P) → Contains shifts s → Contains s.now.ports t → kept t.switch ≡ Some t.port) (left : (t : Talk P) → Contains spare t → kept t.switch ≡ Some t.port) where
   -- an operation that is done was answered at a port of some worker
   record Found (op : Op) : Type 0 where
     shift : Shift P

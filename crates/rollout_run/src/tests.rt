@@ -51,7 +51,13 @@ fn graph(alloc: Global) -> Result<Graph, Fail>
 // The book, opened on a disk without a byte.
 fn opened(alloc: Global, policy: &Policy) -> Result<Book<'_, MemoryDisk>, Fail> {
     let disk = MemoryDisk::new(alloc, Nums8::new(alloc), Turns::new(alloc));
-    match Book::open(alloc, graph(alloc)?, &digest_of("one", "planned", 0), policy, disk) {
+    match Book::open(
+        alloc,
+        graph(alloc)?,
+        &digest_of("one", "planned", 0),
+        policy,
+        disk,
+    ) {
         Ok(book) => Ok(book),
         Err(_) => Err(Fail::new("memory is short")),
     }

@@ -31,5 +31,5 @@ returns-in-Ok-clause-ran g c =
     let tell = telling g.F.Port.Port.offered g.F.Port.Port.heard g.F.Port.Port.held g.F.Port.Port.quiet g.F.Port.Port.faults g.F.Port.Port.honest g.F.Port.Port.prompt g.F.Port.Port.start in
     let runs : List (Talk g.row.F-Port.Denot) → List (Talk g.row.F-Port.Denot) → Type 0 = λ whole now. Runs g.D.Disk.bytes g.D.Disk.may_leave g.D.Disk.moment g.D.Disk.left_since g.D.Disk.faults tell o (g.D.Disk.moment c.args.book.chronicle.disk) (g.D.Disk.faults c.args.book.chronicle.disk) c.args.limits.migration c.args.limits.rounds whole [] end book (now ∷ []) in
     is_over (ports_of g.F.Fleet.waiting g.F.Fleet.kept g.F.Fleet.lent c.args.fleet.now) (ports_of g.F.Fleet.waiting g.F.Fleet.kept g.F.Fleet.lent c.keep_worker.new.fleet) c.args.berths.items (runs talks) (book ≡ c.args.book.chronicle) ports c.keep_worker.ensures.ports
-        (c.run_alone-book.ensures.switches ∙ ap (λ (l : List (Talk g.row.F-Port.Denot)). map (λ (t : Talk g.row.F-Port.Denot). t.switch) l) c.in-Ok.ensures.ok) end
-        (subst (λ (l : List (Talk g.row.F-Port.Denot)). IsRun end (runs l ports) ((book ≡ c.args.book.chronicle) × (ports ≡ l))) c.in-Ok.ensures.ok c.run_alone-book.ensures.ran)
+    (c.run_alone-book.ensures.switches ∙ ap (λ (l : List (Talk g.row.F-Port.Denot)). map (λ (t : Talk g.row.F-Port.Denot). t.switch) l) c.in-Ok.ensures.ok) end
+    (subst (λ (l : List (Talk g.row.F-Port.Denot)). IsRun end (runs l ports) ((book ≡ c.args.book.chronicle) × (ports ≡ l))) c.in-Ok.ensures.ok c.run_alone-book.ensures.ran)

@@ -28,8 +28,8 @@ returns-clause-switches g c =
     let before : Standing g.row.T.Denot = record { seen = seen_of turned; ports = c.args.ports } in
     let now : Standing g.row.T.Denot = record { seen = seen_of c.serve-pass.result.pass.pass; ports = c.serve-pass.result.ports } in
     same_switches tell o c.args.limits.migration (homes_of o.rollout.problem) c.args.limits.rounds before now c.serve-pass.result.end c.requires.fresh
-        (stopped_nothing o 0 (seats_of c.args.pass.pass) (seat_of_pass c.args.pass.pass) (seen_of c.args.pass.pass) (seen_of turned) c.round-pass.result.1 (ap₂ (λ (n : ℕ) (ns : List ℕ). n ∷ ns) first.seat first.joined) first.seat first.seen (λ why is. c.in_default.not-Some why (c.cause_of.ensures ∙ is)) c.round-pass.ensures.call)
-        (served tell o c.args.limits.migration (homes_of o.rollout.problem) c.args.limits.rounds (seats_of turned) (seat_of_pass turned) c.homes.result.now before now c.serve-pass.result.end (ap₂ (λ (n : ℕ) (ns : List ℕ). n ∷ ns) (passed.seat ∙ first.seat) (passed.joined ∙ first.joined)) (passed.seat ∙ first.seat) (c.homes.ensures ∙ c.requires.homes) c.serve-pass.ensures.served)
+    (stopped_nothing o 0 (seats_of c.args.pass.pass) (seat_of_pass c.args.pass.pass) (seen_of c.args.pass.pass) (seen_of turned) c.round-pass.result.1 (ap₂ (λ (n : ℕ) (ns : List ℕ). n ∷ ns) first.seat first.joined) first.seat first.seen (λ why is. c.in_default.not-Some why (c.cause_of.ensures ∙ is)) c.round-pass.ensures.call)
+    (served tell o c.args.limits.migration (homes_of o.rollout.problem) c.args.limits.rounds (seats_of turned) (seat_of_pass turned) c.homes.result.now before now c.serve-pass.result.end (ap₂ (λ (n : ℕ) (ns : List ℕ). n ∷ ns) (passed.seat ∙ first.seat) (passed.joined ∙ first.joined)) (passed.seat ∙ first.seat) (c.homes.ensures ∙ c.requires.homes) c.serve-pass.ensures.served)
 
 pub returns-clause-worked : goal.returns-clause-worked
 returns-clause-worked g c =
