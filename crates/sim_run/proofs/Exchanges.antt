@@ -19,10 +19,10 @@ pub record IsExchanged (w v : World) (n : ℕ) : Type 0 where
 
 module _ (p : Problem) (plan : Plan) where
   -- one operation in flight
-  abbrev exchange_events : World → ℕ → List Event
+  abbrev pub exchange_events : World → ℕ → List Event
   exchange_events w k = event.Send k ∷ event.Deliver (length w.sent) ∷ event.Hand (length w.given) ∷ []
 
-  idle : (w : World) → w.writing ≡ [] → not (is_writing w) ≡ true
+  pub idle : (w : World) → w.writing ≡ [] → not (is_writing w) ≡ true
   idle w e = rw e
 
   exchange-keeps : (w : World) (k : ℕ) → w.up ≡ true → w.writing ≡ [] → k < length (in_flight p w.durable) → IsExchanged w (after_events p plan w (exchange_events w k)) 1
@@ -40,12 +40,12 @@ module _ (p : Problem) (plan : Plan) where
       → (event.Send n ∷ event.Deliver (length w.sent + n) ∷ event.Hand (length w.given + n) ∷ []) ≡ exchange_events v n
   ends w v n a b = cc
 
-  more_exchanges : (w : World) (n : ℕ) → IsExchanged w (after_events p plan w (exchanges w n)) n → after_events p plan w (exchanges w (suc n)) ≡ after_events p plan (after_events p plan w (exchanges w n)) (exchange_events (after_events p plan w (exchanges w n)) n)
+  pub more_exchanges : (w : World) (n : ℕ) → IsExchanged w (after_events p plan w (exchanges w n)) n → after_events p plan w (exchanges w (suc n)) ≡ after_events p plan (after_events p plan w (exchanges w n)) (exchange_events (after_events p plan w (exchanges w n)) n)
   more_exchanges w n before =
       let v = after_events p plan w (exchanges w n) in
       after_events-append p plan w (exchanges w n) _ ∙ ap (λ es. after_events p plan v es) (ends w v n before.sent before.given)
 
-  exchanges-keep : (w : World) (n : ℕ) → w.up ≡ true → w.writing ≡ [] → n ≤ length (in_flight p w.durable) → IsExchanged w (after_events p plan w (exchanges w n)) n
+  pub exchanges-keep : (w : World) (n : ℕ) → w.up ≡ true → w.writing ≡ [] → n ≤ length (in_flight p w.durable) → IsExchanged w (after_events p plan w (exchanges w n)) n
   exchanges-keep w zero up writing le = record { up = up; writing = writing; durable = refl; sent = omega arith; given = omega arith }
   exchanges-keep w (suc n) up writing le =
       let before = exchanges-keep w n up writing (omega arith) in

@@ -7,3 +7,12 @@ pub mod Turns
 pub mod Whole
 pub mod Going
 pub mod Drawing
+pub mod Newest
+pub mod Trying
+pub mod Draining
+pub mod Answering
+pub mod Finishing
+pub mod Drained
+pub mod Fullest
+pub mod Told
+pub mod Shapes

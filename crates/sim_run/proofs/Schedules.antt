@@ -1,6 +1,6 @@
 -- A script's worlds are those of a schedule.
-use Rattle.std.proofs.Common.{◌≡◌, if◌then◌else◌, ℕ, zero, suc, ◌-◌, ◌<◌, inl, inr, List, [], ◌∷◌, true, refl, ap, sym, ◌∙◌, subst, arith, eq-eqb}
-use Rattle.std.proofs.lemmas.Bool.{cases_Bool, cases_lt}
+use Rattle.std.proofs.Common.{◌≡◌, if◌then◌else◌, ℕ, zero, suc, ◌-◌, ◌<◌, inl, inr, List, [], ◌∷◌, true, refl, ap, sym, ◌∙◌, subst, arith, eq-eqb, eqb-true, ◌==◌}
+use Rattle.std.proofs.lemmas.Bool.{cases_Bool, cases_lt, eqb-false}
 use Rattle.rollout_rules.specs.Sums.{sum_below}
 use Rattle.rollout_rules.specs.Wan.{Problem, Plan}
 use Rattle.rollout_rules.specs.Network.{IsNetwork}
@@ -12,7 +12,7 @@ use Rattle.rollout_rules.specs.Valid.{is_valid_plan}
 use Rattle.rollout_rules.specs.World.{new_world, after_events}
 use Rattle.rollout_rules.specs.declared.op.OpView.{OpView}
 use Rattle.rollout_rules.specs.declared.event.Act.{Act}
-use Rattle.rollout_rules.proofs.Below.{all_below-from}
+use Rattle.rollout_rules.proofs.Below.{all_below-at, all_below-from, sum_below-zero}
 use Rattle.rollout_laws.specs.SafeWorlds.{NetworkAtTarget}
 use Rattle.rollout_laws.proofs.Histories.{is_counted}
 use Rattle.rollout_laws.proofs.SafeWorlds.{new_world_is_safe}
@@ -41,6 +41,21 @@ module _ (p : Problem) (plan : Plan) where
       let left = sum-nothing (item_count p) (λ n. operations p plan (item_at p n) - settled h n) none n lt in
       eq-eqb (settled h n) (operations p plan (item_at p n)) (omega (arith, counted.settled_begun, counted.exist lt, left)))
 
+  -- so these are the same
+  pub finished-is : (h : History) → is_legal p plan h ≡ true → is_finished p plan h ≡ (unsettled p plan h == 0)
+  finished-is h legal = elim (cases_Bool (unsettled p plan h == 0)) as (λ _. is_finished p plan h ≡ (unsettled p plan h == 0)) [
+    | inl none ↦ settled-finished h legal (eqb-true (unsettled p plan h) 0 none) ∙ sym none
+    | inr some ↦ elim (cases_Bool (is_finished p plan h)) as (λ _. is_finished p plan h ≡ (unsettled p plan h == 0)) [
+      | inl all ↦ absurd (eqb-false (unsettled p plan h) 0 some (finished-settled h all))
+      | inr unfinished ↦ unfinished ∙ sym some
+    ]
+  ]
+    where
+      finished-settled : (h : History) → is_finished p plan h ≡ true → unsettled p plan h ≡ 0
+      finished-settled h all =
+          sum_below-zero (item_count p) (λ n. operations p plan (item_at p n) - settled h n)
+          (λ n lt. let same = eqb-true (settled h n) (operations p plan (item_at p n)) (all_below-at (item_count p) (λ n. settled h n == operations p plan (item_at p n)) all n lt) in omega (arith, same))
+
 module _ (p : Problem) (plan : Plan) (policy : OpView → ℕ) where
   act-scheduled : (r : Rehearsal) (a : Act) → (after_act p plan policy r a).world ≡ after_events p plan r.world (if can_happen p r a then events_of p plan policy r a else [])
   act-scheduled r a = elim (cases_Bool (can_happen p r a)) as (λ c. (after_act p plan policy r a).world ≡ after_events p plan r.world (if can_happen p r a then events_of p plan policy r a else [])) [
@@ -48,7 +63,7 @@ module _ (p : Problem) (plan : Plan) (policy : OpView → ℕ) where
     | inr cannot ↦ rw cannot refl
   ]
 
-  acts-scheduled : (r : Rehearsal) (script : List Act) → (after_acts p plan policy r script).world ≡ after_events p plan r.world (schedule_of p plan policy r script)
+  pub acts-scheduled : (r : Rehearsal) (script : List Act) → (after_acts p plan policy r script).world ≡ after_events p plan r.world (schedule_of p plan policy r script)
   acts-scheduled r [] = refl
   acts-scheduled r (a ∷ rest) =
       acts-scheduled (after_act p plan policy r a) rest

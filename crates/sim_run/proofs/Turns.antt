@@ -30,7 +30,7 @@ use Rattle.sim_run.proofs.Writable.{batch_may_be_written}
 -- ---- worlds
 module _ (p : Problem) (plan : Plan) (w : World) (idle : w.writing ≡ []) where
   -- a batch was written whole
-  written : (b : List Entry) → (0 < length b → allows p plan w (event.Write b) ≡ true) → after_events p plan w (write_whole b) ≡ record w { durable = with_entries w.durable b; writing = [] }
+  pub written : (b : List Entry) → (0 < length b → allows p plan w (event.Write b) ≡ true) → after_events p plan w (write_whole b) ≡ record w { durable = with_entries w.durable b; writing = [] }
   written [] may = ap₂ (λ h l. record w { durable = h; writing = l }) (sym (with_none w.durable)) idle
   written (e ∷ es) may =
       let may' : allows p plan w (event.Write (e ∷ es)) ≡ true = may (omega arith) in
@@ -38,7 +38,7 @@ module _ (p : Problem) (plan : Plan) (w : World) (idle : w.writing ≡ []) where
       rw (may', some) refl
 
   -- the controller stopped while it wrote a batch
-  stopped : (b : List Entry) (n : ℕ) → w.up ≡ true → n ≤ length b → (0 < length b → allows p plan w (event.Write b) ≡ true)
+  pub stopped : (b : List Entry) (n : ℕ) → w.up ≡ true → n ≤ length b → (0 < length b → allows p plan w (event.Write b) ≡ true)
       → after_events p plan w (stop_writing b n) ≡ record w { durable = with_entries w.durable (take n b); up = false; writing = []; handed = [] }
   stopped [] n up le may =
       let zero : n ≡ 0 = omega (arith, le) in

@@ -5,4 +5,5 @@ pub mod Passing
 pub mod Rehearsing
 pub mod Trials
 pub mod TrialText
+pub mod Trying
 pub mod Named

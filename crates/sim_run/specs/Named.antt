@@ -2,7 +2,7 @@
 use Rattle.std.specs.Prelude.{ℕ, List, [], ◌∷◌, true}
 use Rattle.rollout_rules.specs.Wan.{Plan, Stage}
 use Rattle.rollout_rules.specs.declared.op.OpView.{OpView}
-use Rattle.sim_run.specs.TrialText.{Shape}
+use Rattle.sim_run.specs.declared.shape.Shape.{Shape}
 
 -- the plan of a problem without flows
 abbrev pub still_plan : Plan

@@ -7,42 +7,44 @@ use Rattle.rollout_rules.specs.declared.op.OpView.{OpView}
 use Rattle.wan_text.specs.Names.{link_text}
 use Rattle.rollout_peaks.specs.Ends.{last_line, unsettled}
 use Rattle.rollout_peaks.specs.Peaks.{link_peak}
-use Rattle.sim_run.specs.Acts.{Rehearsal}
+use Rattle.sim_run.specs.declared.shape.Shape.{Shape}
 use Rattle.sim_run.specs.Trials.{Trial, after_trial, all_operations, drained, raised, turns}
-
--- the numbers of a trial
-pub record Shape : Type 0 where
-  pub k : ℕ
-  pub switches : ℕ
-  pub flows : ℕ
-  pub seed : ℕ
-  pub events : ℕ
 
 -- what a link has, in units of 1/scale
 abbrev pub room_of : Problem → Plan → ℕ → ℕ
 room_of p plan l = (link_at p l).capacity * plan.scale
 
--- the fuller of two links by their peaks' shares, the first where they are equal; a link without capacity is none
+-- the fuller of two links by the shares that their peaks are of what they have, the first where they are equal
+abbrev pub fuller_of : (ℕ → ℕ) → (ℕ → ℕ) → ℕ → ℕ → ℕ
+fuller_of room peak best l = if nat_lt (peak best * room l) (peak l * room best) then l else best
+
+-- a link that has nothing is none
 abbrev pub fuller : Problem → Plan → History → Option ℕ → ℕ → Option ℕ
 fuller p plan h None l = if room_of p plan l == 0 then None else Some l
-fuller p plan h (Some best) l =
-    if room_of p plan l == 0 then Some best
-    else if nat_lt (link_peak p plan h best * room_of p plan l) (link_peak p plan h l * room_of p plan best) then Some l
-    else Some best
+fuller p plan h (Some best) l = if room_of p plan l == 0 then Some best else Some (fuller_of (room_of p plan) (link_peak p plan h) best l)
 
 -- the fullest of the first so many links
 abbrev pub fullest : Problem → Plan → History → ℕ → Option ℕ
 fullest p plan h zero = None
 fullest p plan h (suc l) = fuller p plan h (fullest p plan h l) l
 
+abbrev pub fullness_text : Problem → Plan → ℕ → ℕ → List ℕ
+fullness_text p plan l peak = link_text p l ++ codes " " ++ decimal peak ++ codes " of " ++ decimal (room_of p plan l)
+
 abbrev pub fullest_text : Problem → Plan → History → Option ℕ → List ℕ
 fullest_text p plan h None = codes "none"
-fullest_text p plan h (Some l) = link_text p l ++ codes " " ++ decimal (link_peak p plan h l) ++ codes " of " ++ decimal (room_of p plan l)
+fullest_text p plan h (Some l) = fullness_text p plan l (link_peak p plan h l)
+
+-- two numbers, each behind a name
+abbrev pub pair_text : List ℕ → ℕ → List ℕ → ℕ → List ℕ
+pair_text first one second other = first ++ decimal one ++ second ++ decimal other
 
 abbrev pub shape_line : Shape → List ℕ
 shape_line s =
-    codes "trial: switches " ++ decimal s.switches ++ codes ", links " ++ decimal (2 * s.switches) ++ codes ", flows " ++ decimal s.flows
-    ++ codes ", tunnels " ++ decimal (2 * s.flows) ++ codes ", k " ++ decimal s.k ++ codes ", seed " ++ decimal s.seed ++ codes "\n"
+    pair_text (codes "trial: switches ") s.switches (codes ", links ") (2 * s.switches)
+    ++ pair_text (codes ", flows ") s.flows (codes ", tunnels ") (2 * s.flows)
+    ++ pair_text (codes ", k ") s.k (codes ", seed ") s.seed
+    ++ codes "\n"
 
 abbrev pub plan_line : Plan → ℕ → List ℕ
 plan_line plan rate_steps =
@@ -51,10 +53,13 @@ plan_line plan rate_steps =
 abbrev pub events_line : ℕ → ℕ → ℕ → List ℕ
 events_line events skipped drain = codes "events: " ++ decimal events ++ codes ", skipped " ++ decimal skipped ++ codes ", drain " ++ decimal drain ++ codes "\n"
 
+abbrev pub counts_line : ℕ → ℕ → List ℕ
+counts_line operations entries = codes "operations: " ++ decimal operations ++ codes ", entries " ++ decimal entries ++ codes "\n"
+
 -- what stands behind a rollout: its operations and entries, the fullest link, and whether it is finished
 abbrev pub outcome_lines : Problem → Plan → History → List ℕ
 outcome_lines p plan h =
-    codes "operations: " ++ decimal (all_operations p plan) ++ codes ", entries " ++ decimal (length h.entries) ++ codes "\n"
+    counts_line (all_operations p plan) (length h.entries)
     ++ codes "fullest link: " ++ fullest_text p plan h (fullest p plan h (length p.links)) ++ codes "\n"
     ++ last_line (unsettled p plan h)
 

@@ -15,10 +15,12 @@ ghost use Rattle.sim_run.specs.Acts.{first_rehearsal, can_happen, may_send, exch
 ghost use Rattle.sim_run.specs.Passing.{given_of};
 ghost use Rattle.sim_run.specs.Rehearsing.{moved};
 ghost use Rattle.sim_run.specs.Script.{newest_given, line_of, line_acting};
+ghost use Rattle.sim_run.specs.TrialText.{outcome_lines};
 
 use crate::act_line::ActLine;
 use crate::handed::Handed;
 use crate::network::Network;
+use crate::outcome::push_outcome;
 use dependency_graph::{Graph, checked_plan_is_valid};
 use lists::{Memory, Text};
 use order_policy::Policy;
@@ -81,10 +83,34 @@ impl Rehearsal {
         }
     }
 
-    /// How many operations are in flight.
-    fn flying_count(&self) -> usize
-        ensures { result ≡ length (in_flight self.now.rollout.problem self.now.state.world.durable) }
+    /// Whether the controller is up.
+    pub(crate) fn is_up(&self) -> bool
+        ensures { result ≡ self.now.state.world.up }
     {
+        self.is_up
+    }
+
+    /// The graph of the rollout, which has followed its durable history.
+    pub(crate) fn graph(&self) -> &Graph
+        ensures value { result.now ≡ record { rollout = self.now.rollout; history = self.now.state.world.durable } }
+        ensures legal { IsTrue (is_legal self.now.rollout.problem self.now.rollout.plan self.now.state.world.durable) }
+    {
+        self.rounds.graph()
+    }
+
+    /// How many commands were sent.
+    pub(crate) fn sent_count(&self) -> usize
+        ensures { result ≡ length self.now.state.world.sent }
+    {
+        self.network.sent_count()
+    }
+
+    /// How many operations are in flight.
+    pub(crate) fn flying_count(&self) -> usize
+        ensures count { result ≡ length (in_flight self.now.rollout.problem self.now.state.world.durable) }
+        ensures few { result < 4294967296 }
+    {
+        checked_plan_is_valid(self.rounds.graph().plan());
         self.rounds.flying().len()
     }
 
@@ -98,7 +124,8 @@ impl Rehearsal {
         flying[place]
     }
 
-    fn given_count(&self) -> usize
+    /// How many answers were given.
+    pub(crate) fn given_count(&self) -> usize
         ensures { result ≡ length self.now.state.world.given }
     {
         self.network.given_count()
@@ -296,6 +323,30 @@ impl Rehearsal {
         let plan = self.rounds.graph().plan();
         push_lines(alloc, plan, entries.as_slice(), text)
     }
+
+    /// Adds what is told behind a trial.
+    pub(crate) fn push_outcome(&self, alloc: Global, text: &mut Text) -> Result<(), Memory>
+        ensures { OnOk result (text.new ≡ text.old ++ outcome_lines self.now.rollout.problem self.now.rollout.plan self.now.state.world.durable) }
+    {
+        let entries = self.durable(alloc)?;
+        push_outcome_of(alloc, self.graph(), entries.as_slice(), text)
+    }
+}
+
+/// Adds what is told behind the rollout of a graph, of which nothing was settled before these entries.
+fn push_outcome_of(
+    alloc: Global,
+    graph: &Graph,
+    entries: &[Entry],
+    text: &mut Text,
+) -> Result<(), Memory>
+    requires legal { IsTrue (is_legal graph.now.rollout.problem graph.now.rollout.plan graph.now.history) }
+    requires entries { from_nothing graph.now.rollout.problem entries.now ≡ graph.now.history }
+    ensures { OnOk result (text.new ≡ text.old ++ outcome_lines graph.now.rollout.problem graph.now.rollout.plan graph.now.history) }
+{
+    let start = no_start(alloc, graph.plan())?;
+    let history = History::new(start.as_slice(), entries);
+    push_outcome(alloc, graph, &history, text)
 }
 
 /// Adds the lines behind those of the acts, of a rollout of which nothing was settled before these entries.

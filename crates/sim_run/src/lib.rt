@@ -8,21 +8,29 @@
 //! [`every_rehearsal_is_safe`] says that the worlds of a script are those of a schedule, each of them safe,
 //! that no peak is above its capacity, and that what ends finished is the new split, whatever the policy.
 //!
-//! What a trial's events are, each an act that is drawn, and its text are definitions as yet (`specs/Trials`,
-//! `specs/TrialText`), with two texts of an independent reference as worked examples.
+//! [`run_trial`] draws the acts itself, one for each event, and then drains the rollout; its contract is the
+//! definition `trial_text`, of which two texts of an independent reference are worked examples. That its
+//! events are a script is a law of the definitions ([`a_trial_is_a_script`]).
 #![tactic(auto)]
 
 mod act_line;
 mod acts;
+mod drain;
+mod events;
 mod handed;
 mod laws;
 mod lines;
 mod network;
+mod outcome;
 mod run;
+mod shape;
+mod trial;
 pub mod worked;
 
-pub use laws::{a_trial_is_a_script, every_rehearsal_is_safe};
+pub use laws::{a_trial_ends_finished, a_trial_is_a_script, every_rehearsal_is_safe};
 pub use run::run_script;
+pub use shape::Shape;
+pub use trial::run_trial;
 
 #[cfg(test)]
 mod tests;
