@@ -5,8 +5,6 @@
 mod end;
 mod laws;
 mod running;
-#[cfg(test)]
-mod tests;
 mod working;
 
 pub use end::RunEnd;
