@@ -1,5 +1,5 @@
 -- Why the first stop of a run stands in its history, drawn from what its workers have come to.
-use Rattle.std.proofs.Common.{◌≡◌, ◌≢◌, ℕ, ◌+◌, ◌<◌, ◌≤◌, List, [], ◌∷◌, ◌++◌, IsPermutation, Option, Some, None, option_map, inl, inr, length, length-append, map, slice_index_or, append_assoc, if◌then◌else◌, refl, sym, ap, ◌∙◌, subst, arith}
+use Rattle.std.proofs.Common.{◌≡◌, ◌≢◌, ℕ, ◌+◌, ◌<◌, ◌≤◌, true, List, [], ◌∷◌, ◌++◌, IsPermutation, Option, Some, None, option_map, inl, inr, length, length-append, map, slice_index_or, append_assoc, if◌then◌else◌, refl, sym, ap, ◌∙◌, subst, arith}
 use Rattle.std.specs.Prelude.{All, IsTrue}
 use Rattle.std.specs.Option.{option_or}
 use Rattle.std.specs.List.{AllZip, Contains}
@@ -137,8 +137,8 @@ module _ {P : Type 0} (tell : P → Telling) (o : Opening) (migration : ℕ) (ho
     told = heard.told;
   }
 
-  failed : SaysFailed s.given.seat s.now.seen → HasDisk log
-  failed says =
+  disk_failed : SaysFailed s.given.seat s.now.seen → HasDisk log
+  disk_failed says =
       let note = next_note s.given.seat says.log what.Disk says.entries in
       subst HasDisk (sym (further says.log (note ∷ says.later) says.is)) (disk_inside says.log (says.later ++ shift.follows.past) note tt)
 
@@ -148,7 +148,7 @@ module _ {P : Type 0} (tell : P → Telling) (o : Opening) (migration : ℕ) (ho
   of_reason (cause.Above item held begun) reason = above item held begun reason
   of_reason (cause.NotMine switch item) reason = reason
   of_reason (cause.NoAnswer switch byte) reason = reason
-  of_reason cause.Disk reason = failed reason
+  of_reason cause.Disk reason = disk_failed reason
   of_reason cause.Memory reason = tt
 
   -- where it has served

@@ -22,7 +22,8 @@ use Rattle.rollout_run.specs.declared.end.RunEnd.{RunEnd}
 use Rattle.rollout_run.specs.declared.end.RunEnd.TheVariants as run
 
 -- A run that has begun. The book is closed behind a legal history of its workers, which says how the run ended; the disk is what that history
--- leaves. Where the run was stopped the cause of the first stop holds. A port was opened to each of these switches, and is back as the run has left it; what is kept at any other switch is as it was.
+-- leaves. A port was opened to each of these switches, and is back as the run has left it; what is kept at any other switch is as it was. Where the run
+-- was stopped the cause of the first stop holds.
 pub record Ran {D P : Type 0} (bytes : D → Option (List ℕ)) (may_leave : D → List ℕ → Type 0) (moment : D → ℕ) (left_since : D → ℕ → List ℕ → Type 0) (faults : D → ℕ) (port_faults : P → ℕ) (tell : P → Telling) (o : Opening) (from count migration rounds : ℕ) (homes : List ℕ) (before : FleetPorts P) (end : RunEnd) (book : Chronicled D) (now : FleetPorts P) : Type 0 where
   pub log : List Written
   pub legal : is_legal_shared o log ≡ true
