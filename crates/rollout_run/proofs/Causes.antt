@@ -1,16 +1,16 @@
 -- Why the first stop of a run stands in its history, drawn from what its workers have come to.
-use Rattle.std.proofs.Common.{◌≡◌, ◌≢◌, ℕ, ◌+◌, ◌<◌, ◌≤◌, true, List, [], ◌∷◌, ◌++◌, IsPermutation, Option, Some, None, option_map, inl, inr, length, length-append, map, slice_index_or, append_assoc, if◌then◌else◌, refl, sym, ap, ◌∙◌, subst, arith}
+use Rattle.std.proofs.Common.{◌≡◌, ◌≢◌, ℕ, ◌<◌, ◌≤◌, true, List, [], ◌∷◌, ◌++◌, IsPermutation, Option, Some, None, option_map, inl, inr, length, length-append, slice_index_or, append_assoc, if◌then◌else◌, refl, sym, ap, ◌∙◌, subst, arith}
 use Rattle.std.specs.Prelude.{All, IsTrue}
 use Rattle.std.specs.Option.{option_or}
 use Rattle.std.specs.List.{AllZip, Contains}
-use Rattle.std.proofs.lemmas.List.Elements.{All-contains, All-head, All-tail, Contains-append_left, Contains-get_or}
+use Rattle.std.proofs.lemmas.List.Elements.{All-contains, Contains-append_left, Contains-get_or}
 use Rattle.std.proofs.lemmas.List.Sorted.{Contains-permutation, IsPermutation-sym}
 use Rattle.rollout_rules.specs.declared.op.Op.{Op}
 use Rattle.rollout_rules.specs.declared.op.Entry.TheVariants as entry
 use Rattle.wan_edge.specs.Frames.{Command}
-use Rattle.port_session.specs.Sessions.{Talk, first_talk}
-use Rattle.worker_ports.specs.Stories.{LastStory, LastStoryEach}
-use Rattle.worker_ports.specs.Views.{Telling, view}
+use Rattle.port_session.specs.Sessions.{Talk}
+use Rattle.worker_ports.specs.Stories.{LastStoryEach}
+use Rattle.worker_ports.specs.Views.{Telling}
 use Rattle.shared_history.specs.declared.note.Cause.{Cause}
 use Rattle.shared_history.specs.declared.note.Cause.TheVariants as cause
 use Rattle.shared_history.specs.declared.note.What.TheVariants as what
@@ -26,10 +26,10 @@ use Rattle.shared_history.proofs.Going.{front_is_legal}
 use Rattle.shared_history.proofs.Stops.{first_stop-append}
 use Rattle.shared_book.specs.Calls.{seat_of}
 use Rattle.shared_book.specs.Images.{HasDisk}
-use Rattle.controller_run.specs.Promises.{IsEndAt, IsOfBegun, Promises, StopsNothing, listed_at, listed_by, rounds_by, switches_of}
+use Rattle.controller_run.specs.Promises.{IsEndAt, Promises, StopsNothing, listed_at, listed_by, rounds_by, switches_of}
 use Rattle.controller_run.specs.Reasons.{HeardAbove, IsReason, SaysFailed, Spends}
 use Rattle.controller_run.specs.Serving.{Served}
-use Rattle.controller_run.specs.Working.{Standing, is_some_command}
+use Rattle.controller_run.specs.Working.{is_some_command}
 use Rattle.controller_run.proofs.Begun.{begun-stays, listed-begun}
 use Rattle.controller_run.proofs.FirstStops.{serves-reason}
 use Rattle.controller_run.proofs.Keeps.{serves-keeps}
@@ -37,7 +37,7 @@ use Rattle.controller_run.proofs.Quiet.{quiet-first}
 use Rattle.rollout_run.specs.Causes.{HasCause, IfStopped, IsAbove, IsCause, IsSpent}
 use Rattle.rollout_run.specs.Keeping.{Keeps}
 use Rattle.rollout_run.specs.Runs.{IsRunEnd}
-use Rattle.rollout_run.specs.Shifts.{IsEarlyCause, IsOfOne, IsShift, Returns, Shift, StopsEarly}
+use Rattle.rollout_run.specs.Shifts.{IsEarlyCause, IsOfOne, IsShift, Returns, Shift}
 use Rattle.rollout_run.specs.Together.{given_ports}
 use Rattle.rollout_run.specs.declared.end.RunEnd.{RunEnd}
 use Rattle.rollout_run.specs.declared.end.RunEnd.TheVariants as run
