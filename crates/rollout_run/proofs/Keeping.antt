@@ -85,7 +85,7 @@ keeps {P} tell o migration homes rounds log s shift = by_end s.end refl
     live k d inside = subst (λ (t : Talk P). IsTrue t.stream.live) (sym (shift.fresh k d inside)) refl
 
     by_end : (end : Option Wake) → s.end ≡ end → Keeps tell o migration homes log s
-    by_end None is = idle tell o migration homes rounds log s shift (subst (λ (e : Option Wake). Returns tell o s.given.seat migration homes rounds s.given.before e s.now) is shift.returns)
+    by_end None is = idle tell o migration homes rounds log s shift (subst (λ (e : Option Wake). Returns tell o s.given.seat migration homes rounds s.given.before e s.now) is shift.returns).0
     by_end (Some end) is =
         let returns = subst (λ (e : Option Wake). Returns tell o s.given.seat migration homes rounds s.given.before e s.now) is shift.returns in
         served tell o migration homes rounds log s shift end (serves-keeps tell o s.given.seat [] migration homes rounds s.given.before returns.0 end s.now live returns.1)

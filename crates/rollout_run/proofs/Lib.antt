@@ -2,6 +2,8 @@ pub mod Keeping
 pub mod Ports
 pub mod Fleets
 pub mod Alone
+pub mod Early
+pub mod Causes
 pub mod Over
 pub mod Ends
 pub mod Hands

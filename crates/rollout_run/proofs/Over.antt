@@ -3,6 +3,7 @@ use Rattle.std.proofs.lemmas.List.Elements.{Contains-get_or}
 use Rattle.std.proofs.Common.{◌≡◌, ◌⊎◌, ℕ, Bool, false, suc, zero, ◌<◌, List, [], ◌∷◌, ◌++◌, Option, Some, length, map, slice_index_or, append-nil, refl, sym, ap, ap₂, ◌∙◌, subst, arith, inl, inr}
 use Rattle.std.specs.Prelude.{All, nat_eq}
 use Rattle.std.specs.List.{AllByRecursion, Contains, IsDistinct}
+use Rattle.wan_edge.specs.Streams.{Rose}
 use Rattle.port_session.specs.Sessions.{Talk, first_talk}
 use Rattle.worker_ports.specs.Views.{Telling}
 use Rattle.worker_ports.specs.declared.ports.Berth.{Berth}
@@ -26,6 +27,7 @@ use Rattle.rollout_run.specs.declared.end.RunEnd.TheVariants as run
 use Rattle.rollout_run.proofs.Hands.{same_berths}
 use Rattle.rollout_run.proofs.Fleets.{as_it_was, given_back_at}
 use Rattle.rollout_run.proofs.Keeping.{keeps}
+use Rattle.rollout_run.proofs.Causes.{has_reason}
 use Rattle.rollout_run.proofs.Ports.{at_home, contains_later, is_back}
 
 abbrev switches : {P : Type 0} → List (Talk P) → List ℕ
@@ -83,7 +85,7 @@ only_one f (z ∷ w ∷ xs) y x is at = let long = ap length is in absurd (omega
 module _ {D P : Type 0} (bytes : D → Option (List ℕ)) (may_leave : D → List ℕ → Type 0) (moment : D → ℕ) (left_since : D → ℕ → List ℕ → Type 0) (faults : D → ℕ) (port_faults : P → ℕ) (tell : P → Telling) (o : Opening) (from count migration rounds : ℕ) (homes : List ℕ) (before opened now : FleetPorts P) (end : RunEnd) (book : Chronicled D) (berths : List (Berth P)) where
   pub to_ran : Opens port_faults homes before berths opened → AreApart berths
       → IsBegunOver opened now berths (λ ports. Runs bytes may_leave moment left_since faults tell o from count migration rounds (first_talks berths) [] end book (ports ∷ []))
-      → Ran bytes may_leave moment left_since faults port_faults tell o from count migration homes before end book now
+      → Ran bytes may_leave moment left_since faults port_faults tell o from count migration rounds homes before end book now
   to_ran opens apart over =
       let runs = over.runs in
       let worked = runs.worked in
@@ -106,6 +108,7 @@ module _ {D P : Type 0} (bytes : D → Option (List ℕ)) (may_leave : D → Lis
         given = opens.given;
         ports = λ k d inside. is_back tell o migration (homes_of o.rollout.problem) runs.log worked.shifts [] (first_talks berths) runs.seats now.kept all_keep worked.seated runs.made worked.same distinct back left (slice_index_or (first_talks berths) k d) (Contains-get_or (first_talks berths) k d inside);
         at_home = subst (λ (l : List ℕ). AreAtHome (homes_of o.rollout.problem) runs.log l) (talks_switches berths ∙ opens.switches) (at_home tell o migration (homes_of o.rollout.problem) runs.log worked.shifts [] (first_talks berths) runs.seats now.kept all_keep worked.seated runs.made worked.same distinct back left);
+        reason = has_reason tell o migration (homes_of o.rollout.problem) rounds runs.log runs.legal worked.shifts [] (first_talks berths) runs.seats now.kept (Rose count (faults book.disk)) worked.whole_shifts all_keep worked.seated runs.made worked.same back runs.images.failed end runs.ends;
         others = λ switch other. ap (λ (k : ℕ → Option P). k switch) kept_is ∙ as_it_was places (berths_of over.ports) switch (subst (λ (l : List ℕ). AllByRecursion (λ n. nat_eq switch n ≡ false) l) (sym (berths_switches over.ports ∙ over.switches ∙ opens.switches)) other) ∙ without_others before.kept homes switch other;
       }
 

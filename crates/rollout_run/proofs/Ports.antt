@@ -89,7 +89,7 @@ in_note : (log : List Written) (e : Entry) → Contains (all_entries log) e → 
 in_note [] e at = absurd (omega (arith, at.1))
 in_note (w ∷ log) e at = ⊎_elim (λ here. (w, contains_head w log, here)) (λ later. let found = in_note log e later in (found.0, contains_later w log found.0 found.1, found.2)) (Contains-append_cases w.entries (all_entries log) e at)
 
-of_one : {P : Type 0} (shifts : List (Shift P)) (seat : ℕ) → IsOfOne shifts seat → (s : Shift P) × Contains shifts s × (s.given.seat ≡ seat)
+pub of_one : {P : Type 0} (shifts : List (Shift P)) (seat : ℕ) → IsOfOne shifts seat → (s : Shift P) × Contains shifts s × (s.given.seat ≡ seat)
 of_one [] seat at = absurd at
 of_one (s ∷ shifts) seat (inl is) = (s, contains_head s shifts, is)
 of_one (s ∷ shifts) seat (inr later) = let found = of_one shifts seat later in (found.0, contains_later s shifts found.0 found.1, found.2)

@@ -1,6 +1,7 @@
 -- What a run over a fleet leaves: of its book and disk, of its ports, and of the switches behind them.
 use Rattle.std.specs.Prelude.{◌≡◌, ◌⊎◌, ℕ, true, false, nat_eq, List, All, Option, map}
 use Rattle.std.specs.List.{AllByRecursion}
+use Rattle.wan_edge.specs.Streams.{Rose}
 use Rattle.port_session.specs.Sessions.{Talk}
 use Rattle.worker_ports.specs.Views.{Telling}
 use Rattle.worker_ports.specs.declared.ports.Berth.{Berth}
@@ -14,14 +15,16 @@ use Rattle.shared_history.specs.Legal.{is_legal_shared}
 use Rattle.shared_book.specs.Homes.{homes_of}
 use Rattle.shared_book.specs.Images.{HasImages}
 use Rattle.shared_book.specs.Opened.{IsClosed}
+use Rattle.rollout_run.specs.Causes.{HasCause, IfStopped}
 use Rattle.rollout_run.specs.PortRuns.{AreAtHome, IsBack}
 use Rattle.rollout_run.specs.Runs.{IsRunEnd}
 use Rattle.rollout_run.specs.declared.end.RunEnd.{RunEnd}
 use Rattle.rollout_run.specs.declared.end.RunEnd.TheVariants as run
 
 -- A run that has begun. The book is closed behind a legal history of its workers, which says how the run ended; the disk is what that history
--- leaves. A port was opened to each of these switches, and is back as the run has left it; what is kept at any other switch is as it was.
-pub record Ran {D P : Type 0} (bytes : D → Option (List ℕ)) (may_leave : D → List ℕ → Type 0) (moment : D → ℕ) (left_since : D → ℕ → List ℕ → Type 0) (faults : D → ℕ) (port_faults : P → ℕ) (tell : P → Telling) (o : Opening) (from count migration : ℕ) (homes : List ℕ) (before : FleetPorts P) (end : RunEnd) (book : Chronicled D) (now : FleetPorts P) : Type 0 where
+-- leaves. A port was opened to each of these switches, and is back as the run has left it; what is kept at any other switch is as it was. Where the run
+-- was stopped the cause of the first stop holds.
+pub record Ran {D P : Type 0} (bytes : D → Option (List ℕ)) (may_leave : D → List ℕ → Type 0) (moment : D → ℕ) (left_since : D → ℕ → List ℕ → Type 0) (faults : D → ℕ) (port_faults : P → ℕ) (tell : P → Telling) (o : Opening) (from count migration rounds : ℕ) (homes : List ℕ) (before : FleetPorts P) (end : RunEnd) (book : Chronicled D) (now : FleetPorts P) : Type 0 where
   pub log : List Written
   pub legal : is_legal_shared o log ≡ true
   pub closed : IsClosed o log book
@@ -32,6 +35,7 @@ pub record Ran {D P : Type 0} (bytes : D → Option (List ℕ)) (may_leave : D �
   pub given : AreGiven port_faults before.waiting berths
   pub ports : All (IsBack tell o migration (homes_of o.rollout.problem) log now.kept) (first_talks berths)
   pub at_home : AreAtHome (homes_of o.rollout.problem) log homes
+  pub reason : IfStopped end (λ halt. HasCause tell o migration (homes_of o.rollout.problem) rounds (Rose count (faults book.disk)) log (first_talks berths) now.kept halt.cause)
   pub others : (switch : ℕ) → AllByRecursion (λ home. nat_eq switch home ≡ false) homes → now.kept switch ≡ before.kept switch
 
 -- A run that hasn't: the book is as it was. Of no home a port was opened, or all were opened and given back as they were.

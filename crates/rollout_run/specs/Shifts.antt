@@ -1,19 +1,38 @@
 -- What a worker began with, and what it came to, said of a history that has gone on since.
-use Rattle.std.specs.Prelude.{◌≡◌, ◌⊎◌, ℕ, List, [], ◌∷◌, All, Option, Some, None}
+use Rattle.std.specs.Prelude.{◌≡◌, ◌⊎◌, ⊤, ℕ, List, [], ◌∷◌, All, Option, Some, None}
 use Rattle.turn_lock.specs.Histories.{Follows}
 use Rattle.port_session.specs.Sessions.{Talk, first_talk}
 use Rattle.worker_ports.specs.Views.{Telling}
+use Rattle.shared_history.specs.declared.note.Cause.{Cause}
+use Rattle.shared_history.specs.declared.note.Cause.TheVariants as cause
 use Rattle.shared_history.specs.declared.note.Written.{Written}
+use Rattle.shared_history.specs.declared.reply.Halt.{Halt}
 use Rattle.shared_history.specs.declared.reply.Wake.{Wake}
 use Rattle.shared_history.specs.Histories.{Opening}
+use Rattle.shared_history.specs.Notes.{first_stop}
 use Rattle.shared_book.specs.Calls.{seat_of}
+use Rattle.shared_book.specs.Images.{HasDisk}
 use Rattle.controller_run.specs.Promises.{EndNothing, StopsNothing}
 use Rattle.controller_run.specs.Serving.{Served}
 use Rattle.controller_run.specs.Working.{Standing}
 
+-- why a worker stopped all that has served nothing: a note says that the disk failed, or memory ran out
+abbrev pub IsEarlyCause : List Written → Cause → Type 0
+IsEarlyCause seen (cause.Spent given item number) = ⊥
+IsEarlyCause seen (cause.Port switch) = ⊥
+IsEarlyCause seen (cause.Above item held begun) = ⊥
+IsEarlyCause seen (cause.NotMine switch item) = ⊥
+IsEarlyCause seen (cause.NoAnswer switch byte) = ⊥
+IsEarlyCause seen cause.Disk = HasDisk seen
+IsEarlyCause seen cause.Memory = ⊤
+
+-- so it is where the first stop is of this seat
+abbrev pub StopsEarly : ℕ → List Written → Type 0
+StopsEarly seat seen = (halt : Halt) → first_stop seen ≡ Some halt → halt.seat ≡ seat → IsEarlyCause seen halt.cause
+
 -- A worker that had stopped nothing has served; or it never began, and is as it was.
 abbrev pub Returns : {P : Type 0} → (P → Telling) → Opening → ℕ → ℕ → List (Option ℕ) → ℕ → Standing P → Option Wake → Standing P → Type 0
-Returns tell o seat migration homes rounds before None now = now ≡ before
+Returns tell o seat migration homes rounds before None now = (now ≡ before) × StopsEarly seat now.seen
 Returns tell o seat migration homes rounds before (Some end) now = StopsNothing seat before.seen × Served tell o (seat ∷ []) seat migration homes rounds before end now
 
 -- what a worker begins with: its seat, what was seen of the history, and its ports

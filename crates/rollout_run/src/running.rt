@@ -47,7 +47,7 @@ where
     requires opened { IsOpened (opening_of book.chronicle (rank_by book.policy.now.answers)) book.chronicle }
     requires has { IfSome (D.bytes book.chronicle.disk) (IsKeptList book.chronicle.history.start book.chronicle.entries (D.may_leave book.chronicle.disk)) }
     ensures ran { EndsRun F.Port.faults (working_homes book.entry.chronicle.rollout.problem book.entry.chronicle.rollout.plan) book.entry.chronicle result.0.chronicle (ports_of F.waiting F.kept F.lent fleet.old) (ports_of F.waiting F.kept F.lent fleet.new)
-        (Ran D.bytes D.may_leave D.moment D.left_since D.faults F.Port.faults (telling F.Port.offered F.Port.heard F.Port.held F.Port.quiet F.Port.faults F.Port.honest F.Port.prompt F.Port.start) (opening_of book.entry.chronicle (rank_by book.entry.policy.now.answers)) (D.moment book.entry.chronicle.disk) (D.faults book.entry.chronicle.disk) limits.migration
+        (Ran D.bytes D.may_leave D.moment D.left_since D.faults F.Port.faults (telling F.Port.offered F.Port.heard F.Port.held F.Port.quiet F.Port.faults F.Port.honest F.Port.prompt F.Port.start) (opening_of book.entry.chronicle (rank_by book.entry.policy.now.answers)) (D.moment book.entry.chronicle.disk) (D.faults book.entry.chronicle.disk) limits.migration limits.rounds
         (working_homes book.entry.chronicle.rollout.problem book.entry.chronicle.rollout.plan) (ports_of F.waiting F.kept F.lent fleet.old) result.1 result.0.chronicle (ports_of F.waiting F.kept F.lent fleet.new)) result.1 }
     ensures guests { (F.coming fleet.new ≡ F.coming fleet.old) × (F.served fleet.new ≡ F.served fleet.old) × (F.visiting fleet.new ≡ F.visiting fleet.old) }
     ensures cause { (switch : ℕ) → result.1 ≡ RunEnd.NoPort switch → Rose (F.faults fleet.old) (F.faults fleet.new) }

@@ -34,6 +34,6 @@ returns-in-Ok-clause-ran g c =
     let runs : List (Talk g.row.F-Port.Denot) → Type 0 = λ ports. Runs g.D.Disk.bytes g.D.Disk.may_leave g.D.Disk.moment g.D.Disk.left_since g.D.Disk.faults tell o (g.D.Disk.moment before_book.disk) (g.D.Disk.faults before_book.disk) c.args.limits.migration c.args.limits.rounds (first_talks berths) [] end book (ports ∷ []) in
     let opens : Opens g.F.Port.Port.faults homes before berths opened = subst (λ (r : Rollout). Opens g.F.Port.Port.faults (working_homes r.problem r.plan) before berths opened) (c.plan.ensures ∙ ap (λ gr. gr.rollout) c.graph.ensures.value) c.in-Ok.ensures.opened in
     ends_run g.F.Port.Port.faults homes before_book book before opened now berths runs
-    (Ran g.D.Disk.bytes g.D.Disk.may_leave g.D.Disk.moment g.D.Disk.left_since g.D.Disk.faults g.F.Port.Port.faults tell o (g.D.Disk.moment before_book.disk) (g.D.Disk.faults before_book.disk) c.args.limits.migration homes before end book now)
+    (Ran g.D.Disk.bytes g.D.Disk.may_leave g.D.Disk.moment g.D.Disk.left_since g.D.Disk.faults g.F.Port.Port.faults tell o (g.D.Disk.moment before_book.disk) (g.D.Disk.faults before_book.disk) c.args.limits.migration c.args.limits.rounds homes before end book now)
     (to_ran g.D.Disk.bytes g.D.Disk.may_leave g.D.Disk.moment g.D.Disk.left_since g.D.Disk.faults g.F.Port.Port.faults tell o (g.D.Disk.moment before_book.disk) (g.D.Disk.faults before_book.disk) c.args.limits.migration c.args.limits.rounds homes before opened now end book berths opens c.in-Ok.ensures.apart)
     opens end c.run_over.ensures.ran

@@ -5,6 +5,7 @@ use Rattle.worker_ports.specs.Views.{telling}
 use Rattle.shared_book.specs.Homes.{homes_of}
 use Rattle.controller_run.specs.Working.{Standing}
 use Rattle.rollout_run.proofs.Alone.{alone, quiet_after, quiet_first, same_switches, served, stopped_nothing}
+use Rattle.rollout_run.proofs.Early.{early_stop}
 use Rattle.rollout_run.proofs.working.work.Goals as goal
 
 pub returns-in-Some-clause-worked : goal.returns-in-Some-clause-worked
@@ -15,8 +16,9 @@ returns-in-Some-clause-worked g c =
     let turned = c.round-pass.result.0.pass in
     let quiet = quiet_first o 0 (seats_of c.args.pass.pass) (seat_of_pass c.args.pass.pass) (seen_of c.args.pass.pass) (seen_of turned) c.round-pass.result.1 (ap₂ (λ (n : ℕ) (ns : List ℕ). n ∷ ns) first.seat first.joined) first.seat first.seen c.round-pass.ensures.call in
     let after = quiet_after o 0 (seats_of turned) (seat_of_pass turned) (seen_of turned) (seen_of c.stop.result.0.pass) c.in-Some.cause c.stop.result.1 (ap₂ (λ (n : ℕ) (ns : List ℕ). n ∷ ns) (passed.seat ∙ first.seat) (passed.joined ∙ first.joined)) (passed.seat ∙ first.seat) quiet c.stop.ensures.call in
+    let early = early_stop o 0 (seats_of c.args.pass.pass) (seats_of turned) (seat_of_pass c.args.pass.pass) (seat_of_pass turned) (seen_of c.args.pass.pass) (seen_of turned) (seen_of c.stop.result.0.pass) c.round-pass.result.1 c.in-Some.cause c.stop.result.1 (ap₂ (λ (n : ℕ) (ns : List ℕ). n ∷ ns) first.seat first.joined) first.seat (ap₂ (λ (n : ℕ) (ns : List ℕ). n ∷ ns) (passed.seat ∙ first.seat) (passed.joined ∙ first.joined)) (passed.seat ∙ first.seat) first.seen (sym c.cause_of.ensures ∙ c.in-Some.is) c.round-pass.ensures.call c.stop.ensures.call in
     let stands : Standing g.row.T.Denot = record { seen = seen_of c.stop.result.0.pass; ports = c.args.ports } in
-    alone (telling g.T.Port.offered g.T.Port.heard g.T.Port.held g.T.Port.quiet g.T.Port.faults g.T.Port.honest g.T.Port.prompt g.T.Port.start) o c.args.limits.migration (homes_of o.rollout.problem) c.args.limits.rounds stands stands None after c.requires.fresh refl
+    alone (telling g.T.Port.offered g.T.Port.heard g.T.Port.held g.T.Port.quiet g.T.Port.faults g.T.Port.honest g.T.Port.prompt g.T.Port.start) o c.args.limits.migration (homes_of o.rollout.problem) c.args.limits.rounds stands stands None after c.requires.fresh (refl, early)
 
 pub returns-clause-switches : goal.returns-clause-switches
 returns-clause-switches g c =
