@@ -21,6 +21,16 @@ GNU_TIME = "/usr/bin/time"
 MOST_TIMES = 5
 
 
+def asked(description, runs):
+    """What a measurement beside another program is asked for: its words, and the programs, ours first."""
+    words = argparse.ArgumentParser(description=description, formatter_class=argparse.RawDescriptionHelpFormatter)
+    words.add_argument("--beside")
+    words.add_argument("--check", action="store_true")
+    words.add_argument("--runs", type=int, default=runs)
+    given = words.parse_args()
+    return given, [PROGRAM] + ([os.path.abspath(given.beside)] if given.beside else [])
+
+
 def run_once(words, path, program=PROGRAM, statuses=(0,)):
     """The seconds that passed and the processor's seconds of one run."""
     with open(path, "rb") as source, open(os.devnull, "wb") as sink:
@@ -33,14 +43,20 @@ def run_once(words, path, program=PROGRAM, statuses=(0,)):
     return seconds, used.ru_utime + used.ru_stime
 
 
-def peak_memory(words, path, program=PROGRAM):
-    """The peak memory of one run in megabytes, as text. The system counts as a child's peak what its parent had before, so the
+def peak_in(words, path, program=PROGRAM):
+    """The peak memory of one run in megabytes, or None. The system counts as a child's peak what its parent had before, so the
     run has to be the child of a small program: GNU time (Debian's package time)."""
     if not os.path.exists(GNU_TIME):
-        return "unknown"
+        return None
     with open(path, "rb") as source, open(os.devnull, "wb") as sink:
         run = subprocess.run([GNU_TIME, "-f", "%M", program] + words, stdin=source, stdout=sink, stderr=subprocess.PIPE, check=True)
-    return f"{int(run.stderr.split()[-1]) / 1024:.0f} MB"
+    return int(run.stderr.split()[-1]) / 1024
+
+
+def peak_memory(words, path, program=PROGRAM):
+    """The peak memory of one run in megabytes, as text."""
+    peak = peak_in(words, path, program)
+    return "unknown" if peak is None else f"{peak:.0f} MB"
 
 
 def generate(folder, share, more):

@@ -1,9 +1,10 @@
 """Writes a document with a script of a given size to standard output: flows that move in equal steps from one path to another, all along
 the same two paths, and a script over it.
 
-    python3 bench/rehearsal.py [--flows N] [--events N] [--steps N] [--tunnels N] [--links N] [--script mixture|straggler|lockstep]
+    python3 bench/rehearsal.py [--flows N] [--events N] [--steps N] [--tunnels N] [--links N] [--script mixture|steady|straggler|lockstep]
 
-`mixture` draws rounds, commands, deliveries, answers, crashes and restarts with a fixed seed; `straggler` never sends the first operation in
+`mixture` draws rounds, commands, deliveries, answers, crashes and restarts with a fixed seed; `steady` is the same without a crash, a stop or a
+start; `straggler` never sends the first operation in
 flight, as by one slow switch, while every other one goes on; `lockstep` is a round and all that it begins, again and again. Of more than two
 tunnels a flow's further ones carry nothing.
 """
@@ -13,7 +14,8 @@ import json
 import random
 import sys
 
-ACTS = {"send": 45, "deliver": 38, "hand": 9, "round": 3, "all": 3, "crash": 1, "stop": 1}
+STEADY = {"send": 45, "deliver": 38, "hand": 9, "round": 3, "all": 3}
+ACTS = STEADY | {"crash": 1, "stop": 1}
 
 
 def network(flows, steps, tunnels, links):
@@ -36,13 +38,13 @@ def plan(flows, steps, tunnels):
     return {"scale": 1, "stages": [{"installed": [True] * tunnels * flows, "rates": ([steps - at, at] + rest) * flows} for at in range(steps + 1)]}
 
 
-def mixture(flows, events):
+def mixture(flows, events, acts=ACTS):
     """Mostly commands and deliveries; a controller that stopped starts at once."""
     draws = random.Random(1)
     written = [["round"]]
     sent = 1
     while len(written) < events:
-        act = draws.choices(list(ACTS), ACTS.values())[0]
+        act = draws.choices(list(acts), acts.values())[0]
         if act == "send":
             written.append([act, draws.randrange(flows)])
             sent += 1
@@ -54,6 +56,10 @@ def mixture(flows, events):
         else:
             written.append([act])
     return written
+
+
+def steady(flows, events):
+    return mixture(flows, events, STEADY)
 
 
 def straggler(flows, events):
@@ -70,7 +76,7 @@ def lockstep(_flows, events):
     return [["round"], ["all"]] * (events // 2 + 1)
 
 
-SCRIPTS = {"mixture": mixture, "straggler": straggler, "lockstep": lockstep}
+SCRIPTS = {"mixture": mixture, "steady": steady, "straggler": straggler, "lockstep": lockstep}
 
 
 def document(flows, events, steps=200, tunnels=2, links=4, script="mixture"):

@@ -12,13 +12,16 @@ import tempfile
 
 from measure import HERE, peak_memory, run_once
 
-CASES = [(20, 2500), (20, 5000), (20, 10000), (20, 20000), (40, 10000), (80, 10000), (160, 10000)]
+# How many flows and events, without a start, and with one behind each crash and stop.
+SIZES = [(20, 2500), (20, 5000), (20, 10000), (20, 20000), (40, 10000), (80, 10000), (160, 10000)]
+CASES = [(*size, "steady") for size in SIZES] + [(20, 2500, "mixture"), (20, 10000, "mixture")]
 
 
-def generate(folder, flows, events):
-    path = os.path.join(folder, f"{flows}-{events}.json")
+def generate(folder, flows, events, script):
+    path = os.path.join(folder, f"{flows}-{events}-{script}.json")
+    words = ["--flows", str(flows), "--events", str(events), "--script", script]
     with open(path, "wb") as file:
-        subprocess.run([sys.executable, "-B", os.path.join(HERE, "rehearsal.py"), "--flows", str(flows), "--events", str(events)], stdout=file, check=True)
+        subprocess.run([sys.executable, "-B", os.path.join(HERE, "rehearsal.py"), *words], stdout=file, check=True)
     return path
 
 
@@ -27,11 +30,11 @@ def main():
     words.add_argument("--runs", type=int, default=5)
     given = words.parse_args()
     with tempfile.TemporaryDirectory() as folder:
-        for flows, events in CASES:
-            path = generate(folder, flows, events)
+        for flows, events, script in CASES:
+            path = generate(folder, flows, events, script)
             runs = [run_once(["sim"], path) for _ in range(given.runs)]
             busy = min(run[1] for run in runs)
-            print(f"rehearse: {flows} flows, {events} events: {busy:.3f} s of the processor, {peak_memory(['sim'], path)} at the most")
+            print(f"rehearse: {flows} flows, {events} events, {script}: {busy:.3f} s of the processor, {peak_memory(['sim'], path)} at the most")
 
 
 if __name__ == "__main__":

@@ -7,7 +7,6 @@ PROGRAM takes the same words and input and writes the same bytes. With --check i
 aim. Runs take turns, and the least time of each counts.
 """
 
-import argparse
 import json
 import math
 import os
@@ -15,19 +14,21 @@ import sys
 import tempfile
 import subprocess
 
-from measure import PROGRAM, peak_memory, run_once
+from measure import asked, peak_memory, run_once
 from rehearsal import document
 
 WORDS = ["sim", "--policy", "order"]
 # What is rehearsed, and how many times the other program's time it may take.
 BESIDE = [
-    ("200 flows, 65 steps, 100,000 events", dict(flows=200, events=100000, steps=65), 3),
+    ("200 flows, 65 steps, 100,000 events without a start", dict(flows=200, events=100000, steps=65, script="steady"), 3),
     ("a straggler among 400 flows, 74,000 events", dict(flows=400, events=74000, steps=62, script="straggler"), 5),
     ("20 flows of 16 tunnels of 16 links, 62 steps", dict(flows=20, events=400, steps=62, tunnels=16, links=16, script="lockstep"), 5),
 ]
+# What opens its journal again and again: each start is a recovery, which the other program doesn't make, so it has no aim.
+STARTS = ("200 flows, 65 steps, 10,000 events, a start behind each crash and stop", dict(flows=200, events=10000, steps=65))
 # Cases that differ in one size, and how much faster than it the time may grow.
 GROWTH = [
-    ("flows", [dict(flows=flows, events=10000, steps=62) for flows in (128, 1024)], lambda few, many: many / few * math.log(many) / math.log(few)),
+    ("flows", [dict(flows=flows, events=10000, steps=62, script="steady") for flows in (128, 1024)], lambda few, many: many / few * math.log(many) / math.log(few)),
     ("steps", [dict(flows=20, events=4 * steps, steps=steps, tunnels=16, links=16, script="lockstep") for steps in (31, 124)], lambda few, many: 1.3 * many / few),
 ]
 
@@ -54,12 +55,7 @@ def is_same(path, programs):
 
 
 def main():
-    words = argparse.ArgumentParser(description=__doc__, formatter_class=argparse.RawDescriptionHelpFormatter)
-    words.add_argument("--beside")
-    words.add_argument("--check", action="store_true")
-    words.add_argument("--runs", type=int, default=3)
-    given = words.parse_args()
-    programs = [PROGRAM] + ([os.path.abspath(given.beside)] if given.beside else [])
+    given, programs = asked(__doc__, 3)
     failed = False
     with tempfile.TemporaryDirectory() as folder:
         for number, (title, sizes, most) in enumerate(BESIDE):
@@ -71,6 +67,11 @@ def main():
                 failed = failed or ratio > most or not is_same(path, programs)
                 line += f"; beside {found[1]:.3f} s: {ratio:.1f} times, the aim is {most}" + ("" if is_same(path, programs) else "; ANOTHER TEXT")
             print(line, flush=True)
+        title, sizes = STARTS
+        path = written(folder, "starts", sizes)
+        with open(path, encoding="utf-8") as file:
+            starts = json.load(file)["script"].count(["start"])
+        print(f"rounds: {title}: {least(path, programs[:1], given.runs)[0]:.3f} s of the processor, {starts} starts", flush=True)
         for size, cases, aim in GROWTH:
             few, many = (least(written(folder, "growth", case), programs[:1], given.runs)[0] for case in cases)
             most = aim(*(case[size] for case in cases))

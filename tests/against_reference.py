@@ -17,11 +17,11 @@ import tempfile
 
 from fractions_of_plans import problems
 
-KINDS = {"plan": 3000, "bad": 3000, "check": 2000, "sim": 2000, "report": 2000, "words": 2000, "mutated": 2000}
+KINDS = {"plan": 3000, "bad": 3000, "check": 2000, "sim": 2000, "report": 2000, "trial": 1000, "words": 2000, "mutated": 2000}
 # Scales that the plans of linear programs have to have, and how many such plans there have to be.
 SCALES, PROGRAMS = (2, 3, 4, 5, 6), 200
 # What the program does by now.
-FEATURES = "none,places,planner,lp,widths,marks,crashes,sim,check,policies,migration,report,agent,journal=r16"
+FEATURES = "none,places,planner,lp,widths,marks,crashes,sim,check,policies,freeze,migration,report,agent,trial,run,journal=r16"
 PIECES = [b"null", b"true", b"-", b"1", b"1.5", b"99999999999", b'"A"', b"[]", b"{}", b",", b":", b"[", b"}", b'"', b"\\", b"\xff", b" "]
 
 
@@ -45,11 +45,12 @@ def mutated(rng, data):
 def mutations(gen, cli, features, program, count):
     """How many good inputs with changes the program ends otherwise on than the reference, or with neither status 0 nor a refusal."""
     rng, met, wrong = random.Random(1), {}, 0
+    unsaid = {name: value for name, value in os.environ.items() if name != "SWANROLL_CEILING"}
     for number in range(count):
         case = gen.make(rng.choice(("plan", "check", "sim")), "m", number, features)
         data = mutated(rng, case.data)
-        status, out, notes = cli.run(case.words, data, {}, None, features)
-        done = subprocess.run([program] + case.words, input=data, capture_output=True)
+        status, out, notes = cli.run(case.words, data, case.env, None, features)
+        done = subprocess.run([program] + case.words, input=data, capture_output=True, env={**unsaid, **case.env})
         if (done.returncode, done.stdout, done.stderr) != (status, out, notes) or status not in (0, 2, 3, 4):
             wrong += 1
             print(f"MISMATCH mutated {number} {case.words}: wanted {status} {notes!r}, got {done.returncode} {done.stderr!r}\n  {data!r}")

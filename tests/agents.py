@@ -15,23 +15,27 @@ import time
 sys.path.insert(0, os.path.join(os.path.dirname(os.path.abspath(__file__)), "..", "bench"))
 from agent_streams import command, commands, ending, ENDS  # noqa: E402
 
-TRIES, PATIENCE, RUNS = 200, 0.02, 40
+PAUSE, PATIENCE, RUNS = 0.02, 120, 40
 
 
-def free_port():
-    with socket.socket() as held:
-        held.bind(("127.0.0.1", 0))
-        return held.getsockname()[1]
+def held_port():
+    """A socket that never listens, at a port for an agent: as long as it is open the system gives the port to nobody who asks for any, and lets the
+    agent listen at it, which asks for this one."""
+    held = socket.socket()
+    held.setsockopt(socket.SOL_SOCKET, socket.SO_REUSEADDR, 1)
+    held.bind(("127.0.0.1", 0))
+    return held
 
 
-def connected(port, agent):
-    for _ in range(TRIES):
+def connected(held, agent):
+    end = time.monotonic() + PATIENCE
+    while time.monotonic() < end:
         try:
-            return socket.create_connection(("127.0.0.1", port))
+            return socket.create_connection(held.getsockname())
         except ConnectionRefusedError:
             if agent.poll() is not None:
                 raise
-            time.sleep(PATIENCE)
+            time.sleep(PAUSE)
     raise TimeoutError("the agent doesn't listen")
 
 
@@ -57,18 +61,18 @@ def exchange(rng, guest, data):
 
 def served(program, guests, words=(), seed=0):
     """The answers to each guest's bytes, and how the agent ended."""
-    port, rng = free_port(), random.Random(seed)
-    environment = dict(os.environ, SWANROLL_LISTEN=f"127.0.0.1:{port}")
-    agent = subprocess.Popen([program, "agent", *words], env=environment, stdin=subprocess.DEVNULL, stdout=subprocess.PIPE, stderr=subprocess.PIPE)
-    try:
-        answers = []
-        for data in guests:
-            with connected(port, agent) as guest:
-                answers.append(exchange(rng, guest, data))
-        out, notes = agent.communicate(timeout=20)
-        return answers, (agent.returncode, out.decode(), notes.decode())
-    finally:
-        agent.kill()
+    with held_port() as held:
+        environment, rng = dict(os.environ, SWANROLL_LISTEN="127.0.0.1:%d" % held.getsockname()[1]), random.Random(seed)
+        agent = subprocess.Popen([program, "agent", *words], env=environment, stdin=subprocess.DEVNULL, stdout=subprocess.PIPE, stderr=subprocess.PIPE)
+        try:
+            answers = []
+            for data in guests:
+                with connected(held, agent) as guest:
+                    answers.append(exchange(rng, guest, data))
+            out, notes = agent.communicate(timeout=PATIENCE)
+            return answers, (agent.returncode, out.decode(), notes.decode())
+        finally:
+            agent.kill()
 
 
 def worked(program):
@@ -90,14 +94,14 @@ def without_guests(program):
             environment = {key: value for key, value in os.environ.items() if key != "SWANROLL_LISTEN"}
             if listen is not None:
                 environment["SWANROLL_LISTEN"] = listen
-            done = subprocess.run([program, "agent"], env=environment, stdin=subprocess.DEVNULL, capture_output=True, timeout=20)
+            done = subprocess.run([program, "agent"], env=environment, stdin=subprocess.DEVNULL, capture_output=True, timeout=PATIENCE)
             yield name, (done.returncode, done.stdout, done.stderr) == fault
 
 
 def words(program):
     usage = (2, b"", b"usage: swanroll COMMAND [--NAME VALUE]\n")
     for given in ("--guests", "--guests 0", "--guests 1000001", "--guests -1", "--guests +1", "--guests 1 --guests 1", "--guests 00000000000000000001", "--k 1"):
-        done = subprocess.run([program, "agent", *given.split()], stdin=subprocess.DEVNULL, capture_output=True, timeout=20)
+        done = subprocess.run([program, "agent", *given.split()], stdin=subprocess.DEVNULL, capture_output=True, timeout=PATIENCE)
         yield given, (done.returncode, done.stdout, done.stderr) == usage
 
 

@@ -43,7 +43,7 @@ def run(program, data, words=("sim",)):
 
 def words_with_a_policy(program):
     """Words that name a policy, and words that only look like it."""
-    for words in ("sim", "sim --policy critical", "sim --policy order"):
+    for words in ("sim", "sim --policy critical", "sim --policy order", "sim --policy freeze"):
         yield words, run(program, document(1, [["round"]]), words.split(" "))[0] == 0
     for words in (
         "sim --policy", "sim --policy none", "sim --policy Order", "sim --policy ", "sim --policy -", "sim --policy --policy", "sim --policy=order",

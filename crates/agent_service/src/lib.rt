@@ -7,8 +7,6 @@
 
 mod guests;
 mod service;
-#[cfg(test)]
-mod tests;
 
 pub use guests::serve_guests;
 pub use service::{Service, ServiceFault};

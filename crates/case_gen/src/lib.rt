@@ -12,8 +12,6 @@ mod make;
 mod needs;
 mod rates;
 mod ring;
-#[cfg(test)]
-mod tests;
 mod trip;
 pub mod worked;
 

@@ -37,8 +37,6 @@ mod scratch;
 mod soundness;
 mod stage_counts;
 mod stands;
-#[cfg(test)]
-mod tests;
 mod wakes;
 mod woken;
 mod zeros;

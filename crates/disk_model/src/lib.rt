@@ -17,8 +17,6 @@ mod failing_calls;
 mod medium;
 mod memory_disk;
 mod step;
-#[cfg(test)]
-mod tests;
 mod timeline;
 pub mod worked;
 

@@ -19,6 +19,4 @@ pub use rows::Rows;
 pub use simplex::{MOST_EXCHANGES, solve};
 
 pub mod laws;
-#[cfg(test)]
-mod tests;
 pub mod worked;

@@ -43,8 +43,6 @@ mod recovering;
 mod renewing;
 mod slot;
 mod starting;
-#[cfg(test)]
-mod tests;
 mod walking;
 pub mod worked;
 

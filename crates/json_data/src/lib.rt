@@ -14,8 +14,6 @@ mod elements;
 mod fault;
 mod node;
 mod number;
-#[cfg(test)]
-mod tests;
 
 pub use document::Document;
 pub use element::Element;

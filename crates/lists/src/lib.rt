@@ -8,6 +8,3 @@ mod text;
 pub use many::{Ids, Many, Marks, Nums};
 pub use std::alloc::AllocError as Memory;
 pub use text::Text;
-
-#[cfg(test)]
-mod tests;

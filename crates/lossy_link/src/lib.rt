@@ -23,8 +23,6 @@ mod next_command;
 mod noise_port;
 mod script_port;
 mod silent_port;
-#[cfg(test)]
-mod tests;
 mod waiting;
 mod way_back;
 pub mod worked;

@@ -18,9 +18,11 @@ mod mutex_turns;
 mod program;
 mod recovery;
 mod rollout;
+mod rounds;
 mod subject;
 mod tries;
 mod turns;
+mod workers;
 
 fn main(rt: HostRuntime) -> Result<()> {
     let words = env::args(&rt)?.skip(1).collect::<Vec<String>>(rt.alloc())?;
@@ -32,5 +34,7 @@ fn main(rt: HostRuntime) -> Result<()> {
         Subject::Recovery { times } => recovery::measure(&rt, times),
         Subject::Tries { times } => tries::measure(&rt, times),
         Subject::Turns(crowd) => turns::measure(&rt, &crowd),
+        Subject::Rounds(load) => rounds::measure(&rt, workers::plan(&rt)?, load),
+        Subject::Workers(crew) => workers::measure(&rt, workers::plan(&rt)?, crew),
     }
 }

@@ -1,9 +1,11 @@
 use crate::frames::Load;
+use crate::rounds;
 use crate::turns::Crowd;
+use crate::workers::Crew;
 use anyhow::{Context, Result, bail};
 
 const SUBJECTS: &str =
-    "linear [TIMES], frames ITEMS COMMANDS PIECE TIMES, agent, journal, recovery TIMES, tries TIMES, or turns THREADS TURNS lock|mutex";
+    "linear [TIMES], frames ITEMS COMMANDS PIECE TIMES, agent, journal, recovery TIMES, tries TIMES, turns THREADS TURNS lock|mutex, workers WORKERS ROUNDS, or rounds alone|shared led|idle ROUNDS";
 
 /// What is measured.
 #[derive(Drop)]
@@ -22,6 +24,10 @@ pub(crate) enum Subject {
     Tries { times: u32 },
     /// Turns of threads at one value.
     Turns(Crowd),
+    /// A rollout by workers.
+    Workers(Crew),
+    /// Rounds of a book.
+    Rounds(rounds::Load),
 }
 
 /// The subject that the words name. The program's own name isn't among them.
@@ -50,6 +56,15 @@ pub(crate) fn of(words: &[String]) -> Result<Subject> {
             number(threads)?,
             number(turns)?,
             guard.as_str(),
+        )?)),
+        ("workers", [workers, rounds]) => Ok(Subject::Workers(Crew {
+            workers: number(workers)?,
+            rounds: number(rounds)?,
+        })),
+        ("rounds", [guard, answers, rounds]) => Ok(Subject::Rounds(rounds::Load::new(
+            guard.as_str(),
+            answers.as_str(),
+            number(rounds)?,
         )?)),
         _ => bail!(SUBJECTS),
     }

@@ -8,8 +8,6 @@
 
 mod policies;
 mod policy;
-#[cfg(test)]
-mod tests;
 
 pub use policies::Policies;
 pub use policy::Policy;

@@ -18,8 +18,6 @@ mod shape;
 mod slack;
 mod steps;
 mod sums;
-#[cfg(test)]
-mod tests;
 mod totals;
 pub mod worked;
 

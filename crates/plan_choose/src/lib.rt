@@ -10,8 +10,6 @@ mod chosen;
 pub mod laws;
 mod planned;
 mod steps;
-#[cfg(test)]
-mod tests;
 mod validity;
 pub mod worked;
 

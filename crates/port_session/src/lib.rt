@@ -12,8 +12,6 @@ mod fault;
 mod frames;
 mod session;
 mod stream;
-#[cfg(test)]
-mod tests;
 pub mod worked;
 
 pub use fault::SessionFault;

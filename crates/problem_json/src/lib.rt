@@ -10,8 +10,6 @@ mod fault;
 mod key;
 mod place;
 mod read;
-#[cfg(test)]
-mod tests;
 mod writing;
 
 pub use fault::InputFault;

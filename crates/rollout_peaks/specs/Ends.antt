@@ -1,10 +1,8 @@
 -- The lines behind a history: the peak of each link and table, and whether every operation is settled.
-use Rattle.std.specs.Prelude.{ℕ, zero, suc, ◌-◌, ◌*◌, List, [], ◌++◌, length, codes, decimal, ◌==◌, if◌then◌else◌}
-use Rattle.rollout_rules.specs.Sums.{sum_below}
+use Rattle.std.specs.Prelude.{ℕ, zero, suc, ◌*◌, List, [], ◌++◌, length, codes, decimal, ◌==◌, if◌then◌else◌}
 use Rattle.rollout_rules.specs.Wan.{Problem, Plan, switch_at, link_at}
-use Rattle.rollout_rules.specs.Items.{item_count, item_at}
-use Rattle.rollout_rules.specs.Operations.{operations}
-use Rattle.rollout_rules.specs.History.{History, settled}
+use Rattle.rollout_rules.specs.History.{History}
+use Rattle.rollout_rules.specs.Legal.{unsettled}
 use Rattle.wan_text.specs.Peaks.{link_peak_line, table_peak_line}
 use Rattle.rollout_peaks.specs.Peaks.{link_peak, table_peak}
 
@@ -16,10 +14,6 @@ link_lines p plan h (suc l) = link_lines p plan h l ++ link_peak_line p l (link_
 abbrev pub table_lines : Problem → Plan → History → ℕ → List ℕ
 table_lines p plan h zero = []
 table_lines p plan h (suc w) = table_lines p plan h w ++ table_peak_line p w (table_peak p plan h w) (switch_at p w).table
-
--- how many operations are not settled
-abbrev pub unsettled : Problem → Plan → History → ℕ
-unsettled p plan h = sum_below (item_count p) (λ n. operations p plan (item_at p n) - settled h n)
 
 abbrev pub last_line : ℕ → List ℕ
 last_line left = (if left == 0 then codes "finished" else codes "unfinished: " ++ decimal left) ++ codes "\n"

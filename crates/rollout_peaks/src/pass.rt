@@ -1,7 +1,7 @@
 ghost use Rattle.std.specs.Prelude.{◌≡◌, ◌+◌, ◌<◌, IfOk, length};
 ghost use Rattle.rollout_peaks.specs.Passing.{IsPast};
-ghost use Rattle.rollout_peaks.specs.Ends.{unsettled};
 ghost use Rattle.rollout_rules.specs.History as rules;
+ghost use Rattle.rollout_rules.specs.Legal.{unsettled};
 
 use crate::checked::checked_plan_is_valid;
 use crate::course::Course;

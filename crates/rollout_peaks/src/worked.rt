@@ -3,8 +3,8 @@ ghost use Rattle.std.specs.Prelude.{◌≡◌, [], ◌∷◌};
 ghost use Rattle.rollout_rules.specs.History.{started};
 ghost use Rattle.rollout_rules.specs.Named.{one, late, table_network, wide_network, one_plan, late_plan, table_plan};
 ghost use Rattle.rollout_rules.specs.Worked.{fresh, begin_of, done_of};
+ghost use Rattle.rollout_rules.specs.Legal.{unsettled};
 ghost use Rattle.rollout_peaks.specs.Peaks.{link_sum, table_sum, link_peak, table_peak};
-ghost use Rattle.rollout_peaks.specs.Ends.{unsettled};
 
 /// The second tunnel has no rate at the start and 3 once the flow's operation is applied.
 pub fn an_operation_in_flight_counts()

@@ -12,8 +12,6 @@ mod homes;
 mod keeping;
 mod laws;
 mod opening;
-#[cfg(test)]
-mod tests;
 pub mod worked;
 
 pub use dealing::deal;

@@ -11,8 +11,6 @@ mod journaled;
 mod reporting;
 mod stages;
 mod starts;
-#[cfg(test)]
-mod tests;
 mod totals;
 pub mod worked;
 

@@ -1,51 +1,23 @@
--- What is in flight behind a round: of what was in flight, what isn't settled, and what was begun.
-use Rattle.std.proofs.Common.{◌≡◌, ℕ, ◌+◌, ◌≤◌, true, false, ◌&&◌, ◌==◌, nat_lt, cond, List, [], ◌∷◌, map, filter, IsPermutation, refl, inl, inr, sym, ap, ap₂, ◌∙◌, subst, arith, eq-eqb, lt-ltb, ltb-true}
-use Rattle.std.specs.List.{AllByRecursion, All}
-use Rattle.std.proofs.lemmas.Bool.{cases_Bool, cases_lt, cases_eq, ne_eqb, le-ltb}
-use Rattle.std.proofs.lemmas.List.Elements.{recursion_from_All}
-use Rattle.std.proofs.lemmas.List.Sorted.{IsPermutation-map, All-permutation}
+-- What is in flight behind entries: what began came in at the place of its item, and what is done went.
+use Rattle.std.proofs.Common.{◌≡◌, ℕ, ◌+◌, ◌≤◌, true, false, ◌&&◌, ◌==◌, nat_lt, Bool, List, [], ◌∷◌, map, filter, refl, inl, inr, sym, ap, ap₂, ◌∙◌, subst, arith, eq-eqb, eqb-true, lt-ltb}
+use Rattle.std.specs.List.{AllByRecursion}
+use Rattle.std.proofs.lemmas.Bool.{cases_eq, cases_lt, cond_both, ne_eqb, eqb-false, and_parts, and_from}
 use Rattle.rollout_rules.specs.Wan.{Problem, Plan}
 use Rattle.rollout_rules.specs.Items.{item_count}
-use Rattle.rollout_rules.specs.History.{History, with_entries, begins_in, dones_in, settled, begun, flies}
-use Rattle.rollout_rules.specs.Legal.{is_legal}
+use Rattle.rollout_rules.specs.History.{History, with_entries, settled, begun, flies}
+use Rattle.rollout_rules.specs.Legal.{is_legal, may_add, may_begin, may_end, may_follow}
 use Rattle.rollout_rules.specs.Release.{next_op}
 use Rattle.rollout_rules.specs.World.{in_flight}
 use Rattle.rollout_rules.specs.declared.op.Op.{Op}
 use Rattle.rollout_rules.specs.declared.op.Entry.{Entry}
-use Rattle.rollout_laws.proofs.Histories.{begun-with, settled-with, is_counted}
+use Rattle.rollout_rules.specs.declared.op.Entry.TheVariants.{Begin, Done}
+use Rattle.rollout_laws.proofs.Histories.{with_none, with_both, begun-begin, begun-begin_other, begun-done, settled-begin, settled-done, settled-done_other, begins, ends, is_counted, is_legal-append}
 use Rattle.rollout_rounds.specs.Rows.{bit, times, Rises, numbers}
-use Rattle.rollout_rounds.specs.Flights.{items_of, is_open, merged}
-use Rattle.rollout_rounds.proofs.Rows.{permuted-same, same-row, filtered-rise, times-filtered}
-use Rattle.rollout_rounds.proofs.Merging.{all-merged, times-merged, rises-merged}
+use Rattle.rollout_rounds.specs.Flights.{items_of, with_entry, with_each}
+use Rattle.rollout_rounds.proofs.Rows.{same-row, filtered-rise, times-filtered}
+use Rattle.rollout_rounds.proofs.Placing.{rises-in, all-in, times-in, rises-out, all-out, times-out}
 
--- ---- the counts of one item: settled and begun at first, settled between, and both behind
-came-in : (b c t : ℕ) → t ≤ c → c ≤ t + 1 → c ≡ t + b → b ≡ bit (c == t + 1)
-came-in b c t low high is = elim (cases_lt c (t + 1)) as (λ k. b ≡ bit (c == t + 1)) [
-  | inl less ↦ let none : bit (c == t + 1) ≡ 0 = ap bit (ne_eqb c (t + 1) (λ e. omega arith)) in omega (arith, none, low, less, is)
-  | inr all ↦ let one : bit (c == t + 1) ≡ 1 = ap bit (eq-eqb c (t + 1) (omega (arith, high, all))) in omega (arith, one, high, all, is)
-]
-
-moved : (s b n t c : ℕ) → s ≤ t → t ≤ b → b ≤ s + 1 → t ≤ c → c ≤ t + 1 → c ≡ b + n → bit ((b == s + 1) && nat_lt t (s + 1)) + n ≡ bit (c == t + 1)
-moved s b n t c grew low one least most is = elim (cases_eq b (s + 1)) as (λ k. bit ((b == s + 1) && nat_lt t (s + 1)) + n ≡ bit (c == t + 1)) [
-  | inl flying ↦ elim (cases_lt t (s + 1)) as (λ k. bit ((b == s + 1) && nat_lt t (s + 1)) + n ≡ bit (c == t + 1)) [
-    | inl open' ↦
-        let still : bit ((b == s + 1) && nat_lt t (s + 1)) ≡ 1 = ap₂ (λ x y. bit (x && y)) (eq-eqb b (s + 1) flying) (lt-ltb t (s + 1) open') in
-        let flies' : bit (c == t + 1) ≡ 1 = ap bit (eq-eqb c (t + 1) (omega (arith, flying, open', grew, most, is))) in
-        omega (arith, still, flies', flying, open', grew, most, is)
-    | inr done' ↦
-        let gone : bit ((b == s + 1) && nat_lt t (s + 1)) ≡ 0 = ap₂ (λ x y. bit (x && y)) (eq-eqb b (s + 1) flying) (le-ltb t (s + 1) done') in
-        omega (arith, gone, came-in n c t least most (omega (arith, flying, done', low, is)))
-  ]
-  | inr idle ↦
-      let none : bit ((b == s + 1) && nat_lt t (s + 1)) ≡ 0 = ap (λ x. bit (x && nat_lt t (s + 1))) (ne_eqb b (s + 1) idle) in
-      let at : b ≤ s = below b s one idle in
-      omega (arith, none, came-in n c t least most (omega (arith, at, grew, low, is)))
-]
-  where
-    below : (x y : ℕ) → x ≤ y + 1 → (x ≡ y + 1 → ⊥) → x ≤ y
-    below x y le apart = elim (cases_lt x (y + 1)) as (λ k. x ≤ y) [ inl lt ↦ omega (arith, lt) | inr ge ↦ absurd (apart (omega (arith, le, ge))) ]
-
--- operations are known by their items where each is its item's next
+-- ---- operations are known by their items where each is its item's next
 abbrev IsNext : History → Op → Type 0
 IsNext h op = op ≡ next_op h op.item
 
@@ -57,96 +29,111 @@ items-next : (h : History) (ns : List ℕ) → items_of (map (next_op h) ns) ≡
 items-next h [] = refl
 items-next h (n ∷ ns) = ap (λ ms. n ∷ ms) (items-next h ns)
 
--- those in flight at first that are open later
-opened : (h later : History) (ns : List ℕ) → items_of (filter (is_open later) (map (next_op h) (filter (flies h) ns))) ≡ filter (λ n. flies h n && nat_lt (settled later n) (settled h n + 1)) ns
-opened h later [] = refl
-opened h later (n ∷ ns) = elim (cases_Bool (flies h n)) as (λ c. items_of (filter (is_open later) (map (next_op h) (filter (flies h) (n ∷ ns)))) ≡ filter (λ m. flies h m && nat_lt (settled later m) (settled h m + 1)) (n ∷ ns)) [
-  | inl flying ↦ rw flying (elim (cases_Bool (nat_lt (settled later n) (settled h n + 1))) as (λ c. items_of (filter (is_open later) (next_op h n ∷ map (next_op h) (filter (flies h) ns))) ≡ cond (nat_lt (settled later n) (settled h n + 1)) (n ∷ filter (λ m. flies h m && nat_lt (settled later m) (settled h m + 1)) ns) (filter (λ m. flies h m && nat_lt (settled later m) (settled h m + 1)) ns)) [
-    | inl low ↦ rw low (ap (λ ms. n ∷ ms) (opened h later ns))
-    | inr high ↦ rw high (opened h later ns)
-  ])
-  | inr idle ↦ rw idle (opened h later ns)
-]
+all-next : (h : History) (ns : List ℕ) → AllByRecursion (IsNext h) (map (next_op h) ns)
+all-next h [] = tt
+all-next h (n ∷ ns) = (refl, all-next h ns)
 
--- A round's history: at first, with what it settles, and with what it begins.
-module _ (p : Problem) (plan : Plan) (h : History) (ends starts : List Entry) (legal : is_legal p plan h ≡ true) (legal-ends : is_legal p plan (with_entries h ends) ≡ true) (legal-all : is_legal p plan (with_entries (with_entries h ends) starts) ≡ true)
-    (ends-begin : (n : ℕ) → begins_in ends n ≡ 0) (starts-end : (n : ℕ) → dones_in starts n ≡ 0) where
-  between : History
-  between = with_entries h ends
+passes : (test : ℕ → Bool) (ns : List ℕ) → AllByRecursion (λ n. test n ≡ true) (filter test ns)
+passes test [] = tt
+passes test (n ∷ ns) = cond_both (test n) (n ∷ filter test ns) (filter test ns) (AllByRecursion (λ m. test m ≡ true)) (λ yes. (yes, passes test ns)) (λ _. passes test ns)
 
-  later : History
-  later = with_entries (with_entries h ends) starts
+weaker : (P Q : Op → Type 0) (ops : List Op) → ((op : Op) → P op → Q op) → AllByRecursion P ops → AllByRecursion Q ops
+weaker P Q [] so all = tt
+weaker P Q (op ∷ ops) so all = (so op all.0, weaker P Q ops so all.1)
 
-  settled-later : (n : ℕ) → settled later n ≡ settled (with_entries h ends) n
-  unfolding later
-  settled-later n = omega (arith, settled-with (with_entries h ends) starts n, starts-end n)
+-- of what flies
+abbrev IsNextFlying : History → Op → Type 0
+IsNextFlying h op = flies h op.item ≡ true → IsNext h op
 
-  grown : (n : ℕ) → settled h n ≤ settled later n
-  grown n = omega (arith, settled-later n, settled-with h ends n)
+flying-next : (h : History) (ops : List Op) → AllByRecursion (IsNextFlying h) ops → AllByRecursion (λ n. flies h n ≡ true) (items_of ops) → AllByRecursion (IsNext h) ops
+flying-next h [] nexts flying = tt
+flying-next h (op ∷ ops) nexts flying = (nexts.0 flying.0, flying-next h ops nexts.1 flying.1)
 
-  begun-later : (n : ℕ) → begun later n ≡ begun h n + begins_in starts n
-  unfolding later
-  begun-later n = omega (arith, begun-with (with_entries h ends) starts n, begun-with h ends n, ends-begin n)
+module _ (p : Problem) where
+  -- ---- what is in flight, and what else is that
+  pub flown-up : (h : History) → Rises (items_of (in_flight p h))
+  flown-up h = subst Rises (sym (items-next h (filter (flies h) (numbers (item_count p))))) (filtered-rise (flies h) (item_count p))
 
-  counts : (n : ℕ) → bit (flies h n && nat_lt (settled later n) (settled h n + 1)) + begins_in starts n ≡ bit (flies later n)
-  unfolding later
-  counts n =
-      let first = is_counted p plan h legal n in
-      let middle = is_counted p plan (with_entries h ends) legal-ends n in
-      let last = is_counted p plan (with_entries (with_entries h ends) starts) legal-all n in
-      moved (settled h n) (begun h n) (begins_in starts n) (settled later n) (begun later n) (grown n)
-      (omega (arith, settled-later n, middle.settled_begun, begun-with h ends n, ends-begin n)) first.one_flies last.settled_begun last.one_flies (begun-later n)
+  flown-count : (h : History) (m : ℕ) → times m (items_of (in_flight p h)) ≡ bit (nat_lt m (item_count p) && flies h m)
+  flown-count h m = ap (times m) (items-next h (filter (flies h) (numbers (item_count p)))) ∙ times-filtered (flies h) (item_count p) m
 
-  none-past : (n : ℕ) → item_count p ≤ n → begins_in starts n ≡ 0
-  unfolding later
-  none-past n past = elim (cases_lt 0 (begins_in starts n)) as (λ c. begins_in starts n ≡ 0) [
-    | inl some ↦
-        let last = is_counted p plan (with_entries (with_entries h ends) starts) legal-all n in
-        absurd (omega (arith, past, last.within (omega (arith, some, begun-later n))))
-    | inr none ↦ omega (arith, none)
-  ]
+  flown-is : (h : History) (ops : List Op) → Rises (items_of ops) → ((m : ℕ) → times m (items_of ops) ≡ bit (nat_lt m (item_count p) && flies h m)) → AllByRecursion (IsNextFlying h) ops → ops ≡ in_flight p h
+  flown-is h ops up count nexts =
+      let row : items_of ops ≡ filter (flies h) (numbers (item_count p)) = same-row (items_of ops) (filter (flies h) (numbers (item_count p))) up (filtered-rise (flies h) (item_count p)) (λ m. count m ∙ sym (times-filtered (flies h) (item_count p) m)) in
+      let flying : AllByRecursion (λ n. flies h n ≡ true) (items_of ops) = subst (AllByRecursion (λ n. flies h n ≡ true)) (sym row) (passes (flies h) (numbers (item_count p))) in
+      by-items h ops (flying-next h ops nexts flying) ∙ ap (map (next_op h)) row
 
-  module _ (ops sorted : List Op) (begins : (n : ℕ) → times n (items_of ops) ≡ begins_in starts n) (nexts : All (λ op. op.number ≡ settled (with_entries h ends) op.item + 1) ops) (perm : IsPermutation ops sorted) (up : Rises (items_of sorted)) where
-    flew : List Op
-    flew = in_flight p h
+  -- ---- one entry
+  module _ (plan : Plan) (h : History) (legal : is_legal p plan h ≡ true) (op : Op) where
+    begin-flies : flies h op.item ≡ false → flies (with_entries h (Begin op ∷ [])) op.item ≡ true
+    begin-flies idle =
+        let c = is_counted p plan h legal op.item in
+        eq-eqb (begun (with_entries h (Begin op ∷ [])) op.item) (settled (with_entries h (Begin op ∷ [])) op.item + 1)
+        (omega (arith, begun-begin h op, settled-begin h op op.item, level (begun h op.item) (settled h op.item) c.settled_begun c.one_flies (eqb-false (begun h op.item) (settled h op.item + 1) idle)))
+      where
+        level : (x y : ℕ) → y ≤ x → x ≤ y + 1 → (x ≡ y + 1 → ⊥) → x ≡ y
+        level x y low most other = elim (cases_lt x (y + 1)) as (λ k. x ≡ y) [ inl lt ↦ omega (arith, low, lt) | inr ge ↦ absurd (other (omega (arith, most, ge))) ]
 
-    all-open : (ns : List ℕ) → AllByRecursion (λ op. is_open later op ≡ true → IsNext later op) (map (next_op h) ns)
-    all-open [] = tt
-    all-open (n ∷ ns) = ((λ opens. ap (λ k. record { item = n; number = k + 1 }) (omega (arith, grown n, ltb-true (settled later n) (settled h n + 1) opens))), all-open ns)
+    begin-same : (m : ℕ) → (op.item ≡ m → ⊥) → flies (with_entries h (Begin op ∷ [])) m ≡ flies h m
+    begin-same m other = ap₂ (λ b s. b == s + 1) (begun-begin_other h op m other) (settled-begin h op m)
 
-    nexts-later : (os : List Op) → AllByRecursion (λ op. op.number ≡ settled (with_entries h ends) op.item + 1) os → AllByRecursion (IsNext later) os
-    nexts-later [] all = tt
-    nexts-later (op ∷ os) all =
-        let same : op.number ≡ settled later op.item + 1 = omega (arith, all.0, settled-later op.item) in
-        ((λ i. record { item = op.item; number = same i }), nexts-later os all.1)
+    done-idle : flies h op.item ≡ true → flies (with_entries h (Done op ∷ [])) op.item ≡ false
+    done-idle flying =
+        ne_eqb (begun (with_entries h (Done op ∷ [])) op.item) (settled (with_entries h (Done op ∷ [])) op.item + 1)
+        (λ e. omega (arith, e, begun-done h op op.item, settled-done h op, eqb-true (begun h op.item) (settled h op.item + 1) flying))
 
-    new : List Op
-    new = merged later (in_flight p h) sorted
+    done-same : (m : ℕ) → (op.item ≡ m → ⊥) → flies (with_entries h (Done op ∷ [])) m ≡ flies h m
+    done-same m other = ap₂ (λ b s. b == s + 1) (begun-done h op m) (settled-done_other h op m other)
 
-    new-items : items_of new ≡ filter (flies later) (numbers (item_count p))
-    unfolding new
-    new-items =
-        let flying = filter (flies h) (numbers (item_count p)) in
-        same-row (items_of (merged later (in_flight p h) sorted)) (filter (flies later) (numbers (item_count p)))
-        (rises-merged later (in_flight p h) sorted (subst Rises (sym (items-next h flying)) (filtered-rise (flies h) (item_count p))) up)
-        (filtered-rise (flies later) (item_count p))
-        (λ n.
-        let whole = times-merged later n (in_flight p h) sorted in
-        let left : times n (items_of (filter (is_open later) (in_flight p h))) ≡ bit (nat_lt n (item_count p) && (flies h n && nat_lt (settled later n) (settled h n + 1))) =
-        ap (times n) (opened h later (numbers (item_count p))) ∙ times-filtered (λ m. flies h m && nat_lt (settled later m) (settled h m + 1)) (item_count p) n in
-        let came : times n (items_of sorted) ≡ begins_in starts n = permuted-same (items_of ops) (items_of sorted) (IsPermutation-map (λ o. o.item) ops sorted perm) n ∙ begins n in
-        let goal : times n (filter (flies later) (numbers (item_count p))) ≡ bit (nat_lt n (item_count p) && flies later n) = times-filtered (flies later) (item_count p) n in
-        elim (cases_lt n (item_count p)) as (λ c. times n (items_of (merged later (in_flight p h) sorted)) ≡ times n (filter (flies later) (numbers (item_count p)))) [
-          | inl lt ↦
-              let inside : nat_lt n (item_count p) ≡ true = lt-ltb n (item_count p) lt in
-              omega (arith, whole, came, goal, left, ap (λ b. bit (b && (flies h n && nat_lt (settled later n) (settled h n + 1)))) inside, ap (λ b. bit (b && flies later n)) inside, counts n)
-          | inr past ↦
-              let outside : nat_lt n (item_count p) ≡ false = le-ltb n (item_count p) past in
-              omega (arith, whole, came, goal, left, ap (λ b. bit (b && (flies h n && nat_lt (settled later n) (settled h n + 1)))) outside, ap (λ b. bit (b && flies later n)) outside, none-past n past)
+    pub began : may_begin p plan h op ≡ true → with_entry (in_flight p h) (Begin op) ≡ in_flight p (with_entries h (Begin op ∷ []))
+    began may =
+        let next = (begins p plan h op may).next in
+        let later = with_entries h (Begin op ∷ []) in
+        flown-is later (with_entry (in_flight p h) (Begin op)) (rises-in op (in_flight p h) (flown-up h))
+        (λ m. elim (cases_eq op.item m) as (λ c. times m (items_of (with_entry (in_flight p h) (Begin op))) ≡ bit (nat_lt m (item_count p) && flies (with_entries h (Begin op ∷ [])) m)) [
+          | inl same ↦
+              subst (λ k. times k (items_of (with_entry (in_flight p h) (Begin op))) ≡ bit (nat_lt k (item_count p) && flies (with_entries h (Begin op ∷ [])) k)) same
+              (let inside = lt-ltb op.item (item_count p) next.within in
+              let now : bit (nat_lt op.item (item_count p) && flies (with_entries h (Begin op ∷ [])) op.item) ≡ 1 = ap₂ (λ x y. bit (x && y)) inside (begin-flies next.idle) in
+              let before : bit (nat_lt op.item (item_count p) && flies h op.item) ≡ 0 = ap₂ (λ x y. bit (x && y)) inside next.idle in
+              omega (arith, now, before, times-in op.item op (in_flight p h), flown-count h op.item, ap bit (eq-eqb op.item op.item refl)))
+          | inr other ↦ omega (arith, times-in m op (in_flight p h), flown-count h m, ap bit (ne_eqb op.item m other), ap (λ b. bit (nat_lt m (item_count p) && b)) (begin-same m other))
         ])
+        (all-in (IsNextFlying later) op (in_flight p h) (weaker (IsNext h) (IsNextFlying later) (in_flight p h) (λ o is flying. is ∙ still o) (all-next h (filter (flies h) (numbers (item_count p)))))
+        (λ flying. let same : op.number ≡ settled (with_entries h (Begin op ∷ [])) op.item + 1 = omega (arith, next.number, settled-begin h op op.item) in λ i. record { item = op.item; number = same i }))
+      where
+        still : (o : Op) → next_op h o.item ≡ next_op (with_entries h (Begin op ∷ [])) o.item
+        still o = ap (λ k. record { item = o.item; number = k + 1 }) (sym (settled-begin h op o.item))
 
-    pub flying-later : merged (with_entries (with_entries h ends) starts) (in_flight p h) sorted ≡ in_flight p (with_entries (with_entries h ends) starts)
-    unfolding new later
-    flying-later =
-        let all = all-merged later (IsNext later) (in_flight p h) sorted (all-open (filter (flies h) (numbers (item_count p)))) (nexts-later sorted (recursion_from_All (λ op. op.number ≡ settled (with_entries h ends) op.item + 1) sorted (All-permutation (λ op. op.number ≡ settled (with_entries h ends) op.item + 1) ops sorted perm nexts))) in
-        by-items later new all ∙ ap (map (next_op later)) new-items
+    pub went : may_end h op ≡ true → with_entry (in_flight p h) (Done op) ≡ in_flight p (with_entries h (Done op ∷ []))
+    went may =
+        let flew = (ends h op may).flying in
+        let later = with_entries h (Done op ∷ []) in
+        let inside = lt-ltb op.item (item_count p) ((is_counted p plan h legal op.item).within (omega (arith, eqb-true (begun h op.item) (settled h op.item + 1) flew))) in
+        let before : bit (nat_lt op.item (item_count p) && flies h op.item) ≡ 1 = ap₂ (λ x y. bit (x && y)) inside flew in
+        let one : times op.item (items_of (in_flight p h)) ≡ 1 = flown-count h op.item ∙ before in
+        flown-is later (with_entry (in_flight p h) (Done op)) (rises-out op.item (in_flight p h) (flown-up h))
+        (λ m. elim (cases_eq op.item m) as (λ c. times m (items_of (with_entry (in_flight p h) (Done op))) ≡ bit (nat_lt m (item_count p) && flies (with_entries h (Done op ∷ [])) m)) [
+          | inl same ↦
+              subst (λ k. times k (items_of (with_entry (in_flight p h) (Done op))) ≡ bit (nat_lt k (item_count p) && flies (with_entries h (Done op ∷ [])) k)) same
+              (let now : bit (nat_lt op.item (item_count p) && flies (with_entries h (Done op ∷ [])) op.item) ≡ 0 = ap₂ (λ x y. bit (x && y)) inside (done-idle flew) in
+              omega (arith, now, one, times-out op.item op.item (in_flight p h) (flown-up h) one, ap bit (eq-eqb op.item op.item refl)))
+          | inr other ↦ omega (arith, times-out op.item m (in_flight p h) (flown-up h) one, flown-count h m, ap bit (ne_eqb op.item m other), ap (λ b. bit (nat_lt m (item_count p) && b)) (done-same m other))
+        ])
+        (all-out (IsNextFlying later) op.item (in_flight p h) (weaker (IsNext h) (IsNextFlying later) (in_flight p h)
+        (λ o is flying. is ∙ still o (λ same. absurd (omega (arith, ap bit (sym flying ∙ ap (flies (with_entries h (Done op ∷ []))) (sym same) ∙ done-idle flew))))) (all-next h (filter (flies h) (numbers (item_count p))))))
+      where
+        still : (o : Op) → (op.item ≡ o.item → ⊥) → next_op h o.item ≡ next_op (with_entries h (Done op ∷ [])) o.item
+        still o other = ap (λ k. record { item = o.item; number = k + 1 }) (sym (settled-done_other h op o.item other))
+
+  moved : (plan : Plan) (h : History) (e : Entry) → is_legal p plan h ≡ true → may_add p plan h e ≡ true → with_entry (in_flight p h) e ≡ in_flight p (with_entries h (e ∷ []))
+  moved plan h (Begin op) legal may = began plan h legal op may
+  moved plan h (Done op) legal may = went plan h legal op may
+
+  -- ---- entries one by one
+  pub flown-each : (plan : Plan) (h : History) (es : List Entry) → is_legal p plan h ≡ true → may_follow p plan h es ≡ true → with_each (in_flight p h) es ≡ in_flight p (with_entries h es)
+  flown-each plan h [] legal follows = ap (in_flight p) (sym (with_none h))
+  flown-each plan h (e ∷ es) legal follows =
+      let parts = and_parts (may_add p plan h e) (may_follow p plan (with_entries h (e ∷ [])) es) follows in
+      let legal-next = is_legal-append p plan h (e ∷ []) legal (and_from (may_add p plan h e) true parts.0 refl) in
+      ap (λ ops. with_each ops es) (moved plan h e legal parts.0) ∙ flown-each plan (with_entries h (e ∷ [])) es legal-next parts.1 ∙ ap (in_flight p) (with_both h (e ∷ []) es)

@@ -2,7 +2,7 @@ pub mod Rows
 pub mod Marking
 pub mod Ended
 pub mod Settling
-pub mod Merging
+pub mod Placing
 pub mod Flying
 pub mod Batches
 pub mod Turning

@@ -1,29 +1,28 @@
 -- What a controller's side keeps, across what it hears and across a round.
-use Rattle.std.proofs.Common.{◌≡◌, ℕ, ◌*◌, ◌<◌, ◌≤◌, true, List, [], ◌∷◌, ◌++◌, filter, length, All, refl, sym, ap, ◌∙◌, subst, arith}
+use Rattle.std.proofs.Common.{◌≡◌, ℕ, ◌+◌, ◌*◌, ◌<◌, ◌≤◌, true, List, [], ◌∷◌, ◌++◌, filter, length, All, refl, sym, ap, ap₂, ◌∙◌, subst, arith}
 use Rattle.std.proofs.lemmas.List.Elements.{All-map, All-filter}
 use Rattle.rollout_rules.specs.Items.{item_count}
 use Rattle.rollout_rules.specs.History.{History, with_entries, flies}
 use Rattle.rollout_rules.specs.Legal.{is_legal, may_follow}
-use Rattle.rollout_rules.specs.Release.{next_op, dones, release, batch}
+use Rattle.rollout_rules.specs.Release.{next_op, dones, batch}
 use Rattle.rollout_rules.specs.World.{in_flight}
 use Rattle.rollout_rules.specs.Wan.{Problem}
 use Rattle.rollout_rules.specs.declared.op.Op.{Op}
 use Rattle.rollout_rules.specs.declared.op.OpView.{OpView}
 use Rattle.rollout_rules.specs.declared.op.Entry.{Entry}
-use Rattle.rollout_laws.proofs.Histories.{with_none, with_both, is_legal-append}
-use Rattle.rollout_laws.proofs.Rounds.{numbers_below, dones_follow, release_follows, release_begins_next, batch_follows, batch_is_legal}
+use Rattle.rollout_laws.proofs.Histories.{with_both}
+use Rattle.rollout_laws.proofs.Rounds.{numbers_below, batch_follows, batch_is_legal}
 use Rattle.dependency_graph.specs.Graph.{Followed}
-use Rattle.update_scheduler.specs.Benches.{Begun, ops_of}
+use Rattle.update_scheduler.specs.Benches.{Begun}
 use Rattle.update_scheduler.specs.Tried.{released_by, with_release}
 use Rattle.rollout_rounds.specs.Endings.{Tidings, covered_items, with_told, ended, with_ended, with_dones}
-use Rattle.rollout_rounds.specs.Flights.{Flown, AreRenewed, merged}
+use Rattle.rollout_rounds.specs.Flights.{Flown, with_each}
 use Rattle.rollout_rounds.specs.Rounds.{Turning, after_round}
 use Rattle.rollout_rounds.specs.Rows.{numbers}
 use Rattle.rollout_rounds.specs.Turns.{with_batch, begun_in, IsTurning}
 use Rattle.rollout_rounds.proofs.Ended.{covered-ended, told-more, none-covered}
-use Rattle.rollout_rounds.proofs.Merging.{sorted-items-rise}
-use Rattle.rollout_rounds.proofs.Flying.{flying-later}
-use Rattle.rollout_rounds.proofs.Batches.{flying-short, dones-begin, begins-times, begins-end, begins-next, batch-begins, batch-few_begins, batch-few_dones}
+use Rattle.rollout_rounds.proofs.Flying.{flown-each}
+use Rattle.rollout_rounds.proofs.Batches.{flying-short, counts-long, batch-begins, batch-few_begins, batch-few_dones}
 
 -- ---- operations in flight
 pub flying-inside : (p : Problem) (h : History) → All (λ op. op.item < item_count p) (in_flight p h)
@@ -117,32 +116,25 @@ module _ (g : Followed) (bench : Begun) (flights : Flown) (told : Tidings) (entr
     moved : (flights' : Flown) → flights'.items ≡ flights.items → flights'.ops ≡ in_flight g.rollout.problem (with_batch g policy told.answers).history → IsTurning next bench' flights' told' entries' room'
     moved flights' fit are = rw (next-is, bench-is, told-is, entries-are, room-is) (turns flights' fit are)
 
-    -- what is in flight behind it
-    renewed : (flights' : Flown) → AreRenewed (with_batch g policy told.answers).history flights.ops (begun_in g policy told.answers) flights'.ops → flights'.ops ≡ in_flight g.rollout.problem (with_batch g policy told.answers).history
-    renewed flights' new =
+    pub turned : (flights' : Flown) → flights'.items ≡ flights.items → flights'.ops ≡ with_each flights.ops entries' → IsTurning next bench' flights' told' entries' room'
+    turned flights' fit are =
         let p = g.rollout.problem in
-        let plan = g.rollout.plan in
-        let ends = dones p g.history told.answers in
-        let between = with_entries g.history ends in
-        let starts = release p plan policy between in
-        let nexts = release_begins_next p plan policy between in
-        let whole : with_entries between starts ≡ (with_batch g policy told.answers).history = with_both g.history ends starts in
-        let legal-ends = is_legal-append p plan g.history ends now.legal (dones_follow p plan g.history told.answers) in
-        let legal-all = is_legal-append p plan between starts legal-ends (release_follows p plan policy between) in
-        let flying =
-        flying-later p plan g.history ends starts now.legal legal-ends legal-all (dones-begin p g.history told.answers) (begins-end between starts nexts) (ops_of starts) new.sorted
-        (begins-times between starts nexts) (begins-next between starts nexts) new.moved (sorted-items-rise new.sorted new.rises) in
-        new.is ∙ subst (λ h. merged h flights.ops new.sorted ≡ in_flight p h) whole (subst (λ ops. merged (with_entries between starts) ops new.sorted ≡ in_flight p (with_entries between starts)) (sym now.flying) flying)
+        let es = batch p g.rollout.plan policy g.history told.answers in
+        moved flights' fit (are ∙ ap₂ (λ ops new. with_each ops new) now.flying entries-are ∙ flown-each p g.rollout.plan g.history es now.legal (batch_follows p g.rollout.plan policy g.history told.answers))
 
-    pub turned : (flights' : Flown) → flights'.items ≡ flights.items → AreRenewed next.history flights.ops bench'.begun flights'.ops → IsTurning next bench' flights' told' entries' room'
-    turned flights' fit new =
-        moved flights' fit (renewed flights' (subst (λ (b : Begun). AreRenewed (with_batch g policy told.answers).history flights.ops b.begun flights'.ops) bench-is (subst (λ (f : Followed). AreRenewed f.history flights.ops bench'.begun flights'.ops) next-is new)))
-
-    -- a round that changed nothing
-    pub unmoved : entries' ≡ [] → IsTurning next bench' flights told' entries' room'
-    unmoved none =
-        let same : (with_batch g policy told.answers).history ≡ g.history = ap (with_entries g.history) (sym entries-are ∙ none) ∙ with_none g.history in
-        moved flights refl (now.flying ∙ ap (in_flight g.rollout.problem) (sym same))
+    pub few-entries : length flights.ops + length entries' ≤ 3 * flights.items
+    few-entries =
+        let p = g.rollout.problem in
+        let es = batch p g.rollout.plan policy g.history told.answers in
+        omega (
+          arith,
+          few-flights,
+          ap length entries-are,
+          counts-long es,
+          batch-few_dones p g.rollout.plan policy g.history told.answers,
+          batch-few_begins p g.rollout.plan policy g.history told.answers,
+          now.flights_fit,
+        )
 
     -- what contracts see behind it
     pub turned-view : (t : Turning) → record { rollout = g.rollout; history = g.history; heard = told.answers; batch = entries } ≡ t → record { rollout = next.rollout; history = next.history; heard = told'.answers; batch = entries' } ≡ after_round t policy

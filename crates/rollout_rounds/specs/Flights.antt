@@ -1,8 +1,8 @@
 -- The operations in flight, kept by item.
-use Rattle.std.specs.Prelude.{◌≡◌, ℕ, Bool, List, [], ◌∷◌, ◌++◌, map, nat_lt, if◌then◌else◌, IsPermutation}
-use Rattle.std.specs.List.Sorted.{IsNonDecreasingBy}
-use Rattle.rollout_rules.specs.History.{History, settled}
+use Rattle.std.specs.Prelude.{ℕ, List, [], ◌∷◌, ◌++◌, map, drop, nat_lt, if◌then◌else◌}
 use Rattle.rollout_rules.specs.declared.op.Op.{Op}
+use Rattle.rollout_rules.specs.declared.op.Entry.{Entry}
+use Rattle.rollout_rules.specs.declared.op.Entry.TheVariants.{Begin, Done}
 
 -- for how many items there is room, and the operations
 pub record Flown : Type 0 where
@@ -13,13 +13,6 @@ pub record Flown : Type 0 where
 abbrev pub items_of : List Op → List ℕ
 items_of ops = map (λ op. op.item) ops
 
--- whether an operation isn't settled
-abbrev pub is_open : History → Op → Bool
-is_open h op = nat_lt (settled h op.item) op.number
-
-abbrev pub if_open : History → Op → List Op
-if_open h op = if is_open h op then op ∷ [] else []
-
 -- of operations by item those of lower items, and the others
 abbrev pub ahead : ℕ → List Op → List Op
 ahead n [] = []
@@ -29,14 +22,13 @@ abbrev pub behind : ℕ → List Op → List Op
 behind n [] = []
 behind n (op ∷ ops) = if nat_lt op.item n then behind n ops else op ∷ ops
 
--- of operations those that aren't settled, with others, by item
-abbrev pub merged : History → List Op → List Op → List Op
-merged h [] others = others
-merged h (op ∷ ops) others = ahead op.item others ++ (if_open h op ++ merged h ops (behind op.item others))
+-- Behind an entry: an operation that begins comes in at the place of its item, and one that is done goes from there. This speaks
+-- of operations whose items go up, in which one that begins has no place yet, and one that is done stands: of any other list what is done takes out the
+-- first that isn't ahead.
+abbrev pub with_entry : List Op → Entry → List Op
+with_entry ops (Begin op) = ahead op.item ops ++ (op ∷ behind op.item ops)
+with_entry ops (Done op) = ahead op.item ops ++ drop 1 (behind op.item ops)
 
--- Of the operations that were in flight those that aren't settled are left, and those that were begun came in, by item.
-pub record AreRenewed (h : History) (old begun new : List Op) : Type 0 where
-  pub sorted : List Op
-  pub moved : IsPermutation begun sorted
-  pub rises : IsNonDecreasingBy (λ op. op.item) sorted
-  pub is : new ≡ merged h old sorted
+abbrev pub with_each : List Op → List Entry → List Op
+with_each ops [] = ops
+with_each ops (e ∷ es) = with_each (with_entry ops e) es

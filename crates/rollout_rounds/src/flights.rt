@@ -1,19 +1,19 @@
-ghost use Rattle.std.specs.Prelude.{◌≡◌, ◌+◌, ◌*◌, ◌<◌, ◌≤◌, ◌++◌, ◌∷◌, [], length, drop, All, IfOk, IsTrue, IsPermutation, vec_len, vec_capacity};
-ghost use Rattle.std.specs.List.Sorted.{IsNonDecreasingBy};
+ghost use Rattle.std.specs.Prelude.{◌≡◌, ◌+◌, ◌*◌, ◌<◌, ◌≤◌, ◌++◌, [], length, drop, take, nat_lt, IfOk, IsTrue, vec_len, vec_capacity};
 ghost use Rattle.rollout_rules.specs.Items.{item_count};
 ghost use Rattle.rollout_rules.specs.History.{settled};
 ghost use Rattle.rollout_rules.specs.Legal.{is_legal};
 ghost use Rattle.rollout_rules.specs.Release as rule;
 ghost use Rattle.rollout_rules.specs.World.{in_flight};
+ghost use Rattle.rollout_rules.specs.declared.op.Entry.TheVariants.{Begin};
 ghost use Rattle.dependency_graph.specs.Graph.{count_of};
-ghost use Rattle.rollout_rounds.specs.Flights.{ahead, behind, if_open, merged, AreRenewed};
+ghost use Rattle.rollout_rounds.specs.Flights.{ahead, behind, items_of, with_each, with_entry};
+ghost use Rattle.rollout_rounds.specs.Rows.{Rises};
 
 use dependency_graph::Graph;
 use lists::Memory;
-use rollout_rules::Op;
+use rollout_rules::{Entry, Op};
 use std::alloc::Global;
 use std::marker::Model;
-use std::mem;
 use wan_model::item_count;
 
 /// The operations in flight, by item.
@@ -21,19 +21,18 @@ use wan_model::item_count;
 pub(crate) struct Flights {
     items: u32,
     ops: Vec<Op>,
-    spare: Vec<Op>,
-    begun: Vec<Op>,
 }
 
 impl Model for Flights {
     ghost use Rattle.std.specs.Prelude.{◌*◌, ◌≤◌, vec_capacity};
-    ghost use Rattle.rollout_rounds.specs.Flights.{Flown};
+    ghost use Rattle.rollout_rounds.specs.Flights.{Flown, items_of};
+    ghost use Rattle.rollout_rounds.specs.Rows.{Rises};
 
     ghost Value = { Flown };
 
     ghost view = { λ f. record { items = f.items; ops = f.ops.items } };
 
-    ghost invariant = { λ f. (2 * f.items ≤ vec_capacity f.ops) × (2 * f.items ≤ vec_capacity f.spare) × (f.items ≤ vec_capacity f.begun) };
+    ghost invariant = { λ f. (3 * f.items ≤ vec_capacity f.ops) × Rises (items_of f.ops.items) };
 }
 
 impl Flights {
@@ -43,14 +42,9 @@ impl Flights {
         ensures { IfOk result (λ f. f ≡ record { items = item_count graph.now.rollout.problem; ops = in_flight graph.now.rollout.problem graph.now.history }) }
     {
         let items = item_count(graph.plan().problem());
-        let mut ops = Vec::with_capacity(alloc, 2 * items as usize)?;
+        let mut ops = Vec::with_capacity(alloc, 3 * items as usize)?;
         find(graph, items, &mut ops);
-        Ok(Flights {
-            items,
-            ops,
-            spare: Vec::with_capacity(alloc, 2 * items as usize)?,
-            begun: Vec::with_capacity(alloc, items as usize)?,
-        })
+        Ok(Flights { items, ops })
     }
 
     pub(crate) fn ops(&self) -> &[Op]
@@ -59,19 +53,68 @@ impl Flights {
         self.ops.as_slice()
     }
 
-    /// Leaves out those that are settled, and takes in those that were begun. Time: both, and the sorting of
-    /// those begun.
-    pub(crate) fn renew(&mut self, graph: &Graph, begun: &[Op])
-        requires items { All (λ op. op.item < item_count graph.now.rollout.problem) self.old.ops }
-        requires few { length self.old.ops ≤ self.old.items }
-        requires room { length begun.now ≤ self.old.items }
+    /// Follows entries of the history: what begins comes in, and what is done goes. Time: for each entry the
+    /// logarithm of what is in flight, and the moving of what lies behind its place.
+    pub(crate) fn follow(&mut self, entries: &[Entry])
+        requires room { length self.old.ops + length entries.now ≤ 3 * self.old.items }
         ensures items { self.new.items ≡ self.old.items }
-        ensures renewed { AreRenewed graph.now.history self.old.ops begun.now self.new.ops }
+        ensures ops { self.new.ops ≡ with_each self.old.ops entries.now }
     {
-        put_by_item(begun, &mut self.begun);
-        merge(graph, &self.ops, &self.begun, &mut self.spare);
-        mem::swap(&mut self.ops, &mut self.spare);
+        for entry in entries {
+            self.take(*entry);
+        }
     }
+
+    fn take(&mut self, entry: Entry)
+        requires room { length self.old.ops < 3 * self.old.items }
+        ensures items { self.new.items ≡ self.old.items }
+        ensures ops { self.new.ops ≡ with_entry self.old.ops entry }
+        ensures len { length self.new.ops ≤ length self.old.ops + 1 }
+    {
+        match entry {
+            Entry::Begin(op) => put_in(&mut self.ops, op),
+            Entry::Done(op) => leave_out(&mut self.ops, op.item),
+        }
+    }
+}
+
+/// Puts an operation in at the place of its item.
+fn put_in(ops: &mut Vec<Op>, op: Op)
+    requires rises { Rises (items_of ops.old.items) }
+    requires room { vec_len ops.old < vec_capacity ops.old }
+    ensures ops { ops.new.items ≡ with_entry ops.old.items (Begin op) }
+    ensures rises { Rises (items_of ops.new.items) }
+    ensures capacity { vec_capacity ops.new ≡ vec_capacity ops.old }
+{
+    let place = place_of(ops, op.item);
+    let _ = ops.insert(place, op);
+}
+
+/// Takes the operation of an item out, which stands there; where none does, the first of a higher item goes.
+fn leave_out(ops: &mut Vec<Op>, item: u32)
+    requires rises { Rises (items_of ops.old.items) }
+    ensures ops { ops.new.items ≡ ahead item ops.old.items ++ drop 1 (behind item ops.old.items) }
+    ensures rises { Rises (items_of ops.new.items) }
+    ensures capacity { vec_capacity ops.new ≡ vec_capacity ops.old }
+{
+    let place = place_of(ops, item);
+    if place < ops.len() {
+        let _ = ops.remove(place);
+    }
+}
+
+/// How many operations are of lower items than this one. Time: the logarithm of how many there are.
+fn place_of(ops: &[Op], item: u32) -> usize
+    requires rises { Rises (items_of ops.now) }
+    ensures front { take result ops.now ≡ ahead item ops.now }
+    ensures rest { drop result ops.now ≡ behind item ops.now }
+    ensures most { result ≤ length ops.now }
+{
+    ops.partition_point(
+        |op: &Op| -> bool
+            ensures { result ≡ nat_lt op.now.item item }
+        { op.item < item },
+    )
 }
 
 /// Adds the operations in flight, by item.
@@ -100,77 +143,5 @@ fn next_op(graph: &Graph, item: u32) -> Op
     Op {
         item,
         number: graph.settled(item) + 1,
-    }
-}
-
-/// Operations, put in order of their items.
-fn put_by_item(ops: &[Op], into: &mut Vec<Op>)
-    requires room { length ops.now ≤ vec_capacity into.old }
-    ensures moved { IsPermutation ops.now into.new.items }
-    ensures rises { IsNonDecreasingBy (λ op. op.item) into.new.items }
-    ensures capacity { vec_capacity into.new ≡ vec_capacity into.old }
-{
-    into.clear();
-    add_from(ops, 0, into);
-    into.sort_unstable_by_key(|op| op.item);
-}
-
-/// Puts the operations that aren't settled together with others, by item.
-fn merge(graph: &Graph, ops: &[Op], others: &[Op], into: &mut Vec<Op>)
-    requires items { All (λ op. op.item < item_count graph.now.rollout.problem) ops.now }
-    requires room { length ops.now + length others.now ≤ vec_capacity into.old }
-    ensures merged { into.new.items ≡ merged graph.now.history ops.now others.now }
-    ensures capacity { vec_capacity into.new ≡ vec_capacity into.old }
-{
-    into.clear();
-    let mut next = 0;
-    for op in ops {
-        next = add_ahead(others, next, op.item, into);
-        add_if_open(graph, *op, into);
-    }
-    add_from(others, next, into);
-}
-
-/// Adds the operations from a place on that are of lower items, and says where the others begin.
-fn add_ahead(ops: &[Op], from: usize, item: u32, into: &mut Vec<Op>) -> usize
-    requires from { from ≤ length ops.now }
-    requires room { vec_len into.old + length ops.now ≤ from + vec_capacity into.old }
-    ensures ahead { into.new.items ≡ into.old.items ++ ahead item (drop from ops.now) }
-    ensures behind { drop result ops.now ≡ behind item (drop from ops.now) }
-    ensures low { from ≤ result }
-    ensures high { result ≤ length ops.now }
-    ensures len { vec_len into.new + from ≡ vec_len into.old + result }
-    ensures capacity { vec_capacity into.new ≡ vec_capacity into.old }
-{
-    for place in from..ops.len() {
-        if item <= ops[place].item {
-            return place;
-        }
-        into.push_reserved(ops[place]);
-    }
-    ops.len()
-}
-
-fn add_if_open(graph: &Graph, op: Op, into: &mut Vec<Op>)
-    requires item { op.item < item_count graph.now.rollout.problem }
-    requires room { vec_len into.old < vec_capacity into.old }
-    ensures added { into.new.items ≡ into.old.items ++ if_open graph.now.history op }
-    ensures len { vec_len into.new ≤ vec_len into.old + 1 }
-    ensures capacity { vec_capacity into.new ≡ vec_capacity into.old }
-{
-    if graph.settled(op.item) < op.number {
-        into.push_reserved(op);
-    }
-}
-
-/// Adds the operations from a place on.
-fn add_from(ops: &[Op], from: usize, into: &mut Vec<Op>)
-    requires from { from ≤ length ops.now }
-    requires room { vec_len into.old + length ops.now ≤ from + vec_capacity into.old }
-    ensures added { into.new.items ≡ into.old.items ++ drop from ops.now }
-    ensures capacity { vec_capacity into.new ≡ vec_capacity into.old }
-{
-    for place in from..ops.len() {
-        into.push_reserved(ops[place]);
     }
 }

@@ -84,9 +84,7 @@ impl Rounds {
             &mut self.told,
             &mut self.batch,
         );
-        if !self.batch.is_empty() {
-            self.flights.renew(&self.graph, self.bench.begun());
-        }
+        self.flights.follow(&self.batch);
     }
 
     /// The batch of the last round; none before the first.

@@ -1,8 +1,8 @@
 -- Which starts are sound, and which histories are legal.
-use Rattle.std.specs.Prelude.{ℕ, ◌+◌, Bool, true, not, ◌&&◌, List, [], ◌∷◌, ◌==◌, nat_le, nat_lt}
+use Rattle.std.specs.Prelude.{ℕ, ◌+◌, ◌-◌, Bool, true, not, ◌&&◌, List, [], ◌∷◌, ◌==◌, nat_le, nat_lt}
 use Rattle.rollout_rules.specs.Wan.{Problem, Plan}
 use Rattle.rollout_rules.specs.Items.{item_count, item_at, all_items}
-use Rattle.rollout_rules.specs.Sums.{all_below}
+use Rattle.rollout_rules.specs.Sums.{all_below, sum_below}
 use Rattle.rollout_rules.specs.Operations.{operations, stand_after}
 use Rattle.rollout_rules.specs.History.{History, Places, started, with_entries, settled, flies, places_of}
 use Rattle.rollout_rules.specs.Needs.{needs_met_at, needs_met}
@@ -58,3 +58,7 @@ is_legal p plan h = is_sound p plan h.start && may_follow p plan (started h.star
 -- whether every operation of every item is settled
 abbrev pub is_finished : Problem → Plan → History → Bool
 is_finished p plan h = all_below (item_count p) (λ n. settled h n == operations p plan (item_at p n))
+
+-- how many operations aren't settled
+abbrev pub unsettled : Problem → Plan → History → ℕ
+unsettled p plan h = sum_below (item_count p) (λ n. operations p plan (item_at p n) - settled h n)

@@ -1,14 +1,9 @@
 -- A worker that is alone in its run.
-use Rattle.std.proofs.Common.{◌≡◌, ◌≢◌, ℕ, suc, zero, ◌<◌, true, false, Bool, List, [], ◌∷◌, ◌++◌, IsPermutation, Option, Some, None, append-nil, if◌then◌else◌, inl, refl, sym, ap, ◌∙◌, subst, arith, map, ap₂}
-use Rattle.std.specs.Prelude.{All, IsTrue}
+use Rattle.std.proofs.Common.{◌≡◌, ℕ, true, false, Bool, List, [], ◌∷◌, ◌++◌, Option, Some, None, append-nil, if◌then◌else◌, inl, inr, refl, sym, ap, ◌∙◌, subst, arith}
 use Rattle.std.proofs.lemmas.List.Elements.{All-append, All-nil, All-push}
 use Rattle.std.proofs.lemmas.List.Sorted.{IsPermutation-refl}
-use Rattle.rollout_rules.specs.declared.op.Op.{Op}
-use Rattle.turn_lock.specs.Histories.{Follows}
 use Rattle.port_session.specs.Sessions.{Talk}
-use Rattle.worker_ports.specs.Stories.{LastStory, LastStoryEach}
-use Rattle.worker_ports.specs.Views.{Telling, view}
-use Rattle.wan_edge.specs.Frames.{Command}
+use Rattle.worker_ports.specs.Views.{Telling}
 use Rattle.shared_book.specs.Calls.{IsRoundCall, IsStopCall, seat_of}
 use Rattle.shared_book.specs.declared.reply.RoundReply.{RoundReply}
 use Rattle.rollout_book.specs.declared.fault.BookFault.TheVariants as fault
@@ -20,16 +15,17 @@ use Rattle.shared_history.specs.declared.note.What.TheVariants as what
 use Rattle.shared_history.specs.declared.note.Written.{Written}
 use Rattle.shared_history.specs.declared.reply.Halt.{Halt}
 use Rattle.shared_history.specs.declared.reply.Wake.{Wake}
-use Rattle.shared_history.specs.Histories.{Opening}
+use Rattle.shared_history.specs.Histories.{Opening, history_of}
 use Rattle.shared_history.specs.Knows.{next_note}
 use Rattle.shared_history.specs.Notes.{has_asked}
-use Rattle.controller_run.specs.Promises.{BeginsAlone, EndNothing, Promises, StopsNothing}
+use Rattle.shared_history.specs.Replies.{batch_at}
+use Rattle.controller_run.specs.Promises.{BeginsAlone, EndNothing, StopsNothing}
 use Rattle.controller_run.specs.Serving.{Served}
 use Rattle.controller_run.specs.Working.{Standing}
 use Rattle.controller_run.proofs.Alone.{begins-alone, quiet-turned}
-use Rattle.controller_run.proofs.Keeps.{serves-keeps}
+use Rattle.controller_run.proofs.Endings.{stop-first}
 use Rattle.rollout_run.specs.Runs.{cause_behind}
-use Rattle.rollout_run.specs.Shifts.{AreFresh, IsQuiet, IsShift, Returns, Shift}
+use Rattle.rollout_run.specs.Shifts.{AreFresh, HasTurned, IsHalted, IsQuiet, IsShift, Returns, Shift, StopsEarly}
 use Rattle.rollout_run.specs.Together.{HasWorked}
 
 has_turned : (reply : RoundReply) → ((why : Cause) → cause_behind reply ≡ Some why → ⊥) → (turn : Turn) × (reply ≡ round.Turned turn)
@@ -58,6 +54,19 @@ module _ (o : Opening) (seat : ℕ) where
       quiet-turned o seat [] seen after turned.0 (subst (λ (ws : List Written). StopsNothing seat ws) (sym none) (All-nil _))
       (subst (λ (r : RoundReply). IsRoundCall o (seat ∷ []) seat seen [] r after) turned.1 (subst (λ (ns : List ℕ). IsRoundCall o ns seat seen [] reply after) same (subst (λ (n : ℕ). IsRoundCall o seats n seen [] reply after) is call)))
 
+  -- and a note says that it did
+  pub turned_first : (seats : List ℕ) (asked : ℕ) (seen after : List Written) (reply : RoundReply) → ((why : Cause) → cause_behind reply ≡ Some why → ⊥) → IsRoundCall o seats asked seen [] reply after → HasTurned after
+  turned_first seats asked seen after reply uncaused call =
+      let turned = has_turned reply uncaused in
+      of_call turned.0 (subst (λ (r : RoundReply). IsRoundCall o seats asked seen [] r after) turned.1 call)
+    where
+      of_call : (turn : Turn) → IsRoundCall o seats asked seen [] (round.Turned turn) after → HasTurned after
+      of_call turn call = record { front = call.log; note = next_note asked call.log (what.Turned turn.dones turn.begins) (batch_at o (history_of o call.log) []); later = []; is = call.noted; dones = turn.dones; begins = turn.begins; says = refl }
+
+  -- behind the call of a stop one stands
+  pub halted_after : (seats : List ℕ) (asked : ℕ) (seen after : List Written) (why : Cause) (halt : Halt) → IsStopCall o seats asked seen why halt after → IsHalted after
+  halted_after seats asked seen after why halt call = (halt, stop-first asked call.log why halt after (has_asked asked call.log) refl call.noted call.told)
+
   -- and behind a stop
   quiet_stop : (seen after : List Written) (why : Cause) (halt : Halt) → IsQuiet seat seen → IsStopCall o (seat ∷ []) seat seen why halt after → IsQuiet seat after
   quiet_stop seen after why halt quiet call = subst (λ (ws : List Written). IsQuiet seat ws) (sym call.noted) (either (has_asked seat call.log))
@@ -77,34 +86,35 @@ module _ (o : Opening) (seat : ℕ) where
       quiet_stop seen after why halt quiet (subst (λ (ns : List ℕ). IsStopCall o ns seat seen why halt after) same (subst (λ (n : ℕ). IsStopCall o seats n seen why halt after) is call))
 
 module _ {P : Type 0} (tell : P → Telling) (o : Opening) (migration : ℕ) (homes : List (Option ℕ)) (rounds : ℕ) where
-  -- one worker has seat 0, and all that it has seen is the history
-  pub alone : (before now : Standing P) (end : Option Wake) → IsQuiet 0 before.seen → AreFresh before.ports → Returns tell o 0 migration homes rounds before end now → HasWorked tell o migration homes rounds before.ports [] 1 now.seen (now.ports ∷ [])
-  alone before now end quiet fresh returns =
-      let s : Shift P = record { given = record { seat = 0; before = before }; end = end; now = now } in
+  -- served by seat 0, as it is told of the pass
+  pub served : (seats : List ℕ) (seat : ℕ) (before now : Standing P) (end : Wake) → seats ≡ 0 ∷ [] → seat ≡ 0 → Served tell o seats seat migration homes rounds before end now → Served tell o (0 ∷ []) 0 migration homes rounds before end now
+  served seats seat before now end same is did =
+      subst (λ (ns : List ℕ). Served tell o ns 0 migration homes rounds before end now) same
+      (subst (λ (n : ℕ). Served tell o seats n migration homes rounds before end now) is did)
+
+  -- the shift of seat 0, of which all that it has seen is the history
+  pub own_shift : (before now : Standing P) (end : Option Wake) → IsQuiet 0 before.seen → AreFresh before.ports → Returns tell o 0 migration homes rounds before end now
+      → IsShift tell o migration homes rounds now.seen (record { given = record { seat = 0; before = before }; end = end; now = now })
+  own_shift before now end quiet fresh returns = record { quiet = quiet; fresh = fresh; returns = returns; follows = record { past = []; is = sym (append-nil now.seen); none = All-nil _ } }
+
+  abbrev pub unbegun : List Written → Standing P
+  unbegun seen = record { seen = seen; ports = [] }
+
+  -- where it never began it has no ports
+  pub idle_shift : (seen : List Written) → IsQuiet 0 seen → StopsEarly 0 seen → IsHalted seen → IsShift tell o migration homes rounds seen (record { given = record { seat = 0; before = unbegun seen }; end = None; now = unbegun seen })
+  idle_shift seen quiet early halted = own_shift (unbegun seen) (unbegun seen) None quiet (λ k d inside. absurd (omega (arith, inside))) (refl, early, inl halted)
+
+  -- and nobody has served any
+  pub unserved : (whole : List (Talk P)) (given : ℕ) (seen : List Written) → given ≡ 1 → IsQuiet 0 seen → StopsEarly 0 seen → IsHalted seen → HasWorked tell o migration homes rounds whole given seen whole
+  unserved whole given seen one quiet early halted =
+      let s : Shift P = record { given = record { seat = 0; before = unbegun seen }; end = None; now = unbegun seen } in
       record {
         shifts = s ∷ [];
-        whole_shifts = All-push (IsShift tell o migration homes rounds now.seen) [] s (All-nil (IsShift tell o migration homes rounds now.seen))
-            (record { quiet = quiet; fresh = fresh; returns = returns; follows = record { past = []; is = sym (append-nil now.seen); none = All-nil _ } });
-        seated = λ seat below. inl (omega (arith, below));
-        same = subst (λ (l : List (Talk P)). IsPermutation before.ports (l ++ [])) (sym (append-nil before.ports)) (subst (λ (l : List (Talk P)). IsPermutation before.ports l) (sym (append-nil before.ports)) (IsPermutation-refl before.ports));
-        back = refl;
+        whole_shifts = All-push (IsShift tell o migration homes rounds seen) [] s (All-nil (IsShift tell o migration homes rounds seen)) (idle_shift seen quiet early halted);
+        some_seat = omega (arith, one);
+        seated = λ seat below. inl (omega (arith, below, one));
+        spare = whole;
+        same = IsPermutation-refl whole;
+        back = IsPermutation-refl whole;
+        spared = inr halted;
       }
-
-  -- served by seat 0, as it is told of the pass
-  pub served : (seats : List ℕ) (seat : ℕ) (given : List (Option ℕ)) (before now : Standing P) (end : Wake) → seats ≡ 0 ∷ [] → seat ≡ 0 → given ≡ homes → Served tell o seats seat migration given rounds before end now → Served tell o (0 ∷ []) 0 migration homes rounds before end now
-  served seats seat given before now end same is same_homes did =
-      subst (λ (ns : List ℕ). Served tell o ns 0 migration homes rounds before end now) same
-      (subst (λ (n : ℕ). Served tell o seats n migration homes rounds before end now) is
-      (subst (λ (hs : List (Option ℕ)). Served tell o seats seat migration hs rounds before end now) same_homes did))
-
-  -- no port is taken for another's switch
-  switches_stay : (commands : List Command) (ps ns : List (Talk P)) → LastStoryEach tell migration homes commands ps ns → map (λ t. t.switch) ns ≡ map (λ t. t.switch) ps
-  switches_stay commands [] [] story = refl
-  switches_stay commands [] (n ∷ ns) story = absurd story
-  switches_stay commands (p ∷ ps) [] story = absurd story
-  switches_stay commands (p ∷ ps) (n ∷ ns) story = ap₂ (λ (w : ℕ) (ws : List ℕ). w ∷ ws) story.0.switch (switches_stay commands ps ns story.1)
-
-  pub same_switches : (before now : Standing P) (end : Wake) → AreFresh before.ports → StopsNothing 0 before.seen → Served tell o (0 ∷ []) 0 migration homes rounds before end now → map (λ t. t.switch) now.ports ≡ map (λ t. t.switch) before.ports
-  same_switches before now end fresh nothing did =
-      let promises : Promises tell o 0 migration homes rounds before end now = serves-keeps tell o 0 [] migration homes rounds before nothing end now (λ k d inside. subst (λ (t : Talk P). IsTrue t.stream.live) (sym (fresh k d inside)) refl) did in
-      switches_stay _ before.ports now.ports promises.sent

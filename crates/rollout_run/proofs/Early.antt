@@ -86,13 +86,16 @@ module _ (o : Opening) (seat : ℕ) where
       let same : told ≡ halt = same_halt (first_stop after) told halt (still_first turned after why asked told stop at) first in
       absurd (quiet-first seat call.log told (quiet-past seat [] seen call.log quiet call.past) call.told (ap (λ (h : Halt). h.seat) same ∙ mine))
 
-  -- memory ran out
-  by_memory : (seen turned after : List Written) (asked : Halt) → StopsNothing seat seen → IsRoundCall o (seat ∷ []) seat seen [] round.Memory turned → IsStopCall o (seat ∷ []) seat turned cause.Memory asked after → StopsEarly seat after
-  by_memory seen turned after asked quiet call stop halt first mine =
-      let still = subst (StopsNothing seat) (sym call.noted) (quiet-past seat [] seen call.log quiet call.past) in
-      let log_still = quiet-past seat [] turned stop.log still stop.past in
+  -- the seat stops all for want of memory
+  pub memory_stop : (seen after : List Written) (asked : Halt) → StopsNothing seat seen → IsStopCall o (seat ∷ []) seat seen cause.Memory asked after → StopsEarly seat after
+  memory_stop seen after asked still stop halt first mine =
+      let log_still = quiet-past seat [] seen stop.log still stop.past in
       let why : halt.cause ≡ cause.Memory = own_cause stop.log cause.Memory halt (has_asked seat stop.log) log_still (sym (ap first_stop stop.noted) ∙ first) mine in
       subst (λ (c : Cause). IsEarlyCause after c) (sym why) tt
+
+  -- memory ran out
+  by_memory : (seen turned after : List Written) (asked : Halt) → StopsNothing seat seen → IsRoundCall o (seat ∷ []) seat seen [] round.Memory turned → IsStopCall o (seat ∷ []) seat turned cause.Memory asked after → StopsEarly seat after
+  by_memory seen turned after asked quiet call stop = memory_stop turned after asked (subst (StopsNothing seat) (sym call.noted) (quiet-past seat [] seen call.log quiet call.past)) stop
 
   early : (seen turned after : List Written) (reply : RoundReply) (why : Cause) (asked : Halt) → StopsNothing seat seen → cause_behind reply ≡ Some why
       → IsRoundCall o (seat ∷ []) seat seen [] reply turned → IsStopCall o (seat ∷ []) seat turned why asked after → StopsEarly seat after

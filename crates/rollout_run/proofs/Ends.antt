@@ -1,8 +1,8 @@
 -- How a run ends, by its book and its first stop.
-use Rattle.std.proofs.Common.{◌≡◌, ℕ, Bool, true, false, List, [], ◌∷◌, ◌++◌, Option, Some, None, min, refl, sym, ap, ◌∙◌, subst, length, arith}
+use Rattle.std.proofs.Common.{◌≡◌, Bool, true, false, List, Option, Some, None, refl, sym, ap, ◌∙◌, subst}
 use Rattle.rollout_rules.specs.Legal.{is_finished}
 use Rattle.rollout_rules.specs.Wan.{Rollout}
-use Rattle.rollout_rules.specs.History.{History, with_entries}
+use Rattle.rollout_rules.specs.History.{History}
 use Rattle.rollout_book.specs.Chronicles.{Chronicled}
 use Rattle.shared_book.specs.Opened.{IsClosed}
 use Rattle.shared_book.proofs.Unstopped.{unstopped}
@@ -13,7 +13,6 @@ use Rattle.shared_history.specs.Legal.{is_legal_shared}
 use Rattle.shared_history.specs.Notes.{first_stop}
 use Rattle.rollout_run.specs.Runs.{IsRun, IsRunEnd, end_with}
 use Rattle.rollout_run.specs.declared.end.RunEnd.{RunEnd}
-use Rattle.rollout_run.specs.declared.end.RunEnd.TheVariants as run
 
 -- an end that a book and a stop give is that of a run that has begun
 pub has_begun : (halt : Option Halt) (finished : Bool) (begun : RunEnd → Type 0) (unbegun : Type 0) (end : RunEnd) → end ≡ end_with halt finished → begun end → IsRun end (begun end) unbegun

@@ -1,7 +1,7 @@
 -- What stands at a switch where ports are given back.
-use Rattle.std.proofs.Common.{◌≡◌, ℕ, suc, zero, ◌<◌, ◌==◌, true, false, cond, List, [], ◌∷◌, ◌++◌, IsPermutation, Option, Some, length, map, slice_index_or, refl, sym, ap, ◌∙◌, subst, arith, eq-eqb}
-use Rattle.std.specs.Prelude.{All, nat_eq}
-use Rattle.std.specs.List.{AllByRecursion, AllZip, Contains, IsDistinct, flat_map}
+use Rattle.std.proofs.Common.{◌≡◌, ℕ, suc, zero, ◌<◌, ◌==◌, false, cond, List, [], ◌∷◌, Option, Some, length, slice_index_or, refl, sym, ap, ◌∙◌, subst, arith, eq-eqb}
+use Rattle.std.specs.Prelude.{nat_eq}
+use Rattle.std.specs.List.{AllByRecursion, Contains}
 use Rattle.worker_ports.specs.declared.ports.Berth.{Berth}
 use Rattle.rollout_ports.specs.Berths.{AreApart, switches_of, with_each}
 use Rattle.rollout_ports.proofs.Places.{swapped}

@@ -1,19 +1,16 @@
 -- What a worker has come to, said of a history that has gone on since.
-use Rattle.std.proofs.Common.{◌≡◌, ◌≢◌, ℕ, true, List, [], ◌∷◌, ◌++◌, Option, Some, None, append_assoc, slice_index_or, refl, sym, ap, ◌∙◌, subst, arith}
+use Rattle.std.proofs.Common.{◌≡◌, ℕ, true, List, [], ◌∷◌, ◌++◌, Option, Some, None, append_assoc, slice_index_or, refl, sym, ap, ◌∙◌, subst, arith}
 use Rattle.std.specs.Prelude.{All, IsTrue}
-use Rattle.std.specs.List.{AllZip, Contains}
+use Rattle.std.specs.List.{Contains}
 use Rattle.std.proofs.lemmas.List.Elements.{All-append, All-nil, Contains-get_or}
-use Rattle.rollout_rules.specs.declared.op.Op.{Op}
 use Rattle.rollout_rules.specs.declared.op.Entry.TheVariants as entry
-use Rattle.turn_lock.specs.Histories.{Follows}
 use Rattle.wan_edge.specs.Frames.{Command}
 use Rattle.port_session.specs.Offers.{frames_of}
-use Rattle.port_session.specs.Sessions.{Talk, first_talk}
+use Rattle.port_session.specs.Sessions.{Talk}
 use Rattle.worker_ports.specs.Lots.{own}
-use Rattle.worker_ports.specs.Stories.{LastStory, LastStoryEach}
-use Rattle.worker_ports.specs.Views.{Telling, view}
+use Rattle.worker_ports.specs.Stories.{LastStoryEach}
+use Rattle.worker_ports.specs.Views.{Telling}
 use Rattle.worker_ports.proofs.Told.{none_sent, stays}
-use Rattle.shared_book.specs.Calls.{seat_of}
 use Rattle.shared_history.specs.declared.note.Written.{Written}
 use Rattle.shared_history.specs.declared.reply.Wake.{Wake}
 use Rattle.shared_history.specs.Histories.{Opening, history_of}

@@ -1,3 +1,6 @@
+pub mod Hands
+pub mod Kept
+pub mod Dealt
 pub mod Keeping
 pub mod Ports
 pub mod Fleets
@@ -6,5 +9,15 @@ pub mod Early
 pub mod Causes
 pub mod Over
 pub mod Ends
-pub mod Hands
 pub mod Standing
+pub mod Rows
+pub mod Shuffles
+pub mod Histories
+pub mod Coming
+pub mod Taking
+pub mod Crews
+pub mod Gathering
+pub mod Leading
+pub mod Relieving
+pub mod Dealing
+pub mod Sends

@@ -1,5 +1,5 @@
 -- What several workers have made of the ports, port by port.
-use Rattle.std.proofs.Common.{◌≡◌, ◌≢◌, ◌⊎◌, ℕ, suc, zero, ◌<◌, ◌==◌, false, true, List, [], ◌∷◌, ◌++◌, IsPermutation, Option, Some, length, map, slice_index_or, None, ⊎_elim, inl, inr, refl, sym, ap, ◌∙◌, subst, arith, eq-eqb}
+use Rattle.std.proofs.Common.{◌≡◌, ℕ, suc, zero, ◌<◌, false, List, [], ◌∷◌, ◌++◌, IsPermutation, Option, Some, length, map, slice_index_or, None, ⊎_elim, inl, inr, refl, sym, ap, ◌∙◌, subst, arith, eq-eqb}
 use Rattle.std.specs.Prelude.{All, nat_eq}
 use Rattle.std.specs.List.{AllByRecursion, AllZip, Contains, IsDistinct, flat_map}
 use Rattle.std.proofs.lemmas.Bool.{false≢true}
@@ -12,15 +12,14 @@ use Rattle.rollout_rules.specs.declared.op.Entry.TheVariants as entry
 use Rattle.port_session.specs.Sessions.{Talk}
 use Rattle.worker_ports.specs.Lots.{home_at}
 use Rattle.worker_ports.specs.Rows.{AtOne}
-use Rattle.worker_ports.specs.Stories.{LastStory, ToldAt}
-use Rattle.worker_ports.specs.Views.{GoesOn, PortView, Telling, view}
-use Rattle.worker_ports.proofs.Told.{none_sent, stays}
+use Rattle.worker_ports.specs.Stories.{LastStory}
+use Rattle.worker_ports.specs.Views.{GoesOn, Telling, view}
 use Rattle.shared_book.specs.Calls.{seat_of}
 use Rattle.shared_history.specs.declared.note.Written.{Written}
 use Rattle.shared_history.specs.Histories.{Opening, all_entries}
 use Rattle.controller_run.specs.Promises.{IsAnswered, WasTold}
 use Rattle.rollout_run.specs.Keeping.{Keeps}
-use Rattle.rollout_run.specs.PortRuns.{AreAtHome, Covers, IsBack, IsPortRun}
+use Rattle.rollout_run.specs.PortRuns.{AreAtHome, Covers, IsBack}
 use Rattle.rollout_run.specs.Shifts.{IsOfOne, Shift}
 use Rattle.rollout_run.specs.Together.{given_ports}
 use Rattle.rollout_run.proofs.Keeping.{each_stays}

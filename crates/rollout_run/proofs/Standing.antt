@@ -1,5 +1,5 @@
 -- What a run has made of a port, as the laws on switches ask for it.
-use Rattle.std.proofs.Common.{◌≡◌, ℕ, List, [], ◌∷◌, ◌++◌, Option, Some, ⊎_elim, arith}
+use Rattle.std.proofs.Common.{ℕ, List, [], ◌∷◌, Option, ⊎_elim, arith}
 use Rattle.std.specs.List.{Contains}
 use Rattle.std.proofs.lemmas.List.Elements.{Contains-append_cases, Contains-append_left, Contains-append_right}
 use Rattle.rollout_rules.specs.History.{with_entries}

@@ -1,7 +1,8 @@
+pub mod Causes
 pub mod Shifts
 pub mod Together
+pub mod Teams
 pub mod Keeping
 pub mod PortRuns
-pub mod Causes
 pub mod Runs
 pub mod Ran

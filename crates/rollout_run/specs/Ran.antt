@@ -1,29 +1,31 @@
 -- What a run over a fleet leaves: of its book and disk, of its ports, and of the switches behind them.
-use Rattle.std.specs.Prelude.{◌≡◌, ◌⊎◌, ℕ, true, false, nat_eq, List, All, Option, map}
+use Rattle.std.specs.Prelude.{◌≡◌, ◌⊎◌, ℕ, true, false, nat_eq, ◌<◌, List, All, IsPermutation, Option, map}
 use Rattle.std.specs.List.{AllByRecursion}
 use Rattle.wan_edge.specs.Streams.{Rose}
 use Rattle.port_session.specs.Sessions.{Talk}
 use Rattle.worker_ports.specs.Views.{Telling}
 use Rattle.worker_ports.specs.declared.ports.Berth.{Berth}
 use Rattle.rollout_book.specs.Chronicles.{Chronicled}
-use Rattle.rollout_ports.specs.Berths.{FleetPorts, after_keeping, switches_of}
+use Rattle.rollout_ports.specs.Berths.{AreApart, FleetPorts, after_keeping, switches_of}
 use Rattle.rollout_ports.specs.Hands.{berths_of, first_talks}
 use Rattle.rollout_ports.specs.Opening.{AreGiven, GivesBack, StopsAt}
 use Rattle.shared_history.specs.declared.note.Written.{Written}
 use Rattle.shared_history.specs.Histories.{Opening}
 use Rattle.shared_history.specs.Legal.{is_legal_shared}
+use Rattle.shared_book.specs.Calls.{seat_of}
 use Rattle.shared_book.specs.Homes.{homes_of}
 use Rattle.shared_book.specs.Images.{HasImages}
 use Rattle.shared_book.specs.Opened.{IsClosed}
 use Rattle.rollout_run.specs.Causes.{HasCause, IfStopped}
 use Rattle.rollout_run.specs.PortRuns.{AreAtHome, IsBack}
 use Rattle.rollout_run.specs.Runs.{IsRunEnd}
+use Rattle.rollout_run.specs.Together.{HasWorked}
 use Rattle.rollout_run.specs.declared.end.RunEnd.{RunEnd}
 use Rattle.rollout_run.specs.declared.end.RunEnd.TheVariants as run
 
 -- A run that has begun. The book is closed behind a legal history of its workers, which says how the run ended; the disk is what that history
 -- leaves. A port was opened to each of these switches, and is back as the run has left it; what is kept at any other switch is as it was. Where the run
--- was stopped the cause of the first stop holds.
+-- was stopped the cause of the first stop holds. Its workers have worked as the history tells, each over ports of its own.
 pub record Ran {D P : Type 0} (bytes : D → Option (List ℕ)) (may_leave : D → List ℕ → Type 0) (moment : D → ℕ) (left_since : D → ℕ → List ℕ → Type 0) (faults : D → ℕ) (port_faults : P → ℕ) (tell : P → Telling) (o : Opening) (from count migration rounds : ℕ) (homes : List ℕ) (before : FleetPorts P) (end : RunEnd) (book : Chronicled D) (now : FleetPorts P) : Type 0 where
   pub log : List Written
   pub legal : is_legal_shared o log ≡ true
@@ -32,10 +34,15 @@ pub record Ran {D P : Type 0} (bytes : D → Option (List ℕ)) (may_leave : D �
   pub ends : IsRunEnd o log end
   pub berths : List (Berth P)
   pub switches : switches_of berths ≡ homes
+  pub apart : AreApart berths
   pub given : AreGiven port_faults before.waiting berths
   pub ports : All (IsBack tell o migration (homes_of o.rollout.problem) log now.kept) (first_talks berths)
   pub at_home : AreAtHome (homes_of o.rollout.problem) log homes
   pub reason : IfStopped end (λ halt. HasCause tell o migration (homes_of o.rollout.problem) rounds (Rose count (faults book.disk)) log (first_talks berths) now.kept halt.cause)
+  pub seats : ℕ
+  pub made : All (λ w. seat_of w < seats) log
+  pub left : List (Talk P)
+  pub worked : HasWorked tell o migration (homes_of o.rollout.problem) rounds (first_talks berths) seats log left
   pub others : (switch : ℕ) → AllByRecursion (λ home. nat_eq switch home ≡ false) homes → now.kept switch ≡ before.kept switch
 
 -- A run that hasn't: the book is as it was. Of no home a port was opened, or all were opened and given back as they were.
@@ -43,11 +50,11 @@ pub record NeverRan {D P : Type 0} (port_faults : P → ℕ) (homes : List ℕ) 
   pub same : book ≡ book_before
   pub ports : (now ≡ before) ⊎ GivesBack port_faults homes before now
 
--- the ports that a run has left are those of the same switches, and were given back
+-- the ports that a run has left are those of the same switches, in some order, and were given back
 pub record IsBegunOver {P : Type 0} (before now : FleetPorts P) (berths : List (Berth P)) (begun : List (Talk P) → Type 0) : Type 0 where
   pub ports : List (Talk P)
   pub runs : begun ports
-  pub switches : map (λ t. t.switch) ports ≡ switches_of berths
+  pub switches : IsPermutation (switches_of berths) (map (λ t. t.switch) ports)
   pub kept : now ≡ after_keeping before (berths_of ports)
 
 -- what holds of a run by its end

@@ -1,10 +1,11 @@
 -- What a worker began with, and what it came to, said of a history that has gone on since.
-use Rattle.std.specs.Prelude.{◌≡◌, ◌⊎◌, ⊤, ℕ, List, [], ◌∷◌, All, Option, Some, None}
+use Rattle.std.specs.Prelude.{◌≡◌, ◌⊎◌, ⊤, ℕ, ◌<◌, List, [], ◌∷◌, ◌++◌, All, Option, Some, None}
 use Rattle.turn_lock.specs.Histories.{Follows}
 use Rattle.port_session.specs.Sessions.{Talk, first_talk}
 use Rattle.worker_ports.specs.Views.{Telling}
 use Rattle.shared_history.specs.declared.note.Cause.{Cause}
 use Rattle.shared_history.specs.declared.note.Cause.TheVariants as cause
+use Rattle.shared_history.specs.declared.note.What.TheVariants as what
 use Rattle.shared_history.specs.declared.note.Written.{Written}
 use Rattle.shared_history.specs.declared.reply.Halt.{Halt}
 use Rattle.shared_history.specs.declared.reply.Wake.{Wake}
@@ -30,10 +31,28 @@ IsEarlyCause seen cause.Memory = ⊤
 abbrev pub StopsEarly : ℕ → List Written → Type 0
 StopsEarly seat seen = (halt : Halt) → first_stop seen ≡ Some halt → halt.seat ≡ seat → IsEarlyCause seen halt.cause
 
--- A worker that had stopped nothing has served; or it never began, and is as it was.
+-- some round of the book turned: a note says so
+pub record HasTurned (log : List Written) : Type 0 where
+  pub front : List Written
+  pub note : Written
+  pub later : List Written
+  pub is : log ≡ front ++ note ∷ later
+  pub dones : ℕ
+  pub begins : ℕ
+  pub says : note.note.what ≡ what.Turned dones begins
+
+-- a stop stands in a history
+abbrev pub IsHalted : List Written → Type 0
+IsHalted log = (halt : Halt) × (first_stop log ≡ Some halt)
+
+-- a worker of another seat than 0 that has left its ports to the worker of that seat
+abbrev pub IsRelieved : {P : Type 0} → ℕ → List (Talk P) → Type 0
+IsRelieved seat ports = (0 < seat) × (ports ≡ [])
+
+-- A worker that had stopped nothing, and has seen a round turn, has served; or it never began, is as it was, and has seen a stop, or was relieved.
 abbrev pub Returns : {P : Type 0} → (P → Telling) → Opening → ℕ → ℕ → List (Option ℕ) → ℕ → Standing P → Option Wake → Standing P → Type 0
-Returns tell o seat migration homes rounds before None now = (now ≡ before) × StopsEarly seat now.seen
-Returns tell o seat migration homes rounds before (Some end) now = StopsNothing seat before.seen × Served tell o (seat ∷ []) seat migration homes rounds before end now
+Returns tell o seat migration homes rounds before None now = (now ≡ before) × StopsEarly seat now.seen × (IsHalted now.seen ⊎ IsRelieved seat now.ports)
+Returns tell o seat migration homes rounds before (Some end) now = StopsNothing seat before.seen × Served tell o (seat ∷ []) seat migration homes rounds before end now × HasTurned before.seen
 
 -- what a worker begins with: its seat, what was seen of the history, and its ports
 pub record Given (P : Type 0) : Type 0 where

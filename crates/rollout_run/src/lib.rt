@@ -1,10 +1,15 @@
-//! A whole rollout over a fleet: ports are opened to the switches at which there is work, a worker serves
-//! them until nothing is left to do or it is stopped, and the ports are given back.
+//! A whole rollout over a fleet: ports are opened to the switches at which there is work, workers in threads
+//! of their own serve them until nothing is left to do or all are stopped, and the ports are given back.
 #![tactic(auto)]
 
+mod crew;
 mod end;
+mod job;
 mod laws;
+mod own;
 mod running;
+mod team;
+mod together;
 mod working;
 
 pub use end::RunEnd;

@@ -1,5 +1,5 @@
 //! A rollout over a fleet.
-ghost use Rattle.std.specs.Prelude.{◌≡◌, ◌≤◌, ℕ, [], ◌∷◌, IfErr, IfOk, IfSome, map};
+ghost use Rattle.std.specs.Prelude.{◌≡◌, ◌<◌, ◌≤◌, ℕ, IfSome, IsPermutation, length, map, max, vec_capacity};
 ghost use Rattle.wan_edge.specs.Streams.{Rose};
 ghost use Rattle.order_policy.specs.Answers.{rank_by};
 ghost use Rattle.rollout_book.specs.Lists.{IsKeptList};
@@ -10,32 +10,36 @@ ghost use Rattle.rollout_ports.specs.Hands.{first_talks};
 ghost use Rattle.rollout_ports.specs.Homes.{working_homes};
 ghost use Rattle.rollout_run.specs.Ran.{EndsRun, IsOver, Ran};
 ghost use Rattle.rollout_run.specs.Runs.{IsRun, Runs};
-ghost use Rattle.rollout_run.specs.Shifts.{AreFresh};
+ghost use Rattle.rollout_run.specs.Teams.{IsTeam, team_ports};
 
 use crate::end::RunEnd;
+use crate::team::{Team, keep_team};
 use crate::working::{Ended, run_named};
 use disk_model::Disk;
 use rollout_book::Book;
-use rollout_ports::{NotOpened, deal, keep_ports, keep_worker, open_ports};
+use rollout_ports::{NotOpened, keep_ports, open_ports};
 use std::alloc::Global;
 use std::marker::Brand;
 use std::sync::Wait;
+use std::thread::Threads;
 use wan_edge::{Fleet, Port};
-use worker_ports::{Berth, WorkerPorts};
+use worker_ports::Berth;
 
-/// How a rollout is run: in how many rounds commands may be offered, and the number of the migration in
-/// which they go out.
+/// How a rollout is run: by how many workers at most, at least one; in how many rounds each of them may offer
+/// commands; and the number of the migration in which they go out.
 #[derive(Clone, Copy, Debug)]
 pub struct Limits {
+    pub workers: u32,
     pub rounds: u32,
     pub migration: u32,
 }
 
 /// Runs a rollout from what its book has found. A port is opened to each switch at which there is work; a
-/// first round begins what may begin; and the ports are served in rounds until every operation is settled,
-/// the rest is held back, or the run is stopped. Then the ports are given back. The book comes back with
-/// every answer.
-pub fn run<'d, R: Wait, D: Disk, F: Fleet>(
+/// first round begins what may begin; and the ports, dealt to workers in threads of their own and to the
+/// caller, are served in rounds until every operation is settled, the rest is held back, or the run is
+/// stopped. Where a thread can't be started the caller serves its ports beside its own. Then the ports are
+/// given back. The book comes back with every answer.
+pub fn run<'d, R, D, F>(
     rt: &R,
     alloc: Global,
     book: Book<'d, D>,
@@ -43,7 +47,10 @@ pub fn run<'d, R: Wait, D: Disk, F: Fleet>(
     limits: Limits,
 ) -> (Book<'d, D>, RunEnd)
 where
-    F::Port: Drop,
+    R: Wait + Threads + Sync,
+    D: Disk + Drop + Send,
+    F: Fleet,
+    F::Port: Drop + Send,
     requires opened { IsOpened (opening_of book.chronicle (rank_by book.policy.now.answers)) book.chronicle }
     requires has { IfSome (D.bytes book.chronicle.disk) (IsKeptList book.chronicle.history.start book.chronicle.entries (D.may_leave book.chronicle.disk)) }
     ensures ran { EndsRun F.Port.faults (working_homes book.entry.chronicle.rollout.problem book.entry.chronicle.rollout.plan) book.entry.chronicle result.0.chronicle (ports_of F.waiting F.kept F.lent fleet.old) (ports_of F.waiting F.kept F.lent fleet.new)
@@ -61,7 +68,7 @@ where
 }
 
 // Runs over the ports that were opened, and gives them back.
-fn run_over<'d, R: Wait, D: Disk, F: Fleet>(
+fn run_over<'d, R, D, F>(
     rt: &R,
     alloc: Global,
     book: Book<'d, D>,
@@ -70,21 +77,24 @@ fn run_over<'d, R: Wait, D: Disk, F: Fleet>(
     limits: Limits,
 ) -> (Book<'d, D>, RunEnd)
 where
-    F::Port: Drop,
+    R: Wait + Threads + Sync,
+    D: Disk + Drop + Send,
+    F: Fleet,
+    F::Port: Drop + Send,
     requires opened { IsOpened (opening_of book.chronicle (rank_by book.policy.now.answers)) book.chronicle }
     requires has { IfSome (D.bytes book.chronicle.disk) (IsKeptList book.chronicle.history.start book.chronicle.entries (D.may_leave book.chronicle.disk)) }
     requires apart { AreApart berths.items }
     requires lent { AreLent (F.lent fleet.old) berths.items }
     ensures ran { IsOver (ports_of F.waiting F.kept F.lent fleet.old) (ports_of F.waiting F.kept F.lent fleet.new) berths.items result.1
-        (λ ports. Runs D.bytes D.may_leave D.moment D.left_since D.faults (telling F.Port.offered F.Port.heard F.Port.held F.Port.quiet F.Port.faults F.Port.honest F.Port.prompt F.Port.start) (opening_of book.entry.chronicle (rank_by book.entry.policy.now.answers)) (D.moment book.entry.chronicle.disk) (D.faults book.entry.chronicle.disk) limits.migration limits.rounds (first_talks berths.items) [] result.1 result.0.chronicle (ports ∷ []))
+        (λ ports. Runs D.bytes D.may_leave D.moment D.left_since D.faults (telling F.Port.offered F.Port.heard F.Port.held F.Port.quiet F.Port.faults F.Port.honest F.Port.prompt F.Port.start) (opening_of book.entry.chronicle (rank_by book.entry.policy.now.answers)) (D.moment book.entry.chronicle.disk) (D.faults book.entry.chronicle.disk) limits.migration limits.rounds (first_talks berths.items) result.1 result.0.chronicle ports)
         (result.0.chronicle ≡ book.entry.chronicle) }
     ensures guests { (F.coming fleet.new ≡ F.coming fleet.old) × (F.served fleet.new ≡ F.served fleet.old) × (F.visiting fleet.new ≡ F.visiting fleet.old) }
     ensures count { F.faults fleet.old ≤ F.faults fleet.new }
 {
-    match ports_to(alloc, berths) {
-        Ok(ports) => {
-            let Ended { book, ports, end } = run_alone(rt, alloc, book, ports, limits);
-            keep_worker(fleet, ports);
+    match Team::of(alloc, berths, limits.workers) {
+        Ok(team) => {
+            let Ended { book, team, end } = run_team(rt, alloc, book, team, limits);
+            keep_team(fleet, team);
             (book, end)
         }
         Err(berths) => {
@@ -94,37 +104,26 @@ where
     }
 }
 
-// The ports of these berths, for one worker. Where memory runs out all berths come back.
-fn ports_to<T: Port + Drop>(
-    alloc: Global,
-    berths: Vec<Berth<T>>,
-) -> Result<WorkerPorts<T>, Vec<Berth<T>>>
-    requires { AreApart berths.items }
-    ensures ok { IfOk result (λ ports. ports ≡ first_talks berths.items) }
-    ensures err { IfErr result (λ back. back.items ≡ berths.items) }
-{
-    let mut dealt = deal(alloc, berths, 1)?;
-    match dealt.pop() {
-        Some(ports) => Ok(ports),
-        None => Ok(WorkerPorts::new(alloc)),
-    }
-}
-
-// Runs over the ports of one worker.
-fn run_alone<'d, R: Wait, D: Disk, T: Port>(
+// Runs over the ports of a team.
+fn run_team<'d, R, D, T>(
     rt: &R,
     alloc: Global,
     book: Book<'d, D>,
-    ports: WorkerPorts<T>,
+    team: Team<T>,
     limits: Limits,
 ) -> Ended<'d, D, T>
+where
+    R: Wait + Threads + Sync,
+    D: Disk + Drop + Send,
+    T: Port + Drop + Send,
     requires opened { IsOpened (opening_of book.chronicle (rank_by book.policy.now.answers)) book.chronicle }
     requires has { IfSome (D.bytes book.chronicle.disk) (IsKeptList book.chronicle.history.start book.chronicle.entries (D.may_leave book.chronicle.disk)) }
-    requires fresh { AreFresh ports }
-    ensures switches { map (λ t. t.switch) result.ports ≡ map (λ t. t.switch) ports }
+    requires few { length team.crews.items < max 1 limits.workers }
+    requires team { IsTeam team.own.ports team.own.spare.items (vec_capacity team.own.spare) team.crews.items }
+    ensures switches { IsPermutation (map (λ t. t.switch) (team_ports team.own.ports team.own.spare.items team.crews.items)) (map (λ t. t.switch) (team_ports result.team.own.ports result.team.own.spare.items result.team.crews.items)) }
     ensures ran { IsRun result.end
-        (Runs D.bytes D.may_leave D.moment D.left_since D.faults (telling T.offered T.heard T.held T.quiet T.faults T.honest T.prompt T.start) (opening_of book.entry.chronicle (rank_by book.entry.policy.now.answers)) (D.moment book.entry.chronicle.disk) (D.faults book.entry.chronicle.disk) limits.migration limits.rounds ports [] result.end result.book.chronicle (result.ports ∷ []))
-        ((result.book.chronicle ≡ book.entry.chronicle) × (result.ports ≡ ports)) }
+        (Runs D.bytes D.may_leave D.moment D.left_since D.faults (telling T.offered T.heard T.held T.quiet T.faults T.honest T.prompt T.start) (opening_of book.entry.chronicle (rank_by book.entry.policy.now.answers)) (D.moment book.entry.chronicle.disk) (D.faults book.entry.chronicle.disk) limits.migration limits.rounds (team_ports team.own.ports team.own.spare.items team.crews.items) result.end result.book.chronicle (team_ports result.team.own.ports result.team.own.spare.items result.team.crews.items))
+        ((result.book.chronicle ≡ book.entry.chronicle) × (team_ports result.team.own.ports result.team.own.spare.items result.team.crews.items ≡ team_ports team.own.ports team.own.spare.items team.crews.items)) }
 {
-    run_named::<R, D, Brand, T>(rt, alloc, book, ports, limits)
+    run_named::<R, D, Brand, T>(rt, alloc, book, team, limits)
 }

@@ -1,5 +1,5 @@
 //! A run of a shared book from its first round to its last.
-ghost use Rattle.std.specs.Prelude.{◌≡◌, ◌<◌, [], ◌∷◌, map};
+ghost use Rattle.std.specs.Prelude.{◌≡◌, ◌<◌, ◌≤◌, IsPermutation, length, map, max, vec_capacity};
 ghost use Rattle.order_policy.specs.Answers.{rank_by};
 ghost use Rattle.rollout_rules.specs.Legal.{is_finished};
 ghost use Rattle.turn_lock.specs.Passes.{IsFirstPass, IsPassOf, given_of, out_of, seat_of_pass, seen_of};
@@ -8,56 +8,66 @@ ghost use Rattle.shared_book.specs.Homes.{homes_of};
 ghost use Rattle.shared_book.specs.Opened.{IsOpenedOn};
 ghost use Rattle.worker_ports.specs.Views.{telling};
 ghost use Rattle.rollout_run.specs.Runs.{IsRun, Runs, cause_behind, end_with};
-ghost use Rattle.rollout_run.specs.Shifts.{AreFresh};
+ghost use Rattle.rollout_run.specs.Teams.{HasLed, IsLeader, IsTeam, team_ports};
 ghost use Rattle.rollout_run.specs.Together.{HasWorked};
 
 use crate::end::RunEnd;
 use crate::running::Limits;
-use controller_run::{Terms, WorkerEnd, serve};
+use crate::team::Team;
+use crate::together::work_together;
+use controller_run::Terms;
 use disk_model::Disk;
 use rollout_book::{Book, BookFault};
 use shared_book::{BookPass, Marker, RoundReply, SharedBook};
 use shared_history::{Cause, Halt};
 use std::alloc::Global;
 use std::sync::Wait;
+use std::sync::atomic::AtomicU32;
+use std::thread;
+use std::thread::Threads;
 use wan_edge::Port;
-use worker_ports::WorkerPorts;
 
 /// What is left of a run: the book, the ports, and how it ended.
 #[derive(Drop)]
 pub(crate) struct Ended<'d, D: Disk, T: Port> {
     pub book: Book<'d, D>,
-    pub ports: WorkerPorts<T>,
+    pub team: Team<T>,
     pub end: RunEnd,
 }
 
-/// Runs over these ports, under the name of the book's opening.
-pub(crate) fn run_named<'d, R: Wait, D: Disk, M: Marker, T: Port>(
+/// Runs over the ports of a team, under the name of the book's opening.
+pub(crate) fn run_named<'d, R, D, M, T>(
     rt: &R,
     alloc: Global,
     book: Book<'d, D>,
-    ports: WorkerPorts<T>,
+    team: Team<T>,
     limits: Limits,
 ) -> Ended<'d, D, T>
+where
+    R: Wait + Threads + Sync,
+    D: Disk + Drop + Send,
+    M: Marker + Send,
+    T: Port + Drop + Send,
     requires opened { IsOpenedOn D.bytes D.may_leave D.moment D.faults M.opening M.moment M.faults book.chronicle }
     requires policy { M.opening.policy ≡ rank_by book.policy.now.answers }
-    requires seats { M.seats ≡ 1 }
-    requires fresh { AreFresh ports }
-    ensures switches { map (λ t. t.switch) result.ports ≡ map (λ t. t.switch) ports }
+    requires seats { M.seats ≡ max 1 limits.workers }
+    requires few { length team.crews.items < M.seats }
+    requires team { IsTeam team.own.ports team.own.spare.items (vec_capacity team.own.spare) team.crews.items }
+    ensures switches { IsPermutation (map (λ t. t.switch) (team_ports team.own.ports team.own.spare.items team.crews.items)) (map (λ t. t.switch) (team_ports result.team.own.ports result.team.own.spare.items result.team.crews.items)) }
     ensures ran { IsRun result.end
-        (Runs D.bytes D.may_leave D.moment D.left_since D.faults (telling T.offered T.heard T.held T.quiet T.faults T.honest T.prompt T.start) M.opening M.moment M.faults limits.migration limits.rounds ports [] result.end result.book.chronicle (result.ports ∷ []))
-        ((result.book.chronicle ≡ book.entry.chronicle) × (result.ports ≡ ports)) }
+        (Runs D.bytes D.may_leave D.moment D.left_since D.faults (telling T.offered T.heard T.held T.quiet T.faults T.honest T.prompt T.start) M.opening M.moment M.faults limits.migration limits.rounds (team_ports team.own.ports team.own.spare.items team.crews.items) result.end result.book.chronicle (team_ports result.team.own.ports result.team.own.spare.items result.team.crews.items))
+        ((result.book.chronicle ≡ book.entry.chronicle) × (team_ports result.team.own.ports result.team.own.spare.items result.team.crews.items ≡ team_ports team.own.ports team.own.spare.items team.crews.items)) }
 {
-    match SharedBook::<D, M>::new(alloc, book, 1) {
+    match SharedBook::<D, M>::new(alloc, book, limits.workers.max(1)) {
         Ok((shared, pass)) => {
-            let (pass, ports) = work(rt, alloc, &shared, pass, ports, limits);
+            let (pass, team) = work(rt, alloc, &shared, pass, team, limits);
             let (book, _notes, halt) = shared.close(pass);
             let end = end_of(&book, halt);
-            Ended { book, ports, end }
+            Ended { book, team, end }
         }
         Err(book) => Ended {
             book,
-            ports,
+            team,
             end: RunEnd::Memory,
         },
     }
@@ -74,44 +84,80 @@ fn end_of<D: Disk>(book: &Book<'_, D>, halt: Option<Halt>) -> RunEnd
     }
 }
 
-// Begins what may begin, and serves the ports. Where the first round is refused nothing goes out.
-fn work<'d, R: Wait, D: Disk, M: Marker, T: Port>(
+// Begins what may begin, and has all workers work. Where the first round is refused nothing goes out.
+fn work<'d, R, D, M, T>(
     rt: &R,
     alloc: Global,
     book: &SharedBook<'d, D, M>,
     pass: BookPass<D, M>,
-    ports: WorkerPorts<T>,
+    team: Team<T>,
     limits: Limits,
-) -> (BookPass<D, M>, WorkerPorts<T>)
+) -> (BookPass<D, M>, Team<T>)
+where
+    R: Wait + Threads + Sync,
+    D: Disk + Drop + Send,
+    M: Marker + Send,
+    T: Port + Drop + Send,
     requires lock { IsPassOf book.now.lock pass.pass }
     requires homes { book.now.homes ≡ homes_of M.opening.rollout.problem }
     requires policy { M.opening.policy ≡ rank_by book.now.policy.now.answers }
     requires calls { IsCounted pass.calls pass.pass }
     requires first { IsFirstPass pass.pass }
-    requires seats { 0 < M.seats }
-    requires fresh { AreFresh ports }
+    requires seats { (length team.crews.items < M.seats) × (M.seats ≤ 4294967295) }
+    requires team { IsTeam team.own.ports team.own.spare.items (vec_capacity team.own.spare) team.crews.items }
     ensures lock { IsPassOf book.now.lock result.0.pass }
     ensures first { seat_of_pass result.0.pass ≡ 0 }
     ensures all_in { out_of result.0.pass ≡ 0 }
-    ensures given { given_of result.0.pass ≡ 1 }
-    ensures switches { map (λ t. t.switch) result.1 ≡ map (λ t. t.switch) ports }
-    ensures worked { HasWorked (telling T.offered T.heard T.held T.quiet T.faults T.honest T.prompt T.start) M.opening limits.migration (homes_of M.opening.rollout.problem) limits.rounds ports [] 1 (seen_of result.0.pass) (result.1 ∷ []) }
+    ensures worked { HasWorked (telling T.offered T.heard T.held T.quiet T.faults T.honest T.prompt T.start) M.opening limits.migration (homes_of M.opening.rollout.problem) limits.rounds
+        (team_ports team.own.ports team.own.spare.items team.crews.items) (given_of result.0.pass) (seen_of result.0.pass) (team_ports result.1.own.ports result.1.own.spare.items result.1.crews.items) }
 {
     let (pass, reply) = book.round(rt, pass, &[]);
     if let Some(cause) = cause_of(reply) {
-        return (book.stop(rt, pass, cause).0, ports);
+        return (book.stop(rt, pass, cause).0, team);
     }
     let terms = Terms {
         homes: book.homes(),
         migration: limits.migration,
         rounds: limits.rounds,
     };
-    let WorkerEnd {
-        pass,
-        ports,
-        end: _,
-    } = serve(rt, alloc, book, pass, ports, terms);
-    (pass, ports)
+    work_in_scope(rt, alloc, book, pass, team, terms)
+}
+
+// Has all workers work, and waits for the end of each thread.
+fn work_in_scope<'d, R, D, M, T>(
+    rt: &R,
+    alloc: Global,
+    book: &SharedBook<'d, D, M>,
+    pass: BookPass<D, M>,
+    team: Team<T>,
+    terms: Terms<'_>,
+) -> (BookPass<D, M>, Team<T>)
+where
+    R: Wait + Threads + Sync,
+    D: Disk + Drop + Send,
+    M: Marker + Send,
+    T: Port + Drop + Send,
+    requires homes { book.now.homes ≡ homes_of M.opening.rollout.problem }
+    requires policy { M.opening.policy ≡ rank_by book.now.policy.now.answers }
+    requires leader { IsLeader book.now.lock M.seats (length team.crews.items) pass.pass pass.calls }
+    requires team { IsTeam team.own.ports team.own.spare.items (vec_capacity team.own.spare) team.crews.items }
+    ensures led { HasLed (telling T.offered T.heard T.held T.quiet T.faults T.honest T.prompt T.start) M.opening terms.entry.migration terms.entry.homes.now terms.entry.rounds book.now.lock (length team.crews.items) pass.pass
+        (team_ports team.own.ports team.own.spare.items team.crews.items) result.0.pass result.0.calls (team_ports result.1.own.ports result.1.own.spare.items result.1.crews.items) }
+{
+    let flag = AtomicU32::new(0);
+    let refused = &flag;
+    thread::scope(
+        thread::scope_env(),
+        rt,
+        |scope| -> (BookPass<D, M>, Team<T>)
+            requires homes { book.now.homes ≡ homes_of M.opening.rollout.problem }
+            requires policy { M.opening.policy ≡ rank_by book.now.policy.now.answers }
+            requires leader { IsLeader book.now.lock M.seats (length team.crews.items) pass.pass pass.calls }
+            requires team { IsTeam team.own.ports team.own.spare.items (vec_capacity team.own.spare) team.crews.items }
+            ensures led { HasLed (telling T.offered T.heard T.held T.quiet T.faults T.honest T.prompt T.start) M.opening terms.entry.migration terms.entry.homes.now terms.entry.rounds book.entry.now.lock (length team.crews.items) pass.pass
+                (team_ports team.own.ports team.own.spare.items team.crews.items) result.0.pass result.0.calls (team_ports result.1.own.ports result.1.own.spare.items result.1.crews.items) }
+        { work_together(rt, scope, alloc, book, pass, team, terms, refused) },
+    )
 }
 
 // Why all is to stop behind a round; nothing where it turned.

@@ -17,8 +17,6 @@ mod links;
 mod no_plan;
 mod refusing;
 mod tables;
-#[cfg(test)]
-mod tests;
 pub mod worked;
 
 pub use blending::scratch;

@@ -1,5 +1,5 @@
 -- A drain of a trial ends finished within its turns, where the policy holds nothing back.
-use Rattle.std.proofs.Common.{◌≡◌, ℕ, zero, suc, ◌+◌, ◌-◌, ◌<◌, ◌≤◌, ◌⊎◌, true, false, not, ◌&&◌, ◌==◌, nat_le, List, [], ◌∷◌, ◌++◌, length, drop, get_or, Option, Some, None, IfSome, refl, sym, ap, ◌∙◌, subst, inl, inr, arith, eqb-true, eq-eqb, le-leb, length-append}
+use Rattle.std.proofs.Common.{◌≡◌, ℕ, zero, suc, ◌+◌, ◌<◌, ◌≤◌, ◌⊎◌, true, false, not, ◌&&◌, ◌==◌, nat_le, List, [], ◌∷◌, ◌++◌, length, drop, get_or, Option, Some, None, IfSome, refl, sym, ap, ◌∙◌, subst, inl, inr, arith, eqb-true, eq-eqb, le-leb, length-append}
 use Rattle.std.proofs.lemmas.Bool.{and_from, cases_Bool, cond_both, cond-true, or_right}
 use Rattle.std.proofs.lemmas.List.{drop-append-le}
 use Rattle.std.proofs.lemmas.List.Folds.{list_any-append}
@@ -21,6 +21,7 @@ use Rattle.rollout_rules.specs.declared.event.Event.{Event}
 use Rattle.rollout_rules.specs.declared.event.Event.TheVariants as event
 use Rattle.rollout_rules.specs.declared.event.Act.{Act}
 use Rattle.rollout_rules.specs.declared.event.Act.TheVariants as act
+use Rattle.rollout_rules.specs.Legal.{unsettled}
 use Rattle.rollout_laws.specs.Kept.{IsKept}
 use Rattle.rollout_laws.specs.Waiting.{HoldsNothing}
 use Rattle.rollout_laws.proofs.Released.{release-goes_on}
@@ -28,7 +29,6 @@ use Rattle.rollout_laws.proofs.Rounds.{batch_is_legal, covers-answers_of}
 use Rattle.rollout_laws.proofs.Durable.{goes_on_from}
 use Rattle.rollout_laws.proofs.Keeping.{kept-Restart}
 use Rattle.rollout_laws.proofs.Worlds.{after_events_is_kept, every_new_world_is_kept}
-use Rattle.rollout_peaks.specs.Ends.{unsettled}
 use Rattle.sim_run.specs.Acts.{Rehearsal, acted, after_act, can_happen, exchanges, first_rehearsal, may_send, round_batch, unheard, write_whole}
 use Rattle.sim_run.specs.Rehearsed.{schedule_of}
 use Rattle.sim_run.specs.Trials.{Trial, after_trial, after_turn, all_operations, drained, end_of_trial, is_finished, next_act, raised, with_act}

@@ -1,5 +1,5 @@
 -- A drain goes on turn by turn.
-use Rattle.std.proofs.Common.{◌≡◌, ℕ, zero, suc, ◌+◌, ◌-◌, ◌<◌, ◌≤◌, true, false, refl, sym, ap, ap₂, ◌∙◌, arith}
+use Rattle.std.proofs.Common.{◌≡◌, ℕ, zero, suc, ◌+◌, ◌-◌, ◌<◌, ◌≤◌, true, false, refl, sym, ap, ◌∙◌, arith}
 use Rattle.rollout_rules.specs.Wan.{Plan, Problem}
 use Rattle.rollout_rules.specs.declared.op.OpView.{OpView}
 use Rattle.sim_run.specs.Acts.{Rehearsal}
@@ -30,6 +30,7 @@ turns_from policy most r = turns r.rollout.problem r.rollout.plan policy most r.
 -- after so many turns what is left of the drain leads to where all of it does
 pub record IsDraining (policy : OpView → ℕ) (most : ℕ) (first : Rehearsing) (made : ℕ) (r : Rehearsing) : Type 0 where
   pub rollout : r.rollout ≡ first.rollout
+  pub live : r.live ≡ first.live
   pub state : drained_from policy (most - made) r ≡ drained_from policy most first
   pub turns : made + turns_from policy (most - made) r ≡ turns_from policy most first
   pub within : made ≤ most
@@ -43,7 +44,7 @@ module _ (policy : OpView → ℕ) (most : ℕ) (first : Rehearsing) where
   pub before : IsDraining policy most first 0 first
   before =
       let all : most - 0 ≡ most = omega arith in
-      record { rollout = refl; state = ap (λ k. drained_from policy k first) all; turns = omega (arith, ap (λ k. turns_from policy k first) all); within = omega arith }
+      record { rollout = refl; live = refl; state = ap (λ k. drained_from policy k first) all; turns = omega (arith, ap (λ k. turns_from policy k first) all); within = omega arith }
 
   module _ (made : ℕ) (r : Rehearsing) (was : IsDraining policy most first made r) where
     pub turns-on : made < most → is_finished r.rollout.problem r.rollout.plan r.state ≡ false → (s : Rehearsing) → s ≡ record r { state = after_turn r.rollout.problem r.rollout.plan policy r.state } → IsDraining policy most first (made + 1) s
@@ -59,6 +60,7 @@ module _ (policy : OpView → ℕ) (most : ℕ) (first : Rehearsing) where
         ∙ ap (λ k. turns_from policy k r) (sym left) in
         record {
           rollout = ap (λ (q : Rehearsing). q.rollout) done ∙ was.rollout;
+          live = ap (λ (q : Rehearsing). q.live) done ∙ was.live;
           state = state ∙ was.state;
           turns = omega (arith, one, was.turns);
           within = omega (arith, lt);
@@ -66,7 +68,7 @@ module _ (policy : OpView → ℕ) (most : ℕ) (first : Rehearsing) where
 
     ends : drained_from policy (most - made) r ≡ r.state → turns_from policy (most - made) r ≡ 0 → IsDrained policy most first made r
     ends state none = record {
-      state = ap₂ (λ o s. record { rollout = o; state = s }) was.rollout (sym state ∙ was.state);
+      state = (λ k. record { rollout = was.rollout k; state = (sym state ∙ was.state) k; live = was.live k });
       turns = omega (arith, none, was.turns);
     }
 

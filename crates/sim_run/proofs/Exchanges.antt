@@ -2,7 +2,7 @@
 use Rattle.std.proofs.Common.{◌≡◌, ℕ, zero, suc, ◌+◌, ◌<◌, ◌≤◌, true, not, List, [], ◌∷◌, length, refl, ap, sym, ◌∙◌, subst, arith, lt-ltb, length-append}
 use Rattle.std.proofs.lemmas.Bool.{and_from}
 use Rattle.rollout_rules.specs.Wan.{Problem, Plan}
-use Rattle.rollout_rules.specs.World.{World, in_flight, is_writing, allows, happens, after_event, after_events}
+use Rattle.rollout_rules.specs.World.{World, in_flight, is_writing, allows, happens, after_events}
 use Rattle.rollout_rules.specs.declared.event.Event.{Event}
 use Rattle.rollout_rules.specs.declared.event.Event.TheVariants as event
 use Rattle.rollout_laws.proofs.Worlds.{after_events-append}

@@ -9,7 +9,7 @@ use Rattle.rollout_rules.specs.Wan.{Plan, Problem}
 use Rattle.rollout_rules.specs.Items.{item_at, item_count}
 use Rattle.rollout_rules.specs.Operations.{operations}
 use Rattle.rollout_rules.specs.History.{History, begins_in, begun, dones_in, flies, settled, with_entries}
-use Rattle.rollout_rules.specs.Legal.{is_finished, is_legal}
+use Rattle.rollout_rules.specs.Legal.{is_finished, is_legal, unsettled}
 use Rattle.rollout_rules.specs.Release.{batch, dones, is_covered, next_op, release}
 use Rattle.rollout_rules.specs.World.{in_flight, no_op}
 use Rattle.rollout_rules.specs.declared.op.Op.{Op}
@@ -24,7 +24,6 @@ use Rattle.rollout_laws.proofs.Rounds.{release_begins_next}
 use Rattle.rollout_rounds.specs.Rows.{bit, numbers, times}
 use Rattle.rollout_rounds.proofs.Batches.{begins-end, dones-begin}
 use Rattle.rollout_rounds.proofs.Rows.{inside, length-times, times-filtered}
-use Rattle.rollout_peaks.specs.Ends.{unsettled}
 use Rattle.sim_run.proofs.Schedules.{finished-is}
 
 -- how many operations are in flight

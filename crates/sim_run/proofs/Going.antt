@@ -1,5 +1,5 @@
 -- A script goes on act by act.
-use Rattle.std.proofs.Common.{◌≡◌, ℕ, suc, ◌+◌, ◌<◌, List, [], ◌∷◌, ◌++◌, codes, length, drop, get_or, sym, ap, ap₂, ◌∙◌, arith, append_assoc, drop-cons}
+use Rattle.std.proofs.Common.{◌≡◌, ℕ, suc, ◌+◌, ◌<◌, List, ◌∷◌, ◌++◌, codes, length, drop, get_or, sym, ap, ap₂, ◌∙◌, arith, append_assoc, drop-cons}
 use Rattle.std.specs.Prelude.{decimal}
 use Rattle.rollout_rules.specs.Wan.{Problem, Plan}
 use Rattle.rollout_rules.specs.declared.op.OpView.{OpView}
@@ -24,6 +24,7 @@ module _ (p : Problem) (plan : Plan) (policy : OpView → ℕ) (script : List Ac
 -- what the acts from a place on lead to, with what was said so far, is the whole
 pub record IsGoing (policy : OpView → ℕ) (first : Rehearsing) (begin : List ℕ) (script : List Act) (k : ℕ) (r : Rehearsing) (so_far : List ℕ) : Type 0 where
   pub rollout : r.rollout ≡ first.rollout
+  pub live : r.live ≡ first.live
   pub state : after_acts first.rollout.problem first.rollout.plan policy r.state (drop k script) ≡ after_acts first.rollout.problem first.rollout.plan policy first.state script
   pub text : so_far ++ act_lines first.rollout.problem first.rollout.plan policy k r.state (drop k script) ≡ begin ++ act_lines first.rollout.problem first.rollout.plan policy 0 first.state script
 
@@ -38,6 +39,7 @@ goes_on policy first begin script k r text was lt a at l said next stepped longe
     let line : longer ≡ text ++ numbered_line p plan policy k r.state a = lined ∙ ap (λ x. text ++ (decimal k ++ codes " " ++ line_text x ++ codes "\n")) (said ∙ ap (λ o. line_of o.problem o.plan policy r.state a) was.rollout) in
     record {
       rollout = ap (λ x. x.rollout) stepped ∙ was.rollout;
+      live = ap (λ x. x.live) stepped ∙ was.live;
       state = ap (λ x. after_acts p plan policy x (drop (k + 1) script)) new ∙ sym (acts-step p plan policy script k a lt at r.state) ∙ was.state;
       text = ap₂ (λ t x. t ++ act_lines p plan policy (k + 1) x (drop (k + 1) script)) line new ∙ lines-step p plan policy script k a lt at r.state text ∙ was.text;
     }

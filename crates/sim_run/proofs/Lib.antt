@@ -3,7 +3,10 @@ pub mod Exchanges
 pub mod Writable
 pub mod Switches
 pub mod Moving
+pub mod Books
+pub mod Graphs
 pub mod Turns
+pub mod Worldly
 pub mod Whole
 pub mod Going
 pub mod Drawing

@@ -7,7 +7,7 @@ use Rattle.rollout_rules.specs.Network.{IsNetwork}
 use Rattle.rollout_rules.specs.Items.{item_count, item_at}
 use Rattle.rollout_rules.specs.Operations.{operations}
 use Rattle.rollout_rules.specs.History.{History, settled}
-use Rattle.rollout_rules.specs.Legal.{is_legal, is_finished}
+use Rattle.rollout_rules.specs.Legal.{is_legal, is_finished, unsettled}
 use Rattle.rollout_rules.specs.Valid.{is_valid_plan}
 use Rattle.rollout_rules.specs.World.{new_world, after_events}
 use Rattle.rollout_rules.specs.declared.op.OpView.{OpView}
@@ -18,7 +18,6 @@ use Rattle.rollout_laws.proofs.Histories.{is_counted}
 use Rattle.rollout_laws.proofs.SafeWorlds.{new_world_is_safe}
 use Rattle.rollout_laws.proofs.Targets.{new_network_at_target}
 use Rattle.rollout_laws.proofs.Worlds.{after_events-append, every_new_world_is_kept}
-use Rattle.rollout_peaks.specs.Ends.{unsettled}
 use Rattle.rollout_peaks.proofs.Fullness.{link-fits, table-fits}
 use Rattle.sim_run.specs.Acts.{Rehearsal, first_rehearsal, can_happen, events_of, after_act, after_acts}
 use Rattle.sim_run.specs.Rehearsed.{schedule_of, world_after, IsSafeRehearsal}

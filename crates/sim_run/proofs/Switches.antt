@@ -7,7 +7,7 @@ use Rattle.rollout_rules.specs.Wan.{Problem, Plan}
 use Rattle.rollout_rules.specs.Items.{item_count, item_at}
 use Rattle.rollout_rules.specs.Operations.{content_after}
 use Rattle.rollout_rules.specs.History.{no_start}
-use Rattle.rollout_rules.specs.Agent.{Holding, nothing_held, pair_of, first_pair, is_next_command, held_after}
+use Rattle.rollout_rules.specs.Agent.{nothing_held, pair_of, first_pair, is_next_command, held_after}
 use Rattle.rollout_rules.specs.World.{holding_of, pair_at, no_pairs}
 use Rattle.rollout_laws.proofs.Contents.{list_below-length, list_below-at}
 use Rattle.sim_run.specs.Passing.{applied_after, holding_at, holdings}

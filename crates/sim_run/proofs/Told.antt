@@ -4,7 +4,8 @@ use Rattle.rand_pcg.specs.Lcg.{Lcg}
 use Rattle.rollout_rules.specs.Wan.{Plan, Problem}
 use Rattle.rollout_rules.specs.History.{History}
 use Rattle.rollout_rules.specs.declared.op.OpView.{OpView}
-use Rattle.rollout_peaks.specs.Ends.{last_line, unsettled}
+use Rattle.rollout_rules.specs.Legal.{unsettled}
+use Rattle.rollout_peaks.specs.Ends.{last_line}
 use Rattle.sim_run.specs.declared.shape.Shape.{Shape}
 use Rattle.sim_run.specs.Rehearsing.{Rehearsing}
 use Rattle.sim_run.specs.Trials.{after_trial, all_operations, drained, raised, turns}

@@ -1,29 +1,24 @@
--- What rounds, stops and starts make of a rehearsal's parts.
-use Rattle.std.proofs.Common.{◌≡◌, ℕ, suc, ◌+◌, ◌<◌, ◌≤◌, Bool, true, false, not, ◌&&◌, cond, nat_le, nat_lt, List, [], ◌∷◌, ◌++◌, map, length, take, drop, replicate, refl, sym, ap, ap₂, ◌∙◌, subst, inl, inr, arith, lt-ltb, le-leb}
+-- What a controller's rounds, stops and starts make of a rehearsal.
+use Rattle.std.proofs.Common.{◌≡◌, ℕ, ◌<◌, ◌≤◌, true, false, not, ◌&&◌, nat_le, nat_lt, List, [], ◌∷◌, ◌++◌, map, length, take, drop, replicate, refl, sym, ap, ap₂, ◌∙◌, arith, lt-ltb, le-leb}
 use Rattle.std.proofs.lemmas.Bool.{and_from}
-use Rattle.std.proofs.lemmas.List.{length-map, drop-map, take_all}
-use Rattle.std.specs.List.{filter}
+use Rattle.std.proofs.Math.Seq.{drop-append_seam}
+use Rattle.std.proofs.lemmas.List.{append-nil, length-map, drop-map, take_all}
 use Rattle.rollout_rules.specs.Wan.{Problem, Plan, Rollout}
 use Rattle.rollout_rules.specs.Items.{item_count}
-use Rattle.rollout_rules.specs.History.{History, with_entries, started, no_start, from_nothing}
-use Rattle.rollout_rules.specs.Legal.{is_legal}
-use Rattle.rollout_rules.specs.Valid.{is_valid_plan}
+use Rattle.rollout_rules.specs.History.{with_entries}
 use Rattle.rollout_rules.specs.Release.{batch}
-use Rattle.rollout_rules.specs.World.{World, no_pairs, is_writing, allows, happens, after_event, after_events, answers_of}
+use Rattle.rollout_rules.specs.World.{World, allows, after_events, answers_of}
 use Rattle.rollout_rules.specs.declared.op.Op.{Op}
 use Rattle.rollout_rules.specs.declared.op.OpView.{OpView}
 use Rattle.rollout_rules.specs.declared.op.Entry.{Entry}
-use Rattle.rollout_rules.specs.declared.event.Event.{Event}
 use Rattle.rollout_rules.specs.declared.event.Event.TheVariants as event
 use Rattle.rollout_rules.specs.declared.event.Act.TheVariants as act
 use Rattle.rollout_laws.proofs.Histories.{with_none}
-use Rattle.rollout_laws.proofs.SoundStarts.{from_nothing-legal}
-use Rattle.dependency_graph.specs.Graph.{Followed}
-use Rattle.rollout_rounds.specs.Rounds.{Turning, first_turn, batch_of, after_round}
-use Rattle.sim_run.specs.Acts.{Rehearsal, first_rehearsal, unheard, round_batch, write_whole, stop_writing, acted}
-use Rattle.sim_run.specs.Passing.{Passing, Handing, given_of, holdings}
-use Rattle.sim_run.specs.Rehearsing.{Rehearsing, moved, rehearsing_of}
-use Rattle.sim_run.proofs.Moving.{in_world, moved-happens}
+use Rattle.sim_run.specs.Acts.{first_rehearsal, unheard, round_batch, write_whole, stop_writing, acted}
+use Rattle.sim_run.specs.Controlling.{Controlling, after_round, batch_of, first_controlling, with_nothing}
+use Rattle.sim_run.specs.Passing.{Passing, given_of}
+use Rattle.sim_run.specs.Rehearsing.{moved, rehearsing_of}
+use Rattle.sim_run.proofs.Moving.{moved-happens}
 use Rattle.sim_run.proofs.Switches.{holdings-first}
 use Rattle.sim_run.proofs.Writable.{batch_may_be_written}
 
@@ -54,69 +49,68 @@ answers-are [] = refl
 answers-are (a ∷ answers) = ap (λ l. a ∷ l) (answers-are answers)
 
 -- ---- rehearsals by their parts
--- the entries that were kept and then those of the last round are the history
-pub whole_history : (t : Turning) (kept : List Entry) → t.history.entries ≡ kept ++ t.batch → t.history.start ≡ no_start t.rollout.problem → from_nothing t.rollout.problem (kept ++ t.batch) ≡ t.history
-whole_history t kept entries start = ap₂ (λ s es. record t.history { start = s; entries = es }) (sym start) (sym entries)
+pub first : (o : Rollout) (c : Controlling) (w : Passing) (items : ℕ) → c ≡ first_controlling o → w ≡ record { sent = []; given = []; applied = replicate items 0 } → items ≡ item_count o.problem
+    → rehearsing_of c w ≡ record { rollout = o; state = first_rehearsal o.problem o.plan; live = true }
+first o c w items ec ew count =
+    (λ k. rehearsing_of (ec k) (ew k))
+    ∙ ap (λ held. record { rollout = o; state = record { world = record (first_rehearsal o.problem o.plan).world { held = held }; heard = 0 }; live = true }) (holdings-first o.problem o.plan items count)
 
--- a graph at the start at which nothing is settled has a legal history
-pub first_legal : (o : Rollout) (g : Followed) → g ≡ record { rollout = o; history = from_nothing o.problem [] } → is_valid_plan o.problem o.plan ≡ true → is_legal g.rollout.problem g.rollout.plan g.history ≡ true
-first_legal o g is valid = subst (λ (x : Followed). is_legal x.rollout.problem x.rollout.plan x.history ≡ true) (sym is) (from_nothing-legal o.problem o.plan valid)
+module _ (c : Controlling) (w : Passing) where
+  -- a round hears what was handed over since the last one
+  unheard-is : unheard (rehearsing_of c w).state ≡ c.heard
+  unheard-is =
+      ap (answers_of 0) (drop-map given_of (length c.earlier) (c.earlier ++ c.heard))
+      ∙ answers-are (drop (length c.earlier) (c.earlier ++ c.heard))
+      ∙ drop-append_seam c.earlier c.heard
 
-pub first : (o : Rollout) (t : Turning) (w : Passing) (h : Handing) (items : ℕ) → t ≡ first_turn (record { rollout = o; history = started (no_start o.problem) }) → w ≡ record { sent = []; given = []; applied = replicate items 0 } → items ≡ item_count o.problem
-    → h ≡ record { answers = []; heard = 0 } → rehearsing_of t w h true ≡ record { rollout = o; state = first_rehearsal o.problem o.plan }
-first o t w h items et ew count eh =
-    (λ k. rehearsing_of (et k) (ew k) (eh k) true)
-    ∙ ap (λ held. record { rollout = o; state = record { world = record (first_rehearsal o.problem o.plan).world { held = held }; heard = 0 } }) (holdings-first o.problem o.plan items count)
+  pub batch-is : (policy : OpView → ℕ) → round_batch c.rollout.problem c.rollout.plan policy (rehearsing_of c w).state ≡ batch_of c policy
+  batch-is policy = ap (batch c.rollout.problem c.rollout.plan policy c.history) unheard-is
 
-module _ (t : Turning) (w : Passing) (h : Handing) (heard : t.heard ≡ drop h.heard h.answers) where
-  -- the rounds hear what the rehearsal has not heard
-  unheard-is : (up : Bool) → unheard (rehearsing_of t w h up).state ≡ t.heard
-  unheard-is up = ap (answers_of 0) (drop-map given_of h.heard h.answers) ∙ answers-are (drop h.heard h.answers) ∙ sym heard
+  may-write : (policy : OpView → ℕ) → c.up ≡ true → 0 < length (round_batch c.rollout.problem c.rollout.plan policy (rehearsing_of c w).state)
+      → allows c.rollout.problem c.rollout.plan (rehearsing_of c w).state.world (event.Write (round_batch c.rollout.problem c.rollout.plan policy (rehearsing_of c w).state)) ≡ true
+  may-write policy is_up some = batch_may_be_written c.rollout.problem c.rollout.plan policy (rehearsing_of c w).state.world (length c.earlier) is_up refl some
 
-  pub batch-is : (up : Bool) (policy : OpView → ℕ) → round_batch t.rollout.problem t.rollout.plan policy (rehearsing_of t w h up).state ≡ batch_of t policy
-  batch-is up policy = ap (batch t.rollout.problem t.rollout.plan policy t.history) (unheard-is up)
-
-  may-write : (up : Bool) (policy : OpView → ℕ) → up ≡ true → 0 < length (round_batch t.rollout.problem t.rollout.plan policy (rehearsing_of t w h up).state)
-      → allows t.rollout.problem t.rollout.plan (rehearsing_of t w h up).state.world (event.Write (round_batch t.rollout.problem t.rollout.plan policy (rehearsing_of t w h up).state)) ≡ true
-  may-write up policy is_up some = batch_may_be_written t.rollout.problem t.rollout.plan policy (rehearsing_of t w h up).state.world h.heard is_up refl some
-
-  pub turns : (t' : Turning) (h' : Handing) (up : Bool) (policy : OpView → ℕ) → up ≡ true → t' ≡ after_round t policy → h' ≡ record h { heard = length h.answers }
-      → rehearsing_of t' w h' up ≡ record (rehearsing_of t w h up) { state = acted t.rollout.problem t.rollout.plan policy (rehearsing_of t w h up).state act.Round }
-  turns t' h' up policy is_up et eh =
-      let r = rehearsing_of t w h up in
-      let b = round_batch t.rollout.problem t.rollout.plan policy r.state in
-      ap₂ (λ u g. rehearsing_of u w g up) et eh
-      ∙ ap₂ (λ l n. record r { state = record { world = record r.state.world { durable = with_entries t.history l }; heard = n } }) (sym (batch-is up policy)) (sym (length-map h.answers given_of))
-      ∙ ap (λ v. record r { state = record { world = v; heard = length (map given_of h.answers) } }) (sym (written t.rollout.problem t.rollout.plan r.state.world refl b (may-write up policy is_up)))
+  pub turns : (c' : Controlling) (policy : OpView → ℕ) → c.up ≡ true → c' ≡ after_round c policy
+      → rehearsing_of c' w ≡ record (rehearsing_of c w) { state = acted c.rollout.problem c.rollout.plan policy (rehearsing_of c w).state act.Round }
+  turns c' policy is_up ec =
+      let r = rehearsing_of c w in
+      let b = round_batch c.rollout.problem c.rollout.plan policy r.state in
+      let all = c.earlier ++ c.heard in
+      ap (λ u. rehearsing_of u w) ec
+      ∙ ap (λ l. record r { state = record { world = record r.state.world { durable = with_entries c.history (batch_of c policy); handed = map given_of l }; heard = length all } }) (append-nil all)
+      ∙ ap₂ (λ l n. record r { state = record { world = record r.state.world { durable = with_entries c.history l }; heard = n } }) (sym (batch-is policy)) (sym (length-map all given_of))
+      ∙ ap (λ v. record r { state = record { world = v; heard = length (map given_of all) } }) (sym (written c.rollout.problem c.rollout.plan r.state.world refl b (may-write policy is_up)))
 
   -- a stop, and a crash whose batch is lost
-  pub stops : (t' : Turning) (h' : Handing) (up : Bool) (policy : OpView → ℕ) → up ≡ true → t' ≡ record t { heard = [] } → h' ≡ record { answers = []; heard = 0 }
-      → rehearsing_of t' w h' false ≡ record (rehearsing_of t w h up) { state = acted t.rollout.problem t.rollout.plan policy (rehearsing_of t w h up).state act.Stop }
-  stops t' h' up policy is_up et eh =
-      let r = rehearsing_of t w h up in
-      ap₂ (λ u g. rehearsing_of u w g false) et eh
-      ∙ ap (λ l. record r { state = record { world = record r.state.world { durable = l; up = false; handed = [] }; heard = 0 } }) (sym (with_none t.history))
-      ∙ ap (λ v. record r { state = record { world = v; heard = 0 } }) (sym (stopped t.rollout.problem t.rollout.plan r.state.world refl [] 0 is_up (omega arith) (λ some. absurd (omega (arith, some)))))
+  pub stops : (c' : Controlling) (policy : OpView → ℕ) → c.up ≡ true → c' ≡ with_nothing c
+      → rehearsing_of c' w ≡ record (rehearsing_of c w) { state = acted c.rollout.problem c.rollout.plan policy (rehearsing_of c w).state act.Stop }
+  stops c' policy is_up ec =
+      let r = rehearsing_of c w in
+      ap (λ u. rehearsing_of u w) ec
+      ∙ ap (λ l. record r { state = record { world = record r.state.world { durable = l; up = false; handed = [] }; heard = 0 } }) (sym (with_none c.history))
+      ∙ ap (λ v. record r { state = record { world = v; heard = 0 } }) (sym (stopped c.rollout.problem c.rollout.plan r.state.world refl [] 0 is_up (omega arith) (λ some. absurd (omega (arith, some)))))
 
-  pub loses : (t' : Turning) (h' : Handing) (up : Bool) (policy : OpView → ℕ) → up ≡ true → t' ≡ record t { heard = [] } → h' ≡ record { answers = []; heard = 0 }
-      → rehearsing_of t' w h' false ≡ record (rehearsing_of t w h up) { state = acted t.rollout.problem t.rollout.plan policy (rehearsing_of t w h up).state act.CrashLost }
-  loses t' h' up policy is_up et eh =
-      let r = rehearsing_of t w h up in
-      let b = round_batch t.rollout.problem t.rollout.plan policy r.state in
-      ap₂ (λ u g. rehearsing_of u w g false) et eh
-      ∙ ap (λ l. record r { state = record { world = record r.state.world { durable = l; up = false; handed = [] }; heard = 0 } }) (sym (with_none t.history))
-      ∙ ap (λ v. record r { state = record { world = v; heard = 0 } }) (sym (stopped t.rollout.problem t.rollout.plan r.state.world refl b 0 is_up (omega arith) (may-write up policy is_up)))
+  pub loses : (c' : Controlling) (policy : OpView → ℕ) → c.up ≡ true → c' ≡ with_nothing c
+      → rehearsing_of c' w ≡ record (rehearsing_of c w) { state = acted c.rollout.problem c.rollout.plan policy (rehearsing_of c w).state act.CrashLost }
+  loses c' policy is_up ec =
+      let r = rehearsing_of c w in
+      let b = round_batch c.rollout.problem c.rollout.plan policy r.state in
+      ap (λ u. rehearsing_of u w) ec
+      ∙ ap (λ l. record r { state = record { world = record r.state.world { durable = l; up = false; handed = [] }; heard = 0 } }) (sym (with_none c.history))
+      ∙ ap (λ v. record r { state = record { world = v; heard = 0 } }) (sym (stopped c.rollout.problem c.rollout.plan r.state.world refl b 0 is_up (omega arith) (may-write policy is_up)))
 
   -- a crash whose batch is kept
-  pub keeps : (t' : Turning) (h' : Handing) (up : Bool) (policy : OpView → ℕ) → up ≡ true → t' ≡ after_round t policy → h' ≡ record { answers = []; heard = 0 }
-      → rehearsing_of t' w h' false ≡ record (rehearsing_of t w h up) { state = acted t.rollout.problem t.rollout.plan policy (rehearsing_of t w h up).state act.CrashKept }
-  keeps t' h' up policy is_up et eh =
-      let r = rehearsing_of t w h up in
-      let b = round_batch t.rollout.problem t.rollout.plan policy r.state in
-      ap₂ (λ u g. rehearsing_of u w g false) et eh
-      ∙ ap (λ l. record r { state = record { world = record r.state.world { durable = with_entries t.history l; up = false; handed = [] }; heard = 0 } })
-      (sym (batch-is up policy) ∙ sym (take_all (length b) b (omega arith)))
-      ∙ ap (λ v. record r { state = record { world = v; heard = 0 } }) (sym (stopped t.rollout.problem t.rollout.plan r.state.world refl b (length b) is_up (omega arith) (may-write up policy is_up)))
+  pub keeps : (made c' : Controlling) (policy : OpView → ℕ) → c.up ≡ true → made ≡ after_round c policy → c' ≡ with_nothing made
+      → rehearsing_of c' w ≡ record (rehearsing_of c w) { state = acted c.rollout.problem c.rollout.plan policy (rehearsing_of c w).state act.CrashKept }
+  keeps made c' policy is_up em ec =
+      let r = rehearsing_of c w in
+      let b = round_batch c.rollout.problem c.rollout.plan policy r.state in
+      ap (λ u. rehearsing_of u w) (ec ∙ ap with_nothing em)
+      ∙ ap (λ l. record r { state = record { world = record r.state.world { durable = with_entries c.history l; up = false; handed = [] }; heard = 0 } })
+      (sym (batch-is policy) ∙ sym (take_all (length b) b (omega arith)))
+      ∙ ap (λ v. record r { state = record { world = v; heard = 0 } }) (sym (stopped c.rollout.problem c.rollout.plan r.state.world refl b (length b) is_up (omega arith) (may-write policy is_up)))
 
-pub starts : (t : Turning) (w : Passing) (h : Handing) (up : Bool) → up ≡ false → rehearsing_of t w h true ≡ moved (rehearsing_of t w h up) (event.Restart ∷ [])
-starts t w h up down = let may : not up ≡ true = ap not down in sym (moved-happens (rehearsing_of t w h up) event.Restart may)
+  pub starts : (c' : Controlling) → c.up ≡ false → c' ≡ record c { up = true } → rehearsing_of c' w ≡ moved (rehearsing_of c w) (event.Restart ∷ [])
+  starts c' down ec =
+      let may : not c.up ≡ true = ap not down in
+      ap (λ u. rehearsing_of u w) ec ∙ sym (moved-happens (rehearsing_of c w) event.Restart may)

@@ -1,5 +1,5 @@
 -- The text of a script, put together.
-use Rattle.std.proofs.Common.{◌≡◌, List, [], ◌++◌, ℕ, refl, sym, subst, ap, ap₂, ◌∙◌}
+use Rattle.std.proofs.Common.{◌≡◌, true, List, [], ◌++◌, ℕ, refl, sym, subst, ap, ap₂, ◌∙◌}
 use Rattle.std.specs.Prelude.{IfOk, Result}
 use Rattle.std.specs.declared.alloc.AllocError.{AllocError}
 use Rattle.rollout_rules.specs.Wan.{Rollout}
@@ -16,7 +16,7 @@ unfolded : (r : Rehearsing) (policy : OpView → ℕ) (script : List Act)
 unfolding text_from
 unfolded r policy script = refl
 
-of_first : (o : Rollout) → first_of o ≡ record { rollout = o; state = first_rehearsal o.problem o.plan }
+of_first : (o : Rollout) → first_of o ≡ record { rollout = o; state = first_rehearsal o.problem o.plan; live = true }
 unfolding first_of
 of_first o = refl
 
@@ -32,7 +32,7 @@ text_is policy script first last begin acted text empty done lines ended =
 
 -- the text from the first rehearsal on
 pub first_text : (o : Rollout) (policy : OpView → ℕ) (script : List Act) (first : Rehearsing) (result : Result (List ℕ) AllocError)
-    → first ≡ record { rollout = o; state = first_rehearsal o.problem o.plan } → IfOk result (λ text. text ≡ text_from first policy script) → IfOk result (λ text. text ≡ text_from (first_of o) policy script)
+    → first ≡ record { rollout = o; state = first_rehearsal o.problem o.plan; live = true } → IfOk result (λ text. text ≡ text_from first policy script) → IfOk result (λ text. text ≡ text_from (first_of o) policy script)
 first_text o policy script first result new is = subst (λ (r : Rehearsing). IfOk result (λ text. text ≡ text_from r policy script)) (new ∙ sym (of_first o)) is
 
 -- is that of the script

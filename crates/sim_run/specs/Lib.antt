@@ -2,6 +2,9 @@ pub mod Acts
 pub mod Script
 pub mod Rehearsed
 pub mod Passing
+pub mod Earlier
+pub mod Plain
+pub mod Controlling
 pub mod Rehearsing
 pub mod Trials
 pub mod TrialText

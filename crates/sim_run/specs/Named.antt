@@ -1,6 +1,6 @@
 -- The plans and the shapes of the worked trials: k 4 and seed 7.
-use Rattle.std.specs.Prelude.{ℕ, List, [], ◌∷◌, true}
-use Rattle.rollout_rules.specs.Wan.{Plan, Stage}
+use Rattle.std.specs.Prelude.{ℕ, [], ◌∷◌, true}
+use Rattle.rollout_rules.specs.Wan.{Plan}
 use Rattle.rollout_rules.specs.declared.op.OpView.{OpView}
 use Rattle.sim_run.specs.declared.shape.Shape.{Shape}
 

@@ -16,11 +16,6 @@ pub record Passing : Type 0 where
   pub given : List Op
   pub applied : List ℕ
 
--- the answers handed over since the controller started, and how many of them a round has heard
-pub record Handing : Type 0 where
-  pub answers : List Op
-  pub heard : ℕ
-
 -- how many operations a switch has applied after a command: it applies the next one alone
 abbrev pub applied_after : ℕ → ℕ → ℕ
 applied_after applied asked = if asked == applied + 1 then asked else applied

@@ -4,8 +4,9 @@ use Rattle.rand_pcg.specs.Lcg.{Lcg}
 use Rattle.rollout_rules.specs.History.{History}
 use Rattle.rollout_rules.specs.Wan.{Plan, Problem, last_stage, link_at}
 use Rattle.rollout_rules.specs.declared.op.OpView.{OpView}
+use Rattle.rollout_rules.specs.Legal.{unsettled}
 use Rattle.wan_text.specs.Names.{link_text}
-use Rattle.rollout_peaks.specs.Ends.{last_line, unsettled}
+use Rattle.rollout_peaks.specs.Ends.{last_line}
 use Rattle.rollout_peaks.specs.Peaks.{link_peak}
 use Rattle.sim_run.specs.declared.shape.Shape.{Shape}
 use Rattle.sim_run.specs.Trials.{Trial, after_trial, all_operations, drained, raised, turns}

@@ -9,7 +9,7 @@ use Rattle.rollout_rules.specs.World.{World, in_flight}
 use Rattle.rollout_rules.specs.declared.op.OpView.{OpView}
 use Rattle.rollout_rules.specs.declared.event.Act.{Act}
 use Rattle.rollout_rules.specs.declared.event.Act.TheVariants as act
-use Rattle.rollout_peaks.specs.Ends.{unsettled}
+use Rattle.rollout_rules.specs.Legal.{unsettled}
 use Rattle.case_gen.specs.Draws.{after_draws, drawn}
 use Rattle.sim_run.specs.Acts.{Rehearsal, after_act, after_acts, first_rehearsal}
 

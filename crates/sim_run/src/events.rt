@@ -1,5 +1,5 @@
 //! What is drawn for the events of a trial.
-ghost use Rattle.std.specs.Prelude.{◌≡◌, ◌<◌, length};
+ghost use Rattle.std.specs.Prelude.{◌≡◌, ◌<◌, length, IsTrue};
 ghost use Rattle.sim_run.specs.Trials.{act_for, any_of, new_one_of, next_act};
 
 use crate::acts::Rehearsal;
@@ -9,6 +9,7 @@ use rollout_rules::Act;
 /// Draws the act of the next event; none where there is nothing that it could be done with. A controller
 /// that is down starts, and nothing is drawn.
 pub(crate) fn next_act(rehearsal: &Rehearsal, draws: &mut Draws) -> Option<Act>
+    requires live { IsTrue rehearsal.now.live }
     requires sent { length rehearsal.now.state.world.sent < 4294967296 }
     requires given { length rehearsal.now.state.world.given < 4294967296 }
     ensures chosen { result ≡ (next_act rehearsal.now.rollout.problem rehearsal.now.state.world draws.old).chosen }
@@ -23,6 +24,7 @@ pub(crate) fn next_act(rehearsal: &Rehearsal, draws: &mut Draws) -> Option<Act>
 
 /// The act for a number below 100.
 fn act_for(rehearsal: &Rehearsal, number: u32, draws: &mut Draws) -> Option<Act>
+    requires live { IsTrue rehearsal.now.live }
     requires sent { length rehearsal.now.state.world.sent < 4294967296 }
     requires given { length rehearsal.now.state.world.given < 4294967296 }
     ensures chosen { result ≡ (act_for rehearsal.now.rollout.problem rehearsal.now.state.world draws.old number).chosen }

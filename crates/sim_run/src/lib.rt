@@ -3,8 +3,11 @@
 //!
 //! [`run_script`] gives the text of a script under a policy: a line for each act, the peak of each link and
 //! table over the durable history, and whether every operation is settled; its contract is the definition
-//! `script_text`, over worlds. No world is kept: a rehearsal has the controller's rounds over a graph, what
-//! has passed on the network and what the switches have applied, and each act changes what it touches alone.
+//! `script_text`, over worlds. No world is kept: a rehearsal has the controller, what has passed on the
+//! network and what the switches have applied, and each act changes what it touches alone. A script's
+//! controller is the real one: a book over a disk in memory, which a start opens again over what a crash
+//! leaves. A trial's has the graph alone, since it starts thousands of times, and an opening reads the whole
+//! history.
 //! [`every_rehearsal_is_safe`] says that the worlds of a script are those of a schedule, each of them safe,
 //! that no peak is above its capacity, and that what ends finished is the new split, whatever the policy.
 //!
@@ -15,13 +18,16 @@
 
 mod act_line;
 mod acts;
+mod controller;
 mod drain;
+mod earlier;
 mod events;
-mod handed;
+mod keeper;
 mod laws;
 mod lines;
 mod network;
 mod outcome;
+mod plain;
 mod run;
 mod shape;
 mod trial;
@@ -31,6 +37,3 @@ pub use laws::{a_trial_ends_finished, a_trial_is_a_script, every_rehearsal_is_sa
 pub use run::run_script;
 pub use shape::Shape;
 pub use trial::run_trial;
-
-#[cfg(test)]
-mod tests;

@@ -1,7 +1,7 @@
 //! What is told behind a trial's rollout.
 ghost use Rattle.std.specs.Prelude.{◌≡◌, ◌++◌, ◌<◌, ◌^◌, ℕ, codes, length, slice_index, IfSome, IsTrue, OnOk};
 ghost use Rattle.rollout_rules.specs.History as rules;
-ghost use Rattle.rollout_rules.specs.Legal.{is_legal};
+ghost use Rattle.rollout_rules.specs.Legal.{is_legal, unsettled};
 ghost use Rattle.rollout_rules.specs.Sums.{list_below};
 ghost use Rattle.dependency_graph.specs.Graph.{op_total};
 ghost use Rattle.rollout_peaks.specs.Ends as ends;
@@ -150,7 +150,7 @@ fn room_of(plan: &CheckedPlan, link: usize) -> u128
 
 /// How many operations are not settled. Time: the items.
 fn unsettled(graph: &Graph) -> u64
-    ensures { result ≡ ends.unsettled graph.now.rollout.problem graph.now.rollout.plan graph.now.history }
+    ensures { result ≡ unsettled graph.now.rollout.problem graph.now.rollout.plan graph.now.history }
 {
     let mut left = 0;
     for item in 0..item_count(graph.plan().problem()) {

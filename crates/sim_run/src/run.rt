@@ -1,4 +1,4 @@
-ghost use Rattle.std.specs.Prelude.{◌≡◌, ◌++◌, IfOk, OnOk};
+ghost use Rattle.std.specs.Prelude.{◌≡◌, ◌++◌, IfOk, IsTrue, OnOk};
 ghost use Rattle.order_policy.specs.Answers.{rank_by};
 ghost use Rattle.sim_run.specs.Acts.{after_acts};
 ghost use Rattle.sim_run.specs.Rehearsed.{IsSafeRehearsal};
@@ -52,9 +52,12 @@ fn of_rehearsal(
     policy: &Policy,
     script: &[Act],
 ) -> Result<Text, Memory>
+    requires { IsTrue rehearsal.live }
     ensures { IfOk result (λ text. text ≡ text_from rehearsal (rank_by policy.now.answers) script.now) }
 {
-    text_of(alloc, &mut rehearsal, policy, script)
+    let text = text_of(alloc, &mut rehearsal, policy, script);
+    rehearsal.end();
+    text
 }
 
 /// What is said of acts, and behind them.
@@ -64,10 +67,11 @@ fn text_of(
     policy: &Policy,
     script: &[Act],
 ) -> Result<Text, Memory>
+    requires { IsTrue rehearsal.old.live }
     ensures { IfOk result (λ text. text ≡ text_from rehearsal.old (rank_by policy.now.answers) script.now) }
 {
     let mut text = Text::new(alloc);
-    push_acts(alloc, rehearsal, policy, script, &mut text)?;
+    push_acts(rehearsal, policy, script, &mut text)?;
     rehearsal.push_end(alloc, &mut text)?;
     Ok(text)
 }
@@ -81,18 +85,18 @@ fn rehearsal_is_safe(plan: &CheckedPlan, policy: &Policy, script: &Script)
 }
 
 fn push_acts(
-    alloc: Global,
     rehearsal: &mut Rehearsal,
     policy: &Policy,
     script: &[Act],
     text: &mut Text,
 ) -> Result<(), Memory>
+    requires { IsTrue rehearsal.old.live }
     ensures state { OnOk result (rehearsal.new ≡ record rehearsal.old { state = after_acts rehearsal.old.rollout.problem rehearsal.old.rollout.plan (rank_by policy.now.answers) rehearsal.old.state script.now }) }
     ensures text { OnOk result (text.new ≡ text.old ++ act_lines rehearsal.old.rollout.problem rehearsal.old.rollout.plan (rank_by policy.now.answers) 0 rehearsal.old.state script.now) }
 {
     for (number, act) in script.iter().enumerate() {
         let line = rehearsal.act(policy, *act)?;
-        push_act_line(alloc, text, number, &line)?;
+        push_act_line(text, number, &line)?;
     }
     Ok(())
 }

@@ -1,4 +1,4 @@
-ghost use Rattle.std.specs.Prelude.{◌≡◌, ◌<◌, ◌++◌, IfOk, OnOk, length};
+ghost use Rattle.std.specs.Prelude.{◌≡◌, ◌<◌, ◌++◌, IfOk, IsTrue, OnOk, length};
 ghost use Rattle.order_policy.specs.Answers.{rank_by};
 ghost use Rattle.sim_run.specs.Acts.{after_act, first_rehearsal};
 ghost use Rattle.sim_run.specs.Trials.{after_trial};
@@ -31,7 +31,7 @@ pub fn run_trial(
 ) -> Result<Text, Memory>
     ensures { IfOk result (λ text. text ≡ trial_text plan.problem plan.plan rate_steps (rank_by policy.now.answers) shape.now draws.old) }
 {
-    match Rehearsal::new(alloc, plan) {
+    match Rehearsal::without_book(alloc, plan) {
         Ok(rehearsal) => of_rehearsal(alloc, rehearsal, rate_steps, policy, shape, draws),
         Err(error) => Err(error),
     }
@@ -46,10 +46,13 @@ fn of_rehearsal(
     shape: &Shape,
     draws: &mut Draws,
 ) -> Result<Text, Memory>
-    requires { rehearsal.state ≡ first_rehearsal rehearsal.rollout.problem rehearsal.rollout.plan }
+    requires live { IsTrue rehearsal.live }
+    requires first { rehearsal.state ≡ first_rehearsal rehearsal.rollout.problem rehearsal.rollout.plan }
     ensures { IfOk result (λ text. text ≡ trial_text rehearsal.rollout.problem rehearsal.rollout.plan rate_steps (rank_by policy.now.answers) shape.now draws.old) }
 {
-    text_of(alloc, &mut rehearsal, rate_steps, policy, shape, draws)
+    let text = text_of(alloc, &mut rehearsal, rate_steps, policy, shape, draws);
+    rehearsal.end();
+    text
 }
 
 fn text_of(
@@ -60,7 +63,8 @@ fn text_of(
     shape: &Shape,
     draws: &mut Draws,
 ) -> Result<Text, Memory>
-    requires { rehearsal.old.state ≡ first_rehearsal rehearsal.old.rollout.problem rehearsal.old.rollout.plan }
+    requires live { IsTrue rehearsal.old.live }
+    requires first { rehearsal.old.state ≡ first_rehearsal rehearsal.old.rollout.problem rehearsal.old.rollout.plan }
     ensures { IfOk result (λ text. text ≡ trial_text rehearsal.old.rollout.problem rehearsal.old.rollout.plan rate_steps (rank_by policy.now.answers) shape.now draws.old) }
 {
     let mut text = Text::new(alloc);
@@ -81,7 +85,8 @@ fn do_events(
     draws: &mut Draws,
     events: u32,
 ) -> Result<u32, Memory>
-    requires { rehearsal.old.state ≡ first_rehearsal rehearsal.old.rollout.problem rehearsal.old.rollout.plan }
+    requires live { IsTrue rehearsal.old.live }
+    requires first { rehearsal.old.state ≡ first_rehearsal rehearsal.old.rollout.problem rehearsal.old.rollout.plan }
     ensures state { OnOk result (rehearsal.new ≡ record rehearsal.old { state = (after_trial rehearsal.old.rollout.problem rehearsal.old.rollout.plan (rank_by policy.now.answers) draws.old events).rehearsal }) }
     ensures skipped { IfOk result (λ skipped. skipped ≡ (after_trial rehearsal.old.rollout.problem rehearsal.old.rollout.plan (rank_by policy.now.answers) draws.old events).skipped) }
 {
@@ -95,6 +100,7 @@ fn do_events(
 
 /// Draws an act for the next event and does it. Answers how many events were skipped: this one or none.
 fn do_next(rehearsal: &mut Rehearsal, policy: &Policy, draws: &mut Draws) -> Result<u32, Memory>
+    requires live { IsTrue rehearsal.old.live }
     requires sent { length rehearsal.old.state.world.sent < 4294967296 }
     requires given { length rehearsal.old.state.world.given < 4294967296 }
     ensures { IfOk result (λ skipped. HasTried (rank_by policy.now.answers) rehearsal.old draws.old rehearsal.new draws.new skipped) }
@@ -106,6 +112,7 @@ fn do_next(rehearsal: &mut Rehearsal, policy: &Policy, draws: &mut Draws) -> Res
 }
 
 fn do_act(rehearsal: &mut Rehearsal, policy: &Policy, act: Act) -> Result<u32, Memory>
+    requires { IsTrue rehearsal.old.live }
     ensures { IfOk result (λ skipped. (rehearsal.new ≡ record rehearsal.old { state = after_act rehearsal.old.rollout.problem rehearsal.old.rollout.plan (rank_by policy.now.answers) rehearsal.old.state act }) × (skipped ≡ 0)) }
 {
     rehearsal.act(policy, act)?;

@@ -17,8 +17,6 @@ mod planning;
 mod row;
 mod scale;
 mod size;
-#[cfg(test)]
-mod tests;
 mod used;
 pub mod worked;
 

@@ -1,9 +1,10 @@
-//! The devices that the environment names. One that isn't named fails at each call.
+//! What the environment names: the devices, of which one that isn't named fails at each call, and numbers.
 
 ghost use Rattle.std.specs.Prelude.{◌≡◌};
-ghost use Rattle.swanroll.specs.Limits.{limit_in};
+ghost use Rattle.swanroll.specs.Limits.{limit_in, ceiling_in, IsSaid};
 
 use host_edge::{FileDisk, TcpFleet};
+use rollout_rules::MOST_STAGES;
 use std::env;
 use swanroll_top::number_in;
 
@@ -31,6 +32,14 @@ pub fn fleet(rt: HostRuntime) -> TcpFleet<HostRuntime>
     TcpFleet::new(rt.alloc(), rt, path, listen, limit)
 }
 
+/// The stage from which on the policy `freeze` holds operations back, if the environment says one:
+/// `SWANROLL_CEILING`.
+pub fn ceiling(rt: HostRuntime) -> Option<u32>
+    ensures { IsSaid result }
+{
+    ceiling_in(named(rt, "SWANROLL_CEILING").as_str())
+}
+
 /// What stands under a name in the environment; nothing where it isn't there, or isn't text.
 fn named(rt: HostRuntime, name: &str) -> String {
     env::var(&rt, name).unwrap_or(String::new(rt.alloc()))
@@ -46,5 +55,15 @@ fn time_limit(word: &str) -> u64
     match number_in(word) {
         Some(number) if number > 0 => u64::from(number),
         _ => USUAL,
+    }
+}
+
+/// A ceiling of 1 to 19 decimal digits, up to the greatest number of stages. Any other word says none.
+fn ceiling_in(word: &str) -> Option<u32>
+    ensures { result ≡ ceiling_in word.now }
+{
+    match number_in(word) {
+        Some(number) if number <= MOST_STAGES as u32 => Some(number),
+        _ => None,
     }
 }

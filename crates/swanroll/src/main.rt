@@ -7,14 +7,16 @@ ghost use Rattle.std.specs.Prelude.{◌≡◌, ◌≢◌};
 ghost use Rattle.std.specs.IoError.{error_kind};
 ghost use Rattle.swanroll.specs.Policies as spec;
 
-use devices::{fleet, journal};
+use devices::{ceiling, fleet, journal};
 use host_edge::{StdSink, StdSource};
 use lists::Memory;
 use order_policy::{Policies, Policy};
-use policies::{critical, order, policies_of};
+use policies::{critical, freeze, order, policies_of};
 use std::env;
 use std::io::{Error, ErrorKind};
 use std::process::ExitCode;
+use std::sync::Wait;
+use std::thread::Threads;
 use swanroll_top::{Unread, start};
 use wan_model::OpView;
 
@@ -25,10 +27,11 @@ fn main(rt: HostRuntime) -> ExitCode {
     let mut source = StdSource::new(rt.stdin());
     let mut sink = StdSink::output(rt.stdout());
     let mut notes = StdSink::error(rt.stderr());
-    match run(&rt, &mut source, &mut sink, &mut notes) {
+    match run(&rt, rt, &mut source, &mut sink, &mut notes) {
         Ok(status) => ExitCode::from(status),
         Err(_) => ExitCode::from(
             start(
+                &rt,
                 rt.alloc(),
                 Err(Unread::Memory),
                 &mut source,
@@ -43,9 +46,11 @@ fn main(rt: HostRuntime) -> ExitCode {
     }
 }
 
-/// Does what the arguments ask for, with the policies `critical` and `order`, and answers the exit status.
+/// Does what the arguments ask for, with the policies `critical`, `order` and `freeze`, and answers the
+/// exit status.
 fn run(
-    rt: &HostRuntime,
+    wait: &(impl Wait + Threads + Sync),
+    rt: HostRuntime,
     source: &mut StdSource,
     sink: &mut StdSink,
     notes: &mut StdSink,
@@ -62,15 +67,28 @@ fn run(
             ensures { result ≡ spec.order view }
         { order(view) },
     )?;
-    let policies = policies_of(rt.alloc(), Policy::new(by_chain), Policy::new(by_item))?;
-    let ended = start(
+    let ceiling = ceiling(rt);
+    let frozen: Box<dyn Fn(OpView) -> u64 + Send + Sync> = Box::new(
         rt.alloc(),
-        arguments(rt),
+        move |view: OpView| -> u64
+            ensures { result ≡ spec.freeze ceiling view }
+        { freeze(ceiling, view) },
+    )?;
+    let policies = policies_of(
+        rt.alloc(),
+        Policy::new(by_chain),
+        Policy::new(by_item),
+        Policy::holding(frozen),
+    )?;
+    let ended = start(
+        wait,
+        rt.alloc(),
+        arguments(&rt),
         source,
         sink,
         notes,
-        journal(*rt),
-        &mut fleet(*rt),
+        journal(rt),
+        &mut fleet(rt),
         &policies,
     );
     Ok(ended.status)

@@ -1,13 +1,13 @@
 -- How a run of an agent follows from the service.
-use Rattle.std.proofs.Common.{◌≡◌, ℕ, List, false, Option, Some, None, Result, Ok, Err, subst, sym, ap, ◌∙◌, inl, inr}
+use Rattle.std.proofs.Common.{◌≡◌, ℕ, List, false, Option, Some, Ok, subst, sym, ap, ◌∙◌, inl, inr}
 use Rattle.agent_service.specs.Services.{Guests, Tells}
 use Rattle.swanroll_top.specs.Agents.{EndsOwn, ServesAsked, ServesBy}
 use Rattle.swanroll_top.specs.Endings.{status_of, tells_place}
 use Rattle.swanroll_top.specs.Runs.{EndsWith, Follows, IsTold}
-use Rattle.swanroll_top.specs.Words.{Asked, a_report, a_text, an_agent}
+use Rattle.swanroll_top.specs.Words.{Asked, a_report, a_run, a_text, a_trial, an_agent}
 use Rattle.swanroll_top.specs.declared.ending.Ending.{Ending}
-use Rattle.swanroll_top.specs.declared.ending.Ending.TheVariants.{Done, Usage, AboveLimit, Input, NotValid, NoPlan, ReadFault, WriteFault, DiskFault, GuestFault, Refused, OutOfMemory}
-use Rattle.swanroll_top.proofs.Programs.{ends-unwritten, known-told}
+use Rattle.swanroll_top.specs.declared.ending.Ending.TheVariants.{Done, Usage, AboveLimit, Input, NotValid, NoPlan, ReadFault, WriteFault, DiskFault, GuestFault, Refused, NotFinished, OutOfMemory}
+use Rattle.swanroll_top.proofs.Programs.{known-told}
 
 pub text-own : (text : List ℕ) (e : Ending) (out now : Option (List ℕ)) → EndsWith (Ok text) e out now → EndsOwn e
 text-own text e out now (inl done) = inl done.0
@@ -23,26 +23,13 @@ own-not e other (inl is) done cut memory h = done (sym is ∙ h)
 own-not e other (inr (inl is)) done cut memory h = cut (sym is ∙ h)
 own-not e other (inr (inr is)) done cut memory h = memory (sym is ∙ h)
 
--- nothing was written but a text, or a part of it
-pub follows-unwritten : (answer : Result (List ℕ) Ending) (e : Ending) (out now : Option (List ℕ)) → Follows answer e out now → (status_of e ≡ 0 → ⊥) → (status_of e ≡ 7 → ⊥) → now ≡ out
-follows-unwritten answer Done out now h d w = ends-unwritten answer Done out now h (λ is. d (ap status_of is)) (λ is. w (ap status_of is))
-follows-unwritten answer Usage out now h d w = ends-unwritten answer Usage out now h (λ is. d (ap status_of is)) (λ is. w (ap status_of is))
-follows-unwritten answer AboveLimit out now h d w = ends-unwritten answer AboveLimit out now h (λ is. d (ap status_of is)) (λ is. w (ap status_of is))
-follows-unwritten answer (Input f) out now h d w = ends-unwritten answer (Input f) out now h (λ is. d (ap status_of is)) (λ is. w (ap status_of is))
-follows-unwritten answer (NotValid p b) out now h d w = ends-unwritten answer (NotValid p b) out now h (λ is. d (ap status_of is)) (λ is. w (ap status_of is))
-follows-unwritten answer (NoPlan u) out now h d w = ends-unwritten answer (NoPlan u) out now h (λ is. d (ap status_of is)) (λ is. w (ap status_of is))
-follows-unwritten answer ReadFault out now h d w = ends-unwritten answer ReadFault out now h (λ is. d (ap status_of is)) (λ is. w (ap status_of is))
-follows-unwritten answer WriteFault out now h d w = ends-unwritten answer WriteFault out now h (λ is. d (ap status_of is)) (λ is. w (ap status_of is))
-follows-unwritten answer DiskFault out now h d w = ends-unwritten answer DiskFault out now h (λ is. d (ap status_of is)) (λ is. w (ap status_of is))
-follows-unwritten answer GuestFault out now h d w = ends-unwritten answer GuestFault out now h (λ is. d (ap status_of is)) (λ is. w (ap status_of is))
-follows-unwritten answer (Refused f) out now h d w = ends-unwritten answer (Refused f) out now h (λ is. d (ap status_of is)) (λ is. w (ap status_of is))
-follows-unwritten answer OutOfMemory out now h d w = h
-
 -- the status tells the ending, since its line takes no memory
 pub serves-by : {G : Type 0} (tells : Tells G) (c : Asked) (before now : Guests G) (e : Ending) (status : ℕ) (out out_now noted noted_now : Option (List ℕ)) (faults faults_now : ℕ)
     → ServesAsked tells c before now e out out_now → IsTold e status noted noted_now faults faults_now → ServesBy tells (Some c) before now status out out_now
 serves-by tells (a_text what) before now e status out out_now noted noted_now faults faults_now runs told = tt
 serves-by tells (a_report migration) before now e status out out_now noted noted_now faults faults_now runs told = tt
+serves-by tells (a_run limits policy) before now e status out out_now noted noted_now faults faults_now runs told = runs
+serves-by tells (a_trial shape policy) before now e status out out_now noted noted_now faults faults_now runs told = tt
 serves-by tells (an_agent guests) before now e status out out_now noted noted_now faults faults_now runs told = record {
   ending = e;
   is_status = told.is_status ∙ ap status_of (known-told e told.told runs.known told.is);
@@ -62,5 +49,6 @@ text-follows text line WriteFault out now same h = subst (λ t. EndsWith (Ok t) 
 text-follows text line DiskFault out now same h = subst (λ t. EndsWith (Ok t) DiskFault out now) same h
 text-follows text line GuestFault out now same h = subst (λ t. EndsWith (Ok t) GuestFault out now) same h
 text-follows text line (Refused f) out now same h = subst (λ t. EndsWith (Ok t) (Refused f) out now) same h
+text-follows text line (NotFinished u) out now same h = subst (λ t. EndsWith (Ok t) (NotFinished u) out now) same h
 text-follows text line OutOfMemory out now same (inl h) = let no : OutOfMemory ≡ Done = h.0 in cc
 text-follows text line OutOfMemory out now same (inr h) = let no : OutOfMemory ≡ WriteFault = h.0 in cc

@@ -16,10 +16,11 @@ use Rattle.swanroll_top.specs.Endings.{ending_of}
 use Rattle.swanroll_top.specs.Reports.{rollout_in}
 use Rattle.swanroll_top.specs.Runs.{EndsWith, Follows, Gives}
 use Rattle.swanroll_top.specs.declared.ending.Ending.{Ending}
-use Rattle.swanroll_top.specs.declared.ending.Ending.TheVariants.{Done, Usage, AboveLimit, Input, NotValid, NoPlan, ReadFault, WriteFault, DiskFault, GuestFault, Refused, OutOfMemory}
+use Rattle.swanroll_top.specs.declared.ending.Ending.TheVariants.{Done, Usage, AboveLimit, Input, NotValid, NoPlan, ReadFault, WriteFault, DiskFault, GuestFault, Refused, NotFinished, OutOfMemory}
 use Rattle.swanroll_top.specs.Words.{TextAsked, a_plan, a_check, a_rehearsal}
 use Rattle.swanroll_top.proofs.Documents.{as_rollout, checked-by}
 use Rattle.swanroll_top.proofs.Steps.{fault-ends}
+use Rattle.swanroll_top.specs.declared.unfinished.Unfinished.{Unfinished}
 
 -- whether an ending can be the answer to an input
 abbrev pub is_answer : Ending → Bool
@@ -30,6 +31,7 @@ is_answer WriteFault = false
 is_answer DiskFault = false
 is_answer GuestFault = false
 is_answer (Refused e) = false
+is_answer (NotFinished u) = false
 is_answer ending = true
 
 abbrev pub HasAnswer : Result (List ℕ) Ending → Type 0
@@ -89,6 +91,9 @@ no-disk-fault c input out now h = elim (ends-only _ DiskFault out now (command-a
 pub no-guest-fault : (c : TextAsked) (input : List ℕ) (out now : Option (List ℕ)) → Follows (answer_in c input) GuestFault out now → ⊥
 no-guest-fault c input out now h = elim (ends-only _ GuestFault out now (command-answers c input) h) [ inl e ↦ cc | inr e ↦ elim e [ inl f ↦ cc | inr f ↦ cc ] ]
 
+pub no-rollout : (c : TextAsked) (input : List ℕ) (u : Unfinished) (out now : Option (List ℕ)) → Follows (answer_in c input) (NotFinished u) out now → ⊥
+no-rollout c input u out now h = elim (ends-only _ (NotFinished u) out now (command-answers c input) h) [ inl e ↦ cc | inr e ↦ elim e [ inl f ↦ cc | inr f ↦ cc ] ]
+
 -- ---- a document alone
 
 broken-answers : (d : DocumentRead) (e : Ending) (broken : Option Broken) → first_broken d.problem d.plan ≡ broken → checked d ≡ Err e → is_answer e ≡ true
@@ -121,6 +126,7 @@ rollout-gives input WriteFault g = rollout-answers input WriteFault g
 rollout-gives input DiskFault g = rollout-answers input DiskFault g
 rollout-gives input GuestFault g = rollout-answers input GuestFault g
 rollout-gives input (Refused f) g = rollout-answers input (Refused f) g
+rollout-gives input (NotFinished u) g = rollout-answers input (NotFinished u) g
 rollout-gives input OutOfMemory g = refl
 
 pub no-done : (c : TextAsked) (input : List ℕ) → Gives {A = List ℕ} (Err Done) (answer_in c input) → ⊥

@@ -13,18 +13,27 @@ use Rattle.intent_journal.specs.declared.fault.JournalFault.{JournalFault}
 use Rattle.rollout_report.specs.Journals.{journal_report}
 use Rattle.scratch_plan.specs.declared.no_plan.NoPlan.{NoPlan as Cause}
 use Rattle.plan_choose.specs.Choice.{Choice, chosen}
+use Rattle.sim_run.specs.declared.shape.Shape.{Shape}
+use Rattle.agent_service.specs.Services.{Guests, Tells}
+use Rattle.agent_service.specs.declared.service.Service.{Service}
+use Rattle.agent_service.specs.declared.service.ServiceFault.{ServiceFault}
+use Rattle.agent_service.specs.declared.service.ServiceFault.TheVariants as service
+use Rattle.swanroll_top.specs.Agents.{ServesBy, service_answer}
 use Rattle.swanroll_top.specs.Answers.{◌>>=◌, with_choice, planned, checked, valid_line, judged, rehearsed, answer_to}
 use Rattle.swanroll_top.specs.Endings.{status_of}
-use Rattle.swanroll_top.specs.Program.{Streams, IsRun, ReportsAndNotes, RunsAndNotes}
+use Rattle.swanroll_top.specs.Program.{Streams, IsRun, ReportsAndNotes, RunsAndNotes, TriesAndNotes}
 use Rattle.swanroll_top.specs.Reports.{EndsReport, or_journal, rollout_to}
 use Rattle.swanroll_top.specs.Runs.{EndsWith}
 use Rattle.swanroll_top.specs.Safety.{IsValid}
+use Rattle.swanroll_top.specs.Tries.{IsShape, tried}
 use Rattle.swanroll_top.specs.Taken.{IsValidDocument, IsValidScript}
 use Rattle.swanroll_top.specs.declared.ending.Ending.{Ending}
-use Rattle.swanroll_top.specs.Words.{TextAsked, a_plan, a_check, a_rehearsal, a_report, a_text}
+use Rattle.swanroll_top.specs.Words.{TextAsked, a_plan, a_check, a_rehearsal, a_report, a_text, a_trial, an_agent}
 use Rattle.swanroll_top.proofs.Commands.{plan-answers, check-answers, sim-answers}
 use Rattle.swanroll_top.proofs.Documents.{checked-by}
 use Rattle.swanroll_top.proofs.Inputs.{short-answered}
+use Rattle.swanroll_top.proofs.Programs.{follows-ends}
+use Rattle.swanroll_top.proofs.Tried.{is-tried}
 
 choice-answers : (p : Problem) (found : Result Choice Cause) → IsOk found → IsOk (with_choice p found)
 choice-answers p (Ok choice) ok = refl
@@ -104,3 +113,31 @@ module _ (m : ℕ) (before after : Streams) (status : ℕ) (input image : List �
   pub report-written : IsRun (Some (a_report m)) before after status → before.left ≡ Some input → before.stored ≡ Some image → rollout_to input ≡ Ok o → IsOk (journal_report o m image)
       → status ≢ 6 → status ≢ 7 → status ≢ 8 → status ≢ 12 → status ≡ 0
   report-written run told stored is ok source sink disk memory = report-well (run.does (λ e. absurd (let none = run.usage.0 e in cc)) source disk memory) told stored is ok sink
+
+-- ---- a trial
+
+module _ (policy : OpView → ℕ) (shape : Shape) where
+  pub trial-answers : IsShape shape → IsOk (tried policy shape)
+  trial-answers is = is-tried policy shape is
+
+  trial-well : (before after : Streams) (status : ℕ) → TriesAndNotes policy shape before after status → (status ≡ 7 → ⊥) → status ≡ 0
+  trial-well before after status r cut =
+      r.is_status ∙ ends-well (tried policy shape) r.ending before.written after.written (trial-answers r.follows.shape) r.follows.answer (λ e. cut (r.is_status ∙ e))
+
+  pub trial-written : (before after : Streams) (status : ℕ) → IsRun (Some (a_trial shape policy)) before after status → status ≢ 6 → status ≢ 7 → status ≢ 12 → status ≡ 0
+  trial-written before after status run source sink memory =
+      trial-well before after status (run.does (λ e. absurd (let none = run.usage.0 e in cc)) source (λ e. let no : false ≡ true = (run.disk_fault e).0 in cc) memory) sink
+
+-- ---- an agent
+
+module _ {G : Type 0} (tells : Tells G) (guests : ℕ) (before now : Guests G) (out out_now : Option (List ℕ)) where
+  service-well : (came : Result Service ServiceFault) (e : Ending) → EndsWith (service_answer came) e out out_now → (status_of e ≡ 7 → ⊥) → (status_of e ≡ 9 → ⊥) → (status_of e ≡ 12 → ⊥) → status_of e ≡ 0
+  service-well (Ok service) e (inl done) sink fleet memory = ap status_of done.0
+  service-well (Ok service) e (inr cut) sink fleet memory = absurd (sink (ap status_of cut.0))
+  service-well (Err service.Fleet) e ends sink fleet memory = absurd (fleet (ap status_of ends.0))
+  service-well (Err service.Memory) e ends sink fleet memory = absurd (memory (ap status_of ends.0))
+
+  pub service-written : (status : ℕ) → ServesBy tells (Some (an_agent guests)) before now status out out_now → status ≢ 7 → status ≢ 9 → status ≢ 12 → status ≡ 0
+  service-written status serves sink fleet memory =
+      let over : (n : ℕ) → (status ≡ n → ⊥) → status_of serves.ending ≡ n → ⊥ = λ n other is. other (serves.is_status ∙ is) in
+      serves.is_status ∙ service-well serves.runs.came serves.ending (follows-ends (service_answer serves.runs.came) serves.ending out out_now serves.runs.follows (over 12 memory)) (over 7 sink) (over 9 fleet) (over 12 memory)

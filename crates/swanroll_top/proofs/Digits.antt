@@ -5,7 +5,7 @@ use Rattle.std.proofs.lemmas.Bool.Decides.{nat_tests}
 use Rattle.std.proofs.lemmas.Result.{OkIff-at_ok}
 use Rattle.std.proofs.lemmas.Str.Parse.{IsDigitsTest, IsNumeralModel, numerals_by_value, parse_digits, parse_gives}
 use Rattle.std.specs.Str.Parse.{ParsesUnsigned, digits_value}
-use Rattle.swanroll_top.specs.Words.{are_digits, number_in}
+use Rattle.swanroll_top.specs.Words.{are_digits, number_of}
 
 abbrev AreDigits : List ℕ → Type 0
 AreDigits word = are_digits word ≡ true
@@ -28,24 +28,24 @@ test = record { empty = refl; parts = digit-parts; more = digit-more }
 model : IsNumeralModel AreDigits (digits_value 10)
 model = numerals_by_value AreDigits test
 
-module _ {E : Type 0} (word : List ℕ) (r : Result ℕ E) (parsed : ParsesUnsigned 32 10 word r) (digits : are_digits word ≡ true) (short : length word ≤ 19) where
+module _ {E : Type 0} (bits : ℕ) (word : List ℕ) (r : Result ℕ E) (parsed : ParsesUnsigned bits 10 word r) (digits : are_digits word ≡ true) (short : length word ≤ 19) where
   small : nat_le (length word) 19 ≡ true
   small = grind (arith, nat_tests, short)
 
-  pub number-read : (x : ℕ) → r ≡ Ok x → Some x ≡ number_in word
+  pub number-read : (x : ℕ) → r ≡ Ok x → Some x ≡ number_of bits word
   number-read x is =
-      let found = OkIff-at_ok r ((0 < length word) × (digits_value 10 word < 2 ^ 32)) (digits_value 10 word) x (parse_digits model 32 word r parsed digits) is in
+      let found = OkIff-at_ok r ((0 < length word) × (digits_value 10 word < 2 ^ bits)) (digits_value 10 word) x (parse_digits model bits word r parsed digits) is in
       let some : nat_lt 0 (length word) ≡ true = grind (arith, nat_tests, found.0.0) in
-      let fits : nat_lt (digits_value 10 word) (2 ^ 32) ≡ true = grind (arith, nat_tests, found.0.1) in
+      let fits : nat_lt (digits_value 10 word) (2 ^ bits) ≡ true = grind (arith, nat_tests, found.0.1) in
       rw (some, small, digits, fits) (ap Some found.1)
 
-  pub number-refused : (e : E) → r ≡ Err e → None ≡ number_in word
-  number-refused e is = elim (cases_lt 0 (length word)) as (λ _. None ≡ number_in word) [
-    | inl some ↦ elim (cases_lt (digits_value 10 word) (2 ^ 32)) as (λ _. None ≡ number_in word) [
-      | inl fits ↦ absurd (let both : Ok (digits_value 10 word) ≡ Err e = sym (parse_gives model 32 word r parsed digits some fits) ∙ is in cc)
+  pub number-refused : (e : E) → r ≡ Err e → None ≡ number_of bits word
+  number-refused e is = elim (cases_lt 0 (length word)) as (λ _. None ≡ number_of bits word) [
+    | inl some ↦ elim (cases_lt (digits_value 10 word) (2 ^ bits)) as (λ _. None ≡ number_of bits word) [
+      | inl fits ↦ absurd (let both : Ok (digits_value 10 word) ≡ Err e = sym (parse_gives model bits word r parsed digits some fits) ∙ is in cc)
       | inr large ↦
           let first : nat_lt 0 (length word) ≡ true = grind (arith, nat_tests, some) in
-          let last : nat_lt (digits_value 10 word) (2 ^ 32) ≡ false = grind (arith, nat_tests, large) in
+          let last : nat_lt (digits_value 10 word) (2 ^ bits) ≡ false = grind (arith, nat_tests, large) in
           rw (first, small, digits, last) refl
     ]
     | inr none ↦

@@ -1,12 +1,13 @@
 -- How a run follows from reading its source.
-use Rattle.std.proofs.Common.{◌≡◌, ℕ, List, Option, refl}
+use Rattle.std.proofs.Common.{◌≡◌, ℕ, List, Option, refl, subst}
 use Rattle.swanroll_top.specs.Answers.{answer_in}
 use Rattle.swanroll_top.specs.Reading.{IsShortInput, IsCut}
 use Rattle.swanroll_top.specs.Runs.{EndsWith, Follows, FollowsInput, Runs}
 use Rattle.swanroll_top.specs.Safety.{DoesSafely}
 use Rattle.swanroll_top.specs.Taken.{IsTaken}
 use Rattle.swanroll_top.specs.declared.ending.Ending.{Ending}
-use Rattle.swanroll_top.specs.declared.ending.Ending.TheVariants.{Done, Usage, AboveLimit, Input, NotValid, NoPlan, ReadFault, WriteFault, DiskFault, GuestFault, Refused, OutOfMemory}
+use Rattle.swanroll_top.specs.declared.ending.Ending.TheVariants.{Done, Usage, AboveLimit, Input, NotValid, NoPlan, ReadFault, WriteFault, DiskFault, GuestFault, Refused, NotFinished, OutOfMemory}
+use Rattle.swanroll_top.specs.declared.unfinished.Unfinished.{Unfinished}
 use Rattle.swanroll_top.specs.Words.{TextAsked}
 use Rattle.swanroll_top.proofs.Answering.{no-read-fault}
 use Rattle.swanroll_top.proofs.Inputs.{beyond-follows, short-answered}
@@ -33,6 +34,7 @@ short-runs c left now out out_now bytes WriteFault s h safe = short-follows c le
 short-runs c left now out out_now bytes DiskFault s h safe = short-follows c left now out out_now bytes _ s h (λ m. cc) safe
 short-runs c left now out out_now bytes GuestFault s h safe = short-follows c left now out out_now bytes _ s h (λ m. cc) safe
 short-runs c left now out out_now bytes (Refused f) s h safe = short-follows c left now out out_now bytes _ s h (λ m. cc) safe
+short-runs c left now out out_now bytes (NotFinished u) s h safe = short-follows c left now out out_now bytes _ s h (λ m. cc) safe
 short-runs c left now out out_now bytes OutOfMemory s h safe = h
 
 pub cut-runs : (c : TextAsked) (left now out : Option (List ℕ)) (e : Ending) → IsCut left e now → Runs c left now e out out
@@ -47,4 +49,9 @@ cut-runs c left now out WriteFault r = absurd r
 cut-runs c left now out DiskFault r = absurd r
 cut-runs c left now out GuestFault r = absurd r
 cut-runs c left now out (Refused f) r = absurd r
+cut-runs c left now out (NotFinished u) r = absurd r
 cut-runs c left now out OutOfMemory r = refl
+
+-- no reading ends as a rollout does
+pub cut-rollout : (left now : Option (List ℕ)) (e : Ending) (u : Unfinished) → IsCut left e now → e ≡ NotFinished u → ⊥
+cut-rollout left now e u cut is = subst (λ x. IsCut left x now) is cut

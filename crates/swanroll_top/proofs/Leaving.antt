@@ -1,5 +1,5 @@
 -- What a report leaves on its disk.
-use Rattle.std.proofs.Common.{◌≡◌, ◌⊎◌, ℕ, List, Option, Some, None, IfOk, IfErr, IfSome, Result, Ok, Err, refl, sym, ap, ◌∙◌, subst, inl, inr, arith}
+use Rattle.std.proofs.Common.{◌≡◌, ◌⊎◌, ℕ, List, Option, Some, None, IfOk, IfErr, IfSome, Result, Ok, Err, sym, ap, ◌∙◌, subst, inl, inr, arith}
 use Rattle.rollout_rules.specs.Wan.{Rollout}
 use Rattle.disk_model.specs.Crashes.{Within}
 use Rattle.disk_model.specs.Moments.{LeavesOnly}
@@ -12,13 +12,12 @@ use Rattle.rollout_report.specs.Journals.{digest_for}
 use Rattle.rollout_report.proofs.Journaling.{still_each}
 use Rattle.swanroll_top.specs.Endings.{ending_of_journal, status_of}
 use Rattle.swanroll_top.specs.Leavings.{LeavesAsked, LeavesJournal, LeavesReported}
-use Rattle.swanroll_top.specs.Lines.{IsToldAs}
 use Rattle.swanroll_top.specs.Reading.{IsCut, IsShortInput}
 use Rattle.swanroll_top.specs.Reports.{EndsJournal, rollout_in, rollout_to}
 use Rattle.swanroll_top.specs.Runs.{EndsWith, Gives, IsTold}
-use Rattle.swanroll_top.specs.Words.{Asked, a_report, a_text, an_agent}
+use Rattle.swanroll_top.specs.Words.{Asked, a_report, a_run, a_text, a_trial, an_agent}
 use Rattle.swanroll_top.specs.declared.ending.Ending.{Ending}
-use Rattle.swanroll_top.specs.declared.ending.Ending.TheVariants.{Done, Usage, AboveLimit, Input, NotValid, NoPlan, ReadFault, WriteFault, DiskFault, GuestFault, Refused, OutOfMemory}
+use Rattle.swanroll_top.specs.declared.ending.Ending.TheVariants.{Done, Usage, AboveLimit, Input, NotValid, NoPlan, ReadFault, WriteFault, DiskFault, GuestFault, Refused, NotFinished, OutOfMemory}
 use Rattle.swanroll_top.proofs.Reporting.{short-rollout}
 
 -- ---- which statuses speak of the journal
@@ -65,6 +64,7 @@ cut-silent left now WriteFault r = absurd r
 cut-silent left now DiskFault r = absurd r
 cut-silent left now GuestFault r = absurd r
 cut-silent left now (Refused f) r = absurd r
+cut-silent left now (NotFinished u) r = absurd r
 cut-silent left now OutOfMemory r = (λ h. omega (arith, h), (λ h. omega (arith, h), λ h. omega (arith, h)))
 
 memory-silent : IsSilent 12
@@ -152,6 +152,7 @@ module _ {D : Type 0} (tells : D → Option (List ℕ)) (leaves : D → List ℕ
   unread-leaves m r DiskFault g only same = refused-leaves m r DiskFault g
   unread-leaves m r GuestFault g only same = refused-leaves m r GuestFault g
   unread-leaves m r (Refused f) g only same = refused-leaves m r (Refused f) g
+  unread-leaves m r (NotFinished u) g only same = refused-leaves m r (NotFinished u) g
   unread-leaves m r OutOfMemory g only same = untouched m r 12 only same memory-silent
 
   pub read-leaves : (m : ℕ) (r : Result Rollout Ending) (o : Rollout) (status : ℕ) → r ≡ Ok o
@@ -170,6 +171,8 @@ module _ {D : Type 0} (tells : D → Option (List ℕ)) (leaves : D → List ℕ
   told-leaves None left e status before now faults faults_now told h = tt
   told-leaves (Some (a_text what)) left e status before now faults faults_now told h = tt
   told-leaves (Some (an_agent guests)) left e status before now faults faults_now told h = tt
+  told-leaves (Some (a_run limits policy)) left e status before now faults faults_now told h = tt
+  told-leaves (Some (a_trial shape policy)) left e status before now faults faults_now told h = tt
   told-leaves (Some (a_report m)) left e status before now faults faults_now told h =
       some-more left _ _ (λ input. ok-more (rollout_to input) _ _ (λ o. some-more (tells old) _ _ (λ image j. record {
         any_moment = j.any_moment;

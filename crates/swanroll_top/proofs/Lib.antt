@@ -14,3 +14,9 @@ pub mod Agents
 pub mod Complete
 pub mod Digits
 pub mod Pairs
+pub mod Tried
+pub mod Rolling
+pub mod Outcomes
+pub mod Reaching
+pub mod Certain
+pub mod ReadyFleets

@@ -1,6 +1,18 @@
--- Pairs of which less than one is left.
-use Rattle.std.proofs.Common.{◌≡◌, ℕ, ◌<◌, ◌==◌, List, [], ◌∷◌, ◌++◌, length, map, Option, Some, None, option_map, option_to_list, unwrap_or, refl, arith}
-use Rattle.swanroll_top.specs.Words.{are_pairs, values_of, one_or}
+-- The word of a command, and pairs of which less than one is left.
+use Rattle.std.proofs.Common.{◌≡◌, ℕ, suc, ◌<◌, ◌≤◌, ◌-◌, ◌==◌, List, [], ◌∷◌, ◌++◌, length, map, get_or, take, take_all, drop, String, Global, string_bytes, Option, Some, None, option_map, option_and_then, option_to_list, unwrap_or, refl, sym, ap, ◌∙◌, arith}
+use Rattle.rollout_rules.specs.declared.op.OpView.{OpView}
+use Rattle.swanroll_top.specs.Words.{are_pairs, asked_by, kind_named, values_of, one_or, with_kind}
+use Rattle.swanroll_top.specs.declared.words.Kind.{Kind}
+
+-- what the words ask for where the first is a command's
+pub first-asked : (policies : List (List ℕ × (OpView → ℕ))) (words : List (String Global)) (word other : String Global) (kind : Kind) → 1 ≤ length words → word ≡ get_or words 0 other → kind_named (string_bytes word) ≡ Some kind
+    → asked_by policies words ≡ with_kind policies (map string_bytes (take (length words - 1) (drop 1 words))) kind
+unfolding asked_by
+first-asked policies [] word other kind some first is = absurd (omega (arith, some))
+first-asked policies (w ∷ pairs) word other kind some first is =
+    let all : take (suc (length pairs) - 1) pairs ≡ pairs = take_all _ pairs (omega arith) in
+    ap (option_and_then (with_kind policies (map string_bytes pairs))) (ap (λ (x : String Global). kind_named (string_bytes x)) (sym first) ∙ is)
+    ∙ ap (λ list. with_kind policies (map string_bytes list) kind) (sym all)
 
 module _ {A : Type 0} (bytes : A → List ℕ) where
   pub last-pairs : (names : List (List ℕ)) (rest : List A) → length rest < 2 → are_pairs names (map bytes rest) ≡ (length rest == 0)

@@ -3,14 +3,17 @@ use Rattle.std.proofs.Common.{◌≡◌, ℕ, List, [], true, false, Option, Som
 use Rattle.wan_edge.specs.Streams.{Appends, Rose}
 use Rattle.swanroll_top.specs.Endings.{status_of, tells_place}
 use Rattle.swanroll_top.specs.Lines.{IsLineOf, IsToldAs}
-use Rattle.swanroll_top.specs.Program.{Streams, IsStatus, DoesAsked, IsRun, IsEnded, NotesLine, RunsAsked, RunsUnread, names_disk, names_fleet}
+use Rattle.swanroll_top.specs.Program.{Streams, IsStatus, DoesAsked, IsRun, IsEnded, NotesLine, RunsAsked, IsUnfinished, names_disk, opens_ports, serves_guests}
 use Rattle.swanroll_top.specs.Reports.{FollowsReport, RunsReport}
-use Rattle.swanroll_top.specs.Runs.{EndsWith, FollowsInput, IsTold, Notes, Runs}
+use Rattle.swanroll_top.specs.Runs.{EndsWith, Follows, FollowsInput, IsTold, Notes, Runs}
 use Rattle.swanroll_top.specs.declared.ending.Ending.{Ending}
-use Rattle.swanroll_top.specs.declared.ending.Ending.TheVariants.{Done, Usage, AboveLimit, Input, NotValid, NoPlan, ReadFault, WriteFault, DiskFault, GuestFault, Refused, OutOfMemory}
+use Rattle.swanroll_top.specs.declared.ending.Ending.TheVariants.{Done, Usage, AboveLimit, Input, NotValid, NoPlan, ReadFault, WriteFault, DiskFault, GuestFault, Refused, NotFinished, OutOfMemory}
 use Rattle.swanroll_top.specs.declared.line.Line.{Line}
-use Rattle.swanroll_top.specs.Words.{Asked, TextAsked, a_report, a_text, an_agent}
-use Rattle.swanroll_top.proofs.Statuses.{is-done, is-usage, is-read-fault, is-write-fault, is-disk-fault, is-guest-fault, is-status}
+use Rattle.swanroll_top.specs.Rollouts.{FollowsRollout, RunsRollout}
+use Rattle.swanroll_top.specs.Tries.{tried}
+use Rattle.swanroll_top.specs.declared.unfinished.Unfinished.{Unfinished}
+use Rattle.swanroll_top.specs.Words.{Asked, TextAsked, a_report, a_run, a_text, a_trial, an_agent}
+use Rattle.swanroll_top.proofs.Statuses.{is-done, is-usage, is-read-fault, is-write-fault, is-disk-fault, is-fleet-fault, is-status, is-unfinished, not-status}
 
 -- ---- what an ending says of the input and the sink
 
@@ -18,6 +21,38 @@ pub ends-unwritten : (answer : Result (List ℕ) Ending) (e : Ending) (out now :
 ends-unwritten (Ok text) e out now (inl done) d w = absurd (d done.0)
 ends-unwritten (Ok text) e out now (inr cut) d w = absurd (w cut.0)
 ends-unwritten (Err x) e out now h d w = h.1
+
+-- nothing was written but a text, or a part of it
+pub follows-unwritten : (answer : Result (List ℕ) Ending) (e : Ending) (out now : Option (List ℕ)) → Follows answer e out now → (status_of e ≡ 0 → ⊥) → (status_of e ≡ 7 → ⊥) → now ≡ out
+follows-unwritten answer Done out now h d w = ends-unwritten answer Done out now h (λ is. d (ap status_of is)) (λ is. w (ap status_of is))
+follows-unwritten answer Usage out now h d w = ends-unwritten answer Usage out now h (λ is. d (ap status_of is)) (λ is. w (ap status_of is))
+follows-unwritten answer AboveLimit out now h d w = ends-unwritten answer AboveLimit out now h (λ is. d (ap status_of is)) (λ is. w (ap status_of is))
+follows-unwritten answer (Input f) out now h d w = ends-unwritten answer (Input f) out now h (λ is. d (ap status_of is)) (λ is. w (ap status_of is))
+follows-unwritten answer (NotValid p b) out now h d w = ends-unwritten answer (NotValid p b) out now h (λ is. d (ap status_of is)) (λ is. w (ap status_of is))
+follows-unwritten answer (NoPlan u) out now h d w = ends-unwritten answer (NoPlan u) out now h (λ is. d (ap status_of is)) (λ is. w (ap status_of is))
+follows-unwritten answer ReadFault out now h d w = ends-unwritten answer ReadFault out now h (λ is. d (ap status_of is)) (λ is. w (ap status_of is))
+follows-unwritten answer WriteFault out now h d w = ends-unwritten answer WriteFault out now h (λ is. d (ap status_of is)) (λ is. w (ap status_of is))
+follows-unwritten answer DiskFault out now h d w = ends-unwritten answer DiskFault out now h (λ is. d (ap status_of is)) (λ is. w (ap status_of is))
+follows-unwritten answer GuestFault out now h d w = ends-unwritten answer GuestFault out now h (λ is. d (ap status_of is)) (λ is. w (ap status_of is))
+follows-unwritten answer (Refused f) out now h d w = ends-unwritten answer (Refused f) out now h (λ is. d (ap status_of is)) (λ is. w (ap status_of is))
+follows-unwritten answer (NotFinished u) out now h d w = ends-unwritten answer (NotFinished u) out now h (λ is. d (ap status_of is)) (λ is. w (ap status_of is))
+follows-unwritten answer OutOfMemory out now h d w = h
+
+-- where memory sufficed it ends as the answer says
+pub follows-ends : (answer : Result (List ℕ) Ending) (e : Ending) (out now : Option (List ℕ)) → Follows answer e out now → (status_of e ≡ 12 → ⊥) → EndsWith answer e out now
+follows-ends answer Done out now h memory = h
+follows-ends answer Usage out now h memory = h
+follows-ends answer AboveLimit out now h memory = h
+follows-ends answer (Input f) out now h memory = h
+follows-ends answer (NotValid p b) out now h memory = h
+follows-ends answer (NoPlan u) out now h memory = h
+follows-ends answer ReadFault out now h memory = h
+follows-ends answer WriteFault out now h memory = h
+follows-ends answer DiskFault out now h memory = h
+follows-ends answer GuestFault out now h memory = h
+follows-ends answer (Refused f) out now h memory = h
+follows-ends answer (NotFinished u) out now h memory = h
+follows-ends answer OutOfMemory out now h memory = absurd (memory refl)
 
 module _ (c : TextAsked) (left left_now out out_now : Option (List ℕ)) where
   follows-of : (t : Ending) → Runs c left left_now t out out_now → (status_of t ≡ 6 → ⊥) → (status_of t ≡ 12 → ⊥) → FollowsInput c left left_now t out out_now
@@ -32,6 +67,7 @@ module _ (c : TextAsked) (left left_now out out_now : Option (List ℕ)) where
   follows-of DiskFault r read memory = r
   follows-of GuestFault r read memory = r
   follows-of (Refused f) r read memory = r
+  follows-of (NotFinished u) r read memory = r
   follows-of OutOfMemory r read memory = absurd (memory refl)
 
   text-unwritten : (t : Ending) → Runs c left left_now t out out_now → (status_of t ≡ 0 → ⊥) → (status_of t ≡ 7 → ⊥) → out_now ≡ out
@@ -46,6 +82,7 @@ module _ (c : TextAsked) (left left_now out out_now : Option (List ℕ)) where
   text-unwritten DiskFault r done cut = ends-unwritten _ _ out out_now r.answer (λ e. cc) (λ e. cc)
   text-unwritten GuestFault r done cut = ends-unwritten _ _ out out_now r.answer (λ e. cc) (λ e. cc)
   text-unwritten (Refused f) r done cut = ends-unwritten _ _ out out_now r.answer (λ e. cc) (λ e. cc)
+  text-unwritten (NotFinished u) r done cut = ends-unwritten _ _ out out_now r.answer (λ e. cc) (λ e. cc)
   text-unwritten OutOfMemory r done cut = r
 
 module _ (m : ℕ) (left left_now stored out out_now : Option (List ℕ)) where
@@ -62,6 +99,7 @@ module _ (m : ℕ) (left left_now stored out out_now : Option (List ℕ)) where
   reports-of DiskFault r read disk memory = absurd (disk refl)
   reports-of GuestFault r read disk memory = r
   reports-of (Refused f) r read disk memory = r
+  reports-of (NotFinished u) r read disk memory = r
   reports-of OutOfMemory r read disk memory = absurd (memory refl)
 
   report-unwritten : (t : Ending) → RunsReport m left left_now stored t out out_now → (status_of t ≡ 0 → ⊥) → (status_of t ≡ 7 → ⊥) → out_now ≡ out
@@ -76,7 +114,39 @@ module _ (m : ℕ) (left left_now stored out out_now : Option (List ℕ)) where
   report-unwritten DiskFault r done cut = r
   report-unwritten GuestFault r done cut = r.silent done cut
   report-unwritten (Refused f) r done cut = r.silent done cut
+  report-unwritten (NotFinished u) r done cut = r.silent done cut
   report-unwritten OutOfMemory r done cut = r
+
+module _ (left left_now out out_now : Option (List ℕ)) where
+  rollouts-of : (t : Ending) → RunsRollout left left_now t out out_now → (status_of t ≡ 6 → ⊥) → (status_of t ≡ 12 → ⊥) → FollowsRollout left left_now t out out_now
+  rollouts-of Done r read memory = r
+  rollouts-of Usage r read memory = r
+  rollouts-of AboveLimit r read memory = r
+  rollouts-of (Input f) r read memory = r
+  rollouts-of (NotValid p b) r read memory = r
+  rollouts-of (NoPlan u) r read memory = r
+  rollouts-of ReadFault r read memory = absurd (read refl)
+  rollouts-of WriteFault r read memory = r
+  rollouts-of DiskFault r read memory = r
+  rollouts-of GuestFault r read memory = r
+  rollouts-of (Refused f) r read memory = r
+  rollouts-of (NotFinished u) r read memory = r
+  rollouts-of OutOfMemory r read memory = absurd (memory refl)
+
+  rollout-unwritten : (t : Ending) → RunsRollout left left_now t out out_now → (status_of t ≡ 0 → ⊥) → (status_of t ≡ 7 → ⊥) → out_now ≡ out
+  rollout-unwritten Done r done cut = r.silent done cut
+  rollout-unwritten Usage r done cut = r.silent done cut
+  rollout-unwritten AboveLimit r done cut = r.silent done cut
+  rollout-unwritten (Input f) r done cut = r.silent done cut
+  rollout-unwritten (NotValid p b) r done cut = r.silent done cut
+  rollout-unwritten (NoPlan u) r done cut = r.silent done cut
+  rollout-unwritten ReadFault r done cut = r
+  rollout-unwritten WriteFault r done cut = r.silent done cut
+  rollout-unwritten DiskFault r done cut = r.silent done cut
+  rollout-unwritten GuestFault r done cut = r.silent done cut
+  rollout-unwritten (Refused f) r done cut = r.silent done cut
+  rollout-unwritten (NotFinished u) r done cut = r.silent done cut
+  rollout-unwritten OutOfMemory r done cut = r
 
 -- an ending that tells a place writes nothing
 place-silent : (e : Ending) → tells_place e ≡ true → (status_of e ≡ 0 → ⊥) × (status_of e ≡ 7 → ⊥)
@@ -91,6 +161,7 @@ place-silent WriteFault h = cc
 place-silent DiskFault h = cc
 place-silent GuestFault h = cc
 place-silent (Refused f) h = (λ e. omega (arith, e), λ e. omega (arith, e))
+place-silent (NotFinished u) h = (not-status 0 refl u, not-status 7 refl u)
 place-silent OutOfMemory h = cc
 
 module _ (left left_now stored out out_now : Option (List ℕ)) where
@@ -98,11 +169,15 @@ module _ (left left_now stored out out_now : Option (List ℕ)) where
   unwritten-of (a_text what) t r done cut = text-unwritten what left left_now out out_now t r done cut
   unwritten-of (a_report m) t r done cut = report-unwritten m left left_now stored out out_now t r done cut
   unwritten-of (an_agent n) t r done cut = r.silent done cut
+  unwritten-of (a_run limits policy) t r done cut = rollout-unwritten left left_now out out_now t r done cut
+  unwritten-of (a_trial shape policy) t r done cut = follows-unwritten (tried policy shape) t out out_now r.follows done cut
 
   memory-runs : (c : Asked) (e : Ending) → RunsAsked c left left_now stored e out out_now → out_now ≡ out → RunsAsked c left left_now stored OutOfMemory out out_now
   memory-runs (a_text what) e r same = same
   memory-runs (a_report m) e r same = same
   memory-runs (an_agent n) e r same = record { unread = r.unread; silent = λ done cut. same }
+  memory-runs (a_run limits policy) e r same = same
+  memory-runs (a_trial shape policy) e r same = record { unread = r.unread; shape = r.shape; follows = same }
 
   told-runs : (c : Asked) (e t : Ending) → IsToldAs e t → RunsAsked c left left_now stored e out out_now → RunsAsked c left left_now stored t out out_now
   told-runs c e t (inl same) r = subst (λ x. RunsAsked c left left_now stored x out out_now) (sym same) r
@@ -120,7 +195,7 @@ appends-nothing None = refl
 appends-nothing (Some bytes) = ap Some (sym (append-nil bytes))
 
 -- an ending that isn't want of memory is the one that was told
-told-same : (e t : Ending) → IsToldAs e t → (t ≡ OutOfMemory → ⊥) → e ≡ t
+pub told-same : (e t : Ending) → IsToldAs e t → (t ≡ OutOfMemory → ⊥) → e ≡ t
 told-same e t (inl same) h = sym same
 told-same e t (inr memory) h = absurd (h memory.0)
 
@@ -147,15 +222,28 @@ does-asked (a_report m) before after t status is runs line read disk memory = re
   line = line;
 }
 does-asked (an_agent n) before after t status is runs line read disk memory = runs.unread
+does-asked (a_run limits policy) before after t status is runs line read disk memory = record {
+  ending = t;
+  is_status = is;
+  follows = rollouts-of before.left after.left before.written after.written t runs read memory;
+  line = line;
+}
+does-asked (a_trial shape policy) before after t status is runs line read disk memory = record {
+  ending = t;
+  is_status = is;
+  follows = record { unread = runs.unread; shape = runs.shape; answer = follows-ends (tried policy shape) t before.written after.written runs.follows memory };
+  line = line;
+}
 
 -- a run of a command
 pub command-run : (asked : Option Asked) (c : Asked) (before after : Streams) (e : Ending) (status : ℕ) → asked ≡ Some c
     → RunsAsked c before.left after.left before.stored e before.written after.written
     → (e ≡ ReadFault → Rose before.source_faults after.source_faults) → (e ≡ WriteFault → Rose before.sink_faults after.sink_faults)
     → (e ≡ DiskFault → IsTrue (names_disk (Some c)) × Rose before.disk_faults after.disk_faults)
-    → (e ≡ GuestFault → IsTrue (names_fleet (Some c)) × Rose before.fleet_faults after.fleet_faults) → (e ≡ Usage → ⊥)
+    → (e ≡ GuestFault → IsTrue (serves_guests (Some c)) × Rose before.fleet_faults after.fleet_faults)
+    → ((u : Unfinished) → e ≡ NotFinished u → IsTrue (opens_ports (Some c))) → (e ≡ Usage → ⊥)
     → IsTold e status before.noted after.noted before.notes_faults after.notes_faults → IsRun asked before after status
-command-run asked c before after e status is runs read write disk guest ran told =
+command-run asked c before after e status is runs read write disk guest unfinished ran told =
     let t = told.told in
     let runs_told = told-runs before.left after.left before.stored before.written after.written c e t told.is runs in
     let was : (x : Ending) → (x ≡ OutOfMemory → ⊥) → t ≡ x → e ≡ x = λ x other same. told-same e t told.is (λ m. other (sym same ∙ m)) ∙ same in
@@ -165,7 +253,11 @@ command-run asked c before after e status is runs read write disk guest ran told
       read_fault = λ h. read (was ReadFault (λ m. cc) (is-read-fault t (sym told.is_status ∙ h)));
       write_fault = λ h. write (was WriteFault (λ m. cc) (is-write-fault t (sym told.is_status ∙ h)));
       disk_fault = λ h. let found = disk (was DiskFault (λ m. cc) (is-disk-fault t (sym told.is_status ∙ h))) in (subst (λ a. IsTrue (names_disk a)) (sym is) found.0, found.1);
-      guest_fault = λ h. let found = guest (was GuestFault (λ m. cc) (is-guest-fault t (sym told.is_status ∙ h))) in (subst (λ a. IsTrue (names_fleet a)) (sym is) found.0, found.1);
+      fleet_fault = λ h. elim (is-fleet-fault t (sym told.is_status ∙ h)) [
+        | inl same ↦ (let found = guest (was GuestFault (λ m. cc) same) in inl (subst (λ a. IsTrue (serves_guests a)) (sym is) found.0, found.1))
+        | inr more ↦ inr (subst (λ a. IsTrue (opens_ports a)) (sym is) (unfinished more.0 (was (NotFinished more.0) (λ m. cc) more.1)))
+      ];
+      unfinished = λ h. let more = is-unfinished t (subst IsUnfinished told.is_status h) in subst (λ a. IsTrue (opens_ports a)) (sym is) (unfinished more.0 (was (NotFinished more.0) (λ m. cc) more.1));
       does = λ usage fault device memory. subst (λ a. DoesAsked a before after status) (sym is)
           (does-asked c before after t status told.is_status runs_told told.line (λ h. fault (told.is_status ∙ h)) (λ h. device (told.is_status ∙ h)) (λ h. memory (told.is_status ∙ h)));
       silent = λ done cut. unwritten-of before.left after.left before.stored before.written after.written c t runs_told (λ h. done (told.is_status ∙ h)) (λ h. cut (told.is_status ∙ h));
@@ -201,7 +293,8 @@ usage-run asked before after status is left written told =
       read_fault = λ h. absurd (omega (arith, h, two));
       write_fault = λ h. absurd (omega (arith, h, two));
       disk_fault = λ h. absurd (omega (arith, h, two));
-      guest_fault = λ h. absurd (omega (arith, h, two));
+      fleet_fault = λ h. absurd (omega (arith, h, two));
+      unfinished = λ h. absurd (let no : IsUnfinished 2 = subst IsUnfinished two h in cc);
       does = λ usage fault device memory. absurd (usage e.is_status);
       silent = λ done cut. written;
       noted = record { ending = Usage; is_status = e.is_status; line = e.line };

@@ -21,14 +21,16 @@ use Rattle.swanroll_top.specs.Runs.{EndsWith, Gives, IsInput}
 use Rattle.swanroll_top.specs.Safety.{IsValid}
 use Rattle.swanroll_top.specs.Taken.{IsValidDocument}
 use Rattle.swanroll_top.specs.declared.ending.Ending.{Ending}
-use Rattle.swanroll_top.specs.declared.ending.Ending.TheVariants.{Done, Usage, AboveLimit, Input, NotValid, NoPlan, ReadFault, WriteFault, DiskFault, GuestFault, Refused, OutOfMemory}
+use Rattle.swanroll_top.specs.declared.ending.Ending.TheVariants.{Done, Usage, AboveLimit, Input, NotValid, NoPlan, ReadFault, WriteFault, DiskFault, GuestFault, Refused, NotFinished, OutOfMemory}
 use Rattle.swanroll_top.proofs.Answering.{is_answer, rollout-answers, rollout-gives}
 use Rattle.swanroll_top.proofs.Documents.{checked-by}
 use Rattle.swanroll_top.proofs.Steps.{fault-ends}
+use Rattle.swanroll_top.specs.declared.unfinished.Unfinished.{Unfinished}
+use Rattle.swanroll_top.proofs.Statuses.{not-status}
 
 -- ---- whether an input is a document with a valid plan
 
-abbrev IsJudgedAs : List ℕ → Result Rollout Ending → Type 0
+abbrev pub IsJudgedAs : List ℕ → Result Rollout Ending → Type 0
 IsJudgedAs input (Ok o) = IsValidDocument input
 IsJudgedAs input (Err e) = (e ≡ OutOfMemory) ⊎ ((IsValidDocument input → ⊥) × (status_of e ≡ 3))
 
@@ -54,7 +56,7 @@ read-judged : (input : List ℕ) (read : Result DocumentRead InputFault) → doc
 read-judged input (Ok d) is within = subst (IsJudgedAs input) (sym (checked-by d (first_broken d.problem d.plan) refl)) (broken-judged input d is within (first_broken d.problem d.plan) refl)
 read-judged input (Err f) is within = fault-judged input f is
 
-rollout-judged : (input : List ℕ) → length input ≤ MOST_INPUT → IsJudgedAs input (rollout_in input)
+pub rollout-judged : (input : List ℕ) → length input ≤ MOST_INPUT → IsJudgedAs input (rollout_in input)
 unfolding rollout_in
 rollout-judged input within = read-judged input (document_in input) refl within
 
@@ -62,7 +64,7 @@ pub short-rollout : (input : List ℕ) → length input ≤ MOST_INPUT → rollo
 unfolding rollout_to
 short-rollout input short = rw (le-ltb MOST_INPUT (length input) short) refl
 
-long-rollout : (input : List ℕ) → MOST_INPUT < length input → rollout_to input ≡ Err AboveLimit
+pub long-rollout : (input : List ℕ) → MOST_INPUT < length input → rollout_to input ≡ Err AboveLimit
 unfolding rollout_to
 long-rollout input long = rw (lt-ltb MOST_INPUT (length input) long) refl
 
@@ -72,6 +74,7 @@ late-status : (answer : Result (List ℕ) Ending) (e : Ending) (out now : Option
 late-status (Ok text) e out now late (inl done) three = omega (arith, ap status_of done.0, three)
 late-status (Ok text) e out now late (inr cut) three = omega (arith, ap status_of cut.0, three)
 late-status (Err (Refused f)) e out now late h three = omega (arith, ap status_of h.0, three)
+late-status (Err (NotFinished u)) e out now late h three = late
 late-status (Err Done) e out now late h three = late
 late-status (Err Usage) e out now late h three = late
 late-status (Err AboveLimit) e out now late h three = late
@@ -124,6 +127,7 @@ module _ (m : ℕ) (left now told out out_now : Option (List ℕ)) (input : List
   short-reports DiskFault s h = h
   short-reports GuestFault s h = follows-report GuestFault s h (λ e. cc)
   short-reports (Refused f) s h = follows-report (Refused f) s h (λ e. cc)
+  short-reports (NotFinished u) s h = follows-report (NotFinished u) s h (λ e. cc)
   short-reports OutOfMemory s h = h
 
 long-reports : (m : ℕ) (before now told out : Option (List ℕ)) (input : List ℕ) → IsInput before now input → MOST_INPUT < length input → FollowsReport m before now told AboveLimit out out
@@ -135,7 +139,7 @@ long-reports m before now told out input read long = record {
   silent = λ zero seven. refl;
 }
 
-beyond-reports : (m : ℕ) (before now told out : Option (List ℕ)) → GoesBeyond MOST_INPUT before now → FollowsReport m before now told AboveLimit out out
+pub beyond-reports : (m : ℕ) (before now told out : Option (List ℕ)) → GoesBeyond MOST_INPUT before now → FollowsReport m before now told AboveLimit out out
 beyond-reports m None now told out g = long-reports m None now told out g.bytes (record { whole = tt; read = inr g }) (omega (arith, g.beyond))
 beyond-reports m (Some left) (Some rest) told out g =
     let same : left ≡ g.bytes ++ rest = cc (g.taken) in
@@ -154,6 +158,7 @@ cut-reports m left now told out WriteFault r = absurd r
 cut-reports m left now told out DiskFault r = absurd r
 cut-reports m left now told out GuestFault r = absurd r
 cut-reports m left now told out (Refused f) r = absurd r
+cut-reports m left now told out (NotFinished u) r = absurd r
 cut-reports m left now told out OutOfMemory r = refl
 
 -- ---- what a journal comes to
@@ -229,6 +234,7 @@ module _ (m : ℕ) (told out : Option (List ℕ)) (r : Result Rollout Ending) wh
   input-refused DiskFault g = refl
   input-refused GuestFault g = refused-by GuestFault g
   input-refused (Refused f) g = refused-by (Refused f) g
+  input-refused (NotFinished u) g = refused-by (NotFinished u) g
   input-refused OutOfMemory g = refl
 
 pub input-no-disk : (input : List ℕ) (e : Ending) → Gives {A = Rollout} (Err e) (rollout_in input) → e ≡ DiskFault → ⊥
@@ -243,6 +249,7 @@ late-ends : (answer : Result (List ℕ) Ending) (e : Ending) (out now : Option (
 late-ends (Ok text) e out now late (inl done) = inl (ap status_of done.0)
 late-ends (Ok text) e out now late (inr cut) = inr (inl (ap status_of cut.0))
 late-ends (Err (Refused f)) e out now late h = inr (inr (ap status_of h.0))
+late-ends (Err (NotFinished u)) e out now late h = absurd late
 late-ends (Err Done) e out now late h = absurd late
 late-ends (Err Usage) e out now late h = absurd late
 late-ends (Err AboveLimit) e out now late h = absurd late
@@ -267,6 +274,13 @@ module _ (m : ℕ) (told out now : Option (List ℕ)) where
   no-guests : (r : Result Rollout Ending) → ((x : Ending) → r ≡ Err x → is_answer x ≡ true) → EndsReport m r told GuestFault out now → ⊥
   no-guests (Ok o) answers ends = elim (late-ends ends.answer GuestFault out now ends.late ends.ends) [ inl h ↦ omega (arith, h) | inr more ↦ elim more [ inl h ↦ omega (arith, h) | inr h ↦ omega (arith, h) ] ]
   no-guests (Err x) answers ends = let no : is_answer GuestFault ≡ true = ap is_answer ends.0 ∙ answers x refl in cc
+
+  no-rollouts : (u : Unfinished) (r : Result Rollout Ending) → ((x : Ending) → r ≡ Err x → is_answer x ≡ true) → EndsReport m r told (NotFinished u) out now → ⊥
+  no-rollouts u (Ok o) answers ends = elim (late-ends ends.answer (NotFinished u) out now ends.late ends.ends) [ inl h ↦ not-status 0 refl u h | inr more ↦ elim more [ inl h ↦ not-status 7 refl u h | inr h ↦ not-status 10 refl u h ] ]
+  no-rollouts u (Err x) answers ends = let no : is_answer (NotFinished u) ≡ true = ap is_answer ends.0 ∙ answers x refl in cc
+
+  pub report-no-rollout : (u : Unfinished) (input : List ℕ) (e : Ending) → FollowsReported m (rollout_in input) told e out now → e ≡ NotFinished u → ⊥
+  report-no-rollout u input e h is = no-rollouts u (rollout_in input) (rollout-answers input) (subst (λ x. FollowsReported m (rollout_in input) told x out now) is h)
 
   pub report-no-read : (input : List ℕ) (e : Ending) → FollowsReported m (rollout_in input) told e out now → e ≡ ReadFault → ⊥
   report-no-read input e h is = no-fault (rollout_in input) (rollout-answers input) (subst (λ x. FollowsReported m (rollout_in input) told x out now) is h)

@@ -7,7 +7,7 @@ use Rattle.swanroll_top.specs.Answers.{◌>>=◌, or_ending}
 use Rattle.swanroll_top.specs.Endings.{ending_of}
 use Rattle.swanroll_top.specs.Runs.{Gives}
 use Rattle.swanroll_top.specs.declared.ending.Ending.{Ending}
-use Rattle.swanroll_top.specs.declared.ending.Ending.TheVariants.{Done, Usage, AboveLimit, Input, NotValid, NoPlan, ReadFault, WriteFault, DiskFault, GuestFault, Refused, OutOfMemory}
+use Rattle.swanroll_top.specs.declared.ending.Ending.TheVariants.{Done, Usage, AboveLimit, Input, NotValid, NoPlan, ReadFault, WriteFault, DiskFault, GuestFault, Refused, NotFinished, OutOfMemory}
 
 -- a fault of the grammar ends the run as it says, and want of memory for want of it
 pub fault-ends : (e : InputFault) → (ending_of e ≡ Input e) ⊎ (ending_of e ≡ OutOfMemory)
@@ -66,4 +66,5 @@ step-gives WriteFault step next h = ap (λ r. r >>= next) h
 step-gives DiskFault step next h = ap (λ r. r >>= next) h
 step-gives GuestFault step next h = ap (λ r. r >>= next) h
 step-gives (Refused f) step next h = ap (λ r. r >>= next) h
+step-gives (NotFinished u) step next h = ap (λ r. r >>= next) h
 step-gives OutOfMemory step next h = tt

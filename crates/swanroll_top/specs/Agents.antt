@@ -6,7 +6,7 @@ use Rattle.agent_service.specs.declared.service.ServiceFault.{ServiceFault}
 use Rattle.agent_service.specs.declared.service.ServiceFault.TheVariants.{Fleet, Memory}
 use Rattle.swanroll_top.specs.Endings.{status_of, tells_place}
 use Rattle.swanroll_top.specs.Runs.{Follows}
-use Rattle.swanroll_top.specs.Words.{Asked, a_report, a_text, an_agent}
+use Rattle.swanroll_top.specs.Words.{Asked, a_report, a_run, a_text, a_trial, an_agent}
 use Rattle.swanroll_top.specs.declared.ending.Ending.{Ending}
 use Rattle.swanroll_top.specs.declared.ending.Ending.TheVariants.{Done, GuestFault, OutOfMemory, WriteFault}
 
@@ -36,6 +36,8 @@ pub record RunsAgent {G : Type 0} (tells : Tells G) (guests : ℕ) (before now :
 abbrev pub ServesAsked : {G : Type 0} → Tells G → Asked → Guests G → Guests G → Ending → Option (List ℕ) → Option (List ℕ) → Type 0
 ServesAsked tells (a_text what) before now ending out out_now = ⊤
 ServesAsked tells (a_report migration) before now ending out out_now = ⊤
+ServesAsked tells (a_trial shape policy) before now ending out out_now = ⊤
+ServesAsked tells (a_run limits policy) before now ending out out_now = now ≡ before
 ServesAsked tells (an_agent guests) before now ending out out_now = RunsAgent tells guests before now ending out out_now
 
 -- the same by the status
@@ -49,4 +51,6 @@ abbrev pub ServesBy : {G : Type 0} → Tells G → Option Asked → Guests G →
 ServesBy tells None before now status out out_now = ⊤
 ServesBy tells (Some (a_text what)) before now status out out_now = ⊤
 ServesBy tells (Some (a_report migration)) before now status out out_now = ⊤
+ServesBy tells (Some (a_trial shape policy)) before now status out out_now = ⊤
+ServesBy tells (Some (a_run limits policy)) before now status out out_now = now ≡ before
 ServesBy tells (Some (an_agent guests)) before now status out out_now = ServesAs tells guests before now status out out_now

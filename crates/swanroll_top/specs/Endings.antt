@@ -12,8 +12,9 @@ use Rattle.scratch_plan.specs.declared.no_plan.NoPlan.{NoPlan as Cause}
 use Rattle.scratch_plan.specs.declared.no_plan.NoPlan.TheVariants as cause
 use Rattle.rollout_rules.specs.Wan.{Problem}
 use Rattle.swanroll_top.specs.NoPlanLines.{no_plan_line}
+use Rattle.swanroll_top.specs.Unfinished.{unfinished_line, unfinished_status}
 use Rattle.swanroll_top.specs.declared.ending.Ending.{Ending}
-use Rattle.swanroll_top.specs.declared.ending.Ending.TheVariants.{Done, Usage, AboveLimit, Input, NotValid, NoPlan, ReadFault, WriteFault, DiskFault, GuestFault, Refused, OutOfMemory}
+use Rattle.swanroll_top.specs.declared.ending.Ending.TheVariants.{Done, Usage, AboveLimit, Input, NotValid, NoPlan, ReadFault, WriteFault, DiskFault, GuestFault, Refused, NotFinished, OutOfMemory}
 
 abbrev pub status_of : Ending → ℕ
 status_of Done = 0
@@ -27,6 +28,7 @@ status_of WriteFault = 7
 status_of DiskFault = 8
 status_of GuestFault = 9
 status_of (Refused e) = 10
+status_of (NotFinished u) = unfinished_status u
 status_of OutOfMemory = 12
 
 abbrev pub line_of : Ending → List ℕ
@@ -41,6 +43,7 @@ line_of WriteFault = codes "write fault\n"
 line_of DiskFault = codes "journal device fault\n"
 line_of GuestFault = codes "guest fault\n"
 line_of (Refused e) = journal_line e
+line_of (NotFinished u) = unfinished_line u
 line_of OutOfMemory = codes "out of memory\n"
 
 -- whether the line of an ending tells a place, and so takes memory
@@ -56,6 +59,7 @@ tells_place WriteFault = false
 tells_place DiskFault = false
 tells_place GuestFault = false
 tells_place (Refused e) = true
+tells_place (NotFinished u) = true
 tells_place OutOfMemory = false
 
 -- how a run ends that wasn't given its input, or whose input was refused

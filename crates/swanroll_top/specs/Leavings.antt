@@ -9,7 +9,7 @@ use Rattle.intent_journal.specs.Recovered.{KeepsNow, MayStand, kept_for}
 use Rattle.intent_journal.specs.Verdicts.{verdict}
 use Rattle.rollout_report.specs.Journals.{digest_for}
 use Rattle.swanroll_top.specs.Reports.{rollout_to}
-use Rattle.swanroll_top.specs.Words.{Asked, a_report, a_text, an_agent}
+use Rattle.swanroll_top.specs.Words.{Asked, a_report, a_run, a_text, a_trial, an_agent}
 use Rattle.swanroll_top.specs.declared.ending.Ending.{Ending}
 
 -- What a run of this status leaves on a disk that told this image, of a journal that knows its rollout by this digest.
@@ -32,5 +32,7 @@ abbrev pub LeavesAsked : {D : Type 0} → (D → Option (List ℕ)) → (D → L
 LeavesAsked tells leaves moment left_since None left status old new = ⊤
 LeavesAsked tells leaves moment left_since (Some (a_text what)) left status old new = ⊤
 LeavesAsked tells leaves moment left_since (Some (an_agent guests)) left status old new = ⊤
+LeavesAsked tells leaves moment left_since (Some (a_run limits policy)) left status old new = ⊤
+LeavesAsked tells leaves moment left_since (Some (a_trial shape policy)) left status old new = ⊤
 LeavesAsked tells leaves moment left_since (Some (a_report migration)) left status old new =
     IfSome left (λ input. LeavesReported tells leaves moment left_since migration (rollout_to input) status old new)

@@ -12,5 +12,10 @@ pub mod Reports
 pub mod Leavings
 pub mod Runs
 pub mod Agents
+pub mod Tries
+pub mod Unfinished
+pub mod Rollouts
+pub mod Targets
+pub mod Ready
 pub mod Program
 pub mod Worked

@@ -1,5 +1,5 @@
 -- What the whole program does, by what it read, wrote and noted.
-use Rattle.std.specs.Prelude.{◌≡◌, ◌≢◌, ⊤, ◌↔◌, Bool, true, false, ◌==◌, ℕ, List, [], ◌∷◌, drop, String, Option, Some, None, Result, Ok, Err, IsTrue}
+use Rattle.std.specs.Prelude.{◌≡◌, ◌≢◌, ⊤, ◌⊎◌, ◌↔◌, Bool, true, false, ◌==◌, ℕ, List, [], ◌∷◌, drop, String, Option, Some, None, Result, Ok, Err, IsTrue}
 use Rattle.std.specs.List.{list_any}
 use Rattle.std.specs.declared.alloc.Global.{Global}
 use Rattle.wan_edge.specs.Streams.{Rose}
@@ -7,7 +7,10 @@ use Rattle.swanroll_top.specs.Endings.{status_of}
 use Rattle.swanroll_top.specs.Reports.{FollowsReport, RunsReport}
 use Rattle.swanroll_top.specs.Runs.{FollowsInput, Notes, Runs}
 use Rattle.rollout_rules.specs.declared.op.OpView.{OpView}
-use Rattle.swanroll_top.specs.Words.{Asked, TextAsked, a_report, a_text, an_agent, asked_by}
+use Rattle.sim_run.specs.declared.shape.Shape.{Shape}
+use Rattle.swanroll_top.specs.Rollouts.{FollowsRollout, RunsRollout}
+use Rattle.swanroll_top.specs.Tries.{FollowsTrial, RunsTrial}
+use Rattle.swanroll_top.specs.Words.{Asked, TextAsked, a_report, a_run, a_text, a_trial, an_agent, asked_by}
 use Rattle.swanroll_top.specs.declared.arguments.Unread.{Unread}
 use Rattle.swanroll_top.specs.declared.arguments.Unread.TheVariants.{NotText, Memory}
 use Rattle.swanroll_top.specs.declared.ending.Ending.{Ending}
@@ -32,7 +35,7 @@ NotesLine ending before after = Notes ending before.noted after.noted before.not
 
 -- a status that the program may have
 abbrev pub IsStatus : ℕ → Type 0
-IsStatus status = IsTrue (list_any (λ s. s == status) (0 ∷ 2 ∷ 3 ∷ 4 ∷ 6 ∷ 7 ∷ 8 ∷ 9 ∷ 10 ∷ 12 ∷ []))
+IsStatus status = IsTrue (list_any (λ s. s == status) (0 ∷ 2 ∷ 3 ∷ 4 ∷ 5 ∷ 6 ∷ 7 ∷ 8 ∷ 9 ∷ 10 ∷ 11 ∷ 12 ∷ 14 ∷ []))
 
 -- the notes have the line of an ending with this status
 pub record IsNoted (status : ℕ) (before after : Streams) : Type 0 where
@@ -54,6 +57,20 @@ pub record ReportsAndNotes (migration : ℕ) (before after : Streams) (status : 
   pub follows : FollowsReport migration before.left after.left before.stored ending before.written after.written
   pub line : NotesLine ending before after
 
+-- the same of a trial
+pub record TriesAndNotes (policy : OpView → ℕ) (shape : Shape) (before after : Streams) (status : ℕ) : Type 0 where
+  pub ending : Ending
+  pub is_status : status ≡ status_of ending
+  pub follows : FollowsTrial policy shape before.left after.left ending before.written after.written
+  pub line : NotesLine ending before after
+
+-- the same of a rollout
+pub record RollsAndNotes (before after : Streams) (status : ℕ) : Type 0 where
+  pub ending : Ending
+  pub is_status : status ≡ status_of ending
+  pub follows : FollowsRollout before.left after.left ending before.written after.written
+  pub line : NotesLine ending before after
+
 -- nothing was read, and only a text that was written, or a part of it, is on the sink
 pub record RunsUnread (left left_now : Option (List ℕ)) (ending : Ending) (out out_now : Option (List ℕ)) : Type 0 where
   pub unread : left_now ≡ left
@@ -64,6 +81,8 @@ abbrev pub RunsAsked : Asked → Option (List ℕ) → Option (List ℕ) → Opt
 RunsAsked (a_text what) left left_now told ending out out_now = Runs what left left_now ending out out_now
 RunsAsked (a_report migration) left left_now told ending out out_now = RunsReport migration left left_now told ending out out_now
 RunsAsked (an_agent guests) left left_now told ending out out_now = RunsUnread left left_now ending out out_now
+RunsAsked (a_trial shape policy) left left_now told ending out out_now = RunsTrial policy shape left left_now ending out out_now
+RunsAsked (a_run limits policy) left left_now told ending out out_now = RunsRollout left left_now ending out out_now
 
 -- the same of whatever the words ask for
 abbrev pub DoesAsked : Option Asked → Streams → Streams → ℕ → Type 0
@@ -71,6 +90,8 @@ DoesAsked None before after status = ⊥
 DoesAsked (Some (a_text what)) before after status = RunsAndNotes what before after status
 DoesAsked (Some (a_report migration)) before after status = ReportsAndNotes migration before after status
 DoesAsked (Some (an_agent guests)) before after status = after.left ≡ before.left
+DoesAsked (Some (a_trial shape policy)) before after status = TriesAndNotes policy shape before after status
+DoesAsked (Some (a_run limits policy)) before after status = RollsAndNotes before after status
 
 -- whether a command reads the source, and whether it names the disk and the fleet
 
@@ -79,18 +100,45 @@ reads_source None = false
 reads_source (Some (a_text what)) = true
 reads_source (Some (a_report migration)) = true
 reads_source (Some (an_agent guests)) = false
+reads_source (Some (a_trial shape policy)) = false
+reads_source (Some (a_run limits policy)) = true
 
 abbrev pub names_disk : Option Asked → Bool
 names_disk None = false
 names_disk (Some (a_text what)) = false
 names_disk (Some (a_report migration)) = true
 names_disk (Some (an_agent guests)) = false
+names_disk (Some (a_trial shape policy)) = false
+names_disk (Some (a_run limits policy)) = true
 
 abbrev pub names_fleet : Option Asked → Bool
 names_fleet None = false
 names_fleet (Some (a_text what)) = false
 names_fleet (Some (a_report migration)) = false
 names_fleet (Some (an_agent guests)) = true
+names_fleet (Some (a_trial shape policy)) = false
+names_fleet (Some (a_run limits policy)) = true
+
+-- what a command that names the fleet has of it: its guests, or its ports
+abbrev pub serves_guests : Option Asked → Bool
+serves_guests None = false
+serves_guests (Some (a_text what)) = false
+serves_guests (Some (a_report migration)) = false
+serves_guests (Some (an_agent guests)) = true
+serves_guests (Some (a_trial shape policy)) = false
+serves_guests (Some (a_run limits policy)) = false
+
+abbrev pub opens_ports : Option Asked → Bool
+opens_ports None = false
+opens_ports (Some (a_text what)) = false
+opens_ports (Some (a_report migration)) = false
+opens_ports (Some (an_agent guests)) = false
+opens_ports (Some (a_trial shape policy)) = false
+opens_ports (Some (a_run limits policy)) = true
+
+-- the statuses of rollouts that were begun and aren't finished
+abbrev pub IsUnfinished : ℕ → Type 0
+IsUnfinished status = IsTrue (list_any (λ s. s == status) (5 ∷ 11 ∷ 14 ∷ []))
 
 -- what isn't named is as it was
 abbrev pub LeavesUnnamed : {X : Type 0} → Bool → X → X → Type 0
@@ -106,7 +154,9 @@ pub record IsRun (asked : Option Asked) (before after : Streams) (status : ℕ) 
   pub read_fault : status ≡ 6 → Rose before.source_faults after.source_faults
   pub write_fault : status ≡ 7 → Rose before.sink_faults after.sink_faults
   pub disk_fault : status ≡ 8 → IsTrue (names_disk asked) × Rose before.disk_faults after.disk_faults
-  pub guest_fault : status ≡ 9 → IsTrue (names_fleet asked) × Rose before.fleet_faults after.fleet_faults
+  pub fleet_fault : status ≡ 9 → (IsTrue (serves_guests asked) × Rose before.fleet_faults after.fleet_faults) ⊎ IsTrue (opens_ports asked)
+  -- only a rollout is begun and not finished
+  pub unfinished : IsUnfinished status → IsTrue (opens_ports asked)
   -- otherwise all follows from the bytes read
   pub does : status ≢ 2 → status ≢ 6 → status ≢ 8 → status ≢ 12 → DoesAsked asked before after status
   pub silent : status ≢ 0 → status ≢ 7 → after.written ≡ before.written

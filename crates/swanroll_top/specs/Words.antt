@@ -1,15 +1,18 @@
 -- Which words are a command line, and what they ask for. Behind the word of a command stand pairs of a name and a value.
-use Rattle.std.specs.Prelude.{ℕ, ◌<◌, ◌^◌, Bool, true, false, not, ◌&&◌, ◌==◌, nat_le, nat_lt, length, List, [], ◌∷◌, map, String, string_bytes, codes, bytes_eq, Option, Some, None, option_map, option_and_then, if◌then◌else◌}
+use Rattle.std.specs.Prelude.{ℕ, ◌^◌, Bool, true, false, not, ◌&&◌, ◌==◌, nat_le, nat_lt, length, List, [], ◌∷◌, ◌++◌, map, String, string_bytes, codes, bytes_eq, Option, Some, None, option_map, option_and_then, if◌then◌else◌}
 use Rattle.std.specs.List.{list_any}
 use Rattle.std.specs.Str.Parse.{digits_value}
 use Rattle.std.specs.declared.alloc.Global.{Global}
 use denote.Param.Members.{Mut}
 use denote.Struct.Field.{u64-field}
 use Rattle.rollout_rules.specs.declared.op.OpView.{OpView}
+use Rattle.rollout_rules.specs.declared.limits.TheConstants.{MOST_FLOWS, MOST_SWITCHES}
 use Rattle.order_policy.specs.Answers.{rank_by}
 use Rattle.order_policy.specs.Named.{policy_named}
+use Rattle.rollout_run.specs.declared.running.Limits.{Limits}
+use Rattle.sim_run.specs.declared.shape.Shape.{Shape}
 use Rattle.swanroll_top.specs.declared.words.Kind.{Kind}
-use Rattle.swanroll_top.specs.declared.words.Kind.TheVariants.{Plan, Check, Sim, Report, Agent}
+use Rattle.swanroll_top.specs.declared.words.Kind.TheVariants.{Plan, Check, Sim, Report, Agent, Trial, Run}
 use Rattle.swanroll_top.specs.declared.words.Command.{Command}
 use Rattle.swanroll_top.specs.declared.words.Command.TheVariants as command
 use Rattle.swanroll_top.specs.declared.words.TextCommand.{TextCommand}
@@ -26,6 +29,8 @@ pub data Asked : Type 0 where
   a_text : (what : TextAsked) → Asked
   a_report : (migration : ℕ) → Asked
   an_agent : (guests : ℕ) → Asked
+  a_trial : (shape : Shape) (policy : OpView → ℕ) → Asked
+  a_run : (limits : Limits) (policy : OpView → ℕ) → Asked
 
 -- a command in code asks for this: a policy is what it answers
 module _ {X : Type 0} {F : X → Type 0} {M : Mut ((x : X) × F x) (OpView × Unit {0}) u64-field.Value} where
@@ -38,6 +43,8 @@ module _ {X : Type 0} {F : X → Type 0} {M : Mut ((x : X) × F x) (OpView × Un
   asked (command.Text what) = a_text (text_asked what)
   asked (command.Report migration) = a_report migration
   asked (command.Agent guests) = an_agent guests
+  asked (command.Trial shape policy) = a_trial shape (rank_by policy.now.answers)
+  asked (command.Run limits policy) = a_run limits (rank_by policy.now.answers)
 
 -- ---- each command's word, and the names that it takes
 
@@ -48,7 +55,12 @@ kind_named word =
     else if bytes_eq word (codes "sim") then Some Sim
     else if bytes_eq word (codes "report") then Some Report
     else if bytes_eq word (codes "agent") then Some Agent
+    else if bytes_eq word (codes "trial") then Some Trial
+    else if bytes_eq word (codes "run") then Some Run
     else None
+
+abbrev pub trial_numbers : List (List ℕ)
+trial_numbers = codes "--k" ∷ codes "--switches" ∷ codes "--flows" ∷ codes "--seed" ∷ codes "--events" ∷ []
 
 abbrev pub names_of : Kind → List (List ℕ)
 names_of Plan = []
@@ -56,6 +68,8 @@ names_of Check = []
 names_of Sim = codes "--policy" ∷ []
 names_of Report = codes "--migration" ∷ []
 names_of Agent = codes "--guests" ∷ []
+names_of Trial = trial_numbers ++ codes "--policy" ∷ []
+names_of Run = codes "--workers" ∷ codes "--rounds" ∷ codes "--policy" ∷ codes "--migration" ∷ []
 
 -- ---- pairs of a name and a value
 
@@ -91,11 +105,14 @@ abbrev pub are_digits : List ℕ → Bool
 are_digits [] = true
 are_digits (c ∷ cs) = nat_le 48 c && nat_le c 57 && are_digits cs
 
--- a number below 2^32 in 1 to 19 decimal digits
-abbrev pub number_in : List ℕ → Option ℕ
-number_in word =
-    if nat_lt 0 (length word) && nat_le (length word) 19 && are_digits word && nat_lt (digits_value 10 word) (2 ^ 32) then Some (digits_value 10 word)
+-- a number of so many bits in 1 to 19 decimal digits, and one of 32
+abbrev pub number_of : ℕ → List ℕ → Option ℕ
+number_of bits word =
+    if nat_lt 0 (length word) && nat_le (length word) 19 && are_digits word && nat_lt (digits_value 10 word) (2 ^ bits) then Some (digits_value 10 word)
     else None
+
+abbrev pub number_in : List ℕ → Option ℕ
+number_in word = number_of 32 word
 
 -- ---- what is asked for, with these policies: a name, and what the policy under it answers
 
@@ -115,12 +132,44 @@ in_millions number = if nat_le 1 number && nat_le number 1000000 then Some numbe
 abbrev pub guests_in : List (List ℕ) → Option ℕ
 guests_in pairs = option_and_then in_millions (option_and_then number_in (value_or (codes "--guests") (codes "1") pairs))
 
+-- a number from one to another, and the one that the pairs name
+abbrev pub in_range : ℕ → ℕ → ℕ → Option ℕ
+in_range low high number = if nat_le low number && nat_le number high then Some number else None
+
+abbrev pub numbered : List ℕ → List ℕ → ℕ → ℕ → List (List ℕ) → Option ℕ
+numbered name default low high pairs = option_and_then (in_range low high) (option_and_then (number_of 64) (value_or name default pairs))
+
+-- the numbers of a trial that the pairs name
+abbrev pub shape_in : List (List ℕ) → Option Shape
+shape_in pairs =
+    option_and_then (λ k. option_and_then (λ switches. option_and_then (λ flows. option_and_then (λ seed. option_map
+    (λ events. record { k = k; switches = switches; flows = flows; seed = seed; events = events })
+    (numbered (codes "--events") (codes "1000") 0 100000 pairs))
+    (numbered (codes "--seed") (codes "1") 0 1000000000000000000 pairs))
+    (numbered (codes "--flows") (codes "24") 0 MOST_FLOWS pairs))
+    (numbered (codes "--switches") (codes "24") 3 MOST_SWITCHES pairs))
+    (numbered (codes "--k") (codes "4") 2 64 pairs)
+
+-- how many workers there may be
+abbrev pub workers_in : List (List ℕ) → Option ℕ
+workers_in pairs = numbered (codes "--workers") (codes "2") 1 16 pairs
+
+-- in how many rounds each of them may offer commands
+abbrev pub rounds_in : List (List ℕ) → Option ℕ
+rounds_in pairs = numbered (codes "--rounds") (codes "1000") 1 200000 pairs
+
+-- the limits of a rollout that the pairs name
+abbrev pub limits_in : List (List ℕ) → Option Limits
+limits_in pairs = option_and_then (λ workers. option_and_then (λ rounds. option_map (λ migration. record { workers = workers; rounds = rounds; migration = migration }) (migration_in pairs)) (rounds_in pairs)) (workers_in pairs)
+
 abbrev pub with_pairs : List (List ℕ × (OpView → ℕ)) → List (List ℕ) → Kind → Option Asked
 with_pairs policies pairs Plan = Some (a_text a_plan)
 with_pairs policies pairs Check = Some (a_text a_check)
 with_pairs policies pairs Sim = option_map (λ policy. a_text (a_rehearsal policy)) (policy_in policies pairs)
 with_pairs policies pairs Report = option_map a_report (migration_in pairs)
 with_pairs policies pairs Agent = option_map an_agent (guests_in pairs)
+with_pairs policies pairs Trial = option_and_then (λ shape. option_map (a_trial shape) (policy_in policies pairs)) (shape_in pairs)
+with_pairs policies pairs Run = option_and_then (λ limits. option_map (a_run limits) (policy_in policies pairs)) (limits_in pairs)
 
 abbrev pub with_kind : List (List ℕ × (OpView → ℕ)) → List (List ℕ) → Kind → Option Asked
 with_kind policies pairs kind = if are_pairs (names_of kind) pairs then with_pairs policies pairs kind else None
@@ -129,5 +178,6 @@ abbrev pub asked_in : List (List ℕ × (OpView → ℕ)) → List (List ℕ) �
 asked_in policies [] = None
 asked_in policies (word ∷ pairs) = option_and_then (with_kind policies pairs) (kind_named word)
 
-abbrev pub asked_by : List (List ℕ × (OpView → ℕ)) → List (String Global) → Option Asked
+-- the same of a program's words, which clauses don't look into
+unfoldable pub asked_by : List (List ℕ × (OpView → ℕ)) → List (String Global) → Option Asked
 asked_by policies words = asked_in policies (map string_bytes words)

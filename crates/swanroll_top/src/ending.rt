@@ -4,6 +4,7 @@ use crate::fault_lines::{broken_line, input_line};
 use crate::journal_line::journal_line;
 use crate::line::{Line, out_of_memory};
 use crate::no_plan_line::no_plan_line;
+use crate::unfinished::{Unfinished, unfinished_line};
 use intent_journal::JournalFault;
 use lists::Memory;
 use plan_check::Broken;
@@ -36,6 +37,8 @@ pub enum Ending {
     GuestFault,
     /// The journal on the disk isn't one of this rollout, or can't be followed.
     Refused(JournalFault),
+    /// A rollout was begun, and isn't finished.
+    NotFinished(Unfinished),
     OutOfMemory,
 }
 
@@ -58,6 +61,7 @@ impl Ending {
             Ending::DiskFault => 8,
             Ending::GuestFault => 9,
             Ending::Refused(_) => 10,
+            Ending::NotFinished(unfinished) => unfinished.status(),
             Ending::OutOfMemory => 12,
         }
     }
@@ -80,6 +84,7 @@ impl Ending {
             Ending::DiskFault => Ok(Line::Known("journal device fault\n")),
             Ending::GuestFault => Ok(Line::Known("guest fault\n")),
             Ending::Refused(fault) => journal_line(alloc, fault),
+            Ending::NotFinished(unfinished) => unfinished_line(alloc, unfinished),
             Ending::OutOfMemory => Ok(out_of_memory()),
         }
     }

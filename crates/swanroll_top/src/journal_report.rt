@@ -5,6 +5,7 @@ ghost use Rattle.intent_journal.specs.declared.fault.JournalFault.TheVariants as
 ghost use Rattle.wan_edge.specs.Streams.{Rose};
 ghost use Rattle.rollout_report.specs.Journals.{digest_for};
 ghost use Rattle.swanroll_top.specs.Endings.{status_of};
+ghost use Rattle.swanroll_top.specs.declared.unfinished.Unfinished.{Unfinished};
 ghost use Rattle.swanroll_top.specs.Leavings.{LeavesJournal, LeavesReported};
 ghost use Rattle.swanroll_top.specs.Reports.{EndsJournal, FollowsReported, RunsReport, rollout_in, rollout_to};
 
@@ -36,6 +37,7 @@ pub fn report<S: Source, K: Sink, D: Disk>(
     ensures write_fault { result.ending ≡ Ending.WriteFault → Rose (K.faults sink.old) (K.faults sink.new) }
     ensures disk_fault { result.ending ≡ Ending.DiskFault → Rose (D.faults disk) (D.faults result.disk) }
     ensures no_guest { result.ending ≢ Ending.GuestFault }
+    ensures no_rollout { (u : Unfinished) → result.ending ≢ Ending.NotFinished u }
     ensures ran { result.ending ≢ Ending.Usage }
 {
     match read_input(alloc, source) {

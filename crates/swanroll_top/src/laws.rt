@@ -2,6 +2,7 @@
 
 ghost use Rattle.std.specs.Prelude.{◌≡◌, ◌≢◌, ℕ, ◌≤◌, List, length, Option, Some, None, Ok, IsTrue, IsSome, IsOk};
 ghost use Rattle.rollout_rules.specs.Wan.{Problem, Rollout};
+ghost use Rattle.rollout_rules.specs.History.{History};
 ghost use Rattle.rollout_rules.specs.Valid.{is_valid_plan};
 ghost use Rattle.rollout_rules.specs.Slack.{has_slack};
 ghost use Rattle.rollout_rules.specs.declared.limits.TheConstants.{MOST_INPUT};
@@ -11,12 +12,24 @@ ghost use Rattle.scratch_plan.specs.Refusals.{refusal};
 ghost use Rattle.plan_choose.specs.Choice.{direct_plan, step_plan, most_tried};
 ghost use Rattle.problem_json.specs.Grammar.{problem_in};
 ghost use Rattle.rollout_rules.specs.declared.op.OpView.{OpView};
+ghost use Rattle.agent_service.specs.Services.{Guests};
+ghost use Rattle.worker_ports.specs.Views.{telling};
+ghost use Rattle.rollout_run.specs.declared.running.Limits.{Limits};
+ghost use Rattle.swanroll_top.specs.Agents.{ServesBy};
 ghost use Rattle.swanroll_top.specs.Answers.{answer_to};
 ghost use Rattle.rollout_report.specs.Journals.{journal_report};
 ghost use Rattle.swanroll_top.specs.Reports.{rollout_to};
 ghost use Rattle.swanroll_top.specs.Program.{IsRun, Streams};
+ghost use Rattle.swanroll_top.specs.Ready.{CountsNoFault, GoesOnFrom, IsReadyFor};
+ghost use Rattle.swanroll_top.specs.Rollouts.{FleetSeen, RollsBy};
 ghost use Rattle.swanroll_top.specs.Taken.{IsValidDocument, IsValidScript};
-ghost use Rattle.swanroll_top.specs.Words.{TextAsked, a_plan, a_check, a_rehearsal, a_report, a_text};
+ghost use Rattle.swanroll_top.specs.Targets.{RestsHeld};
+ghost use Rattle.swanroll_top.specs.Words.{TextAsked, a_plan, a_check, a_rehearsal, a_report, a_run, a_text, a_trial, an_agent};
+ghost use Rattle.sim_run.specs.declared.shape.Shape.{Shape};
+ghost use Rattle.swanroll_top.specs.Tries.{IsShape, tried};
+
+use disk_model::Disk;
+use wan_edge::Fleet;
 
 /// Where the input is a problem whose loads and entries fit, each of these is enough for `plan` to have an
 /// answer: equal rates, a direct plan that is valid, a number of steps with a plan, slack 1/k for some k
@@ -54,4 +67,49 @@ pub fn a_report_is_written()
     ensures { (migration : ℕ) (before after : Streams) (status : ℕ) (input image : List ℕ) (o : Rollout) → IsRun (Some (a_report migration)) before after status
         → before.left ≡ Some input → before.stored ≡ Some image → rollout_to input ≡ Ok o → IsOk (journal_report o migration image)
         → status ≢ 6 → status ≢ 7 → status ≢ 8 → status ≢ 12 → status ≡ 0 }
+{}
+
+/// Each trial has a text, since a plan is chosen for each case, and a trial ends with status 0 unless the sink
+/// failed or memory ran out.
+pub fn a_trial_is_written()
+    ensures answered { (policy : OpView → ℕ) (shape : Shape) → IsShape shape → IsOk (tried policy shape) }
+    ensures written { (policy : OpView → ℕ) (shape : Shape) (before after : Streams) (status : ℕ) → IsRun (Some (a_trial shape policy)) before after status
+        → status ≢ 6 → status ≢ 7 → status ≢ 12 → status ≡ 0 }
+{}
+
+/// An agent ends with status 0 unless the sink or the fleet failed or memory ran out: how many guests came
+/// by then the clause on it says.
+pub fn an_agent_ends_well<F: Fleet>()
+    ensures { (guests : ℕ) (before now : Guests F.Guest) (status : ℕ) (out out_now : Option (List ℕ))
+        → ServesBy (record { left = F.Guest.left; written = F.Guest.written; read_faults = F.Guest.Source.faults; write_faults = F.Guest.Sink.faults }) (Some (an_agent guests)) before now status out out_now
+        → status ≢ 7 → status ≢ 9 → status ≢ 12 → status ≡ 0 }
+{}
+
+/// A run ends with status 0 unless the source, the sink, the disk, the fleet or a port failed or memory ran
+/// out, where the source tells a document with a valid plan, the disk no journal yet, or one of this rollout
+/// with a legal list, and the fleet for each switch with an operation a port that is ready; where rounds are
+/// given for all that isn't settled; and where the policy holds nothing back. Neither disk, fleet nor port
+/// failed where no count of theirs has risen.
+pub fn a_run_over_ready_ports_ends_well<D: Disk, F: Fleet>()
+    ensures by_status { (limits : Limits) (policy : OpView → ℕ) (left : Option (List ℕ)) (disk disk_now : D) (before now : FleetSeen F.Port) (status : ℕ) (out out_now : Option (List ℕ)) (r : Rollout) (found : History)
+        → RollsBy D.bytes D.may_leave D.moment D.left_since D.faults F.Port.faults (telling F.Port.offered F.Port.heard F.Port.held F.Port.quiet F.Port.faults F.Port.honest F.Port.prompt F.Port.start) (Some (a_run limits policy)) left disk disk_now before now status out out_now
+        → GoesOnFrom limits.migration left (D.bytes disk) r found
+        → IsReadyFor (telling F.Port.offered F.Port.heard F.Port.held F.Port.quiet F.Port.faults F.Port.honest F.Port.prompt F.Port.start) limits policy before.ports.waiting r found
+        → status ≢ 6 → status ≢ 7 → status ≢ 8 → status ≢ 9 → status ≢ 12 → status ≡ 0 }
+    ensures by_counts { (limits : Limits) (policy : OpView → ℕ) (left : Option (List ℕ)) (disk disk_now : D) (before now : FleetSeen F.Port) (status : ℕ) (out out_now : Option (List ℕ)) (r : Rollout) (found : History)
+        → RollsBy D.bytes D.may_leave D.moment D.left_since D.faults F.Port.faults (telling F.Port.offered F.Port.heard F.Port.held F.Port.quiet F.Port.faults F.Port.honest F.Port.prompt F.Port.start) (Some (a_run limits policy)) left disk disk_now before now status out out_now
+        → GoesOnFrom limits.migration left (D.bytes disk) r found
+        → IsReadyFor (telling F.Port.offered F.Port.heard F.Port.held F.Port.quiet F.Port.faults F.Port.honest F.Port.prompt F.Port.start) limits policy before.ports.waiting r found
+        → CountsNoFault (telling F.Port.offered F.Port.heard F.Port.held F.Port.quiet F.Port.faults F.Port.honest F.Port.prompt F.Port.start) (D.faults disk) (D.faults disk_now) before now
+        → status ≢ 6 → status ≢ 7 → status ≢ 12 → status ≡ 0 }
+{}
+
+/// Where a run says that the rest is held back, the network is safe as behind every rollout that was begun,
+/// not every operation is settled, none is in flight, and each that may begin is one that the policy holds
+/// back.
+pub fn a_rollout_is_held_by_its_policy_alone<D: Disk, F: Fleet>()
+    ensures { (limits : Limits) (policy : OpView → ℕ) (left : Option (List ℕ)) (disk disk_now : D) (before now : FleetSeen F.Port) (status : ℕ) (out out_now : Option (List ℕ))
+        → RollsBy D.bytes D.may_leave D.moment D.left_since D.faults F.Port.faults (telling F.Port.offered F.Port.heard F.Port.held F.Port.quiet F.Port.faults F.Port.honest F.Port.prompt F.Port.start) (Some (a_run limits policy)) left disk disk_now before now status out out_now
+        → status ≡ 14
+        → RestsHeld D.bytes F.Port.faults (telling F.Port.offered F.Port.heard F.Port.held F.Port.quiet F.Port.faults F.Port.honest F.Port.prompt F.Port.start) limits policy left disk before.ports now.ports }
 {}

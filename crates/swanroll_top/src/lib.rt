@@ -4,7 +4,7 @@
 //!
 //! A module a concern: the words, reading all of the source, writing all of the text, how a run ends and
 //! the notes. The commands that make a text of their input stand in `texts`, a module each; none of them
-//! needs a device. `report` opens the journal on a disk, and `agent` serves the guests of a fleet. The contract
+//! needs a device. `trial` reads nothing, `report` opens the journal on a disk, and `agent` serves the guests of a fleet. The contract
 //! speaks from the bytes read, those on the disk and those that guests send, to the bytes written.
 #![tactic(auto)]
 
@@ -19,11 +19,12 @@ mod line;
 mod no_plan_line;
 mod notes;
 mod reading;
+mod rollout;
 mod run;
-#[cfg(test)]
-mod tests;
 mod texts;
 mod top;
+mod trial;
+mod unfinished;
 mod words;
 pub mod worked;
 mod writing;
@@ -31,4 +32,5 @@ mod writing;
 pub use arguments::{Unread, start};
 pub use ending::Ending;
 pub use top::{Ended, swanroll};
+pub use unfinished::Unfinished;
 pub use words::number_in;

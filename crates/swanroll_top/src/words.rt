@@ -1,13 +1,29 @@
-ghost use Rattle.std.specs.Prelude.{◌≡◌, map, string_bytes, bytes_eq, option_map};
+ghost use Rattle.std.specs.Prelude.{◌≡◌, ◌≤◌, map, string_bytes, bytes_eq, option_map, IfSome};
 ghost use Rattle.std.specs.List.{list_any};
 ghost use Rattle.order_policy.specs.Answers.{rank_by};
 ghost use Rattle.order_policy.specs.Named.{answers_in, policy_named};
-ghost use Rattle.swanroll_top.specs.Words.{asked, asked_by, kind_named, names_of, begins_with_dash, are_pairs, value_or, policy_in, migration_in, guests_in, in_millions, number_in, are_digits, with_kind};
+ghost use Rattle.swanroll_top.specs.Words.{asked, asked_by, kind_named, names_of, begins_with_dash, are_pairs, value_or, policy_in, migration_in, guests_in, in_millions, number_in, number_of, in_range, numbered, limits_in, shape_in, are_digits, trial_numbers, with_kind};
+ghost use Rattle.swanroll_top.specs.Tries.{IsAskedShape, IsShape};
 
 use order_policy::{Policies, Policy};
+use rollout_rules::{MOST_FLOWS, MOST_SWITCHES};
+use rollout_run::Limits;
+use sim_run::Shape;
 
 /// How many guests an agent may be asked to serve.
 const MOST_GUESTS: u32 = 1_000_000;
+
+/// How many workers a rollout may be asked for.
+const MOST_WORKERS: u64 = 16;
+
+/// In how many rounds a worker may be asked to offer commands.
+const MOST_ROUNDS: u64 = 200_000;
+
+/// The largest seed of a trial.
+const LARGEST_SEED: u64 = 1_000_000_000_000_000_000;
+
+/// How many events a trial may be asked for.
+const MOST_EVENTS: u64 = 100_000;
 
 /// How many digits a number has at the most.
 const MOST_DIGITS: usize = 19;
@@ -21,6 +37,10 @@ pub enum Command<'a> {
     Report(u32),
     /// The service of so many guests.
     Agent(u32),
+    /// A trial of these numbers under a policy.
+    Trial(Shape, &'a Policy),
+    /// A rollout within these limits under a policy.
+    Run(Limits, &'a Policy),
 }
 
 /// A command that makes a text of its input alone.
@@ -40,13 +60,17 @@ pub enum Kind {
     Sim,
     Report,
     Agent,
+    Trial,
+    Run,
 }
 
 /// What the words ask for, if they are a command line: the word of a command, and behind it pairs of a
 /// name and a value, each name at most once and in any order. A policy is asked for by its name and has
 /// to be there. The program's own name isn't among the words.
+#[tactic(auto, unfolding(crate::specs::Words::asked_by))]
 pub fn command_of<'a>(words: &[String], policies: &'a Policies<Policy>) -> Option<Command<'a>>
-    ensures { option_map asked result ≡ asked_by (answers_in policies.now) words.now }
+    ensures asked { option_map asked result ≡ asked_by (answers_in policies.now) words.now }
+    ensures within { IfSome result (λ command. IsAskedShape (asked command)) }
 {
     match words {
         [word, pairs @ ..] => command_with(kind_named(word.as_str())?, pairs, policies),
@@ -63,6 +87,8 @@ fn kind_named(word: &str) -> Option<Kind>
         "sim" => Some(Kind::Sim),
         "report" => Some(Kind::Report),
         "agent" => Some(Kind::Agent),
+        "trial" => Some(Kind::Trial),
+        "run" => Some(Kind::Run),
         _ => None,
     }
 }
@@ -72,7 +98,8 @@ fn command_with<'a>(
     pairs: &[String],
     policies: &'a Policies<Policy>,
 ) -> Option<Command<'a>>
-    ensures { option_map asked result ≡ with_kind (answers_in policies.now) (map string_bytes pairs.now) kind }
+    ensures asked { option_map asked result ≡ with_kind (answers_in policies.now) (map string_bytes pairs.now) kind }
+    ensures within { IfSome result (λ command. IsAskedShape (asked command)) }
 {
     if !are_pairs(kind, pairs) {
         return None;
@@ -83,6 +110,8 @@ fn command_with<'a>(
         Kind::Sim => Some(Command::Text(TextCommand::Sim(policy_of(pairs, policies)?))),
         Kind::Report => Some(Command::Report(migration_of(pairs)?)),
         Kind::Agent => Some(Command::Agent(guests_of(pairs)?)),
+        Kind::Trial => Some(Command::Trial(shape_of(pairs)?, policy_of(pairs, policies)?)),
+        Kind::Run => Some(Command::Run(limits_of(pairs)?, policy_of(pairs, policies)?)),
     }
 }
 
@@ -95,7 +124,19 @@ fn takes(kind: Kind, name: &str) -> bool
         Kind::Sim => name == "--policy",
         Kind::Report => name == "--migration",
         Kind::Agent => name == "--guests",
+        Kind::Trial => names_a_number(name) || name == "--policy",
+        Kind::Run => matches!(name, "--workers" | "--rounds" | "--policy" | "--migration"),
     }
+}
+
+/// Whether a trial takes a number under this name.
+fn names_a_number(name: &str) -> bool
+    ensures { result ≡ list_any (bytes_eq name.now) trial_numbers }
+{
+    matches!(
+        name,
+        "--k" | "--switches" | "--flows" | "--seed" | "--events"
+    )
 }
 
 /// Whether the words are pairs, each of a name that the command takes and a value.
@@ -132,6 +173,21 @@ fn migration_of(pairs: &[String]) -> Option<u32>
     number_in(value_or(pairs, "--migration", "0")?)
 }
 
+/// How a rollout is to be run: by so many workers, from 1 to 16, each in at most so many rounds, from 1 to
+/// 200,000, and as which migration.
+fn limits_of(pairs: &[String]) -> Option<Limits>
+    ensures { result ≡ limits_in (map string_bytes pairs.now) }
+{
+    let workers = numbered(pairs, "--workers", "2", 1, MOST_WORKERS)?;
+    let rounds = numbered(pairs, "--rounds", "1000", 1, MOST_ROUNDS)?;
+    let migration = migration_of(pairs)?;
+    Some(Limits {
+        workers: workers as u32,
+        rounds: rounds as u32,
+        migration,
+    })
+}
+
 /// The number of guests that the pairs name, from 1 to a million; 1 where they name none.
 fn guests_of(pairs: &[String]) -> Option<u32>
     ensures { result ≡ guests_in (map string_bytes pairs.now) }
@@ -146,6 +202,58 @@ fn in_millions(number: u32) -> Option<u32>
         return None;
     }
     Some(number)
+}
+
+/// The numbers of the trial that the pairs name, each with a default of its own.
+fn shape_of(pairs: &[String]) -> Option<Shape>
+    ensures shape { result ≡ shape_in (map string_bytes pairs.now) }
+    ensures within { IfSome result (λ shape. IsShape shape) }
+{
+    let k = numbered(pairs, "--k", "4", 2, 64)?;
+    let switches = numbered(pairs, "--switches", "24", 3, MOST_SWITCHES as u64)?;
+    let flows = numbered(pairs, "--flows", "24", 0, MOST_FLOWS as u64)?;
+    let seed = numbered(pairs, "--seed", "1", 0, LARGEST_SEED)?;
+    let events = numbered(pairs, "--events", "1000", 0, MOST_EVENTS)?;
+    Some(Shape {
+        k: k as u32,
+        switches: switches as u32,
+        flows: flows as u32,
+        seed,
+        events: events as u32,
+    })
+}
+
+/// The number that the pairs name, within its range; a default where they name none.
+fn numbered(pairs: &[String], name: &str, default: &str, low: u64, high: u64) -> Option<u64>
+    ensures value { result ≡ numbered name.now default.now low high (map string_bytes pairs.now) }
+    ensures least { IfSome result (λ number. low ≤ number) }
+    ensures most { IfSome result (λ number. number ≤ high) }
+{
+    in_range(low, high, long_number_in(value_or(pairs, name, default)?)?)
+}
+
+fn in_range(low: u64, high: u64, number: u64) -> Option<u64>
+    ensures value { result ≡ in_range low high number }
+    ensures least { IfSome result (λ number. low ≤ number) }
+    ensures most { IfSome result (λ number. number ≤ high) }
+{
+    if number < low || number > high {
+        return None;
+    }
+    Some(number)
+}
+
+/// A number below 2^64 in 1 to 19 decimal digits.
+fn long_number_in(word: &str) -> Option<u64>
+    ensures { result ≡ number_of 64 word.now }
+{
+    if word.len() > MOST_DIGITS || !are_digits(word.as_bytes()) {
+        return None;
+    }
+    match word.parse::<u64>() {
+        Ok(number) => Some(number),
+        Err(_) => None,
+    }
 }
 
 /// A number below 2^32 in 1 to 19 decimal digits.

@@ -1,8 +1,12 @@
-//! Worked examples of command lines: proving each is computing it.
+//! Worked examples: of command lines, where proving each is computing it, and of what a run must find.
 
 ghost use Rattle.std.specs.Prelude.{◌≡◌, [], ◌∷◌, codes, Some, None};
-ghost use Rattle.swanroll_top.specs.Words.{a_plan, a_check, a_rehearsal, a_report, a_text, an_agent, asked_in};
-ghost use Rattle.swanroll_top.specs.Worked.{chain_first, by_item, two_policies};
+ghost use Rattle.rollout_rules.specs.Worked.{fresh};
+ghost use Rattle.switch_laws.specs.Worked.{two_flows};
+ghost use Rattle.completion_laws.specs.Worked.{begun_one};
+ghost use Rattle.swanroll_top.specs.Ready.{CountsNoFault, IsReadyFor};
+ghost use Rattle.swanroll_top.specs.Words.{a_plan, a_check, a_rehearsal, a_report, a_text, a_trial, an_agent, asked_in};
+ghost use Rattle.swanroll_top.specs.Worked.{answered_once, by_item, chain_first, failed_once, fleet_with, in_rounds, itself, never_used, none_begins, two_policies, unanswered, waiting_at_first};
 
 /// A command alone, and a rehearsal under the policy that is named.
 pub fn command_lines()
@@ -45,4 +49,33 @@ pub fn words_with_a_wrong_value()
     ensures large { asked_in two_policies (codes "report" ∷ codes "--migration" ∷ codes "4294967296" ∷ []) ≡ None }
     ensures no_guest { asked_in two_policies (codes "agent" ∷ codes "--guests" ∷ codes "0" ∷ []) ≡ None }
     ensures no_default { asked_in [] (codes "sim" ∷ []) ≡ None }
+{}
+
+/// A trial with its defaults, under a policy that is named, and with each number at the end of its range.
+pub fn trials()
+    ensures default { asked_in two_policies (codes "trial" ∷ []) ≡ Some (a_trial (record { k = 4; switches = 24; flows = 24; seed = 1; events = 1000 }) chain_first) }
+    ensures named { asked_in two_policies (codes "trial" ∷ codes "--policy" ∷ codes "order" ∷ codes "--flows" ∷ codes "0" ∷ []) ≡ Some (a_trial (record { k = 4; switches = 24; flows = 0; seed = 1; events = 1000 }) by_item) }
+    ensures largest { asked_in two_policies (codes "trial" ∷ codes "--seed" ∷ codes "1000000000000000000" ∷ codes "--k" ∷ codes "64" ∷ []) ≡ Some (a_trial (record { k = 64; switches = 24; flows = 24; seed = 1000000000000000000; events = 1000 }) chain_first) }
+    ensures above { asked_in two_policies (codes "trial" ∷ codes "--seed" ∷ codes "1000000000000000001" ∷ []) ≡ None }
+    ensures long { asked_in two_policies (codes "trial" ∷ codes "--seed" ∷ codes "00000000000000000001" ∷ []) ≡ None }
+    ensures wide { asked_in two_policies (codes "trial" ∷ codes "--k" ∷ codes "65" ∷ []) ≡ None }
+    ensures two { asked_in two_policies (codes "trial" ∷ codes "--switches" ∷ codes "2" ∷ []) ≡ None }
+{}
+
+/// For two flows of one switch, with four operations: a fleet with a prompt port there, and four rounds.
+/// Three are too few, the policy must let begin, the fleet must tell what waits, and no answer may be still
+/// to come.
+pub fn a_fleet_is_ready_for_a_rollout()
+    ensures ready { IsReadyFor itself (in_rounds 4) by_item (waiting_at_first never_used) two_flows (fresh []) }
+    ensures few_rounds { IsReadyFor itself (in_rounds 3) by_item (waiting_at_first never_used) two_flows (fresh []) → ⊥ }
+    ensures held { IsReadyFor itself (in_rounds 4) none_begins (waiting_at_first never_used) two_flows (fresh []) → ⊥ }
+    ensures untold { IsReadyFor itself (in_rounds 4) by_item None two_flows (fresh []) → ⊥ }
+    ensures to_come { IsReadyFor itself (in_rounds 4) by_item (waiting_at_first unanswered) two_flows begun_one → ⊥ }
+{}
+
+/// The one port was given back as it had answered; it failed; the disk did.
+pub fn a_fleet_counts_its_faults()
+    ensures none { CountsNoFault itself 0 0 (fleet_with None) (fleet_with (Some answered_once)) }
+    ensures port { CountsNoFault itself 0 0 (fleet_with None) (fleet_with (Some failed_once)) → ⊥ }
+    ensures disk { CountsNoFault itself 0 1 (fleet_with None) (fleet_with (Some answered_once)) → ⊥ }
 {}

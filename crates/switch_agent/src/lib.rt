@@ -10,8 +10,6 @@
 mod agent;
 mod serve;
 mod serve_fault;
-#[cfg(test)]
-mod tests;
 
 pub use agent::Agent;
 pub use serve::serve_bytes;

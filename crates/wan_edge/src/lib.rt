@@ -23,8 +23,6 @@ mod plain_source;
 mod port;
 mod reading;
 mod stream;
-#[cfg(test)]
-mod tests;
 mod writing;
 
 pub use failing_turns::{FailingTurns, Turns};

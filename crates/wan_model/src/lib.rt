@@ -17,8 +17,6 @@ mod reading;
 mod side;
 mod stage;
 mod switch;
-#[cfg(test)]
-mod tests;
 mod tunnel;
 
 pub use checked::CheckedPlan;

@@ -13,8 +13,6 @@ mod command_reader;
 mod fault;
 mod front;
 mod laws;
-#[cfg(test)]
-mod tests;
 
 pub use answer::{ANSWER_LEN, Answer, write_answer};
 pub use answer_reader::AnswerReader;

@@ -13,8 +13,6 @@ mod lots;
 mod ports;
 mod round;
 mod talk;
-#[cfg(test)]
-mod tests;
 
 pub use laws::{
     a_port_goes_on_and_on, a_round_is_one_more, a_round_that_ends_is_the_last,

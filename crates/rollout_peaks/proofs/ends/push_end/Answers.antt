@@ -1,7 +1,8 @@
 use Rattle.std.proofs.Common.{◌≡◌, ◌++◌, length, ap, ap₂, ◌∙◌, append_assoc}
+use Rattle.rollout_rules.specs.Legal.{unsettled}
 use Rattle.std.proofs.lemmas.Result.{on_ok_weaker}
 use Rattle.rollout_peaks.specs.Peaks.{peaks_of}
-use Rattle.rollout_peaks.specs.Ends.{link_lines, table_lines, last_line, unsettled}
+use Rattle.rollout_peaks.specs.Ends.{link_lines, table_lines, last_line}
 use Rattle.rollout_peaks.proofs.Peaked.{peaks-are}
 use Rattle.rollout_peaks.proofs.ends.push_end.Goals as goal
 

@@ -1,4 +1,4 @@
-use Rattle.std.proofs.Common.{◌≡◌, ℕ, List, [], ◌∷◌, ◌∙◌, ap, subst}
+use Rattle.std.proofs.Common.{List, ◌∙◌, ap, subst}
 use Rattle.order_policy.specs.Answers.{rank_by}
 use Rattle.rollout_rules.specs.Wan.{Rollout}
 use Rattle.port_session.specs.Sessions.{Talk}
@@ -8,7 +8,6 @@ use Rattle.rollout_ports.specs.Hands.{first_talks}
 use Rattle.rollout_ports.specs.Homes.{working_homes}
 use Rattle.rollout_ports.specs.Opening.{Opens}
 use Rattle.rollout_ports.proofs.Given.{opened_lent}
-use Rattle.rollout_book.specs.Chronicles.{graph_of}
 use Rattle.shared_book.specs.Opened.{opening_of}
 use Rattle.rollout_run.specs.Ran.{Ran}
 use Rattle.rollout_run.specs.Runs.{Runs}
@@ -16,7 +15,7 @@ use Rattle.rollout_run.proofs.Over.{ends_run, to_ran}
 use Rattle.rollout_run.proofs.running.run.Goals as goal
 
 pub run_over-requires-clause-lent : goal.run_over-requires-clause-lent
-run_over-requires-clause-lent g c =
+run_over-requires-clause-lent g c κs within =
     opened_lent g.F.Port.Port.faults (working_homes c.plan.result.now.problem c.plan.result.now.plan) (ports_of g.F.Fleet.waiting g.F.Fleet.kept g.F.Fleet.lent c.args.fleet.now) (ports_of g.F.Fleet.waiting g.F.Fleet.kept g.F.Fleet.lent c.open_ports.new.fleet) c.in-Ok.berths.items c.in-Ok.ensures.opened
 
 pub returns-in-Ok-clause-ran : goal.returns-in-Ok-clause-ran
@@ -31,7 +30,7 @@ returns-in-Ok-clause-ran g c =
     let opened = ports_of g.F.Fleet.waiting g.F.Fleet.kept g.F.Fleet.lent c.open_ports.new.fleet in
     let now = ports_of g.F.Fleet.waiting g.F.Fleet.kept g.F.Fleet.lent c.run_over.new.fleet in
     let berths = c.in-Ok.berths.items in
-    let runs : List (Talk g.row.F-Port.Denot) → Type 0 = λ ports. Runs g.D.Disk.bytes g.D.Disk.may_leave g.D.Disk.moment g.D.Disk.left_since g.D.Disk.faults tell o (g.D.Disk.moment before_book.disk) (g.D.Disk.faults before_book.disk) c.args.limits.migration c.args.limits.rounds (first_talks berths) [] end book (ports ∷ []) in
+    let runs : List (Talk g.row.F-Port.Denot) → Type 0 = λ ports. Runs g.D.Disk.bytes g.D.Disk.may_leave g.D.Disk.moment g.D.Disk.left_since g.D.Disk.faults tell o (g.D.Disk.moment before_book.disk) (g.D.Disk.faults before_book.disk) c.args.limits.migration c.args.limits.rounds (first_talks berths) end book ports in
     let opens : Opens g.F.Port.Port.faults homes before berths opened = subst (λ (r : Rollout). Opens g.F.Port.Port.faults (working_homes r.problem r.plan) before berths opened) (c.plan.ensures ∙ ap (λ gr. gr.rollout) c.graph.ensures.value) c.in-Ok.ensures.opened in
     ends_run g.F.Port.Port.faults homes before_book book before opened now berths runs
     (Ran g.D.Disk.bytes g.D.Disk.may_leave g.D.Disk.moment g.D.Disk.left_since g.D.Disk.faults g.F.Port.Port.faults tell o (g.D.Disk.moment before_book.disk) (g.D.Disk.faults before_book.disk) c.args.limits.migration c.args.limits.rounds homes before end book now)

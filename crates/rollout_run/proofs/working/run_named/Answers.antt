@@ -1,13 +1,23 @@
-use Rattle.std.proofs.Common.{ℕ, List, [], ◌∷◌, subst}
-use Rattle.std.specs.Prelude.{All, ◌<◌, ◌≡◌}
+use Rattle.std.proofs.Common.{◌≡◌}
 use Rattle.rollout_rules.specs.Legal.{is_finished}
 use Rattle.turn_lock.specs.Passes.{given_of, seen_of}
 use Rattle.worker_ports.specs.Views.{telling}
-use Rattle.shared_book.specs.Calls.{seat_of}
+use Rattle.shared_book.specs.Homes.{homes_of}
 use Rattle.rollout_run.specs.Runs.{Runs}
+use Rattle.rollout_run.specs.Teams.{team_ports}
 use Rattle.rollout_run.specs.declared.end.RunEnd.{RunEnd}
 use Rattle.rollout_run.proofs.Ends.{ends, has_begun}
+use Rattle.rollout_run.proofs.Over.{same_switches}
 use Rattle.rollout_run.proofs.working.run_named.Goals as goal
+
+pub returns-in-Ok-clause-switches : goal.returns-in-Ok-clause-switches
+returns-in-Ok-clause-switches g c =
+    let o = g.M.Marker.opening in
+    let pass = c.work-pass.result.0.pass in
+    let team = c.args.team in
+    let now = c.work-pass.result.1 in
+    same_switches (telling g.T.Port.offered g.T.Port.heard g.T.Port.held g.T.Port.quiet g.T.Port.faults g.T.Port.honest g.T.Port.prompt g.T.Port.start) o c.args.limits.migration (homes_of o.rollout.problem) c.args.limits.rounds
+    (team_ports team.own.ports team.own.spare.items team.crews.items) (given_of pass) (seen_of pass) (team_ports now.own.ports now.own.spare.items now.crews.items) c.work-pass.ensures.worked
 
 pub returns-in-Ok-clause-ran : goal.returns-in-Ok-clause-ran
 returns-in-Ok-clause-ran g c =
@@ -15,17 +25,21 @@ returns-in-Ok-clause-ran g c =
     let pass = c.work-pass.result.0.pass in
     let book = c.close-book.result.0.chronicle in
     let closed = c.close-book.ensures in
+    let team = c.args.team in
+    let now = c.work-pass.result.1 in
+    let whole = team_ports team.own.ports team.own.spare.items team.crews.items in
+    let left = team_ports now.own.ports now.own.spare.items now.crews.items in
     let end = ends o (seen_of pass) book closed.legal closed.book c.close-book.result.2 c.end_of-end.result closed.halt c.end_of-end.ensures in
     has_begun c.close-book.result.2 (is_finished book.rollout.problem book.rollout.plan book.history)
-    (λ (e : RunEnd). Runs g.D.Disk.bytes g.D.Disk.may_leave g.D.Disk.moment g.D.Disk.left_since g.D.Disk.faults (telling g.T.Port.offered g.T.Port.heard g.T.Port.held g.T.Port.quiet g.T.Port.faults g.T.Port.honest g.T.Port.prompt g.T.Port.start) o g.M.Marker.moment g.M.Marker.faults c.args.limits.migration c.args.limits.rounds c.args.ports [] e book (c.work-pass.result.1 ∷ []))
-    ((book ≡ c.args.book.chronicle) × (c.work-pass.result.1 ≡ c.args.ports)) c.end_of-end.result c.end_of-end.ensures
+    (λ (e : RunEnd). Runs g.D.Disk.bytes g.D.Disk.may_leave g.D.Disk.moment g.D.Disk.left_since g.D.Disk.faults (telling g.T.Port.offered g.T.Port.heard g.T.Port.held g.T.Port.quiet g.T.Port.faults g.T.Port.honest g.T.Port.prompt g.T.Port.start) o g.M.Marker.moment g.M.Marker.faults c.args.limits.migration c.args.limits.rounds whole e book left)
+    ((book ≡ c.args.book.chronicle) × (left ≡ whole)) c.end_of-end.result c.end_of-end.ensures
     (record {
       log = seen_of pass;
-      seats = 1;
+      seats = given_of pass;
       legal = closed.legal;
       closed = closed.book;
       images = closed.images;
-      made = subst (λ (n : ℕ). All (λ w. seat_of w < n) (seen_of pass)) c.work-pass.ensures.given closed.made;
+      made = closed.made;
       worked = c.work-pass.ensures.worked;
       ends = end;
     })

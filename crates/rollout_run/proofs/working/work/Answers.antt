@@ -1,11 +1,11 @@
-use Rattle.std.proofs.Common.{ℕ, List, Option, Some, None, [], ◌∷◌, ◌∙◌, refl, sym, ap₂}
-use Rattle.turn_lock.specs.Passes.{seat_of_pass, seats_of, seen_of}
-use Rattle.port_session.specs.Sessions.{Talk}
+use Rattle.std.proofs.Common.{ℕ, List, Option, ◌∷◌, ◌∙◌, length, sym, ap₂, subst, arith}
+use Rattle.turn_lock.specs.Passes.{given_of, seat_of_pass, seats_of, seen_of}
 use Rattle.worker_ports.specs.Views.{telling}
 use Rattle.shared_book.specs.Homes.{homes_of}
-use Rattle.controller_run.specs.Working.{Standing}
-use Rattle.rollout_run.proofs.Alone.{alone, quiet_after, quiet_first, same_switches, served, stopped_nothing}
+use Rattle.rollout_run.specs.Teams.{Gathers, team_ports}
+use Rattle.rollout_run.proofs.Alone.{halted_after, quiet_after, quiet_first, stopped_nothing, turned_first, unserved}
 use Rattle.rollout_run.proofs.Early.{early_stop}
+use Rattle.rollout_run.proofs.Gathering.{all_in}
 use Rattle.rollout_run.proofs.working.work.Goals as goal
 
 pub returns-in-Some-clause-worked : goal.returns-in-Some-clause-worked
@@ -14,36 +14,56 @@ returns-in-Some-clause-worked g c =
     let first = c.requires.first in
     let passed = c.round-pass.ensures.pass in
     let turned = c.round-pass.result.0.pass in
-    let quiet = quiet_first o 0 (seats_of c.args.pass.pass) (seat_of_pass c.args.pass.pass) (seen_of c.args.pass.pass) (seen_of turned) c.round-pass.result.1 (ap₂ (λ (n : ℕ) (ns : List ℕ). n ∷ ns) first.seat first.joined) first.seat first.seen c.round-pass.ensures.call in
-    let after = quiet_after o 0 (seats_of turned) (seat_of_pass turned) (seen_of turned) (seen_of c.stop.result.0.pass) c.in-Some.cause c.stop.result.1 (ap₂ (λ (n : ℕ) (ns : List ℕ). n ∷ ns) (passed.seat ∙ first.seat) (passed.joined ∙ first.joined)) (passed.seat ∙ first.seat) quiet c.stop.ensures.call in
-    let early = early_stop o 0 (seats_of c.args.pass.pass) (seats_of turned) (seat_of_pass c.args.pass.pass) (seat_of_pass turned) (seen_of c.args.pass.pass) (seen_of turned) (seen_of c.stop.result.0.pass) c.round-pass.result.1 c.in-Some.cause c.stop.result.1 (ap₂ (λ (n : ℕ) (ns : List ℕ). n ∷ ns) first.seat first.joined) first.seat (ap₂ (λ (n : ℕ) (ns : List ℕ). n ∷ ns) (passed.seat ∙ first.seat) (passed.joined ∙ first.joined)) (passed.seat ∙ first.seat) first.seen (sym c.cause_of.ensures ∙ c.in-Some.is) c.round-pass.ensures.call c.stop.ensures.call in
-    let stands : Standing g.row.T.Denot = record { seen = seen_of c.stop.result.0.pass; ports = c.args.ports } in
-    alone (telling g.T.Port.offered g.T.Port.heard g.T.Port.held g.T.Port.quiet g.T.Port.faults g.T.Port.honest g.T.Port.prompt g.T.Port.start) o c.args.limits.migration (homes_of o.rollout.problem) c.args.limits.rounds stands stands None after c.requires.fresh (refl, early)
+    let stopped = c.stop.result.0.pass in
+    let own = ap₂ (λ (n : ℕ) (ns : List ℕ). n ∷ ns) first.seat first.joined in
+    let own' = ap₂ (λ (n : ℕ) (ns : List ℕ). n ∷ ns) (passed.seat ∙ first.seat) (passed.joined ∙ first.joined) in
+    let quiet = quiet_first o 0 (seats_of c.args.pass.pass) (seat_of_pass c.args.pass.pass) (seen_of c.args.pass.pass) (seen_of turned) c.round-pass.result.1 own first.seat first.seen c.round-pass.ensures.call in
+    let after = quiet_after o 0 (seats_of turned) (seat_of_pass turned) (seen_of turned) (seen_of stopped) c.in-Some.cause c.stop.result.1 own' (passed.seat ∙ first.seat) quiet c.stop.ensures.call in
+    let early = early_stop o 0 (seats_of c.args.pass.pass) (seats_of turned) (seat_of_pass c.args.pass.pass) (seat_of_pass turned) (seen_of c.args.pass.pass) (seen_of turned) (seen_of stopped) c.round-pass.result.1 c.in-Some.cause c.stop.result.1 own first.seat own' (passed.seat ∙ first.seat) first.seen (sym c.cause_of.ensures ∙ c.in-Some.is) c.round-pass.ensures.call c.stop.ensures.call in
+    unserved (telling g.T.Port.offered g.T.Port.heard g.T.Port.held g.T.Port.quiet g.T.Port.faults g.T.Port.honest g.T.Port.prompt g.T.Port.start) o c.args.limits.migration (homes_of o.rollout.problem) c.args.limits.rounds
+    (team_ports c.args.team.own.ports c.args.team.own.spare.items c.args.team.crews.items) (given_of stopped) (seen_of stopped) (c.stop.ensures.pass.given ∙ passed.given ∙ first.given) after early
+    (halted_after o 0 (seats_of turned) (seat_of_pass turned) (seen_of turned) (seen_of stopped) c.in-Some.cause c.stop.result.1 c.stop.ensures.call)
 
-pub returns-clause-switches : goal.returns-clause-switches
-returns-clause-switches g c =
+pub work_in_scope-requires-clause-leader : goal.work_in_scope-requires-clause-leader
+work_in_scope-requires-clause-leader g c κs within =
     let o = g.M.Marker.opening in
-    let tell = telling g.T.Port.offered g.T.Port.heard g.T.Port.held g.T.Port.quiet g.T.Port.faults g.T.Port.honest g.T.Port.prompt g.T.Port.start in
     let first = c.requires.first in
     let passed = c.round-pass.ensures.pass in
     let turned = c.round-pass.result.0.pass in
-    let before : Standing g.row.T.Denot = record { seen = seen_of turned; ports = c.args.ports } in
-    let now : Standing g.row.T.Denot = record { seen = seen_of c.serve-pass.result.pass.pass; ports = c.serve-pass.result.ports } in
-    same_switches tell o c.args.limits.migration (homes_of o.rollout.problem) c.args.limits.rounds before now c.serve-pass.result.end c.requires.fresh
-    (stopped_nothing o 0 (seats_of c.args.pass.pass) (seat_of_pass c.args.pass.pass) (seen_of c.args.pass.pass) (seen_of turned) c.round-pass.result.1 (ap₂ (λ (n : ℕ) (ns : List ℕ). n ∷ ns) first.seat first.joined) first.seat first.seen (λ why is. c.in_default.not-Some why (c.cause_of.ensures ∙ is)) c.round-pass.ensures.call)
-    (served tell o c.args.limits.migration (homes_of o.rollout.problem) c.args.limits.rounds (seats_of turned) (seat_of_pass turned) c.homes.result.now before now c.serve-pass.result.end (ap₂ (λ (n : ℕ) (ns : List ℕ). n ∷ ns) (passed.seat ∙ first.seat) (passed.joined ∙ first.joined)) (passed.seat ∙ first.seat) (c.homes.ensures ∙ c.requires.homes) c.serve-pass.ensures.served)
+    let own = ap₂ (λ (n : ℕ) (ns : List ℕ). n ∷ ns) first.seat first.joined in
+    record {
+      of_lock = c.round-pass.ensures.lock;
+      counted = c.round-pass.ensures.calls;
+      first = passed.seat ∙ first.seat;
+      alone = passed.joined ∙ first.joined;
+      some_seat = omega (arith, passed.given, first.given);
+      room = omega (arith, passed.given, first.given, c.requires.seats.0);
+      few = c.requires.seats.1;
+      quiet = quiet_first o 0 (seats_of c.args.pass.pass) (seat_of_pass c.args.pass.pass) (seen_of c.args.pass.pass) (seen_of turned) c.round-pass.result.1 own first.seat first.seen c.round-pass.ensures.call;
+      stops_nothing = stopped_nothing o 0 (seats_of c.args.pass.pass) (seat_of_pass c.args.pass.pass) (seen_of c.args.pass.pass) (seen_of turned) c.round-pass.result.1 own first.seat first.seen (λ why is. c.in_default.not-Some why (c.cause_of.ensures ∙ is)) c.round-pass.ensures.call;
+      turned = turned_first o 0 (seats_of c.args.pass.pass) (seat_of_pass c.args.pass.pass) (seen_of c.args.pass.pass) (seen_of turned) c.round-pass.result.1 (λ why is. c.in_default.not-Some why (c.cause_of.ensures ∙ is)) c.round-pass.ensures.call;
+    }
+
+pub returns-clause-lock : goal.returns-clause-lock
+returns-clause-lock g c = c.work_in_scope.ensures.led.of_lock
+
+pub returns-clause-first : goal.returns-clause-first
+returns-clause-first g c = c.work_in_scope.ensures.led.first
+
+pub returns-clause-all_in : goal.returns-clause-all_in
+returns-clause-all_in g c = c.work_in_scope.ensures.led.out ∙ c.round-pass.ensures.pass.out ∙ c.requires.first.out
 
 pub returns-clause-worked : goal.returns-clause-worked
 returns-clause-worked g c =
     let o = g.M.Marker.opening in
     let tell = telling g.T.Port.offered g.T.Port.heard g.T.Port.held g.T.Port.quiet g.T.Port.faults g.T.Port.honest g.T.Port.prompt g.T.Port.start in
-    let first = c.requires.first in
-    let passed = c.round-pass.ensures.pass in
     let turned = c.round-pass.result.0.pass in
-    let one = ap₂ (λ (n : ℕ) (ns : List ℕ). n ∷ ns) first.seat first.joined in
-    let before : Standing g.row.T.Denot = record { seen = seen_of turned; ports = c.args.ports } in
-    let now : Standing g.row.T.Denot = record { seen = seen_of c.serve-pass.result.pass.pass; ports = c.serve-pass.result.ports } in
-    let quiet = quiet_first o 0 (seats_of c.args.pass.pass) (seat_of_pass c.args.pass.pass) (seen_of c.args.pass.pass) (seen_of turned) c.round-pass.result.1 one first.seat first.seen c.round-pass.ensures.call in
-    let nothing = stopped_nothing o 0 (seats_of c.args.pass.pass) (seat_of_pass c.args.pass.pass) (seen_of c.args.pass.pass) (seen_of turned) c.round-pass.result.1 one first.seat first.seen (λ why is. c.in_default.not-Some why (c.cause_of.ensures ∙ is)) c.round-pass.ensures.call in
-    let did = served tell o c.args.limits.migration (homes_of o.rollout.problem) c.args.limits.rounds (seats_of turned) (seat_of_pass turned) c.homes.result.now before now c.serve-pass.result.end (ap₂ (λ (n : ℕ) (ns : List ℕ). n ∷ ns) (passed.seat ∙ first.seat) (passed.joined ∙ first.joined)) (passed.seat ∙ first.seat) (c.homes.ensures ∙ c.requires.homes) c.serve-pass.ensures.served in
-    alone tell o c.args.limits.migration (homes_of o.rollout.problem) c.args.limits.rounds before now (Some c.serve-pass.result.end) quiet c.requires.fresh (nothing, did)
+    let last = c.work_in_scope.result.0.pass in
+    let team = c.args.team in
+    let now = c.work_in_scope.result.1 in
+    let whole = team_ports team.own.ports team.own.spare.items team.crews.items in
+    let left = team_ports now.own.ports now.own.spare.items now.crews.items in
+    let led = c.work_in_scope.ensures.led in
+    all_in tell o c.args.limits.migration (homes_of o.rollout.problem) c.args.limits.rounds (given_of turned) (length team.crews.items) (given_of last) whole (seats_of last) (seen_of last) left
+    (c.round-pass.ensures.pass.given ∙ c.requires.first.given) led.given
+    (subst (λ (hs : List (Option ℕ)). Gathers tell o c.args.limits.migration hs c.args.limits.rounds (given_of turned) (length team.crews.items) whole (seats_of last) (seen_of last) left) (c.homes.ensures ∙ c.requires.homes) led.gathers)

@@ -1,7 +1,11 @@
-use Rattle.std.proofs.Common.{arith}
+use Rattle.std.proofs.Common.{ap, ◌∙◌, arith}
 use Rattle.order_policy.specs.Answers.{rank_by}
+use Rattle.sim_run.specs.Rehearsing.{Rehearsing}
 use Rattle.sim_run.proofs.Trying.{few-sent, tries-on}
 use Rattle.sim_run.proofs.trial.do_events.Goals as goal
+
+pub do_next-requires-clause-live : goal.do_next-requires-clause-live
+do_next-requires-clause-live g c = ap (λ (r : Rehearsing). r.live) c.loop-event.invariant.rehearsal ∙ c.requires.live
 
 pub do_next-requires-clause-sent : goal.do_next-requires-clause-sent
 do_next-requires-clause-sent g c =

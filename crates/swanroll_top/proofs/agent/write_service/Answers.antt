@@ -1,5 +1,4 @@
-use Rattle.std.proofs.Common.{Ok, subst, ◌∙◌}
-use Rattle.swanroll_top.specs.Runs.{EndsWith}
+use Rattle.std.proofs.Common.{◌∙◌}
 use Rattle.swanroll_top.proofs.Agents.{text-follows}
 use Rattle.swanroll_top.proofs.agent.write_service.Goals as goal
 

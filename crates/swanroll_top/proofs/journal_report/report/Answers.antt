@@ -1,6 +1,7 @@
 use Rattle.std.proofs.Common.{refl}
+use Rattle.swanroll_top.proofs.Following.{cut-rollout}
 use Rattle.swanroll_top.proofs.Leaving.{cut-leaves, input-leaves}
-use Rattle.swanroll_top.proofs.Reporting.{cut-reports, report-no-guest, report-no-read, report-no-usage, short-reports}
+use Rattle.swanroll_top.proofs.Reporting.{cut-reports, report-no-guest, report-no-read, report-no-rollout, report-no-usage, short-reports}
 use Rattle.swanroll_top.proofs.journal_report.report.Goals as goal
 
 pub returns-in-Ok-clause-runs : goal.returns-in-Ok-clause-runs
@@ -23,3 +24,9 @@ returns-in-Ok-clause-leaves g c = input-leaves g.D.Disk.bytes g.D.Disk.may_leave
 
 pub returns-in-Err-clause-leaves : goal.returns-in-Err-clause-leaves
 returns-in-Err-clause-leaves g c = cut-leaves g.D.Disk.bytes g.D.Disk.may_leave g.D.Disk.moment g.D.Disk.left_since _ _ _ _ _ _ c.in-Err.ensures.read (g.met.D.Disk.only_now c.args.disk) refl
+
+pub returns-in-Ok-clause-no_rollout : goal.returns-in-Ok-clause-no_rollout
+returns-in-Ok-clause-no_rollout g c = λ u e. report-no-rollout _ _ _ _ u _ _ c.report_input.ensures.follows e
+
+pub returns-in-Err-clause-no_rollout : goal.returns-in-Err-clause-no_rollout
+returns-in-Err-clause-no_rollout g c = λ u e. cut-rollout _ _ _ u c.in-Err.ensures.read e

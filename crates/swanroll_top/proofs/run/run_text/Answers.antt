@@ -1,5 +1,5 @@
-use Rattle.swanroll_top.proofs.Answering.{no-disk-fault, no-guest-fault, no-read-fault, no-usage}
-use Rattle.swanroll_top.proofs.Following.{short-runs, cut-runs}
+use Rattle.swanroll_top.proofs.Answering.{no-disk-fault, no-guest-fault, no-read-fault, no-rollout, no-usage}
+use Rattle.swanroll_top.proofs.Following.{cut-rollout, cut-runs, short-runs}
 use Rattle.swanroll_top.proofs.run.run_text.Goals as goal
 
 pub returns-in-Ok-clause-runs : goal.returns-in-Ok-clause-runs
@@ -19,3 +19,9 @@ returns-in-Ok-clause-no_disk g c = λ e. no-disk-fault _ _ _ _ (rw e at c.write_
 
 pub returns-in-Ok-clause-no_guest : goal.returns-in-Ok-clause-no_guest
 returns-in-Ok-clause-no_guest g c = λ e. no-guest-fault _ _ _ _ (rw e at c.write_answer.ensures.follows)
+
+pub returns-in-Ok-clause-no_rollout : goal.returns-in-Ok-clause-no_rollout
+returns-in-Ok-clause-no_rollout g c = λ u e. no-rollout _ _ u _ _ (rw e at c.write_answer.ensures.follows)
+
+pub returns-in-Err-clause-no_rollout : goal.returns-in-Err-clause-no_rollout
+returns-in-Err-clause-no_rollout g c = λ u e. cut-rollout _ _ _ u c.in-Err.ensures.read e

@@ -7,10 +7,10 @@ pub returns-in-Ok : goal.returns-in-Ok
 returns-in-Ok c =
     let digits : are_digits c.args.word.now ≡ true = ap are_digits (sym c.as_bytes.ensures.value) ∙ sym c.are_digits.ensures ∙ c.if-not-are_digits.false in
     let short : length c.args.word.now ≤ 19 = omega (arith, c.if-word-gt-MOST_DIGITS.false) in
-    number-read c.args.word.now c.parse.result c.parse.ensures.value.0 digits short c.in-Ok.number c.in-Ok.is
+    number-read 32 c.args.word.now c.parse.result c.parse.ensures.value.0 digits short c.in-Ok.number c.in-Ok.is
 
 pub returns-in-Err : goal.returns-in-Err
 returns-in-Err c =
     let digits : are_digits c.args.word.now ≡ true = ap are_digits (sym c.as_bytes.ensures.value) ∙ sym c.are_digits.ensures ∙ c.if-not-are_digits.false in
     let short : length c.args.word.now ≤ 19 = omega (arith, c.if-word-gt-MOST_DIGITS.false) in
-    number-refused c.args.word.now c.parse.result c.parse.ensures.value.0 digits short _ c.in-Err.is
+    number-refused 32 c.args.word.now c.parse.result c.parse.ensures.value.0 digits short _ c.in-Err.is

@@ -1,4 +1,4 @@
-use Rattle.std.proofs.Common.{◌≡◌, sym, ap, ◌∙◌}
+use Rattle.std.proofs.Common.{sym, ap, ◌∙◌}
 use Rattle.rollout_rules.specs.declared.event.Act.{Act}
 use Rattle.order_policy.specs.Answers.{rank_by}
 use Rattle.sim_run.specs.Acts.{acted}

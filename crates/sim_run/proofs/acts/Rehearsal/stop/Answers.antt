@@ -8,13 +8,13 @@ use Rattle.sim_run.proofs.acts.Rehearsal.stop.Goals as goal
 pub returns-clause-stop : goal.returns-clause-stop
 returns-clause-stop c policy =
     let r = c.self.inside in
-    let up : r.is_up ≡ true = ap (λ (s : Rehearsing). s.state.world.up) c.self.view_is ∙ c.requires in
-    stops r.rounds r.network r.handed c.self.invariant.unheard c.forget.new.self c.forget-2.new.self r.is_up policy up c.forget.ensures c.forget-2.ensures
+    let up : r.controller.up ≡ true = ap (λ (s : Rehearsing). s.state.world.up) c.self.view_is ∙ c.requires in
+    stops r.controller r.network c.stop.new.self policy up c.stop.ensures
     ∙ ap (λ (s : Rehearsing). record s { state = acted s.rollout.problem s.rollout.plan policy s.state act.Stop }) c.self.view_is
 
 pub returns-clause-lost : goal.returns-clause-lost
 returns-clause-lost c policy =
     let r = c.self.inside in
-    let up : r.is_up ≡ true = ap (λ (s : Rehearsing). s.state.world.up) c.self.view_is ∙ c.requires in
-    loses r.rounds r.network r.handed c.self.invariant.unheard c.forget.new.self c.forget-2.new.self r.is_up policy up c.forget.ensures c.forget-2.ensures
+    let up : r.controller.up ≡ true = ap (λ (s : Rehearsing). s.state.world.up) c.self.view_is ∙ c.requires in
+    loses r.controller r.network c.stop.new.self policy up c.stop.ensures
     ∙ ap (λ (s : Rehearsing). record s { state = acted s.rollout.problem s.rollout.plan policy s.state act.CrashLost }) c.self.view_is

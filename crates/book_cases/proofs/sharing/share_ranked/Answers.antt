@@ -1,0 +1,13 @@
+use Rattle.std.proofs.Common.{◌≡◌, refl, arith}
+use Rattle.rollout_rules.specs.Release.{held_back}
+use Rattle.order_policy.proofs.Ranks.{answers_by}
+use Rattle.order_policy.proofs.Boxed.{boxed}
+use Rattle.book_cases.proofs.sharing.share_ranked.OwnLists as lists
+use Rattle.book_cases.proofs.sharing.share_ranked.Goals as goal
+
+pub holding-policy-requires-clause-answers : goal.holding-policy-requires-clause-answers
+holding-policy-requires-clause-answers g c =
+    let kept = c.in_ok-new.field-0.value.0 in
+    let same : kept ≡ c.args.rank = rw c.in_ok-new.ensures.ok refl in
+    boxed lists.own-1 lists.entry-1-1 lists.at-1-1 lists.same-1-1 c.into_dyn_box.ensures.1
+    (answers_by held_back (λ view. kept) (λ view small. omega (arith, same, c.requires)) (λ view. ∣ (view, refl) ∣₁) (λ view other given. given.1))

@@ -1,0 +1,89 @@
+//! The books of small rollouts.
+ghost use Rattle.std.specs.Prelude.{◌≡◌, [], IfOk, IfSome};
+ghost use Rattle.order_policy.specs.Answers.{rank_by};
+ghost use Rattle.rollout_book.specs.Lists.{IsKeptList};
+ghost use Rattle.rollout_rules.specs.History.{from_nothing};
+ghost use Rattle.shared_book.specs.Opened.{IsOpened, opening_of};
+
+use dependency_graph::Graph;
+use disk_model::{Disk, MemoryDisk};
+use intent_journal::{Digest, Unopened, digest_of};
+use lists::Memory;
+use order_policy::Policy;
+use plan_check::check_plan;
+use problem_json::read_document;
+use rollout_book::{Book, CommandList};
+use std::alloc::Global;
+use std::test::Fail;
+use wan_edge::{Nums8, Turns};
+use wan_model::CheckedPlan;
+use wire_frames::Answer;
+
+/// One flow moves 3 of its 4 to a second path in one step.
+pub const ONE: &str =
+    "{\"plan\":{\"scale\":1,\"stages\":[{\"installed\":[true,true],\"rates\":[4,0]},{\"installed\":[true,true],\"rates\":[1,3]}]},\"problem\":{\"flows\":[{\"name\":\"f\",\"tunnels\":[{\"new\":1,\"old\":4,\"path\":[\"A\",\"B\"]},{\"new\":3,\"old\":0,\"path\":[\"A\",\"C\",\"B\"]}]}],\"links\":[{\"capacity\":10,\"from\":\"A\",\"to\":\"B\"},{\"capacity\":10,\"from\":\"A\",\"to\":\"C\"},{\"capacity\":10,\"from\":\"C\",\"to\":\"B\"}],\"switches\":[{\"name\":\"A\",\"table\":8},{\"name\":\"B\",\"table\":8},{\"name\":\"C\",\"table\":8}]}}";
+
+/// A flow takes a link for a while, and a second one moves there once the first is stages ahead.
+pub const LATE: &str =
+    "{\"plan\":{\"scale\":1,\"stages\":[{\"installed\":[true,true,true,true,true],\"rates\":[2,0,0,2,0]},{\"installed\":[true,true,true,true,true],\"rates\":[0,0,2,2,0]},{\"installed\":[true,true,true,true,true],\"rates\":[0,2,0,2,0]},{\"installed\":[true,true,true,true,true],\"rates\":[0,0,2,2,0]},{\"installed\":[true,true,true,true,true],\"rates\":[0,0,2,0,2]}]},\"problem\":{\"flows\":[{\"name\":\"f\",\"tunnels\":[{\"new\":0,\"old\":2,\"path\":[\"A\",\"P\",\"B\"]},{\"new\":0,\"old\":0,\"path\":[\"A\",\"L\",\"B\"]},{\"new\":2,\"old\":0,\"path\":[\"A\",\"M\",\"B\"]}]},{\"name\":\"g\",\"tunnels\":[{\"new\":0,\"old\":2,\"path\":[\"A\",\"N\",\"B\"]},{\"new\":2,\"old\":0,\"path\":[\"A\",\"L\",\"B\"]}]}],\"links\":[{\"capacity\":2,\"from\":\"A\",\"to\":\"P\"},{\"capacity\":2,\"from\":\"P\",\"to\":\"B\"},{\"capacity\":2,\"from\":\"A\",\"to\":\"L\"},{\"capacity\":2,\"from\":\"L\",\"to\":\"B\"},{\"capacity\":2,\"from\":\"A\",\"to\":\"M\"},{\"capacity\":2,\"from\":\"M\",\"to\":\"B\"},{\"capacity\":2,\"from\":\"A\",\"to\":\"N\"},{\"capacity\":2,\"from\":\"N\",\"to\":\"B\"}],\"switches\":[{\"name\":\"A\",\"table\":8},{\"name\":\"B\",\"table\":8},{\"name\":\"P\",\"table\":8},{\"name\":\"L\",\"table\":8},{\"name\":\"M\",\"table\":8},{\"name\":\"N\",\"table\":8}]}}";
+
+/// Two tables are full, so that a tunnel goes before another one comes.
+pub const TABLES: &str =
+    "{\"plan\":{\"scale\":1,\"stages\":[{\"installed\":[true,true,false],\"rates\":[4,0,0]},{\"installed\":[true,false,false],\"rates\":[4,0,0]},{\"installed\":[true,false,true],\"rates\":[4,0,0]},{\"installed\":[true,false,true],\"rates\":[2,0,2]}]},\"problem\":{\"flows\":[{\"name\":\"f\",\"tunnels\":[{\"new\":2,\"old\":4,\"path\":[\"A\",\"X\",\"B\"]},{\"new\":null,\"old\":0,\"path\":[\"A\",\"Y\",\"B\"]},{\"new\":2,\"old\":null,\"path\":[\"A\",\"Z\",\"B\"]}]}],\"links\":[{\"capacity\":10,\"from\":\"A\",\"to\":\"X\"},{\"capacity\":10,\"from\":\"X\",\"to\":\"B\"},{\"capacity\":10,\"from\":\"A\",\"to\":\"Y\"},{\"capacity\":10,\"from\":\"Y\",\"to\":\"B\"},{\"capacity\":10,\"from\":\"A\",\"to\":\"Z\"},{\"capacity\":10,\"from\":\"Z\",\"to\":\"B\"}],\"switches\":[{\"name\":\"A\",\"table\":2},{\"name\":\"B\",\"table\":2},{\"name\":\"X\",\"table\":8},{\"name\":\"Y\",\"table\":8},{\"name\":\"Z\",\"table\":8}]}}";
+
+/// The switches of these networks, and more.
+pub const SWITCHES: [u32; 8] = [0, 1, 2, 3, 4, 5, 6, 7];
+
+/// How many calls a disk without a byte has until a book is open on it.
+pub const CALLS_TO_OPEN: u64 = 9;
+
+/// A disk in memory without a byte, of which these calls fail.
+pub fn disk_of(alloc: Global, fails: &[u64]) -> Result<MemoryDisk, Memory> {
+    let mut turns = Turns::new(alloc);
+    turns.extend_from_slice(fails)?;
+    Ok(MemoryDisk::new(alloc, Nums8::new(alloc), turns))
+}
+
+/// The graph of a rollout, at its start.
+pub fn graph_of(alloc: Global, text: &str) -> Result<Graph, Fail>
+    ensures { IfOk result (λ graph. graph.history ≡ from_nothing graph.rollout.problem []) }
+{
+    let document = read_document(alloc, text.as_bytes())?;
+    check_plan(alloc, &document.problem, &document.plan)?;
+    match Graph::new(alloc, CheckedPlan::seal(document.problem, document.plan)) {
+        Ok(graph) => Ok(graph),
+        Err(_) => Err(Fail::new("memory is short")),
+    }
+}
+
+/// What each of these journals is known by.
+pub fn digest() -> Digest {
+    digest_of("one", "planned", 0)
+}
+
+/// The book of a rollout, opened on a disk.
+pub fn opened<'d, D: Disk>(
+    alloc: Global,
+    graph: Graph,
+    digest: &Digest,
+    policy: &'d Policy,
+    disk: D,
+) -> Result<Book<'d, D>, Unopened<D>>
+    requires empty { graph.history ≡ from_nothing graph.rollout.problem [] }
+    ensures opened { IfOk result (λ book. IsOpened (opening_of book.chronicle (rank_by book.policy.now.answers)) book.chronicle) }
+    ensures has { IfOk result (λ book. IfSome (D.bytes book.chronicle.disk) (IsKeptList book.chronicle.history.start book.chronicle.entries (D.may_leave book.chronicle.disk))) }
+{
+    Book::open(alloc, graph, digest, policy, disk)
+}
+
+/// The answers of switches that have carried these commands out.
+pub fn answers_to(alloc: Global, commands: &CommandList) -> Result<Vec<Answer>, Memory> {
+    let mut answers = Vec::new(alloc);
+    for command in commands.as_slice() {
+        answers.push(Answer {
+            item: command.item,
+            held: command.number,
+        })?;
+    }
+    Ok(answers)
+}

@@ -1,0 +1,158 @@
+//! Several threads that make many calls of one book, over disks that work and disks that fail.
+ghost use Rattle.std.specs.Prelude.{◌≡◌, []};
+ghost use Rattle.rollout_rules.specs.History.{from_nothing};
+
+use crate::books::{CALLS_TO_OPEN, LATE, ONE, TABLES, digest, disk_of, graph_of, opened};
+use crate::histories::{are_answered, are_stopped, are_told, before_the_fault, counts_up};
+use crate::many::CALLS;
+use crate::sharing::{ALIKE, Done, Task, share_ranked};
+use dependency_graph::Graph;
+use disk_model::{Disk, MemoryDisk};
+use lists::Memory;
+use order_policy::Policy;
+use rollout_book::Book;
+use rollout_rules::OpView;
+use shared_history::{Cause, Halt, Note};
+use std::alloc::Global;
+use std::process::Abort;
+use std::sync::Wait;
+use std::test::Fail;
+use std::thread::Threads;
+
+// Whether a book alone answers alike to the calls of these notes.
+fn answers_alike<D: Disk + Drop>(
+    alloc: Global,
+    graph: Graph,
+    policy: &Policy,
+    disk: D,
+    seats: u32,
+    notes: &[Note],
+) -> bool
+    requires empty { graph.history ≡ from_nothing graph.rollout.problem [] }
+{
+    match opened(alloc, graph, &digest(), policy, disk) {
+        Ok(book) => book_answers_alike(alloc, book, seats, notes),
+        Err(_) => false,
+    }
+}
+
+fn book_answers_alike<D: Disk + Drop>(
+    alloc: Global,
+    book: Book<'_, D>,
+    seats: u32,
+    notes: &[Note],
+) -> bool {
+    let mut book = book;
+    let answered = are_answered(alloc, &mut book, seats, notes);
+    is_alike(book, answered)
+}
+
+// Lets the book go.
+fn is_alike<D: Disk + Drop>(book: Book<'_, D>, answered: Result<bool, Memory>) -> bool {
+    let (_graph, _disk) = book.into_parts();
+    matches!(answered, Ok(true))
+}
+
+fn answers_alike_ranked(
+    alloc: Global,
+    text: &str,
+    seats: u32,
+    notes: &[Note],
+) -> Result<bool, Fail> {
+    let alike: Box<dyn Fn(OpView) -> u64 + Send + Sync> = Box::new(
+        alloc,
+        |_view: OpView| -> u64
+            ensures { result ≡ 0 }
+        { 0 },
+    )?;
+    let policy = Policy::holding(alike);
+    let disk = disk_of(alloc, &[])?;
+    Ok(answers_alike(alloc, graph_of(alloc, text)?, &policy, disk, seats, notes))
+}
+
+// Whether the notes are those of all calls of so many seats, each of which was told its own.
+fn are_all(done: &Done<MemoryDisk>, threads: u32) -> bool {
+    let notes = done.notes.as_slice();
+    for seat in 0..threads {
+        if !counts_up(notes, seat, CALLS) {
+            return false;
+        }
+    }
+    notes.len() == done.told.as_slice().len() && are_told(notes, done.told.as_slice())
+}
+
+// Whether a disk that failed once stopped all behind that, as the first stop; or none failed, and all is
+// settled.
+fn ends_by_the_rule(done: &Done<MemoryDisk>) -> bool {
+    let notes = done.notes.as_slice();
+    match notes[before_the_fault(notes)..].split_first() {
+        Some((note, behind)) => {
+            done.disk.failures() == 1 && are_stopped(behind) && done.halt == Some(halt_of(*note))
+        }
+        None => done.disk.failures() == 0 && done.halt.is_none() && done.finished,
+    }
+}
+
+fn halt_of(note: Note) -> Halt {
+    Halt {
+        seat: note.seat,
+        call: note.call,
+        cause: Cause::Disk,
+    }
+}
+
+// Whether the notes of threads are those of one history, which ends by the rule and is a book's alone up to a
+// fault.
+fn is_one_history(
+    alloc: Global,
+    text: &str,
+    threads: u32,
+    done: &Done<MemoryDisk>,
+) -> Result<bool, Fail> {
+    let notes = done.notes.as_slice();
+    let before = &notes[..before_the_fault(notes)];
+    Ok(
+        are_all(done, threads)
+            && ends_by_the_rule(done)
+            && answers_alike_ranked(alloc, text, threads, before)?,
+    )
+}
+
+// What threads make of a rollout whose disk fails at these calls.
+fn done_over<R: Abort + Threads + Wait + Sync>(
+    rt: &R,
+    alloc: Global,
+    text: &str,
+    fails: &[u64],
+    task: Task<'_>,
+) -> Result<Done<MemoryDisk>, Fail> {
+    let disk = disk_of(alloc, fails)?;
+    share_ranked(rt, alloc, text, ALIKE, disk, task)
+}
+
+#[test]
+fn the_calls_of_all_threads_are_those_of_one_book(rt: HostRuntime) -> Result<(), Fail> {
+    for text in [ONE, LATE, TABLES] {
+        for (task, threads) in [(Task::Two, 2), (Task::Four, 4)] {
+            let done = done_over(&rt, rt.alloc(), text, &[], task)?;
+            let is_legal = is_one_history(rt.alloc(), text, threads, &done)?;
+            assert!(rt; is_legal, "{threads} threads");
+        }
+    }
+    Ok(())
+}
+
+#[test]
+fn a_disk_that_fails_at_any_call_stops_two_threads(rt: HostRuntime) -> Result<(), Fail> {
+    for call in 0..24 {
+        let done = done_over(&rt, rt.alloc(), LATE, &[call], Task::Two)?;
+        assert!(rt; done.opened == (call >= CALLS_TO_OPEN), "at call {call}");
+        if done.opened {
+            let is_legal = is_one_history(rt.alloc(), LATE, 2, &done)?;
+            assert!(rt; is_legal, "at call {call}");
+        } else {
+            assert!(rt; done.disk.failures() == 1, "at call {call}");
+        }
+    }
+    Ok(())
+}

@@ -1,0 +1,330 @@
+//! Two seats at one book, in one thread: what each is told call by call, and the notes that are left.
+ghost use Rattle.std.specs.Prelude.{◌≡◌, ◌≤◌};
+ghost use Rattle.order_policy.specs.Answers.{rank_by};
+ghost use Rattle.turn_lock.specs.Passes.{IsFirstPass};
+ghost use Rattle.shared_book.specs.Homes.{homes_of};
+ghost use Rattle.book_cases.specs.Seats.{AllAreIn, HasCalled, MayCall};
+
+use crate::books::{CALLS_TO_OPEN, ONE, disk_of};
+use crate::seats::{Call, Told, make_call};
+use crate::sharing::{ALIKE, HELD, Task, share_ranked};
+use disk_model::{Disk, MemoryDisk};
+use rollout_book::{BookFault, Turn};
+use rollout_rules::Op;
+use shared_book::{BookPass, CallPass, Kept, Marker, RoundReply, SharedBook};
+use shared_history::{Cause, Halt, ListReply, Note, NoteList, Wake, What};
+use std::alloc::Global;
+use std::process::Abort;
+use std::sync::Wait;
+use std::test::Fail;
+use std::thread::Threads;
+use turn_lock::Counted;
+use wire_frames::Answer;
+
+/// A call of one of two seats, and what it is told.
+#[derive(Clone, Copy, Debug)]
+pub struct Row {
+    pub seat: u32,
+    pub call: Call,
+    pub told: Told,
+}
+
+/// The passes of two seats.
+#[derive(Drop)]
+pub struct Seats<V: Counted> {
+    pub first: CallPass<V>,
+    pub second: CallPass<V>,
+}
+
+/// Two seats make these calls, each of which is told what its row says.
+pub fn two_seats<D: Disk, M: Marker, R: Abort + Wait>(
+    rt: &R,
+    alloc: Global,
+    book: &SharedBook<'_, D, M>,
+    pass: BookPass<D, M>,
+    rows: &[Row],
+) -> BookPass<D, M>
+    requires homes { book.now.homes ≡ homes_of M.opening.rollout.problem }
+    requires policy { M.opening.policy ≡ rank_by book.now.policy.now.answers }
+    requires may { MayCall book.now.lock M.seats pass.pass pass.calls }
+    requires first { IsFirstPass pass.pass }
+    requires seats { M.seats ≡ 4 }
+    ensures ended { AllAreIn book.now.lock result.pass }
+{
+    let (first, second) = book.split(pass);
+    let Seats { first, second } = all_calls(rt, alloc, book, Seats { first, second }, rows);
+    book.join(first, second)
+}
+
+// A call of one of the seats.
+fn one_call<D: Disk, M: Marker, R: Wait>(
+    rt: &R,
+    alloc: Global,
+    book: &SharedBook<'_, D, M>,
+    seats: Seats<Kept<D, M>>,
+    row: Row,
+) -> (Seats<Kept<D, M>>, Told)
+    requires homes { book.now.homes ≡ homes_of M.opening.rollout.problem }
+    requires policy { M.opening.policy ≡ rank_by book.now.policy.now.answers }
+    requires first { MayCall book.now.lock M.seats seats.first.pass seats.first.calls }
+    requires second { MayCall book.now.lock M.seats seats.second.pass seats.second.calls }
+    ensures first { HasCalled book.now.lock seats.first.pass result.0.first.pass result.0.first.calls }
+    ensures second { HasCalled book.now.lock seats.second.pass result.0.second.pass result.0.second.calls }
+{
+    let Seats { first, second } = seats;
+    if row.seat == 0 {
+        let (first, told) = make_call(rt, alloc, book, first, row.call);
+        (Seats { first, second }, told)
+    } else {
+        let (second, told) = make_call(rt, alloc, book, second, row.call);
+        (Seats { first, second }, told)
+    }
+}
+
+/// All calls, each of which is told what its row says.
+pub fn all_calls<D: Disk, M: Marker, R: Abort + Wait>(
+    rt: &R,
+    alloc: Global,
+    book: &SharedBook<'_, D, M>,
+    mut seats: Seats<Kept<D, M>>,
+    rows: &[Row],
+) -> Seats<Kept<D, M>>
+    requires homes { book.now.homes ≡ homes_of M.opening.rollout.problem }
+    requires policy { M.opening.policy ≡ rank_by book.now.policy.now.answers }
+    requires first { MayCall book.now.lock M.seats seats.first.pass seats.first.calls }
+    requires second { MayCall book.now.lock M.seats seats.second.pass seats.second.calls }
+    ensures first { HasCalled book.now.lock seats.first.pass result.first.pass result.first.calls }
+    ensures second { HasCalled book.now.lock seats.second.pass result.second.pass result.second.calls }
+{
+    for row in rows {
+        let (after, told) = one_call(rt, alloc, book, seats, *row);
+        assert!(rt; told == row.told, "{row:?} was told {told:?}");
+        seats = after;
+    }
+    seats
+}
+
+const STOPPED: Halt = Halt {
+    seat: 1,
+    call: 1,
+    cause: Cause::Port(0),
+};
+
+// The second seat stops for a port.
+const A_STOP: [Row; 5] = [
+    Row {
+        seat: 0,
+        call: Call::Round(None),
+        told: Told::Round(RoundReply::Turned(Turn {
+            dones: 0,
+            begins: 1,
+        })),
+    },
+    Row {
+        seat: 1,
+        call: Call::List(0),
+        told: Told::List(ListReply::Listed, 1),
+    },
+    Row {
+        seat: 1,
+        call: Call::Stop(Cause::Port(0)),
+        told: Told::Halt(STOPPED),
+    },
+    Row {
+        seat: 0,
+        call: Call::Round(None),
+        told: Told::Round(RoundReply::Stopped(STOPPED)),
+    },
+    Row {
+        seat: 1,
+        call: Call::Stop(Cause::Memory),
+        told: Told::Halt(STOPPED),
+    },
+];
+
+const NOTES_OF_A_STOP: [Note; 4] = [
+    Note {
+        seat: 0,
+        call: 0,
+        what: What::Turned {
+            dones: 0,
+            begins: 1,
+        },
+    },
+    Note {
+        seat: 1,
+        call: 0,
+        what: What::Listed,
+    },
+    Note {
+        seat: 1,
+        call: 1,
+        what: What::Stop(Cause::Port(0)),
+    },
+    Note {
+        seat: 0,
+        call: 1,
+        what: What::Stopped,
+    },
+];
+
+// The notes that two seats leave which make these calls of the book of one operation.
+fn notes_of<R: Abort + Threads + Wait + Sync>(
+    rt: &R,
+    alloc: Global,
+    rank: u64,
+    disk: MemoryDisk,
+    rows: &[Row],
+) -> Result<NoteList, Fail>
+    requires { rank ≤ 4294967296 }
+{
+    Ok(share_ranked(rt, alloc, ONE, rank, disk, Task::Rows(rows))?.notes)
+}
+
+#[test]
+fn a_stop_of_one_seat_is_told_to_the_other(rt: HostRuntime) -> Result<(), Fail> {
+    let disk = disk_of(rt.alloc(), &[])?;
+    let notes = notes_of(&rt, rt.alloc(), ALIKE, disk, &A_STOP)?;
+    assert_eq!(rt; notes.as_slice(), NOTES_OF_A_STOP.as_slice());
+    Ok(())
+}
+
+const FAILED: Halt = Halt {
+    seat: 0,
+    call: 0,
+    cause: Cause::Disk,
+};
+
+// The disk fails in the first round.
+const A_FAILURE: [Row; 5] = [
+    Row {
+        seat: 0,
+        call: Call::Round(None),
+        told: Told::Round(RoundReply::Refused(BookFault::Disk)),
+    },
+    Row {
+        seat: 1,
+        call: Call::List(0),
+        told: Told::List(ListReply::Stopped(FAILED), 0),
+    },
+    Row {
+        seat: 1,
+        call: Call::Await(0),
+        told: Told::Awake(Wake::Stopped(FAILED)),
+    },
+    Row {
+        seat: 1,
+        call: Call::Stop(Cause::Port(0)),
+        told: Told::Halt(FAILED),
+    },
+    Row {
+        seat: 0,
+        call: Call::Round(None),
+        told: Told::Round(RoundReply::Stopped(FAILED)),
+    },
+];
+
+#[test]
+fn a_disk_that_fails_in_a_round_stops_all(rt: HostRuntime) -> Result<(), Fail> {
+    let disk = disk_of(rt.alloc(), &[CALLS_TO_OPEN])?;
+    let notes = notes_of(&rt, rt.alloc(), ALIKE, disk, &A_FAILURE)?;
+    assert_eq!(rt; notes.as_slice().len(), A_FAILURE.len());
+    Ok(())
+}
+
+// One seat begins, waits, answers and waits again.
+const AN_END: [Row; 5] = [
+    Row {
+        seat: 1,
+        call: Call::Round(None),
+        told: Told::Round(RoundReply::Turned(Turn {
+            dones: 0,
+            begins: 1,
+        })),
+    },
+    Row {
+        seat: 0,
+        call: Call::Await(0),
+        told: Told::Awake(Wake::Work(Op { item: 0, number: 1 })),
+    },
+    Row {
+        seat: 0,
+        call: Call::Round(Some(Answer { item: 0, held: 1 })),
+        told: Told::Round(RoundReply::Turned(Turn {
+            dones: 1,
+            begins: 0,
+        })),
+    },
+    Row {
+        seat: 0,
+        call: Call::Await(0),
+        told: Told::Awake(Wake::Finished),
+    },
+    Row {
+        seat: 1,
+        call: Call::Await(2),
+        told: Told::Awake(Wake::Finished),
+    },
+];
+
+#[test]
+fn who_waits_is_told_of_work_and_then_of_the_end(rt: HostRuntime) -> Result<(), Fail> {
+    let disk = disk_of(rt.alloc(), &[])?;
+    let notes = notes_of(&rt, rt.alloc(), ALIKE, disk, &AN_END)?;
+    assert_eq!(rt; notes.as_slice().len(), AN_END.len());
+    Ok(())
+}
+
+const ALIEN: Halt = Halt {
+    seat: 0,
+    call: 2,
+    cause: Cause::Above {
+        item: 0,
+        held: 1,
+        begun: 0,
+    },
+};
+
+// Nothing may begin, so an answer that tells of an operation is alien.
+const A_HOLD: [Row; 5] = [
+    Row {
+        seat: 0,
+        call: Call::Round(None),
+        told: Told::Round(RoundReply::Turned(Turn {
+            dones: 0,
+            begins: 0,
+        })),
+    },
+    Row {
+        seat: 0,
+        call: Call::Await(0),
+        told: Told::Awake(Wake::Held),
+    },
+    Row {
+        seat: 0,
+        call: Call::Round(Some(Answer { item: 0, held: 1 })),
+        told: Told::Round(RoundReply::Refused(BookFault::Alien {
+            item: 0,
+            held: 1,
+            begun: 0,
+        })),
+    },
+    Row {
+        seat: 0,
+        call: Call::Await(0),
+        told: Told::Awake(Wake::Stopped(ALIEN)),
+    },
+    Row {
+        seat: 1,
+        call: Call::List(0),
+        told: Told::List(ListReply::Stopped(ALIEN), 0),
+    },
+];
+
+#[test]
+fn who_waits_is_told_that_all_is_held_and_of_an_alien_answer(rt: HostRuntime) -> Result<(), Fail> {
+    let disk = disk_of(rt.alloc(), &[])?;
+    let notes = notes_of(&rt, rt.alloc(), HELD, disk, &A_HOLD)?;
+    assert_eq!(rt; notes.as_slice().len(), A_HOLD.len());
+    Ok(())
+}

@@ -1,0 +1,112 @@
+//! The calls of a seat, one by one.
+ghost use Rattle.std.specs.Prelude.{◌≡◌};
+ghost use Rattle.order_policy.specs.Answers.{rank_by};
+ghost use Rattle.shared_book.specs.Homes.{homes_of};
+ghost use Rattle.book_cases.specs.Seats.{HasCalled, MayCall};
+
+use disk_model::Disk;
+use rollout_book::CommandList;
+use shared_book::{BookPass, Marker, RoundReply, SharedBook};
+use shared_history::{Cause, Halt, ListReply, Wake};
+use std::alloc::Global;
+use std::sync::Wait;
+use wire_frames::Answer;
+
+/// A call of a seat: a round with at most one answer, the listing of a switch's commands, waiting for work of
+/// a switch, and asking that all stop.
+#[derive(Clone, Copy, Debug)]
+pub enum Call {
+    Round(Option<Answer>),
+    List(u32),
+    Await(u32),
+    Stop(Cause),
+}
+
+/// What a call was told, and of a listing how many commands came.
+#[derive(Clone, Copy, Debug, PartialEq, Eq)]
+pub enum Told {
+    Round(RoundReply),
+    List(ListReply, usize),
+    Awake(Wake),
+    Halt(Halt),
+}
+
+/// Makes a call.
+pub fn make_call<D: Disk, M: Marker, R: Wait>(
+    rt: &R,
+    alloc: Global,
+    book: &SharedBook<'_, D, M>,
+    pass: BookPass<D, M>,
+    call: Call,
+) -> (BookPass<D, M>, Told)
+    requires homes { book.now.homes ≡ homes_of M.opening.rollout.problem }
+    requires policy { M.opening.policy ≡ rank_by book.now.policy.now.answers }
+    requires may { MayCall book.now.lock M.seats pass.pass pass.calls }
+    ensures called { HasCalled book.now.lock pass.pass result.0.pass result.0.calls }
+{
+    match call {
+        Call::Round(answer) => round(rt, book, pass, answer),
+        Call::List(switch) => list(rt, alloc, book, pass, switch),
+        Call::Await(switch) => await_work(rt, book, pass, switch),
+        Call::Stop(cause) => stop(rt, book, pass, cause),
+    }
+}
+
+fn round<D: Disk, M: Marker, R: Wait>(
+    rt: &R,
+    book: &SharedBook<'_, D, M>,
+    pass: BookPass<D, M>,
+    answer: Option<Answer>,
+) -> (BookPass<D, M>, Told)
+    requires policy { M.opening.policy ≡ rank_by book.now.policy.now.answers }
+    requires may { MayCall book.now.lock M.seats pass.pass pass.calls }
+    ensures called { HasCalled book.now.lock pass.pass result.0.pass result.0.calls }
+{
+    let (pass, reply) = match answer {
+        Some(answer) => book.round(rt, pass, &[answer]),
+        None => book.round(rt, pass, &[]),
+    };
+    (pass, Told::Round(reply))
+}
+
+fn list<D: Disk, M: Marker, R: Wait>(
+    rt: &R,
+    alloc: Global,
+    book: &SharedBook<'_, D, M>,
+    pass: BookPass<D, M>,
+    switch: u32,
+) -> (BookPass<D, M>, Told)
+    requires may { MayCall book.now.lock M.seats pass.pass pass.calls }
+    ensures called { HasCalled book.now.lock pass.pass result.0.pass result.0.calls }
+{
+    let mut commands = CommandList::new(alloc);
+    let (pass, reply) = book.commands(rt, alloc, pass, &[switch], &mut commands);
+    (pass, Told::List(reply, commands.as_slice().len()))
+}
+
+fn await_work<D: Disk, M: Marker, R: Wait>(
+    rt: &R,
+    book: &SharedBook<'_, D, M>,
+    pass: BookPass<D, M>,
+    switch: u32,
+) -> (BookPass<D, M>, Told)
+    requires homes { book.now.homes ≡ homes_of M.opening.rollout.problem }
+    requires may { MayCall book.now.lock M.seats pass.pass pass.calls }
+    ensures called { HasCalled book.now.lock pass.pass result.0.pass result.0.calls }
+{
+    let (pass, wake) = book.wait_work(rt, pass, &[switch]);
+    (pass, Told::Awake(wake))
+}
+
+fn stop<D: Disk, M: Marker, R: Wait>(
+    rt: &R,
+    book: &SharedBook<'_, D, M>,
+    pass: BookPass<D, M>,
+    cause: Cause,
+) -> (BookPass<D, M>, Told)
+    requires may { MayCall book.now.lock M.seats pass.pass pass.calls }
+    ensures called { HasCalled book.now.lock pass.pass result.0.pass result.0.calls }
+{
+    let (pass, halt) = book.stop(rt, pass, cause);
+    (pass, Told::Halt(halt))
+}

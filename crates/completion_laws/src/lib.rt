@@ -1,0 +1,28 @@
+//! Whether a rollout's run finishes. Nothing runs here: each law is a public function with an empty body,
+//! over what a run leaves (`rollout_run`) and over the rounds of a worker (`controller_run`).
+//!
+//! `faults` says that where no count of faults has risen a run isn't stopped by its disk or by a port,
+//! `work` that behind a round of the book all that may begin is held back by the policy where nothing is in
+//! flight, `ports` what a prompt port tells that has answered all before, and `rounds` that over such ports
+//! each round which lists a command settles an operation, and that a worker asks that all stop only where
+//! memory ran out or the disk or a port failed. `finishing` puts these together.
+#![tactic(auto)]
+
+mod faults;
+mod finishing;
+mod ports;
+mod rounds;
+mod work;
+mod worked;
+
+pub use faults::a_run_without_faults_is_stopped_by_none;
+pub use finishing::{
+    a_held_run_is_held_by_its_policy, a_run_over_ready_ports_finishes,
+    a_run_over_ready_ports_stops_for_an_excuse, one_worker_serves_apart,
+    ports_that_are_apart_are_served_apart,
+};
+pub use ports::{a_port_that_is_up_to_date_answers_each_command, a_ready_port_is_up_to_date};
+pub use rounds::{a_worker_stops_for_an_excuse, each_round_settles_an_operation};
+pub use work::{
+    a_round_leaves_what_is_held_back, a_round_leaves_work, nothing_is_held_behind_a_round,
+};

@@ -1,0 +1,10 @@
+//! Tests of the disk, the journal and the report: what no clause of theirs says. They stand apart, since a
+//! crate with tests is proved twice.
+#![tactic(auto)]
+
+#[cfg(test)]
+mod disks;
+#[cfg(test)]
+mod journals;
+#[cfg(test)]
+mod reports;

@@ -1,0 +1,138 @@
+//! A rollout by workers over ports in memory that answer at once, from a journal on a disk in memory.
+//! Standard input is a document.
+ghost use Rattle.std.specs.Prelude.{◌≡◌};
+
+use crate::rollout;
+use anyhow::{Result, bail};
+use disk_model::{Disk, MemoryDisk};
+use lossy_link::{FaithfulPort, MemoryFleet};
+use order_policy::Policy;
+use rollout_run::Limits;
+use rollout_service::{Outcome, RunAnswer, run_rollout};
+use std::alloc::Global;
+use std::io::Read;
+use std::sync::Wait;
+use std::thread::Threads;
+use wan_edge::{Fleet, Nums8, Turns};
+use wan_model::{CheckedPlan, OpView};
+
+/// So many workers at most, each of which may offer commands in so many rounds.
+#[derive(Clone, Copy)]
+pub(crate) struct Crew {
+    pub workers: u32,
+    pub rounds: u32,
+}
+
+/// What the rollout was told, and how many calls the disk had.
+#[derive(Drop)]
+struct Rolled {
+    answer: RunAnswer,
+    calls: u64,
+}
+
+/// The plan of the document on standard input.
+pub(crate) fn plan(rt: &HostRuntime) -> Result<CheckedPlan> {
+    let mut given = Vec::new(rt.alloc());
+    rt.stdin().read_to_end(&mut given)?;
+    rollout::plan(rt.alloc(), &given)
+}
+
+/// Rolls the plan out, and prints how many operations were settled and how many calls the disk had.
+pub(crate) fn measure<R: Threads + Wait + Sync + AllocGlobal + Print>(
+    rt: &R,
+    plan: CheckedPlan,
+    crew: Crew,
+) -> Result<()> {
+    let rolled = rolled_ranked(rt, rt.alloc(), plan, crew)?;
+    print(rt, &rolled)
+}
+
+fn print<R: Print>(rt: &R, rolled: &Rolled) -> Result<()> {
+    let calls = rolled.calls;
+    match &rolled.answer {
+        RunAnswer::Finished { operations, .. } => {
+            println!(rt; "operations {operations}, calls {calls}")?
+        }
+        RunAnswer::Stopped(..) => println!(rt; "stopped, calls {calls}")?,
+        _ => bail!("neither finished nor stopped"),
+    }
+    Ok(())
+}
+
+// The policy ranks all alike.
+fn rolled_ranked<R: Threads + Wait + Sync>(
+    rt: &R,
+    alloc: Global,
+    plan: CheckedPlan,
+    crew: Crew,
+) -> Result<Rolled> {
+    let alike: Box<dyn Fn(OpView) -> u64 + Send + Sync> = Box::new(
+        alloc,
+        |_view: OpView| -> u64
+            ensures { result ≡ 0 }
+        { 0 },
+    )?;
+    let policy = Policy::new(alike);
+    rolled_by(rt, alloc, plan, &policy, crew)
+}
+
+fn rolled_by<R: Threads + Wait + Sync>(
+    rt: &R,
+    alloc: Global,
+    plan: CheckedPlan,
+    policy: &Policy,
+    crew: Crew,
+) -> Result<Rolled> {
+    let mut fleet = fleet_of(alloc, plan.problem().switches().len() as u32)?;
+    Ok(rolled_over(rt, alloc, plan, policy, crew, &mut fleet))
+}
+
+fn rolled_over<R: Threads + Wait + Sync>(
+    rt: &R,
+    alloc: Global,
+    plan: CheckedPlan,
+    policy: &Policy,
+    crew: Crew,
+    fleet: &mut MemoryFleet<FaithfulPort>,
+) -> Rolled {
+    let disk = MemoryDisk::new(alloc, Nums8::new(alloc), Turns::new(alloc));
+    rolled_of(outcome_over(rt, alloc, plan, policy, crew, disk, fleet))
+}
+
+fn rolled_of(outcome: Outcome<MemoryDisk>) -> Rolled {
+    let Outcome { disk, answer } = outcome;
+    Rolled {
+        answer,
+        calls: disk.calls(),
+    }
+}
+
+// A port at each of so many switches.
+fn fleet_of(alloc: Global, switches: u32) -> Result<MemoryFleet<FaithfulPort>> {
+    let mut fleet = MemoryFleet::new(alloc);
+    for switch in 0..switches {
+        fleet.put(switch, FaithfulPort::new(alloc))?;
+    }
+    Ok(fleet)
+}
+
+// Over any disk and any fleet.
+fn outcome_over<R: Threads + Wait + Sync, D: Disk + Drop + Send, F: Fleet>(
+    rt: &R,
+    alloc: Global,
+    plan: CheckedPlan,
+    policy: &Policy,
+    crew: Crew,
+    disk: D,
+    fleet: &mut F,
+) -> Outcome<D>
+where
+    F::Port: Drop + Send,
+{
+    let limits = Limits {
+        workers: crew.workers,
+        rounds: crew.rounds,
+        migration: 0,
+    };
+    run_rollout(rt, alloc, plan, policy, limits, disk, fleet)
+}

@@ -1,0 +1,121 @@
+//! Ports that answer only while two threads hear at once.
+ghost use Rattle.std.specs.Prelude.{◌≡◌};
+
+use disk_model::MemoryDisk;
+use lossy_link::{Gate, GatedPort, MemoryFleet};
+use order_policy::Policy;
+use plan_check::check_plan;
+use problem_json::{Document, read_document};
+use rollout_run::Limits;
+use rollout_service::{Outcome, RunAnswer, run_rollout};
+use std::alloc::Global;
+use std::sync::Wait;
+use std::test::Fail;
+use std::thread::Threads;
+use wan_edge::{Nums8, Turns};
+use wan_model::{CheckedPlan, OpView};
+
+// Two flows at two switches, which each move 3 of their 4 at once.
+fn two() -> &'static str {
+    "{\"plan\":{\"scale\":1,\"stages\":[{\"installed\":[true,true,true,true],\"rates\":[4,0,4,0]},{\"installed\":[true,true,true,true],\"rates\":[1,3,1,3]}]},\"problem\":{\"flows\":[{\"name\":\"f\",\"tunnels\":[{\"new\":1,\"old\":4,\"path\":[\"A\",\"X\"]},{\"new\":3,\"old\":0,\"path\":[\"A\",\"Y\",\"X\"]}]},{\"name\":\"g\",\"tunnels\":[{\"new\":1,\"old\":4,\"path\":[\"B\",\"X\"]},{\"new\":3,\"old\":0,\"path\":[\"B\",\"Y\",\"X\"]}]}],\"links\":[{\"capacity\":10,\"from\":\"A\",\"to\":\"X\"},{\"capacity\":10,\"from\":\"A\",\"to\":\"Y\"},{\"capacity\":10,\"from\":\"Y\",\"to\":\"X\"},{\"capacity\":10,\"from\":\"B\",\"to\":\"X\"},{\"capacity\":10,\"from\":\"B\",\"to\":\"Y\"}],\"switches\":[{\"name\":\"A\",\"table\":8},{\"name\":\"B\",\"table\":8},{\"name\":\"X\",\"table\":8},{\"name\":\"Y\",\"table\":8}]}}"
+}
+
+// Four such flows, at the switches with the numbers 0 to 3.
+fn four() -> &'static str {
+    "{\"plan\":{\"scale\":1,\"stages\":[{\"installed\":[true,true,true,true,true,true,true,true],\"rates\":[4,0,4,0,4,0,4,0]},{\"installed\":[true,true,true,true,true,true,true,true],\"rates\":[1,3,1,3,1,3,1,3]}]},\"problem\":{\"flows\":[{\"name\":\"f\",\"tunnels\":[{\"new\":1,\"old\":4,\"path\":[\"A\",\"X\"]},{\"new\":3,\"old\":0,\"path\":[\"A\",\"Y\",\"X\"]}]},{\"name\":\"g\",\"tunnels\":[{\"new\":1,\"old\":4,\"path\":[\"B\",\"X\"]},{\"new\":3,\"old\":0,\"path\":[\"B\",\"Y\",\"X\"]}]},{\"name\":\"h\",\"tunnels\":[{\"new\":1,\"old\":4,\"path\":[\"C\",\"X\"]},{\"new\":3,\"old\":0,\"path\":[\"C\",\"Y\",\"X\"]}]},{\"name\":\"i\",\"tunnels\":[{\"new\":1,\"old\":4,\"path\":[\"D\",\"X\"]},{\"new\":3,\"old\":0,\"path\":[\"D\",\"Y\",\"X\"]}]}],\"links\":[{\"capacity\":20,\"from\":\"A\",\"to\":\"X\"},{\"capacity\":20,\"from\":\"A\",\"to\":\"Y\"},{\"capacity\":20,\"from\":\"Y\",\"to\":\"X\"},{\"capacity\":20,\"from\":\"B\",\"to\":\"X\"},{\"capacity\":20,\"from\":\"B\",\"to\":\"Y\"},{\"capacity\":20,\"from\":\"C\",\"to\":\"X\"},{\"capacity\":20,\"from\":\"C\",\"to\":\"Y\"},{\"capacity\":20,\"from\":\"D\",\"to\":\"X\"},{\"capacity\":20,\"from\":\"D\",\"to\":\"Y\"}],\"switches\":[{\"name\":\"A\",\"table\":8},{\"name\":\"B\",\"table\":8},{\"name\":\"C\",\"table\":8},{\"name\":\"D\",\"table\":8},{\"name\":\"X\",\"table\":8},{\"name\":\"Y\",\"table\":8}]}}"
+}
+
+// In how many rounds each worker may offer commands: so many that workers which serve side by side meet on a
+// busy machine too, and so few that one which is alone has soon spent them.
+const MANY_ROUNDS: u32 = 1000;
+
+const FEW_ROUNDS: u32 = 3;
+
+fn planned(alloc: Global, text: &str) -> Result<CheckedPlan, Fail> {
+    let Document { problem, plan } = read_document(alloc, text.as_bytes())?;
+    check_plan(alloc, &problem, &plan)?;
+    Ok(CheckedPlan::seal(problem, plan))
+}
+
+// Puts the ports of the two halves of a gate where these switches wait.
+fn put_gate(
+    alloc: Global,
+    fleet: &mut MemoryFleet<GatedPort>,
+    switches: [u32; 2],
+) -> Result<(), Fail> {
+    let (first, second) = Gate::new(alloc)?;
+    fleet.put(switches[0], GatedPort::new(alloc, first))?;
+    fleet.put(switches[1], GatedPort::new(alloc, second))?;
+    Ok(())
+}
+
+// How a rollout from a blank disk goes over the ports of a fleet, by so many workers.
+fn rolled_out<R: Wait + Threads + Sync>(
+    rt: &R,
+    alloc: Global,
+    text: &str,
+    workers: u32,
+    rounds: u32,
+    fleet: &mut MemoryFleet<GatedPort>,
+) -> Result<RunAnswer, Fail> {
+    let by_item: Box<dyn Fn(OpView) -> u64 + Send + Sync> = Box::new(
+        alloc,
+        |view: OpView| -> u64
+            ensures { result ≡ view.item }
+        { u64::from(view.item) },
+    )?;
+    let limits = Limits {
+        workers,
+        rounds,
+        migration: 0,
+    };
+    let disk = MemoryDisk::new(alloc, Nums8::new(alloc), Turns::new(alloc));
+    let policy = Policy::new(by_item);
+    let plan = planned(alloc, text)?;
+    let Outcome { answer, .. } = run_rollout(rt, alloc, plan, &policy, limits, disk, fleet);
+    Ok(answer)
+}
+
+#[test]
+fn two_workers_meet_at_a_gate(rt: HostRuntime) -> Result<(), Fail> {
+    let mut fleet = MemoryFleet::new(rt.alloc());
+    put_gate(rt.alloc(), &mut fleet, [0, 1])?;
+    let answer = rolled_out(&rt, rt.alloc(), two(), 2, MANY_ROUNDS, &mut fleet)?;
+    assert!(rt;
+        matches!(
+            answer,
+            RunAnswer::Finished {
+                operations: 2,
+                found: 0
+            }
+        )
+    );
+    Ok(())
+}
+
+#[test]
+fn one_worker_is_alone_at_a_gate_and_spends_its_rounds(rt: HostRuntime) -> Result<(), Fail> {
+    let mut fleet = MemoryFleet::new(rt.alloc());
+    put_gate(rt.alloc(), &mut fleet, [0, 1])?;
+    let answer = rolled_out(&rt, rt.alloc(), two(), 1, FEW_ROUNDS, &mut fleet)?;
+    assert!(rt; matches!(answer, RunAnswer::Stopped(..)));
+    Ok(())
+}
+
+#[test]
+fn four_workers_meet_at_two_gates(rt: HostRuntime) -> Result<(), Fail> {
+    let mut fleet = MemoryFleet::new(rt.alloc());
+    put_gate(rt.alloc(), &mut fleet, [0, 1])?;
+    put_gate(rt.alloc(), &mut fleet, [2, 3])?;
+    let answer = rolled_out(&rt, rt.alloc(), four(), 4, MANY_ROUNDS, &mut fleet)?;
+    assert!(rt;
+        matches!(
+            answer,
+            RunAnswer::Finished {
+                operations: 4,
+                found: 0
+            }
+        )
+    );
+    Ok(())
+}

@@ -1,0 +1,13 @@
+use Rattle.std.specs.Prelude.{max}
+use Rattle.order_policy.specs.Answers.{rank_by}
+use Rattle.shared_book.specs.Opened.{opening_of}
+use Rattle.rollout_run.proofs.running.run_team.Given as goal
+
+-- the opening of this book, at this moment of its disk
+abbrev pub ghosts-run_named : goal.ghosts-run_named
+ghosts-run_named g a = record {
+  opening = opening_of a.book.chronicle (rank_by a.book.policy.now.answers);
+  moment = g.D.Disk.moment a.book.chronicle.disk;
+  faults = g.D.Disk.faults a.book.chronicle.disk;
+  seats = max 1 a.limits.workers;
+}

@@ -1,0 +1,63 @@
+-- What a rollout comes to.
+use Rattle.std.specs.Prelude.{◌≡◌, ⊤, ℕ, List, length, Option}
+use Rattle.rollout_rules.specs.Wan.{Rollout}
+use Rattle.rollout_rules.specs.History.{History}
+use Rattle.rollout_rules.specs.declared.op.OpView.{OpView}
+use Rattle.rollout_rules.specs.Legal.{unsettled}
+use Rattle.dependency_graph.specs.Graph.{op_total}
+use Rattle.intent_journal.specs.declared.digest.Digest.{Digest}
+use Rattle.intent_journal.specs.declared.fault.JournalFault.{JournalFault}
+use Rattle.worker_ports.specs.Views.{Telling}
+use Rattle.rollout_book.specs.Chronicles.{Chronicled}
+use Rattle.rollout_ports.specs.Berths.{FleetPorts}
+use Rattle.rollout_ports.specs.Homes.{working_homes}
+use Rattle.shared_book.specs.Opened.{opening_of}
+use Rattle.rollout_run.specs.Ran.{EndsRun, Ran}
+use Rattle.rollout_run.specs.declared.end.RunEnd.{RunEnd}
+use Rattle.rollout_run.specs.declared.end.RunEnd.TheVariants as run
+use Rattle.rollout_service.specs.Openings.{IsOpenedFrom}
+use Rattle.rollout_service.specs.declared.answer.RunAnswer.{RunAnswer}
+use Rattle.rollout_service.specs.declared.answer.RunAnswer.TheVariants as answer
+
+-- The answer to a run that ended so: of a rollout, of which so many entries were found, and which has come to this history.
+abbrev pub answer_for : Rollout → ℕ → History → RunEnd → RunAnswer
+answer_for r found h run.Finished = answer.Finished (op_total r) found
+answer_for r found h run.Held = answer.Held (unsettled r.problem r.plan h)
+answer_for r found h (run.Stopped halt) = answer.Stopped r halt
+answer_for r found h (run.NoPort switch) = answer.NoPort r switch
+answer_for r found h run.Memory = answer.Memory
+
+abbrev pub answer_behind : {D : Type 0} → Chronicled D → RunEnd → RunAnswer
+answer_behind book end = answer_for book.rollout book.found book.history end
+
+-- A book was run from its opening on, and closed; the disk is what it left.
+pub record HasRun {D P : Type 0} (bytes : D → Option (List ℕ)) (may_leave : D → List ℕ → Type 0) (moment : D → ℕ) (left_since : D → ℕ → List ℕ → Type 0) (faults : D → ℕ) (port_faults : P → ℕ) (tell : P → Telling) (policy : OpView → ℕ) (migration rounds : ℕ) (opened : Chronicled D) (before now : FleetPorts P) (disk : D) (answer : RunAnswer) : Type 0 where
+  pub end : RunEnd
+  pub closed : Chronicled D
+  pub ran : EndsRun port_faults (working_homes opened.rollout.problem opened.rollout.plan) opened closed before now
+      (Ran bytes may_leave moment left_since faults port_faults tell (opening_of opened policy) (moment opened.disk) (faults opened.disk) migration rounds (working_homes opened.rollout.problem opened.rollout.plan) before end closed now) end
+  pub tells : answer ≡ answer_for opened.rollout (length opened.history.entries) closed.history end
+  pub back : disk ≡ closed.disk
+
+-- The book of a rollout was opened on this disk, and run.
+pub record HasRolled {D P : Type 0} (bytes : D → Option (List ℕ)) (may_leave : D → List ℕ → Type 0) (moment : D → ℕ) (left_since : D → ℕ → List ℕ → Type 0) (faults : D → ℕ) (port_faults : P → ℕ) (tell : P → Telling) (r : Rollout) (digest : Digest) (policy : OpView → ℕ) (rounds : ℕ) (disk : D) (before now : FleetPorts P) (disk_now : D) (answer : RunAnswer) : Type 0 where
+  pub book : Chronicled D
+  pub opened : IsOpenedFrom bytes may_leave moment left_since faults r digest policy disk book
+  pub run : HasRun bytes may_leave moment left_since faults port_faults tell policy digest.migration rounds book before now disk_now answer
+
+-- what holds where a journal was opened, and where none was, for its cause
+abbrev pub IfRolled : RunAnswer → Type 0 → Type 0
+IfRolled (answer.Finished operations found) holds = holds
+IfRolled (answer.Held left) holds = holds
+IfRolled (answer.Stopped r halt) holds = holds
+IfRolled (answer.NoPort r switch) holds = holds
+IfRolled answer.Memory holds = holds
+IfRolled (answer.Unopened cause) holds = ⊤
+
+abbrev pub OnUnopened : RunAnswer → (JournalFault → Type 0) → Type 0
+OnUnopened (answer.Finished operations found) holds = ⊤
+OnUnopened (answer.Held left) holds = ⊤
+OnUnopened (answer.Stopped r halt) holds = ⊤
+OnUnopened (answer.NoPort r switch) holds = ⊤
+OnUnopened answer.Memory holds = ⊤
+OnUnopened (answer.Unopened cause) holds = holds cause

@@ -1,0 +1,57 @@
+ghost use Rattle.std.specs.Prelude.{◌≡◌};
+ghost use Rattle.rollout_rules.specs.Legal.{unsettled};
+ghost use Rattle.rollout_service.specs.Outcomes.{answer_for};
+
+use dependency_graph::Graph;
+use intent_journal::JournalFault;
+use rollout_run::RunEnd;
+use shared_history::Halt;
+use wan_model::{CheckedPlan, item_count};
+
+/// How a rollout has gone. The plan comes back where the answer names a switch of its problem.
+#[derive(Debug, Drop)]
+pub enum RunAnswer {
+    /// Every operation is settled. So many there are, and so many entries the journal had at first.
+    Finished { operations: u32, found: u32 },
+    /// Nothing is in flight, and the policy holds back all that is left: so many operations.
+    Held { left: u64 },
+    /// It was stopped; this was the first stop.
+    Stopped(CheckedPlan, Halt),
+    /// The fleet has no port for this switch, which is the home of an operation. Nothing was begun.
+    NoPort(CheckedPlan, u32),
+    /// Memory ran out behind the opening of the journal, before anything was begun.
+    Memory,
+    /// No journal was opened, and no port.
+    Unopened(JournalFault),
+}
+
+/// The answer behind a run that ended so. It left the graph of a rollout of which so many entries were
+/// found.
+pub(crate) fn answer_behind(graph: Graph, found: u32, end: RunEnd) -> RunAnswer
+    ensures { result ≡ answer_for graph.rollout found graph.history end }
+{
+    match end {
+        RunEnd::Finished => RunAnswer::Finished {
+            operations: graph.op_total(),
+            found,
+        },
+        RunEnd::Held => RunAnswer::Held {
+            left: unsettled(&graph),
+        },
+        RunEnd::Stopped(halt) => RunAnswer::Stopped(graph.into_plan(), halt),
+        RunEnd::NoPort(switch) => RunAnswer::NoPort(graph.into_plan(), switch),
+        RunEnd::Memory => RunAnswer::Memory,
+    }
+}
+
+// How many operations are not settled.
+fn unsettled(graph: &Graph) -> u64
+    ensures { result ≡ unsettled graph.now.rollout.problem graph.now.rollout.plan graph.now.history }
+{
+    let mut left = 0;
+    for item in 0..item_count(graph.plan().problem()) {
+        let operations = u64::from(graph.op_count(item));
+        left += operations.saturating_sub(u64::from(graph.settled(item)));
+    }
+    left
+}

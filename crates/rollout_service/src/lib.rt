@@ -1,0 +1,14 @@
+//! A rollout from the journal on its disk to the ports of a fleet: all that the command `run` does but for
+//! its words, what it reads, and what it prints.
+//!
+//! [`run_rollout`] opens the journal, goes on from the list found, and gives the disk back with the answer
+//! of how it went. `specs/` has the words: `Openings` what is found on a disk, `Outcomes` what the answers
+//! say.
+#![tactic(auto)]
+
+mod answer;
+mod opening;
+mod serving;
+
+pub use answer::RunAnswer;
+pub use serving::{Outcome, run_rollout};

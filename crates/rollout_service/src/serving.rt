@@ -1,0 +1,96 @@
+//! A rollout from its disk to its ports.
+ghost use Rattle.std.specs.Prelude.{◌≡◌, ◌≤◌, ℕ, IfSome};
+ghost use Rattle.rollout_rules.specs.Wan.{Rollout};
+ghost use Rattle.order_policy.specs.Answers.{rank_by};
+ghost use Rattle.wan_edge.specs.Streams.{Rose};
+ghost use Rattle.rollout_book.specs.Lists.{IsKeptList};
+ghost use Rattle.shared_book.specs.Opened.{IsOpened, opening_of};
+ghost use Rattle.worker_ports.specs.Views.{telling};
+ghost use Rattle.rollout_ports.specs.Berths.{ports_of};
+ghost use Rattle.rollout_report.specs.Journals.{digest_for};
+ghost use Rattle.rollout_service.specs.Openings.{IsLeft};
+ghost use Rattle.rollout_service.specs.Outcomes.{HasRolled, HasRun, IfRolled, OnUnopened, answer_behind};
+
+use crate::answer::{RunAnswer, answer_behind};
+use crate::opening::open_book;
+use disk_model::Disk;
+use intent_journal::Unopened;
+use order_policy::Policy;
+use rollout_book::Book;
+use rollout_run::{Limits, RunEnd, run};
+use std::alloc::Global;
+use std::sync::Wait;
+use std::thread::Threads;
+use wan_edge::Fleet;
+use wan_model::CheckedPlan;
+
+/// What a rollout comes to: the disk, and how it went.
+#[derive(Drop)]
+pub struct Outcome<D> {
+    pub disk: D,
+    pub answer: RunAnswer,
+}
+
+/// Runs the rollout of a plan: its journal is opened on the disk, or made where there is none yet; what its
+/// list has is taken over; and all that is left is rolled out over the fleet's ports. The disk comes back
+/// with every answer. A journal that is refused is left as it was, and then no port is opened.
+pub fn run_rollout<R: Wait + Threads + Sync, D: Disk + Drop + Send, F: Fleet>(
+    rt: &R,
+    alloc: Global,
+    plan: CheckedPlan,
+    policy: &Policy,
+    limits: Limits,
+    disk: D,
+    fleet: &mut F,
+) -> Outcome<D>
+where
+    F::Port: Drop + Send,
+    ensures rolled { IfRolled result.answer (HasRolled D.bytes D.may_leave D.moment D.left_since D.faults F.Port.faults (telling F.Port.offered F.Port.heard F.Port.held F.Port.quiet F.Port.faults F.Port.honest F.Port.prompt F.Port.start) plan (digest_for plan limits.migration) (rank_by policy.now.answers) limits.rounds disk (ports_of F.waiting F.kept F.lent fleet.old) (ports_of F.waiting F.kept F.lent fleet.new) result.disk result.answer) }
+    ensures unopened { OnUnopened result.answer (λ cause. IsLeft D.bytes D.may_leave D.moment D.left_since D.faults plan (digest_for plan limits.migration) disk cause result.disk) }
+    ensures untouched { OnUnopened result.answer (λ _. fleet.new ≡ fleet.old) }
+    ensures guests { (F.coming fleet.new ≡ F.coming fleet.old) × (F.served fleet.new ≡ F.served fleet.old) × (F.visiting fleet.new ≡ F.visiting fleet.old) }
+    ensures no_port { (r : Rollout) (switch : ℕ) → result.answer ≡ RunAnswer.NoPort r switch → Rose (F.faults fleet.old) (F.faults fleet.new) }
+    ensures count { F.faults fleet.old ≤ F.faults fleet.new }
+{
+    match open_book(alloc, plan, limits.migration, policy, disk) {
+        Ok(book) => run_book(rt, alloc, book, fleet, limits),
+        Err(Unopened { disk, cause }) => Outcome {
+            disk,
+            answer: RunAnswer::Unopened(cause),
+        },
+    }
+}
+
+// Runs the rollout of a book that was opened, and takes the book apart.
+fn run_book<R: Wait + Threads + Sync, D: Disk + Drop + Send, F: Fleet>(
+    rt: &R,
+    alloc: Global,
+    book: Book<'_, D>,
+    fleet: &mut F,
+    limits: Limits,
+) -> Outcome<D>
+where
+    F::Port: Drop + Send,
+    requires opened { IsOpened (opening_of book.chronicle (rank_by book.policy.now.answers)) book.chronicle }
+    requires has { IfSome (D.bytes book.chronicle.disk) (IsKeptList book.chronicle.history.start book.chronicle.entries (D.may_leave book.chronicle.disk)) }
+    ensures run { HasRun D.bytes D.may_leave D.moment D.left_since D.faults F.Port.faults (telling F.Port.offered F.Port.heard F.Port.held F.Port.quiet F.Port.faults F.Port.honest F.Port.prompt F.Port.start) (rank_by book.entry.policy.now.answers) limits.migration limits.rounds book.entry.chronicle (ports_of F.waiting F.kept F.lent fleet.old) (ports_of F.waiting F.kept F.lent fleet.new) result.disk result.answer }
+    ensures guests { (F.coming fleet.new ≡ F.coming fleet.old) × (F.served fleet.new ≡ F.served fleet.old) × (F.visiting fleet.new ≡ F.visiting fleet.old) }
+    ensures no_port { (r : Rollout) (switch : ℕ) → result.answer ≡ RunAnswer.NoPort r switch → Rose (F.faults fleet.old) (F.faults fleet.new) }
+    ensures count { F.faults fleet.old ≤ F.faults fleet.new }
+{
+    let (book, end) = run(rt, alloc, book, fleet, limits);
+    outcome_of(book, end)
+}
+
+// What a run comes to that ended so and left this book.
+fn outcome_of<D: Disk>(book: Book<'_, D>, end: RunEnd) -> Outcome<D>
+    ensures disk { result.disk ≡ book.entry.chronicle.disk }
+    ensures answer { result.answer ≡ answer_behind book.entry.chronicle end }
+{
+    let found = book.found();
+    let (graph, disk) = book.into_parts();
+    Outcome {
+        disk,
+        answer: answer_behind(graph, found, end),
+    }
+}

@@ -1,0 +1,252 @@
+-- How a rollout follows from its input, and what is left where nothing was begun.
+use Rattle.std.proofs.Common.{◌≡◌, ◌⊎◌, ℕ, List, ◌++◌, length, true, false, Option, Some, None, IfSome, Result, Ok, Err, refl, sym, ap, ◌∙◌, subst, inl, inr, arith}
+use Rattle.rollout_rules.specs.Wan.{Rollout}
+use Rattle.rollout_rules.specs.declared.limits.TheConstants.{MOST_INPUT}
+use Rattle.rollout_rules.specs.declared.op.OpView.{OpView}
+use Rattle.std.proofs.lemmas.List.{length-append}
+use Rattle.wan_edge.specs.ReadAll.{GoesBeyond}
+use Rattle.worker_ports.specs.Views.{Telling}
+use Rattle.rollout_run.specs.declared.running.Limits.{Limits}
+use Rattle.swanroll_top.specs.Endings.{status_of}
+use Rattle.swanroll_top.specs.Reading.{IsCut, IsShortInput}
+use Rattle.swanroll_top.specs.Reports.{rollout_in, rollout_to}
+use Rattle.swanroll_top.specs.Rollouts.{EndsRollout, FleetSeen, FollowsRollout, FollowsRolled, IsRefused, IsUnbegun, LeavesAll, RefusesAs, Rolls, RollsAs, RollsAsked, RollsBy, RollsIn, RollsOut, RunsRollout, may_end}
+use Rattle.swanroll_top.specs.Runs.{EndsWith, Gives, IsInput, IsTold}
+use Rattle.swanroll_top.specs.Taken.{IsValidDocument}
+use Rattle.swanroll_top.specs.Words.{Asked, a_run}
+use Rattle.swanroll_top.specs.declared.ending.Ending.{Ending}
+use Rattle.swanroll_top.specs.declared.ending.Ending.TheVariants.{Done, Usage, AboveLimit, Input, NotValid, NoPlan, ReadFault, WriteFault, DiskFault, GuestFault, Refused, NotFinished, OutOfMemory}
+use Rattle.swanroll_top.proofs.Answering.{is_answer, rollout-answers}
+use Rattle.swanroll_top.proofs.Reporting.{IsJudgedAs, beyond-reports, long-rollout, rollout-judged, short-rollout}
+use Rattle.swanroll_top.proofs.Statuses.{not-status}
+
+-- ---- an input that is refused
+
+pub gives-refused : (rollout : Result Rollout Ending) (e : Ending) → Gives {A = Rollout} (Err e) rollout → IsRefused rollout e
+gives-refused rollout Done h = h
+gives-refused rollout Usage h = h
+gives-refused rollout AboveLimit h = h
+gives-refused rollout (Input f) h = h
+gives-refused rollout (NotValid p b) h = h
+gives-refused rollout (NoPlan u) h = h
+gives-refused rollout ReadFault h = h
+gives-refused rollout WriteFault h = h
+gives-refused rollout DiskFault h = h
+gives-refused rollout GuestFault h = h
+gives-refused rollout (Refused f) h = h
+gives-refused rollout (NotFinished u) h = h
+gives-refused rollout OutOfMemory h = tt
+
+-- by an answer to the input, or for want of memory
+refused-answer : (input : List ℕ) (e : Ending) → IsRefused (rollout_in input) e → is_answer e ≡ true
+refused-answer input Done h = rollout-answers input Done h
+refused-answer input Usage h = rollout-answers input Usage h
+refused-answer input AboveLimit h = refl
+refused-answer input (Input f) h = refl
+refused-answer input (NotValid p b) h = refl
+refused-answer input (NoPlan u) h = refl
+refused-answer input ReadFault h = rollout-answers input ReadFault h
+refused-answer input WriteFault h = rollout-answers input WriteFault h
+refused-answer input DiskFault h = rollout-answers input DiskFault h
+refused-answer input GuestFault h = rollout-answers input GuestFault h
+refused-answer input (Refused f) h = rollout-answers input (Refused f) h
+refused-answer input (NotFinished u) h = rollout-answers input (NotFinished u) h
+refused-answer input OutOfMemory h = refl
+
+-- an ending that neither refuses an input nor comes behind a rollout
+pub never-follows : (input : List ℕ) (e : Ending) (out now : Option (List ℕ)) → is_answer e ≡ false → may_end e ≡ false → FollowsRolled (rollout_in input) e out now → ⊥
+never-follows input e out now answer may (inl refused) = let both : true ≡ false = sym (refused-answer input e refused.0) ∙ answer in cc
+never-follows input e out now answer may (inr begun) = let both : true ≡ false = sym begun.1.may ∙ may in cc
+
+pub never : (input : List ℕ) (x e : Ending) (out now : Option (List ℕ)) → is_answer x ≡ false → may_end x ≡ false → FollowsRolled (rollout_in input) e out now → e ≡ x → ⊥
+never input x e out now answer may h is = never-follows input x out now answer may (subst (λ y. FollowsRolled (rollout_in input) y out now) is h)
+
+pub not-refused : (input : List ℕ) (x e : Ending) → is_answer x ≡ false → IsRefused (rollout_in input) e → e ≡ x → ⊥
+not-refused input x e answer h is = let both : true ≡ false = sym (refused-answer input x (subst (λ y. IsRefused (rollout_in input) y) is h)) ∙ answer in cc
+
+-- ---- what is read and written
+
+-- a rollout that was begun ends with no status of an input
+begun-status : (e : Ending) → may_end e ≡ true → status_of e ≡ 3 → ⊥
+begun-status Done m h = omega (arith, h)
+begun-status Usage m h = omega (arith, h)
+begun-status AboveLimit m h = cc
+begun-status (Input f) m h = cc
+begun-status (NotValid p b) m h = cc
+begun-status (NoPlan u) m h = omega (arith, h)
+begun-status ReadFault m h = omega (arith, h)
+begun-status WriteFault m h = omega (arith, h)
+begun-status DiskFault m h = omega (arith, h)
+begun-status GuestFault m h = omega (arith, h)
+begun-status (Refused f) m h = omega (arith, h)
+begun-status (NotFinished u) m h = not-status 3 refl u h
+begun-status OutOfMemory m h = omega (arith, h)
+
+refused-ending : (rollout : Result Rollout Ending) (e : Ending) → (e ≡ OutOfMemory → ⊥) → IsRefused rollout e → rollout ≡ Err e
+refused-ending rollout Done some h = h
+refused-ending rollout Usage some h = h
+refused-ending rollout AboveLimit some h = h
+refused-ending rollout (Input f) some h = h
+refused-ending rollout (NotValid p b) some h = h
+refused-ending rollout (NoPlan u) some h = h
+refused-ending rollout ReadFault some h = h
+refused-ending rollout WriteFault some h = h
+refused-ending rollout DiskFault some h = h
+refused-ending rollout GuestFault some h = h
+refused-ending rollout (Refused f) some h = h
+refused-ending rollout (NotFinished u) some h = h
+refused-ending rollout OutOfMemory some h = absurd (some refl)
+
+module _ (input : List ℕ) (e : Ending) (some : e ≡ OutOfMemory → ⊥) (out out_now : Option (List ℕ)) where
+  refused-exactly : (r : Result Rollout Ending) → IsJudgedAs input r → FollowsRolled r e out out_now → ((status_of e ≡ 3) → (IsValidDocument input → ⊥)) × ((IsValidDocument input → ⊥) → status_of e ≡ 3)
+  refused-exactly (Ok o) valid (inl refused) = absurd (let no : Ok o ≡ Err e = refused-ending (Ok o) e some refused.0 in cc)
+  refused-exactly (Ok o) valid (inr begun) = (λ three. absurd (begun-status e begun.1.may three), λ invalid. absurd (invalid valid))
+  refused-exactly (Err x) judged (inr begun) = absurd (let no : Err x ≡ Ok begun.0.0 = begun.0.1 in cc)
+  refused-exactly (Err x) judged (inl refused) =
+      let both : Err x ≡ Err e = refused-ending (Err x) e some refused.0 in
+      let same : x ≡ e = cc both in
+      elim judged [
+        | inl memory ↦ absurd (some (sym same ∙ memory))
+        | inr invalid ↦ (λ _. invalid.0, λ _. sym (ap status_of same) ∙ invalid.1)
+      ]
+
+  silent : FollowsRolled (rollout_in input) e out out_now → (status_of e ≡ 0 → ⊥) → (status_of e ≡ 7 → ⊥) → out_now ≡ out
+  silent (inl refused) zero seven = refused.1
+  silent (inr begun) zero seven = begun.1.silent zero seven
+
+  follows-rollout : (left now : Option (List ℕ)) → IsShortInput left now input → FollowsRolled (rollout_in input) e out out_now → FollowsRollout left now e out out_now
+  follows-rollout left now short h = record {
+    input = input;
+    read = short.input;
+    refused = refused-exactly (rollout_in input) (rollout-judged input short.within) h;
+    silent = silent h;
+  }
+
+memory-silent : (input : List ℕ) (out out_now : Option (List ℕ)) → FollowsRolled (rollout_in input) OutOfMemory out out_now → out_now ≡ out
+memory-silent input out out_now (inl refused) = refused.1
+memory-silent input out out_now (inr begun) = begun.1.silent (λ h. omega (arith, h)) (λ h. omega (arith, h))
+
+module _ (left now out out_now : Option (List ℕ)) (input : List ℕ) (short : IsShortInput left now input) where
+  pub short-rollouts : (e : Ending) → FollowsRolled (rollout_in input) e out out_now → RunsRollout left now e out out_now
+  short-rollouts Done h = follows-rollout input Done (λ m. cc) out out_now left now short h
+  short-rollouts Usage h = follows-rollout input Usage (λ m. cc) out out_now left now short h
+  short-rollouts AboveLimit h = follows-rollout input AboveLimit (λ m. cc) out out_now left now short h
+  short-rollouts (Input f) h = follows-rollout input (Input f) (λ m. cc) out out_now left now short h
+  short-rollouts (NotValid p b) h = follows-rollout input (NotValid p b) (λ m. cc) out out_now left now short h
+  short-rollouts (NoPlan u) h = follows-rollout input (NoPlan u) (λ m. cc) out out_now left now short h
+  short-rollouts ReadFault h = absurd (never-follows input ReadFault out out_now refl refl h)
+  short-rollouts WriteFault h = follows-rollout input WriteFault (λ m. cc) out out_now left now short h
+  short-rollouts DiskFault h = follows-rollout input DiskFault (λ m. cc) out out_now left now short h
+  short-rollouts GuestFault h = follows-rollout input GuestFault (λ m. cc) out out_now left now short h
+  short-rollouts (Refused f) h = follows-rollout input (Refused f) (λ m. cc) out out_now left now short h
+  short-rollouts (NotFinished u) h = follows-rollout input (NotFinished u) (λ m. cc) out out_now left now short h
+  short-rollouts OutOfMemory h = memory-silent input out out_now h
+
+-- a source that wasn't read to its end
+beyond-rollouts : (left now out : Option (List ℕ)) → GoesBeyond MOST_INPUT left now → FollowsRollout left now AboveLimit out out
+beyond-rollouts left now out g =
+    let r = beyond-reports 0 left now None out g in
+    record { input = r.input; read = r.read; refused = r.refused; silent = r.silent }
+
+pub cut-rollouts : (left now out : Option (List ℕ)) (e : Ending) → IsCut left e now → RunsRollout left now e out out
+cut-rollouts left now out Done r = absurd r
+cut-rollouts left now out Usage r = absurd r
+cut-rollouts left now out AboveLimit r = beyond-rollouts left now out r
+cut-rollouts left now out (Input f) r = absurd r
+cut-rollouts left now out (NotValid p b) r = absurd r
+cut-rollouts left now out (NoPlan u) r = absurd r
+cut-rollouts left now out ReadFault r = refl
+cut-rollouts left now out WriteFault r = absurd r
+cut-rollouts left now out DiskFault r = absurd r
+cut-rollouts left now out GuestFault r = absurd r
+cut-rollouts left now out (Refused f) r = absurd r
+cut-rollouts left now out (NotFinished u) r = absurd r
+cut-rollouts left now out OutOfMemory r = refl
+
+beyond-unbegun : (left now : Option (List ℕ)) → GoesBeyond MOST_INPUT left now → IsUnbegun left AboveLimit
+beyond-unbegun None now g = record { input = g.bytes; whole = tt; refused = long-rollout g.bytes (omega (arith, g.beyond)) }
+beyond-unbegun (Some left) (Some rest) g =
+    let same : left ≡ g.bytes ++ rest = cc (g.taken) in
+    record { input = left; whole = refl; refused = long-rollout left (omega (arith, g.beyond, ap length same, length-append g.bytes rest)) }
+beyond-unbegun (Some left) None g = absurd (cc (g.taken))
+
+pub cut-unbegun : (left now : Option (List ℕ)) (e : Ending) → IsCut left e now → IsUnbegun left e
+cut-unbegun left now Done r = absurd r
+cut-unbegun left now Usage r = absurd r
+cut-unbegun left now AboveLimit r = beyond-unbegun left now r
+cut-unbegun left now (Input f) r = absurd r
+cut-unbegun left now (NotValid p b) r = absurd r
+cut-unbegun left now (NoPlan u) r = absurd r
+cut-unbegun left now ReadFault r = tt
+cut-unbegun left now WriteFault r = absurd r
+cut-unbegun left now DiskFault r = absurd r
+cut-unbegun left now GuestFault r = absurd r
+cut-unbegun left now (Refused f) r = absurd r
+cut-unbegun left now (NotFinished u) r = absurd r
+cut-unbegun left now OutOfMemory r = tt
+
+-- ---- the disk and the ports
+
+module _ {D P : Type 0} (bytes : D → Option (List ℕ)) (may_leave : D → List ℕ → Type 0) (moment : D → ℕ) (left_since : D → ℕ → List ℕ → Type 0) (faults : D → ℕ) (port_faults : P → ℕ) (tell : P → Telling)
+    (limits : Limits) (policy : OpView → ℕ) (disk disk_now : D) (before fleet_now : FleetSeen P) (out out_now : Option (List ℕ)) where
+  unbegun : (left now : Option (List ℕ)) (input : List ℕ) (e : Ending) → IsShortInput left now input → IsRefused (rollout_in input) e → IsUnbegun left e
+  unbegun left now input e short h = by_ending e h
+    where
+      refuses : (x : Ending) → rollout_in input ≡ Err x → RefusesAs left x
+      refuses x is = record { input = input; whole = short.input.whole; refused = short-rollout input short.within ∙ is }
+
+      by_ending : (x : Ending) → IsRefused (rollout_in input) x → IsUnbegun left x
+      by_ending Done h = refuses Done h
+      by_ending Usage h = refuses Usage h
+      by_ending AboveLimit h = refuses AboveLimit h
+      by_ending (Input f) h = refuses (Input f) h
+      by_ending (NotValid p b) h = refuses (NotValid p b) h
+      by_ending (NoPlan u) h = refuses (NoPlan u) h
+      by_ending ReadFault h = tt
+      by_ending WriteFault h = refuses WriteFault h
+      by_ending DiskFault h = refuses DiskFault h
+      by_ending GuestFault h = refuses GuestFault h
+      by_ending (Refused f) h = refuses (Refused f) h
+      by_ending (NotFinished u) h = refuses (NotFinished u) h
+      by_ending OutOfMemory h = tt
+
+  pub input-rolls : (left now : Option (List ℕ)) (input : List ℕ) (e : Ending) → IsShortInput left now input
+      → RollsIn bytes may_leave moment left_since faults port_faults tell (rollout_in input) limits policy disk disk_now before fleet_now e out out_now
+      → Rolls bytes may_leave moment left_since faults port_faults tell left limits policy disk disk_now before fleet_now e out out_now
+  input-rolls left now input e short (inl refused) = inl (record { why = unbegun left now input e short refused.why; disk_is = refused.disk_is; fleet_is = refused.fleet_is })
+  input-rolls left now input e short (inr begun) = inr (record {
+    input = input;
+    whole = short.input.whole;
+    r = begun.0;
+    is = short-rollout input short.within ∙ begun.1;
+    rolls = begun.2;
+  })
+
+-- ---- the status that is told
+
+module _ {D P : Type 0} (bytes : D → Option (List ℕ)) (may_leave : D → List ℕ → Type 0) (moment : D → ℕ) (left_since : D → ℕ → List ℕ → Type 0) (faults : D → ℕ) (port_faults : P → ℕ) (tell : P → Telling)
+    (disk disk_now : D) (before fleet_now : FleetSeen P) where
+  pub told-rolls : (asked : Option Asked) (c : Asked) (left : Option (List ℕ)) (e : Ending) (status : ℕ) (noted noted_now : Option (List ℕ)) (failed failed_now : ℕ) (out out_now : Option (List ℕ)) → asked ≡ Some c
+      → IsTold e status noted noted_now failed failed_now → RollsAsked bytes may_leave moment left_since faults port_faults tell c left disk disk_now before fleet_now e out out_now
+      → RollsBy bytes may_leave moment left_since faults port_faults tell asked left disk disk_now before fleet_now status out out_now
+  told-rolls asked c left e status noted noted_now failed failed_now out out_now is told rolls =
+      subst (λ a. RollsBy bytes may_leave moment left_since faults port_faults tell a left disk disk_now before fleet_now status out out_now) (sym is) (record {
+        ending = e;
+        told = told.told;
+        told_as = told.is;
+        is_status = told.is_status;
+        rolls = rolls;
+      })
+
+  -- a rollout is what was asked for
+  pub asked-rolls : (what : Asked) (limits : Limits) (policy : OpView → ℕ) (left : Option (List ℕ)) (e : Ending) (out out_now : Option (List ℕ)) → what ≡ a_run limits policy
+      → Rolls bytes may_leave moment left_since faults port_faults tell left limits policy disk disk_now before fleet_now e out out_now
+      → RollsAsked bytes may_leave moment left_since faults port_faults tell what left disk disk_now before fleet_now e out out_now
+  asked-rolls what limits policy left e out out_now is rolls =
+      subst (λ a. RollsAsked bytes may_leave moment left_since faults port_faults tell a left disk disk_now before fleet_now e out out_now) (sym is) rolls
+
+  -- words that are no command line roll nothing out
+  pub usage-rolls : (asked : Option Asked) (left : Option (List ℕ)) (status : ℕ) (out out_now : Option (List ℕ)) → asked ≡ None
+      → RollsBy bytes may_leave moment left_since faults port_faults tell asked left disk disk_now before fleet_now status out out_now
+  usage-rolls asked left status out out_now is =
+      subst (λ a. RollsBy bytes may_leave moment left_since faults port_faults tell a left disk disk_now before fleet_now status out out_now) (sym is) tt

@@ -1,0 +1,186 @@
+-- What the command `run` brings about. A disk and a port are given by what they tell.
+use Rattle.std.specs.Prelude.{◌≡◌, ◌⊎◌, ⊤, ◌↔◌, ◌<◌, ◌^◌, Bool, true, false, ℕ, List, ◌++◌, codes, decimal, Option, Some, None, Result, Ok, Err, IfSome}
+use Rattle.rollout_rules.specs.Wan.{Rollout}
+use Rattle.rollout_rules.specs.Network.{IsNetwork}
+use Rattle.rollout_rules.specs.declared.op.OpView.{OpView}
+use Rattle.intent_journal.specs.declared.fault.JournalFault.TheVariants as fault
+use Rattle.shared_history.specs.declared.note.Cause.{Cause}
+use Rattle.shared_history.specs.declared.note.Cause.TheVariants as cause
+use Rattle.wan_edge.specs.Streams.{Rose}
+use Rattle.worker_ports.specs.Views.{Telling}
+use Rattle.rollout_ports.specs.Berths.{FleetPorts, ports_of}
+use Rattle.rollout_report.specs.Journals.{digest_for}
+use Rattle.rollout_run.specs.declared.running.Limits.{Limits}
+use Rattle.rollout_service.specs.Openings.{IsLeft}
+use Rattle.rollout_service.specs.Outcomes.{HasRolled, IfRolled, OnUnopened}
+use Rattle.rollout_service.specs.declared.answer.RunAnswer.{RunAnswer}
+use Rattle.rollout_service.specs.declared.answer.RunAnswer.TheVariants as outcome
+use Rattle.swanroll_top.specs.Endings.{ending_of_journal, status_of}
+use Rattle.swanroll_top.specs.Lines.{IsToldAs}
+use Rattle.swanroll_top.specs.Reports.{rollout_to}
+use Rattle.swanroll_top.specs.Runs.{Follows, IsInput}
+use Rattle.swanroll_top.specs.Safety.{IsValid}
+use Rattle.swanroll_top.specs.Taken.{IsValidDocument}
+use Rattle.swanroll_top.specs.Words.{Asked, a_report, a_run, a_text, a_trial, an_agent}
+use Rattle.swanroll_top.specs.declared.ending.Ending.{Ending}
+use Rattle.swanroll_top.specs.declared.ending.Ending.TheVariants.{DiskFault, Done, NotFinished, OutOfMemory, ReadFault, Refused, WriteFault}
+use Rattle.swanroll_top.specs.declared.unfinished.Unfinished.TheVariants.{RoundsSpent, PortFault, Above, NotMine, NoAnswer, Held}
+
+-- how many operations there are, and how many entries the journal had at first
+abbrev pub finished_line : ℕ → ℕ → List ℕ
+finished_line operations found = codes "finished: operations " ++ decimal operations ++ codes ", found " ++ decimal found ++ codes "\n"
+
+-- how a run ends that was stopped for this cause
+abbrev pub ending_of_stop : Rollout → Cause → Ending
+ending_of_stop r (cause.Spent rounds item number) = NotFinished (RoundsSpent rounds item number)
+ending_of_stop r (cause.Port switch) = NotFinished (PortFault r switch)
+ending_of_stop r (cause.Above item held begun) = NotFinished (Above item held begun)
+ending_of_stop r (cause.NotMine switch item) = NotFinished (NotMine r switch item)
+ending_of_stop r (cause.NoAnswer switch byte) = NotFinished (NoAnswer r switch byte)
+ending_of_stop r cause.Disk = DiskFault
+ending_of_stop r cause.Memory = OutOfMemory
+
+-- the line of a rollout that is finished, or how the run ends without one
+abbrev pub line_or_ending : RunAnswer → Result (List ℕ) Ending
+line_or_ending (outcome.Finished operations found) = Ok (finished_line operations found)
+line_or_ending (outcome.Held left) = Err (NotFinished (Held left))
+line_or_ending (outcome.Stopped r halt) = Err (ending_of_stop r halt.cause)
+line_or_ending (outcome.NoPort r switch) = Err (NotFinished (PortFault r switch))
+line_or_ending outcome.Memory = Err OutOfMemory
+line_or_ending (outcome.Unopened why) = Err (ending_of_journal why)
+
+-- the answers that tell a fault of the disk
+abbrev pub IsDiskFault : RunAnswer → Type 0
+IsDiskFault (outcome.Finished operations found) = ⊥
+IsDiskFault (outcome.Held left) = ⊥
+IsDiskFault (outcome.Stopped r halt) = halt.cause ≡ cause.Disk
+IsDiskFault (outcome.NoPort r switch) = ⊥
+IsDiskFault outcome.Memory = ⊥
+IsDiskFault (outcome.Unopened why) = why ≡ fault.Disk
+
+-- ---- what becomes of the disk and of the ports
+
+-- what a fleet tells: its ports, and how often it has failed
+pub record FleetSeen (P : Type 0) : Type 0 where
+  pub ports : FleetPorts P
+  pub faults : ℕ
+
+abbrev pub fleet_of : {F P : Type 0} → (F → Option (ℕ → Option P)) → (F → ℕ → Option P) → (F → ℕ → Bool) → (F → ℕ) → F → FleetSeen P
+fleet_of waiting kept lent faults fleet = record { ports = ports_of waiting kept lent fleet; faults = faults fleet }
+
+-- The rollout of an input, whose plan is valid, was run from what its disk had, over the ports of a fleet, and the run ends as the answer says.
+-- Where no journal was opened, no port was; where a port is missing, the fleet failed to give it.
+pub record RollsOut {D P : Type 0} (bytes : D → Option (List ℕ)) (may_leave : D → List ℕ → Type 0) (moment : D → ℕ) (left_since : D → ℕ → List ℕ → Type 0) (faults : D → ℕ) (port_faults : P → ℕ) (tell : P → Telling)
+    (r : Rollout) (limits : Limits) (policy : OpView → ℕ) (disk disk_now : D) (before now : FleetSeen P) (ending : Ending) (out out_now : Option (List ℕ)) : Type 0 where
+  pub network : IsNetwork r.problem
+  pub valid : IsValid r.problem r.plan
+  pub small : limits.migration < 2 ^ 32
+  pub answer : RunAnswer
+  pub rolled : IfRolled answer (HasRolled bytes may_leave moment left_since faults port_faults tell r (digest_for r limits.migration) policy limits.rounds disk before.ports now.ports disk_now answer)
+  pub unopened : OnUnopened answer (λ why. IsLeft bytes may_leave moment left_since faults r (digest_for r limits.migration) disk why disk_now × (now ≡ before))
+  pub no_port : (other : Rollout) (switch : ℕ) → answer ≡ outcome.NoPort other switch → Rose before.faults now.faults
+  pub follows : Follows (line_or_ending answer) ending out out_now
+
+-- the input is no document with a valid plan, and this is how it is refused
+pub record RefusesAs (left : Option (List ℕ)) (ending : Ending) : Type 0 where
+  pub input : List ℕ
+  pub whole : IfSome left (λ bytes. bytes ≡ input)
+  pub refused : rollout_to input ≡ Err ending
+
+-- why nothing was begun: the source failed, memory ran out, or the input was refused
+abbrev pub IsUnbegun : Option (List ℕ) → Ending → Type 0
+IsUnbegun left ReadFault = ⊤
+IsUnbegun left OutOfMemory = ⊤
+IsUnbegun left ending = RefusesAs left ending
+
+abbrev pub IsRefused : Result Rollout Ending → Ending → Type 0
+IsRefused rollout OutOfMemory = ⊤
+IsRefused rollout ending = rollout ≡ Err ending
+
+-- then the disk and the fleet are as they were
+pub record LeavesAll {D P : Type 0} (cause : Type 0) (disk disk_now : D) (before now : FleetSeen P) : Type 0 where
+  pub why : cause
+  pub disk_is : disk_now ≡ disk
+  pub fleet_is : now ≡ before
+
+-- The input is a rollout, and it was run.
+pub record RollsOutOf {D P : Type 0} (bytes : D → Option (List ℕ)) (may_leave : D → List ℕ → Type 0) (moment : D → ℕ) (left_since : D → ℕ → List ℕ → Type 0) (faults : D → ℕ) (port_faults : P → ℕ) (tell : P → Telling)
+    (left : Option (List ℕ)) (limits : Limits) (policy : OpView → ℕ) (disk disk_now : D) (before now : FleetSeen P) (ending : Ending) (out out_now : Option (List ℕ)) : Type 0 where
+  pub input : List ℕ
+  pub whole : IfSome left (λ bytes. bytes ≡ input)
+  pub r : Rollout
+  pub is : rollout_to input ≡ Ok r
+  pub rolls : RollsOut bytes may_leave moment left_since faults port_faults tell r limits policy disk disk_now before now ending out out_now
+
+-- either way
+abbrev pub Rolls : {D P : Type 0} → (D → Option (List ℕ)) → (D → List ℕ → Type 0) → (D → ℕ) → (D → ℕ → List ℕ → Type 0) → (D → ℕ) → (P → ℕ) → (P → Telling)
+    → Option (List ℕ) → Limits → (OpView → ℕ) → D → D → FleetSeen P → FleetSeen P → Ending → Option (List ℕ) → Option (List ℕ) → Type 0
+Rolls bytes may_leave moment left_since faults port_faults tell left limits policy disk disk_now before now ending out out_now =
+    LeavesAll (IsUnbegun left ending) disk disk_now before now
+    ⊎ RollsOutOf bytes may_leave moment left_since faults port_faults tell left limits policy disk disk_now before now ending out out_now
+
+-- the same of an input that is this rollout
+abbrev pub RollsIn : {D P : Type 0} → (D → Option (List ℕ)) → (D → List ℕ → Type 0) → (D → ℕ) → (D → ℕ → List ℕ → Type 0) → (D → ℕ) → (P → ℕ) → (P → Telling)
+    → Result Rollout Ending → Limits → (OpView → ℕ) → D → D → FleetSeen P → FleetSeen P → Ending → Option (List ℕ) → Option (List ℕ) → Type 0
+RollsIn bytes may_leave moment left_since faults port_faults tell rollout limits policy disk disk_now before now ending out out_now =
+    LeavesAll (IsRefused rollout ending) disk disk_now before now
+    ⊎ ((r : Rollout) × (rollout ≡ Ok r) × RollsOut bytes may_leave moment left_since faults port_faults tell r limits policy disk disk_now before now ending out out_now)
+
+-- the same by what the words ask for, and by what the source had left
+abbrev pub RollsAsked : {D P : Type 0} → (D → Option (List ℕ)) → (D → List ℕ → Type 0) → (D → ℕ) → (D → ℕ → List ℕ → Type 0) → (D → ℕ) → (P → ℕ) → (P → Telling)
+    → Asked → Option (List ℕ) → D → D → FleetSeen P → FleetSeen P → Ending → Option (List ℕ) → Option (List ℕ) → Type 0
+RollsAsked bytes may_leave moment left_since faults port_faults tell (a_text what) left disk disk_now before now ending out out_now = ⊤
+RollsAsked bytes may_leave moment left_since faults port_faults tell (a_report migration) left disk disk_now before now ending out out_now = ⊤
+RollsAsked bytes may_leave moment left_since faults port_faults tell (an_agent guests) left disk disk_now before now ending out out_now = ⊤
+RollsAsked bytes may_leave moment left_since faults port_faults tell (a_trial shape policy) left disk disk_now before now ending out out_now = ⊤
+RollsAsked bytes may_leave moment left_since faults port_faults tell (a_run limits policy) left disk disk_now before now ending out out_now =
+    Rolls bytes may_leave moment left_since faults port_faults tell left limits policy disk disk_now before now ending out out_now
+
+-- the same by the status
+pub record RollsAs {D P : Type 0} (bytes : D → Option (List ℕ)) (may_leave : D → List ℕ → Type 0) (moment : D → ℕ) (left_since : D → ℕ → List ℕ → Type 0) (faults : D → ℕ) (port_faults : P → ℕ) (tell : P → Telling)
+    (asked : Asked) (left : Option (List ℕ)) (disk disk_now : D) (before now : FleetSeen P) (status : ℕ) (out out_now : Option (List ℕ)) : Type 0 where
+  pub ending : Ending
+  pub told : Ending
+  pub told_as : IsToldAs ending told
+  pub is_status : status ≡ status_of told
+  pub rolls : RollsAsked bytes may_leave moment left_since faults port_faults tell asked left disk disk_now before now ending out out_now
+
+abbrev pub RollsBy : {D P : Type 0} → (D → Option (List ℕ)) → (D → List ℕ → Type 0) → (D → ℕ) → (D → ℕ → List ℕ → Type 0) → (D → ℕ) → (P → ℕ) → (P → Telling)
+    → Option Asked → Option (List ℕ) → D → D → FleetSeen P → FleetSeen P → ℕ → Option (List ℕ) → Option (List ℕ) → Type 0
+RollsBy bytes may_leave moment left_since faults port_faults tell None left disk disk_now before now status out out_now = ⊤
+RollsBy bytes may_leave moment left_since faults port_faults tell (Some asked) left disk disk_now before now status out out_now =
+    RollsAs bytes may_leave moment left_since faults port_faults tell asked left disk disk_now before now status out out_now
+
+-- ---- what is read and written
+
+-- how a run may end whose rollout was begun
+abbrev pub may_end : Ending → Bool
+may_end Done = true
+may_end WriteFault = true
+may_end DiskFault = true
+may_end (Refused e) = true
+may_end (NotFinished u) = true
+may_end OutOfMemory = true
+may_end ending = false
+
+pub record EndsRollout (ending : Ending) (out out_now : Option (List ℕ)) : Type 0 where
+  pub may : may_end ending ≡ true
+  pub silent : (status_of ending ≡ 0 → ⊥) → (status_of ending ≡ 7 → ⊥) → out_now ≡ out
+
+-- the input was refused, and nothing was written; or the rollout was begun
+abbrev pub FollowsRolled : Result Rollout Ending → Ending → Option (List ℕ) → Option (List ℕ) → Type 0
+FollowsRolled rollout ending out out_now =
+    (IsRefused rollout ending × (out_now ≡ out)) ⊎ (((r : Rollout) × (rollout ≡ Ok r)) × EndsRollout ending out out_now)
+
+-- The input of a rollout. It is refused exactly where it is no document with a valid plan.
+pub record FollowsRollout (left left_now : Option (List ℕ)) (ending : Ending) (out out_now : Option (List ℕ)) : Type 0 where
+  pub input : List ℕ
+  pub read : IsInput left left_now input
+  pub refused : (status_of ending ≡ 3) ↔ (IsValidDocument input → ⊥)
+  pub silent : (status_of ending ≡ 0 → ⊥) → (status_of ending ≡ 7 → ⊥) → out_now ≡ out
+
+-- what an ending of a rollout says: after a fault of the source, and for want of memory, that nothing was written
+abbrev pub RunsRollout : Option (List ℕ) → Option (List ℕ) → Ending → Option (List ℕ) → Option (List ℕ) → Type 0
+RunsRollout left left_now ReadFault out out_now = out_now ≡ out
+RunsRollout left left_now OutOfMemory out out_now = out_now ≡ out
+RunsRollout left left_now ending out out_now = FollowsRollout left left_now ending out out_now

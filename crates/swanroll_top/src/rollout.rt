@@ -1,0 +1,180 @@
+//! The command `run`: a rollout from the journal on the disk to the ports of a fleet.
+
+ghost use Rattle.std.specs.Prelude.{◌≡◌, ◌≢◌, ◌++◌, IfOk};
+ghost use Rattle.rollout_rules.specs.Network.{IsNetwork};
+ghost use Rattle.order_policy.specs.Answers.{rank_by};
+ghost use Rattle.wan_edge.specs.Streams.{Rose};
+ghost use Rattle.worker_ports.specs.Views.{telling};
+ghost use Rattle.swanroll_top.specs.Reports.{rollout_in};
+ghost use Rattle.swanroll_top.specs.Rollouts.{EndsRollout, FollowsRolled, IsDiskFault, Rolls, RollsIn, RollsOut, RunsRollout, ending_of_stop, finished_line, fleet_of, line_or_ending};
+ghost use Rattle.swanroll_top.specs.Runs.{Follows, Gives};
+ghost use Rattle.swanroll_top.specs.Safety.{IsValid};
+
+use crate::ending::Ending;
+use crate::reading::read_input;
+use crate::run::Closed;
+use crate::texts::rollout_of;
+use crate::unfinished::Unfinished;
+use crate::writing::write_text;
+use disk_model::Disk;
+use lists::{Memory, Text};
+use order_policy::Policy;
+use rollout_run::Limits;
+use rollout_service::{Outcome, RunAnswer, run_rollout};
+use shared_history::Cause;
+use std::alloc::Global;
+use std::sync::Wait;
+use std::thread::Threads;
+use wan_edge::{Fleet, Nums8, Sink, Source};
+use wan_model::CheckedPlan;
+
+/// Reads all of the source, and runs the rollout of its document within these limits under a policy, from
+/// what the journal on the disk has. A line says how many operations there are.
+pub fn roll_out<R: Wait + Threads + Sync, S: Source, K: Sink, D: Disk + Drop + Send, F: Fleet>(
+    rt: &R,
+    alloc: Global,
+    limits: Limits,
+    policy: &Policy,
+    source: &mut S,
+    sink: &mut K,
+    disk: D,
+    fleet: &mut F,
+) -> Closed<D>
+where
+    F::Port: Drop + Send,
+    ensures runs { RunsRollout (S.left source.old) (S.left source.new) result.ending (K.written sink.old) (K.written sink.new) }
+    ensures rolls { Rolls D.bytes D.may_leave D.moment D.left_since D.faults F.Port.faults (telling F.Port.offered F.Port.heard F.Port.held F.Port.quiet F.Port.faults F.Port.honest F.Port.prompt F.Port.start) (S.left source.old) limits (rank_by policy.now.answers) disk result.disk (fleet_of F.waiting F.kept F.lent F.faults fleet.old) (fleet_of F.waiting F.kept F.lent F.faults fleet.new) result.ending (K.written sink.old) (K.written sink.new) }
+    ensures guests { (F.coming fleet.new ≡ F.coming fleet.old) × (F.served fleet.new ≡ F.served fleet.old) × (F.visiting fleet.new ≡ F.visiting fleet.old) }
+    ensures read_fault { result.ending ≡ Ending.ReadFault → Rose (S.faults source.old) (S.faults source.new) }
+    ensures write_fault { result.ending ≡ Ending.WriteFault → Rose (K.faults sink.old) (K.faults sink.new) }
+    ensures disk_fault { result.ending ≡ Ending.DiskFault → Rose (D.faults disk) (D.faults result.disk) }
+    ensures others { (result.ending ≢ Ending.Usage) × (result.ending ≢ Ending.GuestFault) }
+{
+    match read_input(alloc, source) {
+        Ok(input) => roll_out_input(rt, alloc, limits, policy, input, sink, disk, fleet),
+        Err(ending) => Closed { ending, disk },
+    }
+}
+
+fn roll_out_input<R: Wait + Threads + Sync, K: Sink, D: Disk + Drop + Send, F: Fleet>(
+    rt: &R,
+    alloc: Global,
+    limits: Limits,
+    policy: &Policy,
+    input: Nums8,
+    sink: &mut K,
+    disk: D,
+    fleet: &mut F,
+) -> Closed<D>
+where
+    F::Port: Drop + Send,
+    ensures follows { FollowsRolled (rollout_in input) result.ending (K.written sink.old) (K.written sink.new) }
+    ensures rolls { RollsIn D.bytes D.may_leave D.moment D.left_since D.faults F.Port.faults (telling F.Port.offered F.Port.heard F.Port.held F.Port.quiet F.Port.faults F.Port.honest F.Port.prompt F.Port.start) (rollout_in input) limits (rank_by policy.now.answers) disk result.disk (fleet_of F.waiting F.kept F.lent F.faults fleet.old) (fleet_of F.waiting F.kept F.lent F.faults fleet.new) result.ending (K.written sink.old) (K.written sink.new) }
+    ensures guests { (F.coming fleet.new ≡ F.coming fleet.old) × (F.served fleet.new ≡ F.served fleet.old) × (F.visiting fleet.new ≡ F.visiting fleet.old) }
+    ensures write_fault { result.ending ≡ Ending.WriteFault → Rose (K.faults sink.old) (K.faults sink.new) }
+    ensures disk_fault { result.ending ≡ Ending.DiskFault → Rose (D.faults disk) (D.faults result.disk) }
+{
+    match rollout_of(alloc, input) {
+        Ok(plan) => roll_out_plan(rt, alloc, limits, policy, plan, sink, disk, fleet),
+        Err(ending) => Closed { ending, disk },
+    }
+}
+
+fn roll_out_plan<R: Wait + Threads + Sync, K: Sink, D: Disk + Drop + Send, F: Fleet>(
+    rt: &R,
+    alloc: Global,
+    limits: Limits,
+    policy: &Policy,
+    plan: CheckedPlan,
+    sink: &mut K,
+    disk: D,
+    fleet: &mut F,
+) -> Closed<D>
+where
+    F::Port: Drop + Send,
+    ensures rolls { RollsOut D.bytes D.may_leave D.moment D.left_since D.faults F.Port.faults (telling F.Port.offered F.Port.heard F.Port.held F.Port.quiet F.Port.faults F.Port.honest F.Port.prompt F.Port.start) plan limits (rank_by policy.now.answers) disk result.disk (fleet_of F.waiting F.kept F.lent F.faults fleet.old) (fleet_of F.waiting F.kept F.lent F.faults fleet.new) result.ending (K.written sink.old) (K.written sink.new) }
+    ensures ends { EndsRollout result.ending (K.written sink.old) (K.written sink.new) }
+    ensures guests { (F.coming fleet.new ≡ F.coming fleet.old) × (F.served fleet.new ≡ F.served fleet.old) × (F.visiting fleet.new ≡ F.visiting fleet.old) }
+    ensures write_fault { result.ending ≡ Ending.WriteFault → Rose (K.faults sink.old) (K.faults sink.new) }
+    ensures disk_fault { result.ending ≡ Ending.DiskFault → Rose (D.faults disk) (D.faults result.disk) }
+{
+    keeps_valid(&plan);
+    let Outcome { disk, answer } = run_rollout(rt, alloc, plan, policy, limits, disk, fleet);
+    Closed {
+        ending: write_outcome(alloc, answer, sink),
+        disk,
+    }
+}
+
+// What the type keeps: a network, and a plan that is valid for it.
+fn keeps_valid(plan: &CheckedPlan)
+    ensures network { IsNetwork plan.now.problem }
+    ensures valid { IsValid plan.now.problem plan.now.plan }
+{
+    let _ = plan.problem().links();
+    let _ = plan.plan();
+}
+
+/// Writes the line of a rollout that is finished, or says how the run ends without one.
+fn write_outcome<K: Sink>(alloc: Global, answer: RunAnswer, sink: &mut K) -> Ending
+    ensures follows { Follows (line_or_ending answer) result (K.written sink.old) (K.written sink.new) }
+    ensures ends { EndsRollout result (K.written sink.old) (K.written sink.new) }
+    ensures disk { result ≡ Ending.DiskFault → IsDiskFault answer }
+    ensures write_fault { result ≡ Ending.WriteFault → Rose (K.faults sink.old) (K.faults sink.new) }
+{
+    match line_of(alloc, answer) {
+        Ok(line) => write_text(sink, line.as_str()),
+        Err(ending) => ending,
+    }
+}
+
+fn line_of(alloc: Global, answer: RunAnswer) -> Result<Text, Ending>
+    ensures { Gives result (line_or_ending answer) }
+{
+    match answer {
+        RunAnswer::Finished { operations, found } => Ok(finished_line(alloc, operations, found)?),
+        RunAnswer::Held { left } => Err(Ending::NotFinished(Unfinished::Held(left))),
+        RunAnswer::Stopped(plan, halt) => Err(ending_of_stop(plan, halt.cause)),
+        RunAnswer::NoPort(plan, switch) => {
+            Err(Ending::NotFinished(Unfinished::PortFault(plan, switch)))
+        }
+        RunAnswer::Memory => Err(Ending::OutOfMemory),
+        RunAnswer::Unopened(cause) => Err(Ending::from(cause)),
+    }
+}
+
+fn finished_line(alloc: Global, operations: u32, found: u32) -> Result<Text, Memory>
+    ensures { IfOk result (λ text. text ≡ finished_line operations found) }
+{
+    let line = format!(in alloc; "finished: operations {operations}, found {found}\n")?;
+    Ok(Text::from(line))
+}
+
+// How a run ends whose rollout was stopped for this cause.
+fn ending_of_stop(plan: CheckedPlan, cause: Cause) -> Ending
+    ensures { result ≡ ending_of_stop plan cause }
+{
+    match cause {
+        Cause::Spent {
+            rounds,
+            item,
+            number,
+        } => Ending::NotFinished(Unfinished::RoundsSpent {
+            rounds,
+            item,
+            number,
+        }),
+        Cause::Port(switch) => Ending::NotFinished(Unfinished::PortFault(plan, switch)),
+        Cause::Above { item, held, begun } => {
+            Ending::NotFinished(Unfinished::Above { item, held, begun })
+        }
+        Cause::NotMine { switch, item } => {
+            Ending::NotFinished(Unfinished::NotMine(plan, switch, item))
+        }
+        Cause::NoAnswer { switch, byte } => {
+            Ending::NotFinished(Unfinished::NoAnswer(plan, switch, byte))
+        }
+        Cause::Disk => Ending::DiskFault,
+        Cause::Memory => Ending::OutOfMemory,
+    }
+}

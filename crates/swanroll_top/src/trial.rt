@@ -1,0 +1,49 @@
+//! The command `trial`, which reads nothing.
+
+ghost use Rattle.std.specs.Prelude.{◌≡◌, ◌≢◌};
+ghost use Rattle.order_policy.specs.Answers.{rank_by};
+ghost use Rattle.wan_edge.specs.Streams.{Rose};
+ghost use Rattle.swanroll_top.specs.Runs.{Follows, Gives};
+ghost use Rattle.swanroll_top.specs.declared.unfinished.Unfinished.{Unfinished};
+ghost use Rattle.swanroll_top.specs.Tries.{IsShape, tried};
+
+use crate::ending::Ending;
+use crate::writing::write_text;
+use case_gen::{Draws, make_case};
+use lists::Text;
+use order_policy::Policy;
+use plan_choose::choose;
+use sim_run::{Shape, run_trial};
+use std::alloc::Global;
+use wan_edge::Sink;
+
+/// Makes the case of these numbers, chooses a plan for it, and writes the text of its trial under a policy.
+pub fn trial<K: Sink>(alloc: Global, shape: &Shape, policy: &Policy, sink: &mut K) -> Ending
+    requires { IsShape shape.now }
+    ensures follows { Follows (tried (rank_by policy.now.answers) shape.now) result (K.written sink.old) (K.written sink.new) }
+    ensures write_fault { result ≡ Ending.WriteFault → Rose (K.faults sink.old) (K.faults sink.new) }
+    ensures no_rollout { (u : Unfinished) → result ≢ Ending.NotFinished u }
+    ensures others { (result ≢ Ending.Usage) × (result ≢ Ending.ReadFault) × (result ≢ Ending.DiskFault) × (result ≢ Ending.GuestFault) }
+{
+    match text_of(alloc, shape, policy) {
+        Ok(text) => write_text(sink, text.as_str()),
+        Err(ending) => ending,
+    }
+}
+
+fn text_of(alloc: Global, shape: &Shape, policy: &Policy) -> Result<Text, Ending>
+    requires { IsShape shape.now }
+    ensures { Gives result (tried (rank_by policy.now.answers) shape.now) }
+{
+    let mut draws = Draws::new(shape.seed);
+    let problem = make_case(alloc, shape.k, shape.switches, shape.flows, &mut draws)?;
+    let chosen = choose(alloc, problem)?;
+    Ok(run_trial(
+        alloc,
+        chosen.plan,
+        chosen.rate_steps,
+        policy,
+        shape,
+        &mut draws,
+    )?)
+}
