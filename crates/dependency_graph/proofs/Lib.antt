@@ -39,3 +39,4 @@ pub mod Blocked
 pub mod Roused
 pub mod Lacking
 pub mod Relatives
+pub mod Runs

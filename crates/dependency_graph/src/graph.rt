@@ -101,6 +101,13 @@ impl Graph {
         &self.plan
     }
 
+    /// How many items there are: the flows, and the entries of all tunnels.
+    pub fn item_count(&self) -> u32
+        ensures { result ≡ item_count self.now.rollout.problem }
+    {
+        self.course.item_count()
+    }
+
     /// How many operations there are in all. Time: the items.
     pub fn op_total(&self) -> u32
         ensures { result ≡ graph.op_total self.now.rollout }

@@ -17,6 +17,7 @@ pub mod Listings
 pub mod Legality
 pub mod Made
 pub mod NewParts
+pub mod Nothing
 pub mod NumbersRead
 pub mod Passages
 pub mod Pieces

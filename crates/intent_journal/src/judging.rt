@@ -1,5 +1,5 @@
 ghost use Rattle.std.specs.Prelude.{◌≡◌, ◌≤◌, ◌<◌, ◌&&◌, ◌==◌, [], Some, bytes_eq, drop, length, if◌then◌else◌, IfErr, IfNone, IfOk, IsTrue, MatchOption};
-ghost use Rattle.rollout_rules.specs.History.{from_nothing};
+ghost use Rattle.rollout_rules.specs.History.{from_nothing, started};
 ghost use Rattle.intent_journal.specs.Images as images;
 ghost use Rattle.intent_journal.specs.Images.{open_journal};
 ghost use Rattle.intent_journal.specs.declared.digest.Digest.{Digest};
@@ -21,7 +21,7 @@ use crate::listed::Listed;
 use crate::live::{FIRST_SIDE, SECOND_SIDE, live_side};
 use crate::part;
 use crate::slot::{OPEN_SLOT, Slot, part_of};
-use crate::starting::{is_start, start_of};
+use crate::starting::{is_nothing, is_start, start_of};
 use crate::walking::{OPEN_BATCH, read_list};
 use dependency_graph::Graph;
 use rollout_rules::EntryList;
@@ -184,7 +184,7 @@ fn bring(graph: &mut Graph, start: &[u32], listed: &Listed) -> Option<usize>
     ensures whole { IfNone result (IsTrue listed.now.whole) }
     ensures graph { IfNone result (graph.new ≡ with_history graph.old start.now listed.now.entries) }
 {
-    graph.restart(start);
+    begin_at(graph, start);
     let entries = listed.entries.as_slice();
     if let Some(place) = follow_all(graph, entries) {
         return Some(place);
@@ -194,6 +194,18 @@ fn bring(graph: &mut Graph, start: &[u32], listed: &Listed) -> Option<usize>
     } else {
         Some(entries.len())
     }
+}
+
+// Brings the graph to a start. At the one at which nothing is settled it stands already.
+fn begin_at(graph: &mut Graph, start: &[u32])
+    requires start { IsTrue (verdicts.is_start graph.old.rollout start.now) }
+    requires empty { graph.old.history ≡ from_nothing graph.old.rollout.problem [] }
+    ensures { graph.new ≡ record graph.old { history = started start.now } }
+{
+    if is_nothing(start) {
+        return;
+    }
+    graph.restart(start);
 }
 
 fn illegal_at(place: usize) -> JournalFault

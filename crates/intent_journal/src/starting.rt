@@ -1,4 +1,4 @@
-ghost use Rattle.std.specs.Prelude.{◌≡◌, IfOk};
+ghost use Rattle.std.specs.Prelude.{◌≡◌, length, IfOk, IsTrue};
 ghost use Rattle.rollout_rules.specs.Sums.{list_below};
 ghost use Rattle.intent_journal.specs.Parts as parts;
 ghost use Rattle.intent_journal.specs.Verdicts as verdicts;
@@ -6,7 +6,7 @@ ghost use Rattle.intent_journal.specs.Verdicts as verdicts;
 use crate::bytes::{from_place, number_of_4};
 use crate::part::start_count;
 use crate::slot::Slot;
-use dependency_graph::sound;
+use dependency_graph::{checked_plan_is_valid, sound};
 use lists::Memory;
 use std::alloc::Global;
 use wan_model::{CheckedPlan, item_count};
@@ -32,14 +32,30 @@ pub(crate) fn start_of(
     }
 }
 
-/// Whether a rollout may begin at a start.
+/// Whether a rollout may begin at a start. Where nothing is settled it may.
 pub(crate) fn is_start(alloc: Global, plan: &CheckedPlan, start: &[u32]) -> Result<bool, Memory>
     ensures { IfOk result (λ is. is ≡ verdicts.is_start plan.now start.now) }
 {
     if start.len() as u64 != u64::from(item_count(plan.problem())) {
         return Ok(false);
     }
+    if is_nothing(start) {
+        checked_plan_is_valid(plan);
+        return Ok(true);
+    }
     sound(alloc, plan, start)
+}
+
+/// Whether nothing is settled at a start.
+pub(crate) fn is_nothing(start: &[u32]) -> bool
+    ensures { IsTrue result → start.now ≡ list_below (length start.now) (λ n. 0) }
+{
+    for item in 0..start.len() {
+        if start[item] != 0 {
+            return false;
+        }
+    }
+    true
 }
 
 fn numbers(alloc: Global, count: u32, bytes: &[u8]) -> Result<Vec<u32>, Memory>

@@ -32,11 +32,10 @@ text_is s = one (Text s) (string s.now) (λ rest. value_is (Text s ∷ rest)) (�
 pub no_elements : AreItems [] 0 []
 no_elements = record { items = λ left rest. (let order : 0 + left ≡ left = omega arith in ap (λ k. items_at k rest) order); short = omega arith }
 
--- the first of some values, where there is a node
+-- the first of some values
 first_item : (d : Data) (more rest : List Node) (left : ℕ) → IsValue d more → items_at (suc left) (more ++ rest) ≡ item d (items_at left rest)
-first_item d [] rest left is = absurd (omega (arith, is.some))
-first_item d (n ∷ more) rest left is =
-    items_more left n (more ++ rest) ∙ ap (λ e. item e (items_at left (behind (n ∷ more ++ rest)))) (is.value rest)
+first_item d more rest left is =
+    items_more left (more ++ rest) ∙ ap (λ e. item e (items_at left (behind (more ++ rest)))) (is.value rest)
     ∙ ap (λ ns. item d (items_at left ns)) (is.passed rest)
 
 pub one_element_more : (ds : List Data) (count : ℕ) (old : List Node) (d : Data) (more : List Node) → AreItems ds count old → IsValue d more → AreItems (ds ++ d ∷ []) (count + 1) (old ++ more)

@@ -19,10 +19,9 @@ behind_short (Object size count ∷ ns) = omega (arith, length-drop size ns)
 module _ (f g : List Node → Data) (most : ℕ) (same : (ns : List Node) → length ns ≤ most → f ns ≡ g ns) where
   items_same : (count : ℕ) (ns : List Node) → length ns ≤ most → items_by f count ns ≡ items_by g count ns
   items_same zero ns le = refl
-  items_same (suc count) [] le = refl
-  items_same (suc count) (n ∷ ns) le =
-      ap (λ d. item d (items_by f count (behind (n ∷ ns)))) (same (n ∷ ns) le)
-      ∙ ap (item (g (n ∷ ns))) (items_same count (behind (n ∷ ns)) (omega (arith, behind_short (n ∷ ns))))
+  items_same (suc count) ns le =
+      ap (λ d. item d (items_by f count (behind ns))) (same ns le)
+      ∙ ap (item (g ns)) (items_same count (behind ns) (omega (arith, behind_short ns)))
 
   members_same : (count : ℕ) (ns : List Node) (found : Members) → length ns ≤ most → members_by f count ns found ≡ members_by g count ns found
   members_same zero ns found le = refl
@@ -94,28 +93,20 @@ items_none ns = refl
 pub items_ended : (count : ℕ) (ns : List Node) → count ≡ 0 → items_at count ns ≡ no_items
 items_ended count ns none = ap (λ k. items_at k ns) none ∙ items_none ns
 
-pub items_past : (count : ℕ) (ns : List Node) → length ns ≡ 0 → items_at count ns ≡ no_items
+pub items_more : (count : ℕ) (ns : List Node) → items_at (suc count) ns ≡ item (value_at ns) (items_at count (behind ns))
 unfolding items_at
-items_past zero ns none = refl
-items_past (suc count) [] none = refl
-items_past (suc count) (n ∷ ns) none = absurd (omega arith)
+items_more count ns = refl
 
-pub items_more : (count : ℕ) (n : Node) (ns : List Node) → items_at (suc count) (n ∷ ns) ≡ item (value_at (n ∷ ns)) (items_at count (behind (n ∷ ns)))
-unfolding items_at
-items_more count n ns = refl
-
-pub items_next : (count : ℕ) (ns : List Node) → 0 < count → 0 < length ns → items_at count ns ≡ item (value_at ns) (items_at (count - 1) (behind ns))
-items_next zero ns some more = absurd (omega arith)
-items_next (suc count) [] some more = absurd (omega arith)
-items_next (suc count) (n ∷ ns) some more =
+pub items_next : (count : ℕ) (ns : List Node) → 0 < count → items_at count ns ≡ item (value_at ns) (items_at (count - 1) (behind ns))
+items_next zero ns some = absurd (omega arith)
+items_next (suc count) ns some =
     let same : count ≡ suc count - 1 = omega arith in
-    items_more count n ns ∙ ap (λ k. item (value_at (n ∷ ns)) (items_at k (behind (n ∷ ns)))) same
+    items_more count ns ∙ ap (λ k. item (value_at ns) (items_at k (behind ns))) same
 
-pub items_short : (count : ℕ) (ns : List Node) → items_len (items_at count ns) ≤ count
+pub items_counted : (count : ℕ) (ns : List Node) → count ≡ items_len (items_at count ns)
 unfolding items_at
-items_short zero ns = omega arith
-items_short (suc count) [] = omega arith
-items_short (suc count) (n ∷ ns) = omega (arith, items_short count (behind (n ∷ ns)))
+items_counted zero ns = refl
+items_counted (suc count) ns = ap suc (items_counted count (behind ns))
 
 pub members_more : (count : ℕ) (key : Node) (ns : List Node) (found : Members) → members_at (suc count) (key ∷ ns) found ≡ members_at count (behind ns) (put (key_of key) (value_at ns) found)
 unfolding members_at

@@ -29,11 +29,10 @@ key_of (Text s) = s.now
 key_of (Array size count) = []
 key_of (Object size count) = []
 
--- so many values, each seen by a function
+-- so many values, each seen by a function, and null where no node is left
 abbrev pub items_by : (List Node → Data) → ℕ → List Node → Items
 items_by one zero ns = no_items
-items_by one (suc count) [] = no_items
-items_by one (suc count) (n ∷ ns) = item (one (n ∷ ns)) (items_by one count (behind (n ∷ ns)))
+items_by one (suc count) ns = item (one ns) (items_by one count (behind ns))
 
 -- so many keys with their values go in one after another
 abbrev pub members_by : (List Node → Data) → ℕ → List Node → Members → Members

@@ -24,15 +24,11 @@ impl<'t, 'a> Elements<'t, 'a> {
     }
 
     /// How many are left.
+    #[tactic(auto, using(crate::proofs::Values::items_counted))]
     pub fn len(&self) -> usize
         ensures { result ≡ items_len (items_view self.now) }
     {
-        let mut rest = *self;
-        let mut count = 0;
-        'elements: while rest.next().is_some() {
-            count += 1;
-        }
-        count
+        self.left
     }
 
     /// The next one, which is then no longer left.
@@ -41,7 +37,7 @@ impl<'t, 'a> Elements<'t, 'a> {
             ((items_view self.old ≡ no_items) × (items_view self.new ≡ no_items))
             (λ e. items_view self.old ≡ item (view e) (items_view self.new)) }
     {
-        if self.left == 0 || self.nodes.is_empty() {
+        if self.left == 0 {
             return None;
         }
         let nodes = self.nodes;

@@ -1,4 +1,4 @@
-ghost use Rattle.std.specs.Prelude.{◌≡◌, [], ◌++◌, OnOk, OnErr};
+ghost use Rattle.std.specs.Prelude.{◌≡◌, [], ◌++◌, IfOk, OnOk, OnErr};
 
 use std::alloc::{AllocError, Global};
 use std::marker::Model;
@@ -34,6 +34,15 @@ impl Text {
         Text {
             string: String::new(alloc),
         }
+    }
+
+    /// A text with room for so many bytes, so that it isn't moved until it has more. An Err is want of memory.
+    pub fn with_capacity(alloc: Global, bytes: usize) -> Result<Self, AllocError>
+        ensures { IfOk result (λ text. text ≡ []) }
+    {
+        Ok(Text {
+            string: String::with_capacity(alloc, bytes)?,
+        })
     }
 
     /// Adds a piece at the end. Want of memory changes nothing.

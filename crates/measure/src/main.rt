@@ -10,6 +10,7 @@ mod agent;
 mod case;
 mod checksum;
 mod frames;
+mod jobs;
 mod journal;
 mod linear;
 mod lock_turns;
@@ -19,9 +20,11 @@ mod program;
 mod recovery;
 mod rollout;
 mod rounds;
+mod slow_port;
 mod subject;
 mod tries;
 mod turns;
+mod waiting;
 mod workers;
 
 fn main(rt: HostRuntime) -> Result<()> {
@@ -35,6 +38,9 @@ fn main(rt: HostRuntime) -> Result<()> {
         Subject::Tries { times } => tries::measure(&rt, times),
         Subject::Turns(crowd) => turns::measure(&rt, &crowd),
         Subject::Rounds(load) => rounds::measure(&rt, workers::plan(&rt)?, load),
+        Subject::Waiting { milliseconds } => {
+            waiting::measure(&rt, workers::plan(&rt)?, milliseconds)
+        }
         Subject::Workers(crew) => workers::measure(&rt, workers::plan(&rt)?, crew),
     }
 }

@@ -136,7 +136,8 @@ fn dones_from<R: Wait, D: Disk + Drop>(
     }
 }
 
-fn opened<'d, D: Disk>(
+/// The book of a rollout at its start, opened on a disk.
+pub(crate) fn opened<'d, D: Disk>(
     alloc: Global,
     graph: Graph,
     digest: &Digest,
@@ -167,7 +168,7 @@ fn dones_of<R: Wait, D: Disk + Drop>(
     Ok(dones)
 }
 
-fn let_go<D: Disk + Drop>(book: Book<'_, D>) {
+pub(crate) fn let_go<D: Disk + Drop>(book: Book<'_, D>) {
     let (_graph, _disk) = book.into_parts();
 }
 

@@ -1,11 +1,11 @@
 use crate::frames::Load;
 use crate::rounds;
 use crate::turns::Crowd;
-use crate::workers::Crew;
+use crate::workers::{Crew, Pace};
 use anyhow::{Context, Result, bail};
 
 const SUBJECTS: &str =
-    "linear [TIMES], frames ITEMS COMMANDS PIECE TIMES, agent, journal, recovery TIMES, tries TIMES, turns THREADS TURNS lock|mutex, workers WORKERS ROUNDS, or rounds alone|shared led|idle ROUNDS";
+    "linear [TIMES], frames ITEMS COMMANDS PIECE TIMES, agent, journal, recovery TIMES, tries TIMES, turns THREADS TURNS lock|mutex, waiting MILLISECONDS, workers WORKERS ROUNDS [slow], or rounds alone|shared led|idle ROUNDS";
 
 /// What is measured.
 #[derive(Drop)]
@@ -24,6 +24,8 @@ pub(crate) enum Subject {
     Tries { times: u32 },
     /// Turns of threads at one value.
     Turns(Crowd),
+    /// A wait for work that begins after so many milliseconds.
+    Waiting { milliseconds: u32 },
     /// A rollout by workers.
     Workers(Crew),
     /// Rounds of a book.
@@ -57,9 +59,18 @@ pub(crate) fn of(words: &[String]) -> Result<Subject> {
             number(turns)?,
             guard.as_str(),
         )?)),
+        ("waiting", [milliseconds]) => Ok(Subject::Waiting {
+            milliseconds: number(milliseconds)?,
+        }),
         ("workers", [workers, rounds]) => Ok(Subject::Workers(Crew {
             workers: number(workers)?,
             rounds: number(rounds)?,
+            pace: Pace::AtOnce,
+        })),
+        ("workers", [workers, rounds, pace]) => Ok(Subject::Workers(Crew {
+            workers: number(workers)?,
+            rounds: number(rounds)?,
+            pace: pace_named(pace.as_str())?,
         })),
         ("rounds", [guard, answers, rounds]) => Ok(Subject::Rounds(rounds::Load::new(
             guard.as_str(),
@@ -72,4 +83,11 @@ pub(crate) fn of(words: &[String]) -> Result<Subject> {
 
 fn number(word: &str) -> Result<u32> {
     word.parse::<u32>().context("a whole number")
+}
+
+fn pace_named(word: &str) -> Result<Pace> {
+    match word {
+        "slow" => Ok(Pace::Slow),
+        _ => bail!("slow"),
+    }
 }

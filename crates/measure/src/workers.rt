@@ -1,8 +1,8 @@
-//! A rollout by workers over ports in memory that answer at once, from a journal on a disk in memory.
-//! Standard input is a document.
+//! A rollout by workers over ports in memory, from a journal on a disk in memory. Standard input is a document.
 ghost use Rattle.std.specs.Prelude.{◌≡◌};
 
 use crate::rollout;
+use crate::slow_port::SlowPort;
 use anyhow::{Result, bail};
 use disk_model::{Disk, MemoryDisk};
 use lossy_link::{FaithfulPort, MemoryFleet};
@@ -11,16 +11,26 @@ use rollout_run::Limits;
 use rollout_service::{Outcome, RunAnswer, run_rollout};
 use std::alloc::Global;
 use std::io::Read;
+use std::rt::Clock;
 use std::sync::Wait;
 use std::thread::Threads;
-use wan_edge::{Fleet, Nums8, Turns};
+use wan_edge::{Fleet, Nums8, Port, Turns};
 use wan_model::{CheckedPlan, OpView};
 
-/// So many workers at most, each of which may offer commands in so many rounds.
+/// When the ports answer.
+#[derive(Clone, Copy)]
+pub(crate) enum Pace {
+    AtOnce,
+    /// A millisecond after the commands came.
+    Slow,
+}
+
+/// So many workers at most, each of which may offer commands in so many rounds, over ports of this pace.
 #[derive(Clone, Copy)]
 pub(crate) struct Crew {
     pub workers: u32,
     pub rounds: u32,
+    pub pace: Pace,
 }
 
 /// What the rollout was told, and how many calls the disk had.
@@ -38,7 +48,7 @@ pub(crate) fn plan(rt: &HostRuntime) -> Result<CheckedPlan> {
 }
 
 /// Rolls the plan out, and prints how many operations were settled and how many calls the disk had.
-pub(crate) fn measure<R: Threads + Wait + Sync + AllocGlobal + Print>(
+pub(crate) fn measure<R: Threads + Wait + Sync + Clock + AllocGlobal + Print>(
     rt: &R,
     plan: CheckedPlan,
     crew: Crew,
@@ -60,7 +70,7 @@ fn print<R: Print>(rt: &R, rolled: &Rolled) -> Result<()> {
 }
 
 // The policy ranks all alike.
-fn rolled_ranked<R: Threads + Wait + Sync>(
+fn rolled_ranked<R: Threads + Wait + Sync + Clock>(
     rt: &R,
     alloc: Global,
     plan: CheckedPlan,
@@ -76,24 +86,33 @@ fn rolled_ranked<R: Threads + Wait + Sync>(
     rolled_by(rt, alloc, plan, &policy, crew)
 }
 
-fn rolled_by<R: Threads + Wait + Sync>(
+fn rolled_by<R: Threads + Wait + Sync + Clock>(
     rt: &R,
     alloc: Global,
     plan: CheckedPlan,
     policy: &Policy,
     crew: Crew,
 ) -> Result<Rolled> {
-    let mut fleet = fleet_of(alloc, plan.problem().switches().len() as u32)?;
-    Ok(rolled_over(rt, alloc, plan, policy, crew, &mut fleet))
+    let switches = plan.problem().switches().len() as u32;
+    match crew.pace {
+        Pace::AtOnce => {
+            let mut fleet = fleet_of(alloc, switches)?;
+            Ok(rolled_over(rt, alloc, plan, policy, crew, &mut fleet))
+        }
+        Pace::Slow => {
+            let mut fleet = slow_fleet_of(rt, alloc, switches)?;
+            Ok(rolled_over(rt, alloc, plan, policy, crew, &mut fleet))
+        }
+    }
 }
 
-fn rolled_over<R: Threads + Wait + Sync>(
+fn rolled_over<R: Threads + Wait + Sync, P: Port + Drop + Send>(
     rt: &R,
     alloc: Global,
     plan: CheckedPlan,
     policy: &Policy,
     crew: Crew,
-    fleet: &mut MemoryFleet<FaithfulPort>,
+    fleet: &mut MemoryFleet<P>,
 ) -> Rolled {
     let disk = MemoryDisk::new(alloc, Nums8::new(alloc), Turns::new(alloc));
     rolled_of(outcome_over(rt, alloc, plan, policy, crew, disk, fleet))
@@ -112,6 +131,19 @@ fn fleet_of(alloc: Global, switches: u32) -> Result<MemoryFleet<FaithfulPort>> {
     let mut fleet = MemoryFleet::new(alloc);
     for switch in 0..switches {
         fleet.put(switch, FaithfulPort::new(alloc))?;
+    }
+    Ok(fleet)
+}
+
+// A slow port at each of so many switches.
+fn slow_fleet_of<'r, R: Clock>(
+    rt: &'r R,
+    alloc: Global,
+    switches: u32,
+) -> Result<MemoryFleet<SlowPort<'r, R>>> {
+    let mut fleet = MemoryFleet::new(alloc);
+    for switch in 0..switches {
+        fleet.put(switch, SlowPort::new(rt, alloc))?;
     }
     Ok(fleet)
 }

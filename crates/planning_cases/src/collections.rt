@@ -30,5 +30,8 @@ fn a_text_grows_by_pieces(rt: HostRuntime) -> Result<(), Fail> {
     assert_eq!(rt; text.as_str(), "tunnel A>B");
     let whole = Text::from(String::from_str(rt.alloc(), "tunnel A>B")?);
     assert_eq!(rt; whole.as_str(), text.as_str());
+    let mut longer = Text::with_capacity(rt.alloc(), 4)?;
+    longer.push_str("tunnel A>B")?;
+    assert_eq!(rt; longer.as_str(), text.as_str());
     Ok(())
 }

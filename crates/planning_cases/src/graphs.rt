@@ -28,9 +28,13 @@ fn nothing_is_sound(alloc: Global) -> Result<bool, Memory> {
 fn nothing_is_finished(alloc: Global) -> Result<bool, Memory> {
     let plan = plan_of_nothing(alloc)?;
     match Graph::new(alloc, plan) {
-        Ok(graph) => Ok(graph.finished() && graph.op_total() == 0 && graph.least_stage() == 0),
+        Ok(graph) => Ok(has_nothing_left(&graph)),
         Err(_) => Err(Memory),
     }
+}
+
+fn has_nothing_left(graph: &Graph) -> bool {
+    graph.finished() && graph.item_count() == 0 && graph.op_total() == 0 && graph.least_stage() == 0
 }
 
 #[test]

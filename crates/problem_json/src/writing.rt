@@ -1,6 +1,7 @@
 mod pieces;
 mod plan;
 mod problem;
+mod room;
 mod round_trip;
 
 ghost use Rattle.std.specs.Prelude.{◌≡◌, IfOk, Ok};
@@ -14,6 +15,7 @@ use lists::{Memory, Text};
 use pieces::finished;
 use plan::push_plan;
 use problem::push_problem;
+use room::{plan_bytes, problem_bytes};
 pub use round_trip::written_problem_is_read;
 use std::alloc::Global;
 use wan_model::{Plan, Problem};
@@ -25,7 +27,7 @@ pub fn write_problem(alloc: Global, problem: &Problem) -> Result<Text, Memory>
     ensures text { IfOk result (λ text. text ≡ problem_text problem.now) }
     ensures reads { IfOk result (λ text. problem_in text ≡ Ok problem.now) }
 {
-    let mut text = Text::new(alloc);
+    let mut text = Text::with_capacity(alloc, problem_bytes(problem))?;
     push_problem(alloc, &mut text, problem)?;
     Ok(finished(text))
 }
@@ -35,7 +37,7 @@ pub fn write_plan(alloc: Global, plan: &Plan) -> Result<Text, Memory>
     ensures text { IfOk result (λ text. text ≡ plan_text plan.now) }
     ensures reads { IfOk result (λ text. IsPlanWithin plan.now → plan_in text ≡ Ok plan.now) }
 {
-    let mut text = Text::new(alloc);
+    let mut text = Text::with_capacity(alloc, plan_bytes(plan))?;
     push_plan(&mut text, plan)?;
     Ok(finished(text))
 }
@@ -47,7 +49,8 @@ pub fn write_document(alloc: Global, problem: &Problem, plan: &Plan) -> Result<T
     ensures reads { IfOk result (λ text. IsPlanWithin plan.now
         → document_in text ≡ Ok (record { problem = problem.now; plan = plan.now })) }
 {
-    let mut text = Text::new(alloc);
+    let bytes = problem_bytes(problem).saturating_add(plan_bytes(plan));
+    let mut text = Text::with_capacity(alloc, bytes)?;
     text.push_str(r#"{"plan":"#)?;
     push_plan(&mut text, plan)?;
     text.push_str(r#","problem":"#)?;

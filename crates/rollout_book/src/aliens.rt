@@ -6,7 +6,6 @@ ghost use Rattle.rollout_book.specs.Aliens as aliens;
 
 use crate::fault::BookFault;
 use dependency_graph::Graph;
-use wan_model::item_count;
 use wire_frames::Answer;
 
 /// What is said of the first answer that is alien: of an item that doesn't exist, or above what was begun.
@@ -15,7 +14,7 @@ pub(crate) fn first_alien(graph: &Graph, answers: &[Answer]) -> Option<BookFault
     requires legal { IsTrue (is_legal graph.now.rollout.problem graph.now.rollout.plan graph.now.history) }
     ensures { result ≡ aliens.first_alien graph.now answers.now }
 {
-    let items = item_count(graph.plan().problem());
+    let items = graph.item_count();
     for answer in answers {
         if let Some(fault) = alien_fault(graph, items, answer) {
             return Some(fault);

@@ -123,7 +123,7 @@ pub kept_send : (D M : RattleType) (g : Ghosts D.Denot) (h : Marks M.Denot) → 
 kept_send D M g h disk marker =
     view_send (within.the_row D M g h) _ _ _ _
     (recorded_send (within.the_field D M g h).row _ _ (within.the_type D M g h).to_one
-    (struct_send (shape (within.the_type D M g h)) (chronicle_send D g disk, (search noted depth 12 fits 3000, (search noted depth 12 fits 3000, (search noted, (search noted, tt)))))))
+    (struct_send (shape (within.the_type D M g h)) (one.Box-send (chronicle.the_row D g) (chronicle_send D g disk), (search noted depth 12 fits 3000, (search noted depth 12 fits 3000, (search noted, (search noted, tt)))))))
 
 -- a policy may be shared, where its closures may
 pub policy_sync : (T : RattleType) (g : Objects T.Denot) (asks : Mut ((x : T.Denot) × (g.1.0 x).0.Denot) (OpView × Unit {0}) (u64-field).Value) → Syncs (table_of T.Denot g) → IsSync T → IsSync (policy.the_row T g asks)

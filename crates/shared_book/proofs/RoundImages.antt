@@ -46,6 +46,10 @@ module _ {D : Type 0} (bytes : D → Option (List ℕ)) (may_leave : D → List 
   pub images-of : (disk : D) (log after : List Written) → log ≡ after → Images disk after → Images disk log
   images-of disk log after same was = subst (Images disk) (sym same) was
 
+  -- and of the disk of a book that is this one
+  pub images-as : (b c : Chronicled D) (log : List Written) → c ≡ b → Images b.disk log → Images c.disk log
+  images-as b c log same was = subst (λ (x : Chronicled D). Images x.disk log) (sym same) was
+
   module _ (log : List Written) (old : D) (was : Images old log) (seat : ℕ) where
     pub list-images : (reply : ListReply) → Images old (with_noted seat log (list_notes reply) [])
     list-images list.Listed = images-same bytes may_leave moment left_since faults o from count log old was seat what.Listed old refl (λ here. here)

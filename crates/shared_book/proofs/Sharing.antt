@@ -76,6 +76,11 @@ pub shared-at : {D : Type 0} {o : Opening} {seats : ℕ} {b : Chronicled D} {ns 
     → IsShared o seats b ns halt left most now.log
 shared-at {D} {o} {seats} {b} {ns} {halt} {left} {most} seen now same s = subst (λ (v : Sharing D). IsShared o seats b ns halt left most v.log) same s
 
+-- and of a book that is this one
+pub shared-as : {D : Type 0} {o : Opening} {seats : ℕ} {b : Chronicled D} {ns : List Note} {halt : Option Halt} {left most : ℕ} {log : List Written} (c : Chronicled D) → c ≡ b → IsShared o seats b ns halt left most log
+    → IsShared o seats c ns halt left most log
+shared-as {D} {o} {seats} {b} {ns} {halt} {left} {most} {log} c same s = subst (λ (x : Chronicled D). IsShared o seats x ns halt left most log) (sym same) s
+
 -- what a note makes of the book: its entries are in the history, and its segment in the list
 pub record GoesOnBy {D : Type 0} (old new : Chronicled D) (said : What) (es : List Entry) : Type 0 where
   pub rollout : new.rollout ≡ old.rollout

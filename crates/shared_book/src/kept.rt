@@ -9,7 +9,8 @@ use turn_lock::Counted;
 
 /// What lies under the lock: a chronicle, and the notes of the calls made to it.
 pub struct Kept<D: Disk, M: Marker> {
-    pub(crate) chronicle: Chronicle<D>,
+    // Boxed, so that a turn of the lock moves a pointer.
+    pub(crate) chronicle: Box<Chronicle<D>>,
     pub(crate) notes: Vec<Note>,
     pub(crate) halted: Option<Halt>,
     // How many seats have not asked yet that all stop. There is room for a note of each of them.
@@ -24,10 +25,10 @@ impl<D: Disk, M: Marker> Model for Kept<D, M> {
 
     ghost Value = { Sharing D };
 
-    ghost view = { λ k. record { book = k.chronicle; log = log_of k.chronicle k.notes.items } };
+    ghost view = { λ k. record { book = k.chronicle.value; log = log_of k.chronicle.value k.notes.items } };
 
-    ghost invariant = { λ k. IsShared M.opening M.seats k.chronicle k.notes.items k.halted k.spare (vec_capacity k.notes) (log_of k.chronicle k.notes.items)
-        × HasImages D.bytes D.may_leave D.moment D.left_since D.faults M.opening M.moment M.faults k.chronicle.disk (log_of k.chronicle k.notes.items) };
+    ghost invariant = { λ k. IsShared M.opening M.seats k.chronicle.value k.notes.items k.halted k.spare (vec_capacity k.notes) (log_of k.chronicle.value k.notes.items)
+        × HasImages D.bytes D.may_leave D.moment D.left_since D.faults M.opening M.moment M.faults k.chronicle.value.disk (log_of k.chronicle.value k.notes.items) };
 }
 
 impl<D: Disk, M: Marker> Counted for Kept<D, M> {

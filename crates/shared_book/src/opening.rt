@@ -10,7 +10,7 @@ use crate::marker::Marker;
 use disk_model::Disk;
 use rollout_book::Chronicle;
 use shared_history::{Halt, NoteList};
-use std::alloc::Global;
+use std::alloc::{AllocFailed, Global};
 use std::marker::PhantomData;
 
 impl<D: Disk, M: Marker> Kept<D, M> {
@@ -30,6 +30,10 @@ impl<D: Disk, M: Marker> Kept<D, M> {
         if notes.reserve(seats as usize).is_err() {
             return Err(chronicle);
         }
+        let chronicle = match Box::new(alloc, chronicle) {
+            Ok(chronicle) => chronicle,
+            Err(AllocFailed { value }) => return Err(value),
+        };
         Ok(Kept {
             chronicle,
             notes,
@@ -55,6 +59,6 @@ impl<D: Disk, M: Marker> Kept<D, M> {
             spare: _,
             of: _,
         } = self;
-        (chronicle, notes, halted)
+        (Box::into_inner(chronicle), notes, halted)
     }
 }

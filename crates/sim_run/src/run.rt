@@ -60,6 +60,9 @@ fn of_rehearsal(
     text
 }
 
+// Most lines of an act have fewer bytes.
+const LINE: usize = 32;
+
 /// What is said of acts, and behind them.
 fn text_of(
     alloc: Global,
@@ -70,7 +73,7 @@ fn text_of(
     requires { IsTrue rehearsal.old.live }
     ensures { IfOk result (λ text. text ≡ text_from rehearsal.old (rank_by policy.now.answers) script.now) }
 {
-    let mut text = Text::new(alloc);
+    let mut text = Text::with_capacity(alloc, script.len().saturating_mul(LINE))?;
     push_acts(rehearsal, policy, script, &mut text)?;
     rehearsal.push_end(alloc, &mut text)?;
     Ok(text)

@@ -78,10 +78,11 @@ fn carrier_stands(
     if plan.rate(next, t) == 0 {
         return true;
     }
-    entries_past(progress, plan, ahead, t, installed_since(plan, t, next))
+    entries_past(progress, plan, ahead, t, next)
 }
 
-/// Whether each entry of tunnel `t` stands at or past stage `s`.
+/// Whether each entry of tunnel `t` stands at or past the first stage of the run of stages at which the
+/// tunnel is installed, around stage `s`.
 fn entries_past(
     progress: &Progress,
     plan: &CheckedPlan,
@@ -91,7 +92,8 @@ fn entries_past(
 ) -> bool
     requires own { plan.now ≡ progress.now.rollout }
     requires tunnel { t < length plan.now.problem.tunnels }
-    ensures { result ≡ needs.entries_past plan.now.problem plan.now.plan (places_with plan.now progress.now ahead.now) t s }
+    requires stage { s ≤ wan.last_stage plan.now.plan }
+    ensures { result ≡ needs.entries_past plan.now.problem plan.now.plan (places_with plan.now progress.now ahead.now) t (needs.installed_since plan.now.plan t s) }
 {
     for hop in 0..plan.path(t).len() {
         if !entry_past(progress, plan, ahead, t, hop, s) {
@@ -113,10 +115,11 @@ fn entry_past(
     requires network { IsNetwork plan.now.problem }
     requires tunnel { t < length plan.now.problem.tunnels }
     requires hop { hop < wan.hops plan.now.problem t }
-    ensures { result ≡ nat_le s (history.stand plan.now.problem plan.now.plan (places_with plan.now progress.now ahead.now) (variants.Entry t hop)) }
+    requires stage { s ≤ wan.last_stage plan.now.plan }
+    ensures { result ≡ nat_le (needs.installed_since plan.now.plan t s) (history.stand plan.now.problem plan.now.plan (places_with plan.now progress.now ahead.now) (variants.Entry t hop)) }
 {
     let item = progress.lookup().first_entry(t) + hop as u32;
-    s <= stand(progress, plan, ahead, item)
+    installed_between(plan, t, stand(progress, plan, ahead, item), s)
 }
 
 /// An installation needs nothing; a removal needs that the flow has left the tunnel.
@@ -137,35 +140,35 @@ fn entry_may_change(
     }
     checked_plan_is_valid(plan);
     let flow = plan.flow_of(t) as u32;
-    idle_since(plan, t, s) <= stand(progress, plan, ahead, flow)
+    idle_between(plan, t, stand(progress, plan, ahead, flow), s)
 }
 
-/// The first stage of the run of stages at which tunnel `t` is installed, around stage `s`.
-fn installed_since(plan: &CheckedPlan, t: usize, s: usize) -> usize
+/// Whether tunnel `t` is installed at each stage from `from` to the one before `to`: whether the run of
+/// stages at which it is installed, around `to`, begins by `from`. Time: the stages from there to `to`.
+fn installed_between(plan: &CheckedPlan, t: usize, from: usize, to: usize) -> bool
     requires tunnel { t < length plan.now.problem.tunnels }
-    requires stage { s ≤ wan.last_stage plan.now.plan }
-    ensures { result ≡ needs.installed_since plan.now.plan t s }
+    requires stage { to ≤ wan.last_stage plan.now.plan }
+    ensures { result ≡ nat_le (needs.installed_since plan.now.plan t to) from }
 {
-    let mut since = 0;
-    for u in 0..s {
+    for u in from..to {
         if !plan.mark(u, t) {
-            since = u + 1;
+            return false;
         }
     }
-    since
+    true
 }
 
-/// The first stage of the run of stages at which tunnel `t` carries nothing, around stage `s`.
-fn idle_since(plan: &CheckedPlan, t: usize, s: usize) -> usize
+/// Whether tunnel `t` carries nothing at each stage from `from` to the one before `to`: whether the run of
+/// stages at which it carries nothing, around `to`, begins by `from`. Time: the stages from there to `to`.
+fn idle_between(plan: &CheckedPlan, t: usize, from: usize, to: usize) -> bool
     requires tunnel { t < length plan.now.problem.tunnels }
-    requires stage { s ≤ wan.last_stage plan.now.plan }
-    ensures { result ≡ needs.idle_since plan.now.plan t s }
+    requires stage { to ≤ wan.last_stage plan.now.plan }
+    ensures { result ≡ nat_le (needs.idle_since plan.now.plan t to) from }
 {
-    let mut since = 0;
-    for u in 0..s {
+    for u in from..to {
         if plan.rate(u, t) != 0 {
-            since = u + 1;
+            return false;
         }
     }
-    since
+    true
 }

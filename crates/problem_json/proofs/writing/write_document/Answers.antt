@@ -18,10 +18,10 @@ returns c =
     let network = c.in_ok-push_problem.ensures.network in
     let is : text ≡ compact_text (document_data p plan) =
     c.finished.ensures.same
-    ∙ two_members c.new-text.result (codes "{\"plan\":") (compact_text (plan_data plan)) (codes ",\"problem\":") (compact_text (problem_data p))
+    ∙ two_members c.in_ok-text.text (codes "{\"plan\":") (compact_text (plan_data plan)) (codes ",\"problem\":") (compact_text (problem_data p))
     c.push_str.new.self c.push_plan.new.text c.push_str-2.new.self c.push_problem.new.text c.push_str-3.new.self
     c.in_ok-push_str.ensures.ok c.in_ok-push_plan.ensures.text c.in_ok-push_str-2.ensures.ok c.in_ok-push_problem.ensures.text c.in_ok-push_str-3.ensures.ok
-    ∙ ap (λ t. t ++ compact_text (document_data p plan)) c.new-text.ensures in
+    ∙ ap (λ t. t ++ compact_text (document_data p plan)) c.in_ok-text.ensures in
     let utf8 : IsUtf8 text = subst IsUtf8 (sym c.finished.ensures.same) c.finished.ensures.utf8 in
     let reads : read text ≡ Some (document_data p plan) = ap read is ∙ document_text_reads p plan network c.in_ok-push_plan.ensures.words in
     record {

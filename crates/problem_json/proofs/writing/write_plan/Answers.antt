@@ -14,7 +14,7 @@ unfolding plan_text plan_in
 returns c =
     let plan = c.args.plan.now in
     let text = c.finished.result in
-    let is : text ≡ compact_text (plan_data plan) = c.finished.ensures.same ∙ c.in_ok-push_plan.ensures.text ∙ ap (λ t. t ++ compact_text (plan_data plan)) c.new-text.ensures in
+    let is : text ≡ compact_text (plan_data plan) = c.finished.ensures.same ∙ c.in_ok-push_plan.ensures.text ∙ ap (λ t. t ++ compact_text (plan_data plan)) c.in_ok-text.ensures in
     let utf8 : IsUtf8 text = subst IsUtf8 (sym c.finished.ensures.same) c.finished.ensures.utf8 in
     let reads : read text ≡ Some (plan_data plan) = ap read is ∙ plan_text_reads plan c.in_ok-push_plan.ensures.words in
     record {

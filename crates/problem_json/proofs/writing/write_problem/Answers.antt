@@ -15,7 +15,7 @@ returns c =
     let p = c.args.problem.now in
     let text = c.finished.result in
     let network = c.in_ok-push_problem.ensures.network in
-    let is : text ≡ compact_text (problem_data p) = c.finished.ensures.same ∙ c.in_ok-push_problem.ensures.text ∙ ap (λ t. t ++ compact_text (problem_data p)) c.new-text.ensures in
+    let is : text ≡ compact_text (problem_data p) = c.finished.ensures.same ∙ c.in_ok-push_problem.ensures.text ∙ ap (λ t. t ++ compact_text (problem_data p)) c.in_ok-text.ensures in
     let utf8 : IsUtf8 text = subst IsUtf8 (sym c.finished.ensures.same) c.finished.ensures.utf8 in
     let reads : read text ≡ Some (problem_data p) = ap read is ∙ problem_text_reads p network in
     record {

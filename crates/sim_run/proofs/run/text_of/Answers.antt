@@ -4,5 +4,5 @@ use Rattle.sim_run.proofs.run.text_of.Goals as goal
 
 pub returns : goal.returns
 returns g c =
-    text_is (rank_by c.args.policy.now.answers) c.args.script.now c.args.rehearsal.now c.push_acts.new.rehearsal c.new-text.result c.push_acts.new.text c.push_end.new.text
-    c.new-text.ensures c.in_ok-push_acts.ensures.state c.in_ok-push_acts.ensures.text c.in_ok-push_end.ensures
+    text_is (rank_by c.args.policy.now.answers) c.args.script.now c.args.rehearsal.now c.push_acts.new.rehearsal c.in_ok-text.text c.push_acts.new.text c.push_end.new.text
+    c.in_ok-text.ensures c.in_ok-push_acts.ensures.state c.in_ok-push_acts.ensures.text c.in_ok-push_end.ensures

@@ -1,6 +1,7 @@
 use Rattle.std.proofs.Common.{◌≡◌, ◌+◌, ◌∙◌, sym, ap, arith, nat_le}
 use Rattle.rollout_rules.specs.Wan.{Rollout}
 use Rattle.rollout_rules.specs.Items.{number_of}
+use Rattle.rollout_rules.specs.Needs.{installed_since}
 use Rattle.rollout_rules.specs.declared.item.Item.TheVariants as item
 use Rattle.rollout_rules.proofs.Numbers.{number_of-below}
 use Rattle.rollout_rules.proofs.OverItems.{is_item-entry}
@@ -27,4 +28,4 @@ returns c =
     let p = c.args.plan.now.problem in
     let same : c.lookup.result.now ≡ c.args.plan.now = c.lookup.ensures ∙ sym c.requires.own in
     let number : c.first_entry.result + c.args.hop ≡ number_of p (item.Entry c.args.t c.args.hop) = omega (arith, c.first_entry.ensures, ap (λ (q : Rollout). number_of q.problem (item.Entry c.args.t 0)) same) in
-    ap (nat_le c.args.s) (c.stand.ensures.value ∙ stand-entry c.args.plan.now c.args.progress.now c.args.ahead.now c.args.t c.args.hop (c.first_entry.result + c.args.hop) c.requires.tunnel c.requires.hop number)
+    c.installed_between.ensures ∙ ap (nat_le (installed_since c.args.plan.now.plan c.args.t c.args.s)) (c.stand.ensures.value ∙ stand-entry c.args.plan.now c.args.progress.now c.args.ahead.now c.args.t c.args.hop (c.first_entry.result + c.args.hop) c.requires.tunnel c.requires.hop number)

@@ -2,20 +2,17 @@ use Rattle.std.proofs.Common.{◌-◌, sym, ap, ◌∙◌, arith}
 use Rattle.serde_json.specs.Data.{item}
 use Rattle.json_data.specs.View.{view}
 use Rattle.json_data.specs.Nodes.{behind, items_at}
-use Rattle.json_data.proofs.Values.{items_ended, items_past, items_next}
+use Rattle.json_data.proofs.Values.{items_ended, items_next}
 use Rattle.json_data.proofs.elements.Elements.next.Goals as goal
-use Rattle.json_data.proofs.elements.Elements.next.Goals.{then-self-eq0-via-then-self-eq0, then-self-eq0-via-else-self-eq0+then-is_empty}
 
 pub returns-then-self-eq0 : goal.returns-then-self-eq0
-returns-then-self-eq0 c = elim c.then-self-eq0.branch [
-  | then-self-eq0-via-then-self-eq0 w ↦ (items_ended c.args.self.now.left c.args.self.now.nodes.now (omega (arith, w.if-self-eq0.true)), items_ended c.args.self.now.left c.args.self.now.nodes.now (omega (arith, w.if-self-eq0.true)))
-  | then-self-eq0-via-else-self-eq0+then-is_empty w ↦ (items_past c.args.self.now.left c.args.self.now.nodes.now (grind (arith, w.if-is_empty.true)), items_past c.args.self.now.left c.args.self.now.nodes.now (grind (arith, w.if-is_empty.true)))
-]
+returns-then-self-eq0 c =
+    (items_ended c.args.self.now.left c.args.self.now.nodes.now (omega (arith, c.if-self-eq0.true)), items_ended c.args.self.now.left c.args.self.now.nodes.now (omega (arith, c.if-self-eq0.true)))
 
 pub returns : goal.returns
 returns c =
     let ns = c.args.self.now.nodes.now in
     let left = c.args.self.now.left in
-    items_next left ns (grind arith) (grind arith)
+    items_next left ns (grind arith)
     ∙ ap (λ d. item d (items_at (left - 1) (behind ns))) (sym c.first.ensures)
     ∙ ap (λ rest. item (view c.first.result) (items_at (left - 1) rest)) (sym c.behind-self.ensures)

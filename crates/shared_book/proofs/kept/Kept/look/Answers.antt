@@ -1,37 +1,39 @@
-use Rattle.std.proofs.Common.{rules, sym, ◌∙◌, vec_capacity}
+use Rattle.std.proofs.Common.{rules, ap, sym, ◌∙◌, vec_capacity}
+use Rattle.rollout_book.specs.Chronicles.{Chronicled}
+use Rattle.shared_book.specs.Waking.{wake_of}
 use Rattle.shared_book.proofs.RoundImages.{images-at, images-of, wake-images}
-use Rattle.shared_book.proofs.Sharing.{shared-at}
+use Rattle.shared_book.proofs.Sharing.{shared-as, shared-at}
 use Rattle.shared_book.proofs.Woken.{wake-is, wake-leaves}
 use Rattle.shared_book.proofs.kept.Kept.look.Goals as goal
 
 pub returns-in_default-clause-told : goal.returns-in_default-clause-told
 returns-in_default-clause-told g c =
-    sym c.in_default.is ∙ (c.woken.ensures ∙ wake-is _ _ _ _ _ _ _ _ (shared-at _ _ c.self.view_is c.self.invariant.0) c.args.switches.now)
+    sym c.in_default.is ∙ (c.woken.ensures ∙ wake-is _ _ _ _ _ _ _ _ (shared-as _ c.deref.ensures (shared-at _ _ c.self.view_is c.self.invariant.0)) c.args.switches.now)
 
 pub invariant_of-self-2 : goal.invariant_of-self-2
 invariant_of-self-2 g c =
-    let leaves = wake-leaves _ _ _ _ _ _ _ _ _ _ (vec_capacity c.write_if.new.notes) _ c.args.seat c.args.call c.args.switches.now c.in-Some.woken c.noted.result (shared-at _ _ c.self.view_is c.self.invariant.0) c.requires.call (sym c.in-Some.is ∙ c.woken.ensures)
+    let leaves = wake-leaves _ _ _ _ _ _ _ _ _ _ (vec_capacity c.write_if.new.notes) _ c.args.seat c.args.call c.args.switches.now c.in-Some.woken c.noted.result (shared-at _ _ c.self.view_is c.self.invariant.0) c.requires.call (sym c.in-Some.is ∙ c.woken.ensures ∙ ap (λ (b : Chronicled g.row.D.Denot). wake_of b c.self.inside.halted c.args.switches.now) c.deref.ensures)
     c.noted.ensures c.make_room.ensures.same c.write_if.ensures.written (search rules) in (
       leaves.shared,
       images-of g.D.Disk.bytes g.D.Disk.may_leave g.D.Disk.moment g.D.Disk.left_since g.D.Disk.faults g.M.Marker.opening g.M.Marker.moment g.M.Marker.faults
-          c.self.inside.chronicle.disk _ _ leaves.noted
+          c.self.inside.chronicle.value.disk _ _ leaves.noted
           (wake-images g.D.Disk.bytes g.D.Disk.may_leave g.D.Disk.moment g.D.Disk.left_since g.D.Disk.faults g.M.Marker.opening g.M.Marker.moment g.M.Marker.faults
-          c.args.self.now.log c.self.inside.chronicle.disk
-          (images-at g.D.Disk.bytes g.D.Disk.may_leave g.D.Disk.moment g.D.Disk.left_since g.D.Disk.faults g.M.Marker.opening g.M.Marker.moment g.M.Marker.faults c.self.inside.chronicle.disk _ _ c.self.view_is c.self.invariant.1)
+          c.args.self.now.log c.self.inside.chronicle.value.disk
+          (images-at g.D.Disk.bytes g.D.Disk.may_leave g.D.Disk.moment g.D.Disk.left_since g.D.Disk.faults g.M.Marker.opening g.M.Marker.moment g.M.Marker.faults c.self.inside.chronicle.value.disk _ _ c.self.view_is c.self.invariant.1)
           c.args.seat c.in-Some.woken),
     )
 
 pub returns-clause-legal : goal.returns-clause-legal
 returns-clause-legal g c =
-    (wake-leaves _ _ _ _ _ _ _ _ _ _ (vec_capacity c.write_if.new.notes) _ c.args.seat c.args.call c.args.switches.now c.in-Some.woken c.noted.result (shared-at _ _ c.self.view_is c.self.invariant.0) c.requires.call (sym c.in-Some.is ∙ c.woken.ensures)
+    (wake-leaves _ _ _ _ _ _ _ _ _ _ (vec_capacity c.write_if.new.notes) _ c.args.seat c.args.call c.args.switches.now c.in-Some.woken c.noted.result (shared-at _ _ c.self.view_is c.self.invariant.0) c.requires.call (sym c.in-Some.is ∙ c.woken.ensures ∙ ap (λ (b : Chronicled g.row.D.Denot). wake_of b c.self.inside.halted c.args.switches.now) c.deref.ensures)
     c.noted.ensures c.make_room.ensures.same c.write_if.ensures.written (search rules)).shared.legal
 
 pub returns-clause-log : goal.returns-clause-log
 returns-clause-log g c =
-    (wake-leaves _ _ _ _ _ _ _ _ _ _ (vec_capacity c.write_if.new.notes) _ c.args.seat c.args.call c.args.switches.now c.in-Some.woken c.noted.result (shared-at _ _ c.self.view_is c.self.invariant.0) c.requires.call (sym c.in-Some.is ∙ c.woken.ensures)
+    (wake-leaves _ _ _ _ _ _ _ _ _ _ (vec_capacity c.write_if.new.notes) _ c.args.seat c.args.call c.args.switches.now c.in-Some.woken c.noted.result (shared-at _ _ c.self.view_is c.self.invariant.0) c.requires.call (sym c.in-Some.is ∙ c.woken.ensures ∙ ap (λ (b : Chronicled g.row.D.Denot). wake_of b c.self.inside.halted c.args.switches.now) c.deref.ensures)
     c.noted.ensures c.make_room.ensures.same c.write_if.ensures.written (search rules)).noted
 
 pub returns-clause-told : goal.returns-clause-told
 returns-clause-told g c =
-    (wake-leaves _ _ _ _ _ _ _ _ _ _ (vec_capacity c.write_if.new.notes) _ c.args.seat c.args.call c.args.switches.now c.in-Some.woken c.noted.result (shared-at _ _ c.self.view_is c.self.invariant.0) c.requires.call (sym c.in-Some.is ∙ c.woken.ensures)
+    (wake-leaves _ _ _ _ _ _ _ _ _ _ (vec_capacity c.write_if.new.notes) _ c.args.seat c.args.call c.args.switches.now c.in-Some.woken c.noted.result (shared-at _ _ c.self.view_is c.self.invariant.0) c.requires.call (sym c.in-Some.is ∙ c.woken.ensures ∙ ap (λ (b : Chronicled g.row.D.Denot). wake_of b c.self.inside.halted c.args.switches.now) c.deref.ensures)
     c.noted.ensures c.make_room.ensures.same c.write_if.ensures.written (search rules)).told

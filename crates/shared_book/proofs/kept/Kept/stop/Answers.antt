@@ -26,10 +26,10 @@ invariant_of-self g c =
     let leaves = stop-leaves _ _ _ _ _ _ _ _ _ (vec_capacity c.write.new.notes) _ c.args.seat c.args.call c.args.cause s c.requires.seat not_yet c.requires.call c.write.ensures.notes c.write.ensures.halted (let r = c.write.ensures.room in omega arith) in (
       leaves.shared,
       images-of g.D.Disk.bytes g.D.Disk.may_leave g.D.Disk.moment g.D.Disk.left_since g.D.Disk.faults g.M.Marker.opening g.M.Marker.moment g.M.Marker.faults
-          c.self.inside.chronicle.disk _ _ leaves.noted
+          c.self.inside.chronicle.value.disk _ _ leaves.noted
           (stop-images g.D.Disk.bytes g.D.Disk.may_leave g.D.Disk.moment g.D.Disk.left_since g.D.Disk.faults g.M.Marker.opening g.M.Marker.moment g.M.Marker.faults
-          c.args.self.now.log c.self.inside.chronicle.disk
-          (images-at g.D.Disk.bytes g.D.Disk.may_leave g.D.Disk.moment g.D.Disk.left_since g.D.Disk.faults g.M.Marker.opening g.M.Marker.moment g.M.Marker.faults c.self.inside.chronicle.disk _ _ c.self.view_is c.self.invariant.1)
+          c.args.self.now.log c.self.inside.chronicle.value.disk
+          (images-at g.D.Disk.bytes g.D.Disk.may_leave g.D.Disk.moment g.D.Disk.left_since g.D.Disk.faults g.M.Marker.opening g.M.Marker.moment g.M.Marker.faults c.self.inside.chronicle.value.disk _ _ c.self.view_is c.self.invariant.1)
           c.args.seat c.args.cause),
     )
 

@@ -1,6 +1,0 @@
-use Rattle.std.proofs.Common.{◌≡◌}
-use Rattle.rollout_rules.specs.Needs.{idle_since}
-use Rattle.dependency_graph.proofs.progress.needs.idle_since.Given as goal
-
-abbrev pub invariant-loop-u : goal.invariant-loop-u
-invariant-loop-u l = l.since ≡ idle_since l.plan.plan l.t l.u

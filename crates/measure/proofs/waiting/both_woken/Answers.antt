@@ -1,0 +1,27 @@
+use denote.Exit.{no}
+use denote.Param.{param}
+use denote.Param.Callables.{held_fn}
+use denote.Param.Object.{Vt, ghosts_of}
+use denote.Param.Send.{param_send, arg_send, shr_sync, sendable}
+use Rattle.shared_book.proofs.shared.Shared.TheSendSync as shared
+use Rattle.shared_history.specs.contracts.note.Written as written
+use Rattle.shared_book.specs.contracts.kept.KeptCounted.TheImpl as counted
+use Rattle.rollout_run.proofs.Sends.{kept_send, policy_sync}
+use Rattle.measure.specs.contracts.waiting.both_woken.dyn-1.{slots}
+use Rattle.measure.proofs.waiting.Duty.TheSendSync as duty
+use Rattle.measure.proofs.waiting.Woken.TheSendSync as woken
+use Rattle.measure.proofs.waiting.both_woken.Goals as goal
+
+pub two_jobs-requires-send-J : goal.two_jobs-requires-send-J
+two_jobs-requires-send-J g c κs within =
+    let asks = slots g.row.R g.row.D g.row.M in
+    let kept = kept_send (param 1 g.row.D) (param 2 g.row.M) g.D.Disk g.M.Marker c.type_bounds.send-D c.type_bounds.send-M in
+    let policy = policy_sync (Vt asks g.dyn-1.0) (ghosts_of asks g.dyn-1.0 g.dyn-1.1) (held_fn g.dyn-1.0) g.dyn-1.3 (search sendable) in
+    let counts = counted.ghosts (param 1 g.row.D) (param 2 g.row.M) g.D.Disk g.D.Disk-dict g.M.Marker g.M.Marker-dict in
+    param_send _ _ (arg_send _ no _ (duty.the_send _ _ _ _ written.the_row counts kept c.type_bounds.sync-R (shared.the_sync _ _ written.the_row counts kept (shr_sync _ _ _ policy))))
+
+pub two_jobs-requires-send-J-Output : goal.two_jobs-requires-send-J-Output
+two_jobs-requires-send-J-Output g c κs within =
+    let kept = kept_send (param 1 g.row.D) (param 2 g.row.M) g.D.Disk g.M.Marker c.type_bounds.send-D c.type_bounds.send-M in
+    let counts = counted.ghosts (param 1 g.row.D) (param 2 g.row.M) g.D.Disk g.D.Disk-dict g.M.Marker g.M.Marker-dict in
+    param_send _ _ (arg_send _ no _ (woken.the_send _ written.the_row counts kept))
