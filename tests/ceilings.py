@@ -1,5 +1,5 @@
 """What the policy `freeze` holds back, by what the environment says in SWANROLL_CEILING. Rehearses the example `ceiling` under each: three flows
-have two operations each, from stage 0 and from stage 1.
+have two operations each, from stage 0 and from stage 1. And rolls such a plan out under a ceiling, by any number of workers, and then to its end.
 
     python3 tests/ceilings.py PROGRAM
 """
@@ -8,7 +8,9 @@ import os
 import subprocess
 import sys
 
+from named import document
 from outcomes import report
+from rolling import finished, rollout, same, stopped
 
 HERE = os.path.dirname(os.path.abspath(__file__))
 EXAMPLE = os.path.join(HERE, "..", "examples", "ceiling.json")
@@ -53,5 +55,25 @@ def cases(program):
         yield f"{policy} with a ceiling", wrong(program, b"0", NONE_HELD, policy)
 
 
+def rolled_out(program):
+    """A rollout that is held at a ceiling, that goes on to a higher one, and that a policy which holds nothing ends."""
+    ahead = document("ahead.json")
+    for workers in (1, 2, 16):
+        with rollout(program, ahead) as one:
+            words = f"run --policy freeze --workers {workers}"
+            yield f"a run held everywhere by {workers}", same(one.run(words, one.having(SWANROLL_CEILING="0")), stopped(14, "held: operations 6")) or same(one.commands(), 0)
+            for starts in range(2):
+                yield f"a run held at 1 by {workers}, start {starts}", same(one.run(words, one.having(SWANROLL_CEILING="1")), stopped(14, "held: operations 3"))
+                yield f"a run held at 1 by {workers}, start {starts}, the commands", same(one.commands(), 3)
+            yield f"a run that was held by {workers}, to its end", same(one.run(f"run --workers {workers}"), finished(6, 6)) or one.misses()
+    with rollout(program, ahead) as one:
+        yield "a run under no ceiling", same(one.run("run --policy freeze", one.having(SWANROLL_CEILING="x")), finished(6, 0)) or one.misses()
+
+
+def all_cases(program):
+    yield from cases(program)
+    yield from rolled_out(program)
+
+
 if __name__ == "__main__":
-    report("ceilings", "ceilings", cases(sys.argv[1]))
+    report("ceilings", "ceilings", all_cases(sys.argv[1]))

@@ -1,42 +1,61 @@
-"""Every growth refused once: what the calls of a journal come to over the smallest rollout where one allocation finds no memory, for each in
-turn, and whether each image that is left is still a journal with the list before or behind the batch, or with the journal that was placed.
+"""Every allocation refused once, for each in turn: what the program comes to where one finds no memory, and what a rollout then leaves.
 
-    python3 tests/growths.py
+    python3 tests/growths.py [PROGRAM]
 
-By hand, since it needs a C compiler: a few lines that refuse one allocation stand before the C library's. The calls are made by
-`measure journal`, and `measure` has to be built (`rt run -- linear < stdin` in its folder). Fails where a run dies, or leaves what it may not.
+With the program: `plan`, `check`, `sim`, `trial`, `report`, `run` and `agent` over small inputs end as they would, or with status 12 and its line, and with nothing else; the
+journal of a `run` has what its switches carried out, and the next start goes on to the end. Without: the calls of a journal, made by `measure journal` (which has to be
+built, by `rt run -- linear < stdin` in its folder), and whether each image that is left is still a journal with the list before or after the batch, or with the journal
+that was placed. A few lines of C that refuse one allocation stand before the C library's; where there is no C compiler nothing is tried, and it is said.
 """
 
 import json
+import mmap
 import os
+import random
+import shutil
+import struct
 import subprocess
 import sys
 import tempfile
 
+from agents import PATIENCE, command, connected, exchange, held_port
+from journal_files import BEGIN, entries_in
+from named import ONE, TWO
+from outcomes import report
+from rolling import finished, rollout
+
 HERE = os.path.dirname(os.path.abspath(__file__))
+EXAMPLES = os.path.join(HERE, "..", "examples")
 PROGRAM = os.path.join(HERE, "..", "crates", "measure", "out", "measure")
-# Memory is short for the allocation whose number the environment gives, and says at the end how many there were.
+# Memory is short for the allocation whose number the environment gives, and a file has how many there were: the program ends without a word to the library.
 REFUSES = r"""
 #define _GNU_SOURCE
 #include <dlfcn.h>
-#include <stdio.h>
+#include <fcntl.h>
 #include <stdlib.h>
+#include <sys/mman.h>
 
-static long count, refused;
+static long refused, spare, *count = &spare;
 
-__attribute__((constructor)) static void begin(void) { refused = atol(getenv("REFUSED")); count = 0; }
-__attribute__((destructor)) static void end(void) { dprintf(2, "allocations %ld\n", count); }
+__attribute__((constructor)) static void begin(void) {
+    refused = atol(getenv("REFUSED"));
+    int file = open(getenv("COUNT"), O_RDWR);
+    if (file >= 0) count = mmap(NULL, sizeof(long), PROT_READ | PROT_WRITE, MAP_SHARED, file, 0);
+    *count = 0;
+}
+
+static int is_refused(void) { return __atomic_add_fetch(count, 1, __ATOMIC_SEQ_CST) == refused; }
 
 void *malloc(size_t size) {
     static void *(*next)(size_t);
     if (!next) next = dlsym(RTLD_NEXT, "malloc");
-    return ++count == refused ? NULL : next(size);
+    return is_refused() ? NULL : next(size);
 }
 
 void *realloc(void *old, size_t size) {
     static void *(*next)(void *, size_t);
     if (!next) next = dlsym(RTLD_NEXT, "realloc");
-    return ++count == refused ? NULL : next(old, size);
+    return is_refused() ? NULL : next(old, size);
 }
 """
 DOCUMENT = {
@@ -50,13 +69,33 @@ DOCUMENT = {
 BATCH = " b:0:1 d:0:1"
 
 
-def printed(cases, refused=0, preload=None):
-    """The status, what was printed, and how many allocations there were."""
-    given = dict(os.environ, REFUSED=str(refused), **({"LD_PRELOAD": preload} if preload else {}))
+class Refusing:
+    """The library that refuses, and the file in which it counts."""
+
+    def __init__(self, folder):
+        source, self.library, self.counts = (os.path.join(folder, name) for name in ("refuses.c", "refuses.so", "count"))
+        with open(source, "w") as out:
+            out.write(REFUSES)
+        subprocess.run(["cc", "-O1", "-shared", "-fPIC", "-o", self.library, source, "-ldl"], check=True)
+        with open(self.counts, "wb") as out:
+            out.write(bytes(mmap.PAGESIZE))
+
+    def environment(self, refused, given=os.environ):
+        return dict(given, LD_PRELOAD=self.library, COUNT=self.counts, REFUSED=str(refused))
+
+    def count(self):
+        """How many allocations the last program made."""
+        with open(self.counts, "rb") as file:
+            return struct.unpack("q", file.read(8))[0]
+
+
+# The calls of a journal.
+
+def printed(cases, environment=None):
+    """The status, and the lines that were printed."""
     text = "\n".join([json.dumps(DOCUMENT)] + cases) + "\n"
-    done = subprocess.run([PROGRAM, "journal"], input=text, capture_output=True, text=True, env=given)
-    count = [int(line.split()[1]) for line in done.stderr.splitlines() if line.startswith("allocations ")]
-    return done.returncode, done.stdout.splitlines(), count[0] if count else 0
+    done = subprocess.run([PROGRAM, "journal"], input=text, capture_output=True, text=True, env=environment)
+    return done.returncode, done.stdout.splitlines()
 
 
 def images(lines):
@@ -72,9 +111,9 @@ def of_first_format(image):
 
 def cases():
     """Each call, with the lists by migration that it may leave."""
-    _, lines, _ = printed(["recover 0 - -" + BATCH])
+    _, lines = printed(["recover 0 - -" + BATCH])
     made = images(lines)[0]
-    _, lines, _ = printed(["recover 0 - - b:0:1"])
+    _, lines = printed(["recover 0 - - b:0:1"])
     begun = images(lines)[0]
     return [
         ("recover 0 - -" + BATCH, {0: ["open", "open" + BATCH]}),
@@ -89,27 +128,108 @@ def is_kept(image, lists):
     return any(printed([f"recover {migration} {image or '-'} -"])[1][0] in wanted for migration, wanted in lists.items())
 
 
-def main():
-    wrong = runs = 0
+def journals(refusing):
+    for case, lists in cases():
+        whole, kept, ends = printed([case], refusing.environment(0)), set(), []
+        for refused in range(1, refusing.count() + 1):
+            status, lines = printed([case], refusing.environment(refused))
+            left = set(images(lines)) - kept
+            right = status >= 0 and all(is_kept(image, lists) for image in left)
+            yield f"allocation {refused} of {case}", None if right else f"status {status}, {lines}"
+            kept |= left
+            ends.append((status, lines))
+        yield f"allocations of {case}", None if any(end != whole for end in ends) else "none is missed"
+
+
+# The commands.
+
+def texts(program, refusing):
+    """Commands that read and write alone."""
+    with open(os.path.join(EXAMPLES, "ahead.json"), "rb") as file:
+        script = file.read()
+    with open(os.path.join(EXAMPLES, "three-steps.json"), "rb") as file:
+        problem = file.read()
+    small = ["trial", "--switches", "4", "--flows", "3", "--events", "20"]
+    for words, text in ((["plan"], problem), (["check"], ONE.encode()), (["sim"], script), (small, b""), (["plan"], b"[1"), (["check"], problem)):
+        whole = ended(program, words, text, refusing.environment(0))
+        for refused in range(1, refusing.count() + 1):
+            yield f"allocation {refused} of {words[0]}", wrong_end(ended(program, words, text, refusing.environment(refused)), whole)
+
+
+def ended(program, words, text, environment):
+    done = subprocess.run([program, *words], input=text, capture_output=True, env=environment)
+    return done.returncode, done.stdout, done.stderr
+
+
+def wrong_end(found, whole):
+    """What is wrong with an end for want of one allocation, or None: it is the whole's, or status 12 with its line, and then nothing was written."""
+    return None if found in (whole, (12, b"", b"out of memory\n")) else f"{found}"
+
+
+def rollouts(program, refusing):
+    """A rollout at which one allocation is refused, a report on it, and the next start."""
+    with rollout(program, TWO) as one:
+        one.run("run --workers 1", refusing.environment(0, one.environment))
+        count = refusing.count()
+    for refused in range(1, count + 1):
+        with rollout(program, TWO) as one:
+            status, out, notes = one.run("run --workers 1", refusing.environment(refused, one.environment))
+            entries = entries_in(one.image() or b"")
+            begun = {entry[1:] for entry in entries if entry[0] == BEGIN}
+            sent = {(command.item, command.number) for switch in one.switches.values() for command in switch.commands}
+            right = (status, out, notes) in (finished(2, 0), (12, "", "out of memory\n"), (8, "", "journal device fault\n"), (9, "", "port fault at \"A\"\n"), (9, "", "port fault at \"B\"\n"))
+            yield f"allocation {refused} of run", None if right and sent <= begun else f"{(status, out, notes)}, sent {sent}, begun {begun}"
+            end = one.run()
+            yield f"allocation {refused} of run, again", None if end == finished(2, len(entries)) and not one.misses() else f"{end}, {one.misses()}"
+
+
+def reports(program, refusing):
+    with rollout(program, TWO) as one:
+        one.run()
+        whole = one.run("report", refusing.environment(0, one.environment))
+        for refused in range(1, refusing.count() + 1):
+            end = one.run("report", refusing.environment(refused, one.environment))
+            yield f"allocation {refused} of report", None if end in (whole, (12, "", "out of memory\n"), (8, "", "journal device fault\n")) else f"{end}"
+        yield "report after all of them", None if one.report() == whole else "another text"
+
+
+def agents(program, refusing):
+    """An agent at which one allocation is refused answers what it carried out, and says how it ended."""
+    data = b"".join(command(0, item, 1, 2, [6]) for item in range(4))
+    whole = served(program, data, refusing.environment(0))
+    for refused in range(1, refusing.count() + 1):
+        answers, end = served(program, data, refusing.environment(refused))
+        right = whole[0].startswith(answers) and end in (whole[1], (12, b"", b"out of memory\n"), (9, b"", b"guest fault\n"))
+        yield f"allocation {refused} of agent", None if right else f"{answers.hex()}, {end}"
+
+
+def served(program, data, environment):
+    """What an agent answers one guest, and how it ends."""
+    with held_port() as held:
+        environment = dict(environment, SWANROLL_LISTEN="127.0.0.1:%d" % held.getsockname()[1])
+        agent = subprocess.Popen([program, "agent"], env=environment, stdin=subprocess.DEVNULL, stdout=subprocess.PIPE, stderr=subprocess.PIPE)
+        answers = b""
+        try:
+            with connected(held, agent) as guest:
+                answers = exchange(random.Random(1), guest, data)
+        except OSError:  # it ended before anybody came
+            pass
+        out, notes = agent.communicate(timeout=PATIENCE)
+        return answers, (agent.returncode, out, notes)
+
+
+def outcomes(program):
+    if shutil.which("cc") is None:
+        yield "skipped: this machine has no C compiler", None
+        return
     with tempfile.TemporaryDirectory() as folder:
-        source, library = (os.path.join(folder, name) for name in ("refuses.c", "refuses.so"))
-        with open(source, "w") as out:
-            out.write(REFUSES)
-        subprocess.run(["cc", "-O1", "-shared", "-fPIC", "-o", library, source, "-ldl"], check=True)
-        for case, lists in cases():
-            whole = printed([case], 0, library)
-            kept = set()
-            for refused in range(1, whole[2] + 1):
-                status, lines, _ = printed([case], refused, library)
-                runs += 1
-                left = set(images(lines)) - kept
-                if status < 0 or (status, lines) == whole[:2] or not all(is_kept(image, lists) for image in left):
-                    wrong += 1
-                    print(f"growths: allocation {refused} of {case}: status {status}, {lines}")
-                kept |= left
-    print(f"growths: {runs} allocations refused, {wrong} wrong")
-    sys.exit(1 if wrong or not runs else 0)
+        refusing = Refusing(folder)
+        if program is None:
+            yield from journals(refusing)
+            return
+        for kind in (texts, reports, rollouts, agents):
+            yield from kind(program, refusing)
 
 
 if __name__ == "__main__":
-    main()
+    report("growths", "allocations refused", outcomes(os.path.abspath(sys.argv[1]) if len(sys.argv) > 1 else None))

@@ -9,7 +9,6 @@ controller at a time, the syncs of each batch, full disks, streams that are clos
 import contextlib
 import os
 import random
-import re
 import resource
 import signal
 import socket
@@ -33,7 +32,7 @@ from agent_streams import command as command_bytes  # noqa: E402
 
 # The networks: how many switches and flows, how many kills, and whether the switches are the program's agents, where it has them.
 NETWORKS = [("six agents", 6, 4, 25, True), ("fourteen switches", 14, 12, 35, False), ("forty agents", 40, 24, 40, True)]
-LIMIT, MOST_GUESTS, MOST_ROUNDS, MOST_LATE, PATIENCE, SLACK = "10", "1000000", "200000", 2, 120, 20
+LIMIT, MOST_GUESTS, MOST_ROUNDS, PATIENCE, SLACK = "10", "1000000", "200000", 120, 20
 FATES = {"plain": 50, "lost": 5, "mute": 5, "twice": 8, "late": 6, "slow": 6, "again": 10, "pieces": 10}
 NO_JOURNALS = (None, b"", b"\0", b"\x99", bytes(40))
 FAULT = stopped(8, "journal device fault")
@@ -115,8 +114,8 @@ class Field:
 
     def __init__(self, folder, document, rng, make):
         self.rng, self.lock, self.calm, self.wrong, self.folder = rng, threading.RLock(), False, [], folder
-        self.left, self.reached, self.cuts, self.cut_at, self.sent = 0, threading.Event(), set(), 0, []
-        self.journal, self.found, self.begun, self.came, self.late = None, [], set(), ({}, 0), 0
+        self.left, self.reached, self.cut_at, self.sent = 0, threading.Event(), 0, []
+        self.journal, self.found, self.begun = None, [], set()
         self.turn(document, 0)
         self.carried = Carried(self.items)
         self.switches = {switch["name"]: make(switch["name"], self.fate, self.lock, self.seen, self.changed) for switch in document["problem"]["switches"]}
@@ -178,7 +177,6 @@ class Field:
             kind = self.rng.choice(("cut", "torn")) if self.cut_at == 0 else self.rng.choices(list(FATES), FATES.values())[0]
             kind = "plain" if self.calm else kind
             soon, late = self.rng.uniform(0.001, 0.05), self.rng.expovariate(2)
-            self.cuts.update([switch.name] if kind in ("cut", "torn") else [])
         if kind == "lost":
             return
         if kind == "cut":
@@ -206,9 +204,7 @@ class Field:
             return subprocess.Popen(words, env=environment, stdin=text, stdout=subprocess.PIPE, stderr=subprocess.PIPE, text=True)
 
     def start(self, program):
-        self.cuts.clear()
         self.reached.clear()
-        self.came = {name: len(switch.guests) for name, switch in self.switches.items()}, len(self.sent)
         self.cut_at = self.rng.choice((0, 0, 1 + int(self.rng.expovariate(1 / len(self.switches)))))
         return self.call(program, "run", "--rounds", MOST_ROUNDS, "--policy", self.rng.choice(("critical", "order")), "--workers", self.rng.choice(("1", "2", "5", "16")))
 
@@ -242,23 +238,9 @@ class Field:
         line = f"finished: operations {self.items.operations}, found {len(before)}\n"
         if status == 0:
             return same((out, notes, len(self.found)), (line, "", 2 * self.items.operations))
-        gone = re.fullmatch(r'port fault at "(.*)"\n', notes)
-        is_cut = out == "" and gone is not None and (gone[1] in self.cuts or self.is_late(gone[1], before))
         if status == -signal.SIGKILL:  # it may have said how it ends by then
-            return None if is_cut or (out in ("", line) and notes == "") else f"killed, and it says {out!r} {notes!r}, cut were {self.cuts}"
-        return None if status == 9 and is_cut else f"status {status}, {out!r}, {notes!r}, cut were {self.cuts}"
-
-    def is_late(self, name, before):
-        """Whether a start may have ended because connecting to this switch took longer than the limit, as it seldom does where the processors are busy:
-        then nothing was begun, no command came, and no switch behind this one was connected to."""
-        if name not in self.switches or self.found != before:
-            return False
-        (guests, sent), names = self.came, list(self.switches)
-        behind = names[names.index(name) + 1:]
-        if len(self.sent) != sent or any(len(self.switches[other].guests) != guests[other] for other in behind):
-            return False
-        self.late += 1
-        return self.late <= MOST_LATE
+            return None if out in ("", line) and notes == "" else f"killed, and it says {out!r} {notes!r}"
+        return f"status {status}, {out!r}, {notes!r}"
 
     def wrong_pairs(self):
         settled, begun = [0] * self.items.count, [0] * self.items.count
@@ -358,7 +340,7 @@ def one_at_a_time(program):
 def batches(program):
     """Each batch is two syncs, and a command of it comes behind them: at the first the batch lies behind a closed gate, and at the second the gate
     alone is another byte."""
-    from syncs import Syncs
+    from syncs import SYNCS, Calls
 
     value = planned(program, EXCHANGE)
     seen, items, lock = [], Items(value), threading.RLock()
@@ -370,11 +352,11 @@ def batches(program):
 
     with rollout(program, value, None, fate) as one:
 
-        def looked():
+        def looked(name, process):
             with lock:
                 seen.append(one.image())
 
-        syncs = Syncs(one.journal, looked)
+        syncs = Calls(one.journal, SYNCS, looked)
         started = one.start(preexec_fn=syncs.in_child)
         if not syncs.attach():
             one.ended(started)
@@ -490,9 +472,9 @@ def time_limits(program):
             with open(one.fleet, "w") as file:
                 file.write("A 127.0.0.1:%d\n" % full.getsockname()[1])
             begun = time.monotonic()
-            end = one.run(environment=one.having(SWANROLL_TIMEOUT="300"))
-            yield "an address that never takes a connection", same(end, stopped(9, 'port fault at "A"'))
-            yield "an address that never takes a connection, the time", None if 0.25 <= time.monotonic() - begun < SLACK else "another time than the limit"
+            end = one.run("run --rounds 2", one.having(SWANROLL_TIMEOUT="300"))
+            yield "an address that never takes a connection", same(end, stopped(5, "rounds spent: rounds 2, item 0 operation 1"))
+            yield "an address that never takes a connection, the time", None if 0.55 <= time.monotonic() - begun < SLACK else "another time than two limits"
 
 
 def outcomes(program):

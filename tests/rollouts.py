@@ -107,17 +107,24 @@ def rounds_enough(program):
 
 
 def one_port_of_two(program):
-    """One switch breaks its connection off at its first command; the other one has answered. The rollout stops, and goes on to its end later."""
+    """One switch breaks its connection off at its first command; the other one has answered. The same run goes on over another connection. Where it
+    breaks off each one, the run ends with its operation, and a later one goes on to the end."""
     def breaks_off(switch, guest, command):
         guest.shutdown(socket.SHUT_RDWR)
 
+    def breaks_off_once(switch, guest, command):
+        (plain if len(switch.commands) > 1 else breaks_off)(switch, guest, command)
+
     for workers in (1, 2):
+        with rollout(program, TWO, None, {"B": breaks_off_once}) as one:
+            yield f"one port of two breaks, by {workers}", same(one.run(f"run --workers {workers}", one.having(SWANROLL_TIMEOUT="100")), finished(2, 0)) or one.misses()
         with rollout(program, TWO, None, {"B": breaks_off}) as one:
-            yield f"one port of two fails, by {workers}", same(one.run(f"run --workers {workers}"), stopped(9, 'port fault at "B"'))
+            end = one.run(f"run --workers {workers} --rounds 3", one.having(SWANROLL_TIMEOUT="100"))
+            yield f"one port of two breaks for ever, by {workers}", same(end, stopped(5, "rounds spent: rounds 3, item 1 operation 1"))
             one.switches["B"].fate = plain
             end = one.run(f"run --workers {workers}")
-            yield f"one port of two failed, by {workers}, then well", None if end[0] == 0 and end[1].startswith("finished: operations 2, found ") else repr(end)
-            yield f"one port of two failed, by {workers}, the switches", one.misses()
+            yield f"one port of two broke, by {workers}, then well", None if end[0] == 0 and end[1].startswith("finished: operations 2, found ") else repr(end)
+            yield f"one port of two broke, by {workers}, the switches", one.misses()
 
 
 def ranked(program):
@@ -279,15 +286,20 @@ def no_port(program):
         yield "a fleet that isn't there", same(one.run(environment=one.having(SWANROLL_FLEET=one.fleet + "s")), fault)
         for name, lines in (
             ("no line", ""), ("a line for others", f"B {there}\nC {there}\n"), ("two lines", f"A {there}\nA {there}\n"), ("a name alone", "A\n"),
-            ("no address", "A \n"), ("no number", "A 127.0.0.1\n"), ("no such number", "A 127.0.0.1:99999\n"), ("an address that refuses", f"A {refusing}\n"),
+            ("no address", "A \n"), ("no number", "A 127.0.0.1\n"), ("no such number", "A 127.0.0.1:99999\n"),
         ):
             with open(one.fleet, "w") as file:
                 file.write(lines)
             yield f"a fleet with {name}", same(one.run(), fault) or same(one.report(), (0, NOTHING_YET, ""))
         yield "without a port no command", same((one.guests(), one.commands()), (set(), 0))
+        with open(one.fleet, "w") as file:
+            file.write(f"A {refusing}\n")
+        spent = stopped(5, "rounds spent: rounds 2, item 0 operation 1")
+        yield "a fleet with an address that refuses", same(one.run("run --rounds 2", one.having(SWANROLL_TIMEOUT="100")), spent) or same(one.report(), (0, IN_FLIGHT, ""))
     for name, fate, held in (("hangs up", hung_up, {}), ("goes within an answer", cut_off, {0: (0, 1)})):
         with rollout(program, ONE, None, fate) as one:
-            yield f"a switch that {name}", same(one.run(), fault) or same(one.switches["A"].held, held) or same(one.report(), (0, IN_FLIGHT, ""))
+            end = one.run("run --rounds 2", one.having(SWANROLL_TIMEOUT="100"))
+            yield f"a switch that {name}", same(end, spent) or same(one.switches["A"].held, held) or same(one.report(), (0, IN_FLIGHT, ""))
             one.switches["A"].fate = plain
             yield f"a switch that {name}, again", same(one.run(), finished(1, 1)) or one.misses()
     value = planned(program, FULL_TABLES)

@@ -16,10 +16,20 @@ pub fn serve_guests<F: Fleet>(
     fleet: &mut F,
     guests: u32,
 ) -> Result<Service, ServiceFault>
-    ensures served { Serves (record { left = F.Guest.left; written = F.Guest.written; read_faults = F.Guest.Source.faults; write_faults = F.Guest.Sink.faults }) (record { coming = F.coming fleet.old; served = F.served fleet.old }) (record { coming = F.coming fleet.new; served = F.served fleet.new }) guests result }
+    ensures served { Serves (record {
+      left = F.Guest.left;
+      written = F.Guest.written;
+      read_faults = F.Guest.Source.faults;
+      write_faults = F.Guest.Sink.faults;
+    })
+        (record { coming = F.coming fleet.old; served = F.served fleet.old })
+        (record { coming = F.coming fleet.new; served = F.served fleet.new }) guests result }
     ensures visiting { F.visiting fleet.new ≡ F.visiting fleet.old }
-    ensures ports { (F.waiting fleet.new ≡ F.waiting fleet.old) × (F.kept fleet.new ≡ F.kept fleet.old) × (F.lent fleet.new ≡ F.lent fleet.old) }
-    ensures cause { IsErrOf result ServiceFault.Fleet → Rose (F.faults fleet.old) (F.faults fleet.new) }
+    ensures ports { (F.waiting fleet.new ≡ F.waiting fleet.old)
+        × (F.kept fleet.new ≡ F.kept fleet.old)
+        × (F.lent fleet.new ≡ F.lent fleet.old) }
+    ensures cause { IsErrOf result ServiceFault.Fleet
+        → Rose (F.faults fleet.old) (F.faults fleet.new) }
     ensures count { F.faults fleet.old ≤ F.faults fleet.new }
 {
     let mut agent = Agent::new(alloc);
@@ -42,10 +52,19 @@ pub fn serve_guests<F: Fleet>(
 
 // Serves the next guest to its end and gives it back, or says that no more will come.
 fn serve_next<F: Fleet>(agent: &mut Agent, fleet: &mut F) -> Result<Option<Served>, Failed>
-    ensures served { ServesNext (record { left = F.Guest.left; written = F.Guest.written; read_faults = F.Guest.Source.faults; write_faults = F.Guest.Sink.faults }) agent.old (record { coming = F.coming fleet.old; served = F.served fleet.old }) result agent.new (record { coming = F.coming fleet.new; served = F.served fleet.new }) }
+    ensures served { ServesNext (record {
+      left = F.Guest.left;
+      written = F.Guest.written;
+      read_faults = F.Guest.Source.faults;
+      write_faults = F.Guest.Sink.faults;
+    }) agent.old
+        (record { coming = F.coming fleet.old; served = F.served fleet.old }) result agent.new
+        (record { coming = F.coming fleet.new; served = F.served fleet.new }) }
     ensures few { IfOk result (λ found. IfSome found (λ served. served.commands ≤ most)) }
     ensures visiting { F.visiting fleet.new ≡ F.visiting fleet.old }
-    ensures ports { (F.waiting fleet.new ≡ F.waiting fleet.old) × (F.kept fleet.new ≡ F.kept fleet.old) × (F.lent fleet.new ≡ F.lent fleet.old) }
+    ensures ports { (F.waiting fleet.new ≡ F.waiting fleet.old)
+        × (F.kept fleet.new ≡ F.kept fleet.old)
+        × (F.lent fleet.new ≡ F.lent fleet.old) }
     ensures cause { OnErr result (Rose (F.faults fleet.old) (F.faults fleet.new)) }
     ensures count { F.faults fleet.old ≤ F.faults fleet.new }
 {

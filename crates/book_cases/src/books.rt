@@ -70,8 +70,13 @@ pub fn opened<'d, D: Disk>(
     disk: D,
 ) -> Result<Book<'d, D>, Unopened<D>>
     requires empty { graph.history ≡ from_nothing graph.rollout.problem [] }
-    ensures opened { IfOk result (λ book. IsOpened (opening_of book.chronicle (rank_by book.policy.now.answers)) book.chronicle) }
-    ensures has { IfOk result (λ book. IfSome (D.bytes book.chronicle.disk) (IsKeptList book.chronicle.history.start book.chronicle.entries (D.may_leave book.chronicle.disk))) }
+    ensures opened { IfOk result
+        (λ book. IsOpened (opening_of book.chronicle (rank_by book.policy.now.answers))
+        book.chronicle) }
+    ensures has { IfOk result
+        (λ book. IfSome (D.told book.chronicle.disk).bytes
+        (IsKeptList book.chronicle.history.start book.chronicle.entries
+        (D.told book.chronicle.disk).may_leave)) }
 {
     Book::open(alloc, graph, digest, policy, disk)
 }

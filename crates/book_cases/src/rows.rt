@@ -68,8 +68,10 @@ fn one_call<D: Disk, M: Marker, R: Wait>(
     requires policy { M.opening.policy ≡ rank_by book.now.policy.now.answers }
     requires first { MayCall book.now.lock M.seats seats.first.pass seats.first.calls }
     requires second { MayCall book.now.lock M.seats seats.second.pass seats.second.calls }
-    ensures first { HasCalled book.now.lock seats.first.pass result.0.first.pass result.0.first.calls }
-    ensures second { HasCalled book.now.lock seats.second.pass result.0.second.pass result.0.second.calls }
+    ensures first { HasCalled book.now.lock seats.first.pass result.0.first.pass
+        result.0.first.calls }
+    ensures second { HasCalled book.now.lock seats.second.pass result.0.second.pass
+        result.0.second.calls }
 {
     let Seats { first, second } = seats;
     if row.seat == 0 {
@@ -94,7 +96,8 @@ pub fn all_calls<D: Disk, M: Marker, R: Abort + Wait>(
     requires first { MayCall book.now.lock M.seats seats.first.pass seats.first.calls }
     requires second { MayCall book.now.lock M.seats seats.second.pass seats.second.calls }
     ensures first { HasCalled book.now.lock seats.first.pass result.first.pass result.first.calls }
-    ensures second { HasCalled book.now.lock seats.second.pass result.second.pass result.second.calls }
+    ensures second { HasCalled book.now.lock seats.second.pass result.second.pass
+        result.second.calls }
 {
     for row in rows {
         let (after, told) = one_call(rt, alloc, book, seats, *row);

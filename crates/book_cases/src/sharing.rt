@@ -101,7 +101,7 @@ fn share_named<'d, R: Abort + Threads + Wait + Sync, D: Disk + Drop + Send, M: M
     book: Book<'d, D>,
     task: Task<'_>,
 ) -> Left<'d, D>
-    requires opened { IsOpenedOn D.bytes D.may_leave D.moment D.faults M.opening M.moment M.faults book.chronicle }
+    requires opened { IsOpenedOn D.told M.opening M.moment M.faults book.chronicle }
     requires policy { M.opening.policy ≡ rank_by book.policy.now.answers }
     requires seats { M.seats ≡ 4 }
 {
@@ -131,8 +131,11 @@ fn share_opened<'d, R: Abort + Threads + Wait + Sync, D: Disk + Drop + Send>(
     book: Book<'d, D>,
     task: Task<'_>,
 ) -> Left<'d, D>
-    requires opened { IsOpened (opening_of book.chronicle (rank_by book.policy.now.answers)) book.chronicle }
-    requires has { IfSome (D.bytes book.chronicle.disk) (IsKeptList book.chronicle.history.start book.chronicle.entries (D.may_leave book.chronicle.disk)) }
+    requires opened { IsOpened (opening_of book.chronicle (rank_by book.policy.now.answers))
+        book.chronicle }
+    requires has { IfSome (D.told book.chronicle.disk).bytes
+        (IsKeptList book.chronicle.history.start book.chronicle.entries
+        (D.told book.chronicle.disk).may_leave) }
 {
     share_named::<R, D, Brand>(rt, alloc, book, task)
 }

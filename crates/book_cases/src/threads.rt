@@ -53,9 +53,12 @@ impl<'s, 'd, R: Abort + Wait, D: Disk, M: Marker> Job
     for Duty<'s, R, SharedBook<'d, D, M>, Kept<D, M>> {
     type Output = Back<Kept<D, M>>;
 
-    ghost may_begin = { λ d. (d.book.now.homes ≡ homes_of M.opening.rollout.problem) × (M.opening.policy ≡ rank_by d.book.now.policy.now.answers) × MayCall d.book.now.lock M.seats d.pass.pass d.pass.calls };
+    ghost may_begin = { λ d. (d.book.now.homes ≡ homes_of M.opening.rollout.problem)
+        × (M.opening.policy ≡ rank_by d.book.now.policy.now.answers)
+        × MayCall d.book.now.lock M.seats d.pass.pass d.pass.calls };
 
-    ghost may_leave = { λ d back. HasCalled d.book.now.lock d.pass.pass back.pass.pass back.pass.calls };
+    ghost may_leave = { λ d back. HasCalled d.book.now.lock d.pass.pass back.pass.pass
+        back.pass.calls };
 
     fn run(self) -> Back<Kept<D, M>> {
         let Duty {
@@ -263,9 +266,11 @@ fn four_parts<R: Abort + Threads + Wait + Sync, D: Disk + Drop + Send, M: Marker
     requires third { MayCall book.now.lock M.seats third.pass third.calls }
     requires fourth { MayCall book.now.lock M.seats fourth.pass fourth.calls }
     ensures first { HasCalled book.now.lock first.pass result.0.0.pass.pass result.0.0.pass.calls }
-    ensures second { HasCalled book.now.lock second.pass result.0.1.pass.pass result.0.1.pass.calls }
+    ensures second { HasCalled book.now.lock second.pass result.0.1.pass.pass
+        result.0.1.pass.calls }
     ensures third { HasCalled book.now.lock third.pass result.1.0.pass.pass result.1.0.pass.calls }
-    ensures fourth { HasCalled book.now.lock fourth.pass result.1.1.pass.pass result.1.1.pass.calls }
+    ensures fourth { HasCalled book.now.lock fourth.pass result.1.1.pass.pass
+        result.1.1.pass.calls }
 {
     let first = Duty {
         rt,

@@ -18,8 +18,13 @@ pub(crate) fn capacities_for(alloc: Global, k: u32, problem: &Problem) -> Result
     requires least { 2 ≤ k }
     requires most { k ≤ 64 }
     requires rates { HasSmallRates problem.now }
-    ensures value { IfOk result (λ capacities. capacities ≡ list_below (length problem.now.links) (capacity_for k problem.now)) }
-    ensures within { IfOk result (λ capacities. (l : ℕ) → l < length capacities → slice_index capacities l ≤ LARGEST_CAPACITY) }
+    ensures value { IfOk result
+        (λ capacities. capacities
+        ≡ list_below (length problem.now.links) (capacity_for k problem.now)) }
+    ensures within { IfOk result
+        (λ capacities. (l : ℕ)
+        → l < length capacities
+        → slice_index capacities l ≤ LARGEST_CAPACITY) }
 {
     let old = loads_on(alloc, problem, Side::Old)?;
     let new = loads_on(alloc, problem, Side::New)?;
@@ -35,7 +40,8 @@ pub(crate) fn capacities_for(alloc: Global, k: u32, problem: &Problem) -> Result
 fn loads_on(alloc: Global, problem: &Problem, side: Side) -> Result<Nums, Memory>
     requires { HasSmallRates problem.now }
     ensures loads { IfOk result (λ sums. AreLoads side problem.now sums) }
-    ensures small { IfOk result (λ sums. (l : ℕ) → l < length sums → slice_index sums l ≤ 4_096_000) }
+    ensures small { IfOk result
+        (λ sums. (l : ℕ) → l < length sums → slice_index sums l ≤ 4_096_000) }
 {
     let mut rates = Nums::new(alloc);
     for t in 0..problem.tunnels().len() {
@@ -58,8 +64,11 @@ fn least_capacity(k: u64, load: u64) -> u64
 /// Per switch how many entries its table takes where every tunnel is installed.
 pub(crate) fn tables_for(alloc: Global, problem: &Problem) -> Result<Vec<u32>, Memory>
     requires { problem.now.format ≡ 1 }
-    ensures value { IfOk result (λ tables. tables.items ≡ list_below (length problem.now.switches) (table_for problem.now)) }
-    ensures within { IfOk result (λ tables. (w : ℕ) → w < length tables.items → slice_index tables.items w ≤ LARGEST_TABLE) }
+    ensures value { IfOk result
+        (λ tables. tables.items
+        ≡ list_below (length problem.now.switches) (table_for problem.now)) }
+    ensures within { IfOk result
+        (λ tables. (w : ℕ) → w < length tables.items → slice_index tables.items w ≤ LARGEST_TABLE) }
 {
     let mut tables = vec![in alloc; 0u32; problem.switches().len()]?;
     for t in 0..problem.tunnels().len() {
@@ -70,7 +79,9 @@ pub(crate) fn tables_for(alloc: Global, problem: &Problem) -> Result<Vec<u32>, M
 
 fn count_along(tables: &mut [u32], path: &[u32])
     requires known { (h : ℕ) → h < length path.now → slice_index path.now h < length tables.old }
-    requires room { (w : ℕ) → w < length tables.old → slice_index tables.old w + length path.now < 2 ^ 32 }
+    requires room { (w : ℕ)
+        → w < length tables.old
+        → slice_index tables.old w + length path.now < 2 ^ 32 }
     ensures { GrownBy tables.old tables.new (added path.now 1) (length path.now) }
 {
     for switch in path {

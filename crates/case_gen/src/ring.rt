@@ -20,7 +20,8 @@ pub(crate) fn network(
     requires tables { AreTables tables.now }
     requires capacities { AreCapacities (length tables.now) capacities.now }
     requires trips { AreTrips (length tables.now) trips.now }
-    ensures { IfOk result (λ p. p ≡ network (length tables.now) tables.now capacities.now trips.now) }
+    ensures { IfOk result
+        (λ p. p ≡ network (length tables.now) tables.now capacities.now trips.now) }
 {
     let mut problem = Problem::new(alloc);
     add_switches(alloc, &mut problem, tables)?;
@@ -32,7 +33,9 @@ pub(crate) fn network(
 fn add_switches(alloc: Global, problem: &mut Problem, tables: &[u32]) -> Result<(), Memory>
     requires empty { problem.old ≡ no_problem }
     requires tables { AreTables tables.now }
-    ensures { OnOk result (problem.new ≡ record no_problem { switches = switches_below tables.now (length tables.now) }) }
+    ensures { OnOk result
+        (problem.new
+        ≡ record no_problem { switches = switches_below tables.now (length tables.now) }) }
 {
     for number in 0..tables.len() {
         let name = format!(in alloc; "s{number}")?;
@@ -47,7 +50,9 @@ fn add_links(problem: &mut Problem, switches: u32, capacities: &[u64]) -> Result
     requires least { 3 ≤ switches }
     requires most { switches ≤ MOST_SWITCHES }
     requires capacities { AreCapacities switches capacities.now }
-    ensures { OnOk result (problem.new ≡ record problem.old { links = links_below switches capacities.now (2 * switches) }) }
+    ensures { OnOk result
+        (problem.new
+        ≡ record problem.old { links = links_below switches capacities.now (2 * switches) }) }
 {
     for number in 0..capacities.len() {
         let from = (number / 2) as u32;
@@ -67,7 +72,12 @@ fn add_flows(
     requires no_flows { problem.old.flows ≡ [] }
     requires no_tunnels { problem.old.tunnels ≡ [] }
     requires trips { AreTrips switches trips.now }
-    ensures { OnOk result (problem.new ≡ record problem.old { flows = flows_below (length trips.now); tunnels = tunnels_below switches trips.now (length trips.now) }) }
+    ensures { OnOk result
+        (problem.new
+        ≡ record problem.old {
+          flows = flows_below (length trips.now);
+          tunnels = tunnels_below switches trips.now (length trips.now);
+        }) }
 {
     for number in 0..trips.len() {
         add_flow(alloc, problem, switches, number as u32, &trips[number])?;
@@ -88,10 +98,15 @@ fn add_flow(
     requires flows { problem.old.flows ≡ flows_below number }
     requires tunnels { length problem.old.tunnels ≡ 2 * number }
     requires trip { IsTrip switches trip.now }
-    ensures { OnOk result (problem.new ≡ record problem.old {
-      flows = problem.old.flows ++ flow_named number ∷ [];
-      tunnels = problem.old.tunnels ++ first_tunnel switches number trip.now ∷ second_tunnel switches number trip.now ∷ [];
-    }) }
+    ensures { OnOk result
+        (problem.new
+        ≡ record problem.old {
+          flows = problem.old.flows ++ flow_named number ∷ [];
+          tunnels = problem.old.tunnels
+              ++ first_tunnel switches number trip.now
+              ∷ second_tunnel switches number trip.now
+              ∷ [];
+        }) }
 {
     let name = format!(in alloc; "f{number}")?;
     problem.add_flow(&name)?;

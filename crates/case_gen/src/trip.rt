@@ -23,9 +23,19 @@ impl Model for Trip {
 
     ghost Value = { trips.Trip };
 
-    ghost view = { λ t. record { start = t.start; steps = t.steps; first = t.first; second = t.second } };
+    ghost view = { λ t. record {
+      start = t.start;
+      steps = t.steps;
+      first = t.first;
+      second = t.second;
+    } };
 
-    ghost inverse = { λ t. record { start = t.start; steps = t.steps; first = t.first; second = t.second } };
+    ghost inverse = { λ t. record {
+      start = t.start;
+      steps = t.steps;
+      first = t.first;
+      second = t.second;
+    } };
 }
 
 impl Trip {

@@ -2,6 +2,7 @@
 use Rattle.std.proofs.Common.{◌≡◌, ℕ, true, List, Option, refl}
 use Rattle.rollout_rules.specs.Legal.{may_begin}
 use Rattle.rollout_rules.specs.Release.{is_held_back, next_op, view_of}
+use Rattle.disk_model.specs.Traces.{DiskTrace}
 use Rattle.port_session.specs.Sessions.{Talk}
 use Rattle.rollout_book.specs.Chronicles.{Chronicled}
 use Rattle.rollout_ports.specs.Berths.{FleetPorts}
@@ -10,7 +11,7 @@ use Rattle.shared_history.specs.declared.note.Written.{Written}
 use Rattle.shared_history.specs.Histories.{Opening, history_of}
 use Rattle.shared_history.specs.Legal.{is_legal_shared, is_still}
 use Rattle.shared_book.specs.Homes.{homes_of}
-use Rattle.worker_ports.specs.Views.{Telling}
+use Rattle.wan_edge.specs.Ports.{PortTrace}
 use Rattle.rollout_run.specs.Ran.{Ran}
 use Rattle.rollout_run.specs.Runs.{IsRunEnd}
 use Rattle.rollout_run.specs.declared.end.RunEnd.{RunEnd}
@@ -21,7 +22,7 @@ use Rattle.completion_laws.proofs.InFlight.{AllHeld}
 use Rattle.completion_laws.proofs.OfRun.{of-workers}
 use Rattle.completion_laws.proofs.Workers.{run-excused}
 
-module _ {P : Type 0} (tell : P → Telling) (o : Opening) (migration rounds : ℕ) (opened : List (Talk P)) (log : List Written) (legal : is_legal_shared o log ≡ true) (one : IsOfWorkers tell o migration (homes_of o.rollout.problem) rounds opened log)
+module _ {P : Type 0} (tell : P → PortTrace) (o : Opening) (migration rounds : ℕ) (opened : List (Talk P)) (log : List Written) (legal : is_legal_shared o log ≡ true) (one : IsOfWorkers tell o migration (homes_of o.rollout.problem) rounds opened log)
     (sure : IsSure tell o migration (homes_of o.rollout.problem) rounds opened) where
   pub ends-excused : (end : RunEnd) → IsRunEnd o log end → FinishesOrIsExcused end
   ends-excused run.Finished ends = tt
@@ -31,10 +32,10 @@ module _ {P : Type 0} (tell : P → Telling) (o : Opening) (migration rounds : �
   ends-excused run.Memory ends = tt
 
 -- so it is with a run by its clause
-module _ {D P : Type 0} (bytes : D → Option (List ℕ)) (may_leave : D → List ℕ → Type 0) (moment : D → ℕ) (left_since : D → ℕ → List ℕ → Type 0) (faults : D → ℕ) (port_faults : P → ℕ) (tell : P → Telling)
+module _ {D P : Type 0} (trace : D → DiskTrace) (tell : P → PortTrace)
     (o : Opening) (from count migration rounds : ℕ) (homes : List ℕ) (before : FleetPorts P) where
   abbrev Runs : RunEnd → Chronicled D → FleetPorts P → Type 0
-  Runs end book now = Ran bytes may_leave moment left_since faults port_faults tell o from count migration rounds homes before end book now
+  Runs end book now = Ran trace tell o from count migration rounds homes before end book now
 
   by-workers : (end : RunEnd) (book : Chronicled D) (now : FleetPorts P) (ran : Runs end book now) → IsOfWorkers tell o migration (homes_of o.rollout.problem) rounds (first_talks ran.berths) ran.log
   by-workers end book now ran = of-workers tell o migration (homes_of o.rollout.problem) rounds ran.berths ran.apart ran.log ran.seats ran.made ran.left ran.worked

@@ -7,7 +7,7 @@ use Rattle.shared_history.specs.declared.note.Written.{Written}
 use Rattle.shared_history.specs.Histories.{Opening}
 use Rattle.shared_history.specs.Legal.{is_legal_shared}
 use Rattle.shared_book.specs.Homes.{homes_of}
-use Rattle.worker_ports.specs.Views.{Telling}
+use Rattle.wan_edge.specs.Ports.{PortTrace}
 use Rattle.rollout_run.specs.Causes.{HasCause, IfStopped}
 use Rattle.rollout_run.specs.Runs.{IsRunEnd}
 use Rattle.rollout_run.specs.declared.end.RunEnd.{RunEnd}
@@ -27,7 +27,7 @@ only-want (cause.NoAnswer switch byte) excused no_fault = excused
 only-want cause.Disk excused no_fault = no_fault
 only-want cause.Memory excused no_fault = tt
 
-module _ {P : Type 0} (tell : P → Telling) (o : Opening) (migration rounds : ℕ) (failed : Type 0) (opened : List (Talk P)) (kept : ℕ → Option P) (log : List Written) (without : IsWithoutFault tell failed opened kept) where
+module _ {P : Type 0} (tell : P → PortTrace) (o : Opening) (migration rounds : ℕ) (failed : Type 0) (opened : List (Talk P)) (kept : ℕ → Option P) (log : List Written) (without : IsWithoutFault tell failed opened kept) where
   -- an end that is excused, where no fault stopped the run
   pub wants : (end : RunEnd) → FinishesOrIsExcused end → IfStopped end (λ halt. HasCause tell o migration (homes_of o.rollout.problem) rounds failed log opened kept halt.cause) → FinishesOrWants end
   wants run.Finished excused reason = tt

@@ -7,13 +7,14 @@ use Rattle.shared_history.specs.declared.note.Cause.TheVariants as cause
 use Rattle.shared_history.specs.declared.note.Written.{Written}
 use Rattle.shared_history.specs.Histories.{Opening}
 use Rattle.worker_ports.specs.Rows.{AtOne}
-use Rattle.worker_ports.specs.Views.{Telling, view}
+use Rattle.wan_edge.specs.Ports.{PortTrace}
+use Rattle.worker_ports.specs.Views.{view}
 use Rattle.controller_run.specs.Reasons.{FailedAt}
 use Rattle.controller_run.proofs.Elements.{inside-later}
 use Rattle.rollout_run.specs.Causes.{HasCause}
 use Rattle.completion_laws.specs.Faults.{IsNoFault, IsWithoutFault}
 
-module _ {P : Type 0} (tell : P → Telling) (failed : Type 0) (opened : List (Talk P)) (kept : ℕ → Option P) (without : IsWithoutFault tell failed opened kept) where
+module _ {P : Type 0} (tell : P → PortTrace) (failed : Type 0) (opened : List (Talk P)) (kept : ℕ → Option P) (without : IsWithoutFault tell failed opened kept) where
   none-failed : (switch : ℕ) (first now : List (Talk P)) → ((t : Talk P) → Contains first t → Contains opened t) → AllZip (λ before after. kept before.switch ≡ Some after.port) first now
       → AtOne (λ before after. FailedAt switch (view tell before) (view tell after)) first now → ⊥
   none-failed switch [] [] among back one = one

@@ -15,7 +15,7 @@ use Rattle.shared_history.specs.Legal.{is_still}
 use Rattle.shared_history.specs.Notes.{first_stop}
 use Rattle.shared_history.proofs.Stops.{first_stop-stays}
 use Rattle.shared_book.specs.Calls.{seat_of}
-use Rattle.worker_ports.specs.Views.{Telling}
+use Rattle.wan_edge.specs.Ports.{PortTrace}
 use Rattle.worker_ports.specs.declared.ports.Berth.{Berth}
 use Rattle.rollout_ports.specs.Berths.{AreApart, switches_of}
 use Rattle.rollout_ports.specs.Hands.{first_talks}
@@ -44,7 +44,7 @@ turned-on ws more turned = record {
   says = turned.says;
 }
 
-module _ {P : Type 0} (tell : P → Telling) (o : Opening) (migration : ℕ) (homes : List (Option ℕ)) (rounds : ℕ) (log : List Written) (none : first_stop log ≡ None) (s : Shift P) (shift : IsShift tell o migration homes rounds log s) where
+module _ {P : Type 0} (tell : P → PortTrace) (o : Opening) (migration : ℕ) (homes : List (Option ℕ)) (rounds : ℕ) (log : List Written) (none : first_stop log ≡ None) (s : Shift P) (shift : IsShift tell o migration homes rounds log s) where
   abbrev Idles : Type 0
   Idles = is_finished o.rollout.problem o.rollout.plan (history_of o s.now.seen) ≡ false → is_still o.rollout.problem (history_of o s.now.seen) ≡ true
 
@@ -81,7 +81,7 @@ module _ {P : Type 0} (tell : P → Telling) (o : Opening) (migration : ℕ) (ho
         idle = by-wake end promises.ends;
       }
 
-module _ {P : Type 0} (tell : P → Telling) (o : Opening) (migration : ℕ) (homes : List (Option ℕ)) (rounds : ℕ) (berths : List (Berth P)) (apart : AreApart berths) (log : List Written) (seats : ℕ) (made : All (λ w. seat_of w < seats) log) (left : List (Talk P)) (worked : HasWorked tell o migration homes rounds (first_talks berths) seats log left) where
+module _ {P : Type 0} (tell : P → PortTrace) (o : Opening) (migration : ℕ) (homes : List (Option ℕ)) (rounds : ℕ) (berths : List (Berth P)) (apart : AreApart berths) (log : List Written) (seats : ℕ) (made : All (λ w. seat_of w < seats) log) (left : List (Talk P)) (worked : HasWorked tell o migration homes rounds (first_talks berths) seats log left) where
   distinct : IsDistinct nat_eq (map (λ (t : Talk P). t.switch) (first_talks berths))
   distinct = subst (λ (l : List ℕ). IsDistinct nat_eq l) (sym (talks_switches berths)) (distinct_of berths apart)
 

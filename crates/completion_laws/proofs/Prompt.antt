@@ -6,13 +6,13 @@ use Rattle.std.proofs.lemmas.List.Elements.{All-append, All-head, All-tail}
 use Rattle.std.proofs.lemmas.Option.{same_Some}
 use Rattle.std.specs.List.{All, flat_map}
 use Rattle.wan_edge.specs.Frames.{AnswerFrame, Command, CommandFrame, IsAnswer, IsCommand, answer_bytes, command_bytes, command_head}
-use Rattle.wan_edge.specs.Ports.{AnswersInOrder, BeginsNoCommand, IsPromptState}
+use Rattle.wan_edge.specs.Ports.{AnswersInOrder, BeginsNoCommand, GoesOn, IsPromptState, PortTrace}
 use Rattle.wan_edge.specs.Streams.{Appends}
 use Rattle.wan_edge.specs.Switches.{Holdings, after_command, after_commands, answer_to, answers_to}
 use Rattle.wire_frames.proofs.OneSpelling.{one_answer, one_command, same_parts}
 use Rattle.port_session.specs.Offers.{frames_of}
 use Rattle.worker_ports.specs.Offering.{OffersAll}
-use Rattle.worker_ports.specs.Views.{GoesOn, PortView, Telling}
+use Rattle.worker_ports.specs.Views.{PortView}
 use Rattle.switch_laws.proofs.Offered.{all_framed, frames-framed, framed}
 use Rattle.switch_laws.proofs.Answered.{some_at}
 use Rattle.completion_laws.specs.Answering.{HasAnswered}
@@ -174,7 +174,7 @@ module _ (migration : ℕ) (mine : List Command) (cs : List CommandFrame) (befor
     none-came : now.port ≡ mid.port → bytes ≡ []
     none-came same =
         let alike : flat_map answer_bytes (answers_to before.port.start cs) ++ bytes ≡ flat_map answer_bytes (answers_to before.port.start cs)
-        = same_Some (flat_map answer_bytes (answers_to before.port.start cs) ++ bytes) (flat_map answer_bytes (answers_to before.port.start cs)) (sym now-heard ∙ ap (λ (t : Telling). t.heard) same ∙ mid-heard) in
+        = same_Some (flat_map answer_bytes (answers_to before.port.start cs) ++ bytes) (flat_map answer_bytes (answers_to before.port.start cs)) (sym now-heard ∙ ap (λ (t : PortTrace). t.heard) same ∙ mid-heard) in
         no-bytes bytes (omega (arith, ap length alike, length-append (flat_map answer_bytes (answers_to before.port.start cs)) bytes))
 
     front-by : (now.port ≡ mid.port) ⊎ IsPromptState mid.port.start now.port.offered now.port.heard now.port.held → (behind : List ℕ) × (bytes ++ behind ≡ flat_map answer_bytes answers)
@@ -214,10 +214,10 @@ module _ (migration : ℕ) (mine : List Command) (cs : List CommandFrame) (befor
           (known now.port.offered now.port.heard now.port.held mid.port.start (flat_map answer_bytes (answers_to before.port.start cs) ++ bytes) now-told.0 mid-start now-offered now-heard now-told.1 state) long
       carried-by (inl same) (inl unchanged) =
           let none = no-commands (none-came same) in
-          let told : now-told.0 ≡ held = same_Some now-told.0 held (sym now-told.1 ∙ ap (λ (t : Telling). t.held) (same ∙ unchanged) ∙ was.held) in
+          let told : now-told.0 ≡ held = same_Some now-told.0 held (sym now-told.1 ∙ ap (λ (t : PortTrace). t.held) (same ∙ unchanged) ∙ was.held) in
           told ∙ ap (after_commands before.port.start) (sym (append-nil cs) ∙ ap (λ (ds : List CommandFrame). cs ++ ds) (sym none))
       carried-by (inl same) (inr state) =
-          let told : mid.port.held ≡ Some now-told.0 = ap (λ (t : Telling). t.held) (sym same) ∙ now-told.1 in
+          let told : mid.port.held ≡ Some now-told.0 = ap (λ (t : PortTrace). t.held) (sym same) ∙ now-told.1 in
           let none = none-came same in
           let bytes_heard = flat_map answer_bytes (answers_to before.port.start cs) in
           all-carried before.port.start now-told.0 (cs ++ fs) bytes_heard all-fit

@@ -7,6 +7,7 @@ use Rattle.rollout_rules.specs.Wan.{Rollout}
 use Rattle.rollout_rules.specs.History.{History}
 use Rattle.rollout_rules.specs.Agent.{pair_of}
 use Rattle.wan_edge.specs.Frames.{Answer, Command}
+use Rattle.wan_edge.specs.Ports.{PortTrace}
 use Rattle.wan_edge.specs.Switches.{after_commands}
 use Rattle.port_session.specs.Sessions.{Talk}
 use Rattle.port_session.specs.declared.fault.SessionFault.TheVariants as fault
@@ -16,7 +17,7 @@ use Rattle.worker_ports.specs.Hearing.{HasAlien, IsHearCause, IsOwn, Listens}
 use Rattle.worker_ports.specs.Lots.{home_at, is_switch, own}
 use Rattle.worker_ports.specs.Offering.{IsOfferCause, OffersAll}
 use Rattle.worker_ports.specs.Rows.{AtOne, HearsEach, IsCauseOfOffer, ListensEach, OffersAllEach}
-use Rattle.worker_ports.specs.Views.{PortView, Telling, view}
+use Rattle.worker_ports.specs.Views.{PortView, view}
 use Rattle.controller_run.specs.Exchanging.{StopsInHear}
 use Rattle.controller_run.proofs.Keeps.{no-one}
 use Rattle.controller_run.proofs.Elements.{inside-cons, inside-later, none-inside}
@@ -66,7 +67,7 @@ module _ (r : Rollout) (migration : ℕ) (homes : List (Option ℕ)) (h : Histor
   own-has switch commands c at home =
       filter-has (λ d. is_switch switch (home_at homes d.item)) commands c (ap (is_switch switch) home ∙ eq-eqb switch switch refl) at
 
-  module _ {P : Type 0} (tell : P → Telling) (commands : List Command) (flying : All (IsFlying r migration homes h) commands) where
+  module _ {P : Type 0} (tell : P → PortTrace) (commands : List Command) (flying : All (IsFlying r migration homes h) commands) where
     abbrev pub Up : Talk P → Type 0
     Up t = IsUpToDate r migration homes h (view tell t)
 
@@ -144,7 +145,7 @@ module _ (r : Rollout) (migration : ℕ) (homes : List (Option ℕ)) (h : Histor
     hear-excused cause.Memory bs ns ups stops = tt
 
 -- a cause that comes of offering
-pub offer-excused : {P : Type 0} (tell : P → Telling) (why : Cause) (bs ns : List (Talk P)) → IsCauseOfOffer tell why bs ns → IsExcused why
+pub offer-excused : {P : Type 0} (tell : P → PortTrace) (why : Cause) (bs ns : List (Talk P)) → IsCauseOfOffer tell why bs ns → IsExcused why
 offer-excused tell (cause.Spent given item number) bs ns is = no-one (λ b n. IsOfferCause (cause.Spent given item number) (view tell b) (view tell n)) (λ b n none. none) bs ns is
 offer-excused tell (cause.Port switch) bs ns is = tt
 offer-excused tell (cause.Above item held begun) bs ns is = no-one (λ b n. IsOfferCause (cause.Above item held begun) (view tell b) (view tell n)) (λ b n none. none) bs ns is

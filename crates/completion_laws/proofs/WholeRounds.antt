@@ -17,6 +17,7 @@ use Rattle.rollout_laws.proofs.Histories.{settled-with}
 use Rattle.rollout_laws.proofs.Rounds.{numbers_below}
 use Rattle.turn_lock.specs.Histories.{Follows}
 use Rattle.wan_edge.specs.Frames.{Answer, Command}
+use Rattle.wan_edge.specs.Ports.{PortTrace}
 use Rattle.rollout_book.specs.Aliens.{op_of, told_by}
 use Rattle.rollout_book.specs.Commands.{asked}
 use Rattle.port_session.specs.Sessions.{Talk}
@@ -38,7 +39,7 @@ use Rattle.shared_book.specs.Calls.{IsStopCall, seat_of}
 use Rattle.shared_book.specs.Homes.{homes_of}
 use Rattle.shared_book.specs.Told.{commands_at}
 use Rattle.worker_ports.specs.Lots.{home_at}
-use Rattle.worker_ports.specs.Views.{Telling, view}
+use Rattle.worker_ports.specs.Views.{view}
 use Rattle.controller_run.specs.Exchanging.{Exchanges}
 use Rattle.controller_run.specs.Finding.{Lists, Looks}
 use Rattle.controller_run.specs.Promises.{switches_of}
@@ -71,7 +72,7 @@ goes-before final a b more is goes = goes-back final a more (subst (GoesTo final
 has-switch : {P : Type 0} (ps : List (Talk P)) (k : ℕ) (d : Talk P) → k < length ps → Contains (switches_of ps) (slice_index_or ps k d).switch
 has-switch ps k d inside = map-has (λ t. t.switch) ps (slice_index_or ps k d) (Contains-get_or ps k d inside)
 
-module _ {P : Type 0} (tell : P → Telling) (o : Opening) (seat : ℕ) (joined : List ℕ) (migration : ℕ) (homes : List (Option ℕ)) (switches : List ℕ) (rounds : ℕ) (net : IsNetwork o.rollout.problem) (valid : is_valid_plan o.rollout.problem o.rollout.plan ≡ true) (small : migration < 2 ^ 32)
+module _ {P : Type 0} (tell : P → PortTrace) (o : Opening) (seat : ℕ) (joined : List ℕ) (migration : ℕ) (homes : List (Option ℕ)) (switches : List ℕ) (rounds : ℕ) (net : IsNetwork o.rollout.problem) (valid : is_valid_plan o.rollout.problem o.rollout.plan ≡ true) (small : migration < 2 ^ 32)
     (same_homes : homes ≡ homes_of o.rollout.problem) (final : List Written) (others : OthersEndElsewhere homes switches seat final) where
   abbrev hist : List Written → History
   hist ws = history_of o ws
@@ -467,7 +468,7 @@ module _ {P : Type 0} (tell : P → Telling) (o : Opening) (seat : ℕ) (joined 
           asked-excused seat o joined stopped.log now.seen stopped.cause halt excused.1 stopped.asked excused.0 mine
 
 -- ---- a worker from its first round to its last
-module _ {P : Type 0} (tell : P → Telling) (o : Opening) (seat : ℕ) (joined : List ℕ) (migration : ℕ) (homes : List (Option ℕ)) (rounds : ℕ) (net : IsNetwork o.rollout.problem) (valid : is_valid_plan o.rollout.problem o.rollout.plan ≡ true) (small : migration < 2 ^ 32)
+module _ {P : Type 0} (tell : P → PortTrace) (o : Opening) (seat : ℕ) (joined : List ℕ) (migration : ℕ) (homes : List (Option ℕ)) (rounds : ℕ) (net : IsNetwork o.rollout.problem) (valid : is_valid_plan o.rollout.problem o.rollout.plan ≡ true) (small : migration < 2 ^ 32)
     (same_homes : homes ≡ homes_of o.rollout.problem) (before : Standing P) (legal : is_legal_shared o before.seen ≡ true) (ups : All (λ t. IsUpToDate o.rollout migration homes (history_of o before.seen) (view tell t)) before.ports) where
   abbrev switches : List ℕ
   switches = switches_of before.ports

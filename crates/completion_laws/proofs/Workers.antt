@@ -11,6 +11,7 @@ use Rattle.rollout_rules.specs.History.{History}
 use Rattle.rollout_rules.specs.Legal.{unsettled}
 use Rattle.rollout_laws.proofs.Histories.{with_none}
 use Rattle.wan_edge.specs.Frames.{Answer}
+use Rattle.wan_edge.specs.Ports.{PortTrace}
 use Rattle.port_session.specs.Sessions.{Talk}
 use Rattle.shared_history.specs.declared.note.Cause.{Cause}
 use Rattle.shared_history.specs.declared.note.Cause.TheVariants as cause
@@ -27,7 +28,7 @@ use Rattle.shared_book.specs.Calls.{seat_of}
 use Rattle.shared_book.specs.Homes.{homes_of}
 use Rattle.worker_ports.specs.Lots.{home_at}
 use Rattle.worker_ports.specs.Rows.{AtOne}
-use Rattle.worker_ports.specs.Views.{Telling, view}
+use Rattle.worker_ports.specs.Views.{view}
 use Rattle.controller_run.specs.Promises.{AreAnswered, IsEndAt, Promises, StopsNothing, WasTold, switches_of}
 use Rattle.controller_run.specs.Serving.{Served}
 use Rattle.controller_run.proofs.Keeps.{serves-keeps}
@@ -82,7 +83,7 @@ early-excused seen cause.Disk early = tt
 early-excused seen cause.Memory early = tt
 
 -- ---- a worker
-module _ {P : Type 0} (tell : P → Telling) (o : Opening) (migration : ℕ) (homes : List (Option ℕ)) (rounds : ℕ) (same_homes : homes ≡ homes_of o.rollout.problem) (log : List Written) (legal : is_legal_shared o log ≡ true) (opened : List (Talk P)) (sure : IsSure tell o migration homes rounds opened)
+module _ {P : Type 0} (tell : P → PortTrace) (o : Opening) (migration : ℕ) (homes : List (Option ℕ)) (rounds : ℕ) (same_homes : homes ≡ homes_of o.rollout.problem) (log : List Written) (legal : is_legal_shared o log ≡ true) (opened : List (Talk P)) (sure : IsSure tell o migration homes rounds opened)
     (s : Shift P) (shift : IsShift tell o migration homes rounds log s) (elsewhere : OthersEndElsewhere homes (switches_of s.given.before.ports) s.given.seat log) (among : (t : Talk P) → Contains s.given.before.ports t → Contains opened t) where
   abbrev seat : ℕ
   seat = s.given.seat
@@ -157,7 +158,7 @@ module _ {P : Type 0} (tell : P → Telling) (o : Opening) (migration : ℕ) (ho
   one-excused halt first mine = by-end s.end shift.returns halt (seen-first halt first mine) mine
 
 -- the switch of a port that told something
-one-told : {P : Type 0} (tell : P → Telling) (migration switch : ℕ) (answer : Answer) (bs ns : List (Talk P)) → AtOne (λ b n. WasTold migration switch answer (view tell b) (view tell n)) bs ns → Contains (switches_of bs) switch
+one-told : {P : Type 0} (tell : P → PortTrace) (migration switch : ℕ) (answer : Answer) (bs ns : List (Talk P)) → AtOne (λ b n. WasTold migration switch answer (view tell b) (view tell n)) bs ns → Contains (switches_of bs) switch
 one-told tell migration switch answer [] [] one = absurd one
 one-told tell migration switch answer [] (n ∷ ns) one = absurd one
 one-told tell migration switch answer (b ∷ bs) [] one = absurd one
@@ -165,7 +166,7 @@ one-told tell migration switch answer (b ∷ bs) (n ∷ ns) (inl here) = (0, ome
 one-told tell migration switch answer (b ∷ bs) (n ∷ ns) (inr later) = inside-later b.switch switch (switches_of bs) (one-told tell migration switch answer bs ns later)
 
 -- ---- all of them
-module _ {P : Type 0} (tell : P → Telling) (o : Opening) (migration : ℕ) (homes : List (Option ℕ)) (rounds : ℕ) (same_homes : homes ≡ homes_of o.rollout.problem) (log : List Written) (legal : is_legal_shared o log ≡ true) (opened : List (Talk P)) (sure : IsSure tell o migration homes rounds opened)
+module _ {P : Type 0} (tell : P → PortTrace) (o : Opening) (migration : ℕ) (homes : List (Option ℕ)) (rounds : ℕ) (same_homes : homes ≡ homes_of o.rollout.problem) (log : List Written) (legal : is_legal_shared o log ≡ true) (opened : List (Talk P)) (sure : IsSure tell o migration homes rounds opened)
     (one : IsOfWorkers tell o migration homes rounds opened log) where
   abbrev shifts : List (Shift P)
   shifts = one.worked.shifts

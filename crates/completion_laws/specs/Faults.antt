@@ -1,14 +1,14 @@
 -- Runs without a fault.
 use Rattle.std.specs.Prelude.{◌≡◌, ⊤, ℕ, List, Option, Some}
 use Rattle.std.specs.List.{Contains}
+use Rattle.wan_edge.specs.Ports.{PortTrace}
 use Rattle.wan_edge.specs.Streams.{Rose}
 use Rattle.port_session.specs.Sessions.{Talk}
 use Rattle.shared_history.specs.declared.note.Cause.{Cause}
 use Rattle.shared_history.specs.declared.note.Cause.TheVariants as cause
-use Rattle.worker_ports.specs.Views.{Telling}
 
 -- No count of faults has risen: the disk, of which this says that it failed, has not, and no port that was opened has, from then to how it is kept.
-pub record IsWithoutFault {P : Type 0} (tell : P → Telling) (failed : Type 0) (opened : List (Talk P)) (kept : ℕ → Option P) : Type 0 where
+pub record IsWithoutFault {P : Type 0} (tell : P → PortTrace) (failed : Type 0) (opened : List (Talk P)) (kept : ℕ → Option P) : Type 0 where
   pub disk : failed → ⊥
   pub ports : (t : Talk P) → Contains opened t → (now : P) → kept t.switch ≡ Some now → Rose (tell t.port).faults (tell now).faults → ⊥
 

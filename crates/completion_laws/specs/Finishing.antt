@@ -13,7 +13,8 @@ use Rattle.shared_history.specs.Histories.{Opening, history_of}
 use Rattle.shared_history.specs.Legal.{is_still}
 use Rattle.shared_history.specs.Notes.{first_stop}
 use Rattle.shared_book.specs.Calls.{seat_of}
-use Rattle.worker_ports.specs.Views.{Telling, view}
+use Rattle.wan_edge.specs.Ports.{PortTrace}
+use Rattle.worker_ports.specs.Views.{view}
 use Rattle.controller_run.specs.Promises.{switches_of}
 use Rattle.rollout_run.specs.Shifts.{HasTurned, Shift}
 use Rattle.rollout_run.specs.Together.{HasWorked}
@@ -24,7 +25,7 @@ use Rattle.completion_laws.specs.Faults.{IsExcused}
 
 -- What a run of a valid plan begins with that is sure to finish: each port that was opened is ready, rounds are given for all that isn't settled,
 -- and the policy holds nothing back.
-pub record IsSure {P : Type 0} (tell : P → Telling) (o : Opening) (migration : ℕ) (homes : List (Option ℕ)) (rounds : ℕ) (opened : List (Talk P)) : Type 0 where
+pub record IsSure {P : Type 0} (tell : P → PortTrace) (o : Opening) (migration : ℕ) (homes : List (Option ℕ)) (rounds : ℕ) (opened : List (Talk P)) : Type 0 where
   pub network : IsNetwork o.rollout.problem
   pub plan : IsTrue (is_valid_plan o.rollout.problem o.rollout.plan)
   pub small : migration < 2 ^ 32
@@ -71,7 +72,7 @@ pub record HasEnded (o : Opening) (log : List Written) : Type 0 where
   pub idle : is_finished o.rollout.problem o.rollout.plan (history_of o front) ≡ false → is_still o.rollout.problem (history_of o front) ≡ true
 
 -- How workers came to a history, from the ports that were opened. Where no stop stands in it, one of them has come to its end.
-pub record IsOfWorkers {P : Type 0} (tell : P → Telling) (o : Opening) (migration : ℕ) (homes : List (Option ℕ)) (rounds : ℕ) (opened : List (Talk P)) (log : List Written) : Type 0 where
+pub record IsOfWorkers {P : Type 0} (tell : P → PortTrace) (o : Opening) (migration : ℕ) (homes : List (Option ℕ)) (rounds : ℕ) (opened : List (Talk P)) (log : List Written) : Type 0 where
   pub seats : ℕ
   pub made : All (λ w. seat_of w < seats) log
   pub left : List (Talk P)

@@ -5,7 +5,6 @@ ghost use Rattle.port_session.specs.Sessions.{Talk};
 ghost use Rattle.shared_history.specs.declared.note.Cause.{Cause};
 ghost use Rattle.shared_history.specs.declared.note.Written.{Written};
 ghost use Rattle.shared_history.specs.Histories.{Opening};
-ghost use Rattle.worker_ports.specs.Views.{telling};
 ghost use Rattle.rollout_run.specs.Causes.{HasCause};
 ghost use Rattle.completion_laws.specs.Faults.{IsNoFault, IsWithoutFault};
 
@@ -13,7 +12,9 @@ use wan_edge::Port;
 
 /// Where no count of faults has risen, what a run was stopped by is no failure of its disk or of a port.
 pub fn a_run_without_faults_is_stopped_by_none<T: Port>()
-    ensures { (o : Opening) (migration : ℕ) (homes : List (Option ℕ)) (rounds count later : ℕ) (log : List Written) (opened : List (Talk T)) (kept : ℕ → Option T) (why : Cause)
-        → IsWithoutFault (telling T.offered T.heard T.held T.quiet T.faults T.honest T.prompt T.start) (Rose count later) opened kept
-        → HasCause (telling T.offered T.heard T.held T.quiet T.faults T.honest T.prompt T.start) o migration homes rounds (Rose count later) log opened kept why → IsNoFault why }
+    ensures { (o : Opening) (migration : ℕ) (homes : List (Option ℕ)) (rounds count later : ℕ)
+        (log : List Written) (opened : List (Talk T)) (kept : ℕ → Option T) (why : Cause)
+        → IsWithoutFault T.told (Rose count later) opened kept
+        → HasCause T.told o migration homes rounds (Rose count later) log opened kept why
+        → IsNoFault why }
 {}

@@ -11,7 +11,6 @@ ghost use Rattle.port_session.specs.Sessions.{Talk};
 ghost use Rattle.shared_history.specs.Histories.{Opening, history_of};
 ghost use Rattle.shared_history.specs.Legal.{is_still};
 ghost use Rattle.shared_book.specs.Homes.{homes_of};
-ghost use Rattle.worker_ports.specs.Views.{telling};
 ghost use Rattle.rollout_run.specs.Ran.{Ran};
 ghost use Rattle.rollout_run.specs.Shifts.{Shift};
 ghost use Rattle.rollout_run.specs.Together.{given_ports};
@@ -27,37 +26,49 @@ use wan_edge::Port;
 /// holds nothing back, finishes, or ends for want of memory or because the disk or a port failed: its rounds
 /// aren't spent, no answer stops it, and nothing is held.
 pub fn a_run_over_ready_ports_stops_for_an_excuse<D: Disk, T: Port>()
-    ensures { (o : Opening) (from count migration rounds : ℕ) (homes : List ℕ) (before : FleetPorts T) (end : RunEnd) (book : Chronicled D) (now : FleetPorts T)
-        (ran : Ran D.bytes D.may_leave D.moment D.left_since D.faults T.faults (telling T.offered T.heard T.held T.quiet T.faults T.honest T.prompt T.start) o from count migration rounds homes before end book now)
-        → IsSure (telling T.offered T.heard T.held T.quiet T.faults T.honest T.prompt T.start) o migration (homes_of o.rollout.problem) rounds (first_talks ran.berths)
+    ensures { (o : Opening) (from count migration rounds : ℕ) (homes : List ℕ)
+        (before : FleetPorts T) (end : RunEnd) (book : Chronicled D) (now : FleetPorts T)
+        (ran : Ran D.told T.told o from count migration rounds homes before end book now)
+        → IsSure T.told o migration (homes_of o.rollout.problem) rounds (first_talks ran.berths)
         → FinishesOrIsExcused end }
 {}
 
 /// So where no count of faults has risen such a run finishes, or ends for want of memory.
 pub fn a_run_over_ready_ports_finishes<D: Disk, T: Port>()
-    ensures { (o : Opening) (from count migration rounds : ℕ) (homes : List ℕ) (before : FleetPorts T) (end : RunEnd) (book : Chronicled D) (now : FleetPorts T)
-        (ran : Ran D.bytes D.may_leave D.moment D.left_since D.faults T.faults (telling T.offered T.heard T.held T.quiet T.faults T.honest T.prompt T.start) o from count migration rounds homes before end book now)
-        → IsSure (telling T.offered T.heard T.held T.quiet T.faults T.honest T.prompt T.start) o migration (homes_of o.rollout.problem) rounds (first_talks ran.berths)
-        → IsWithoutFault (telling T.offered T.heard T.held T.quiet T.faults T.honest T.prompt T.start) (Rose count (D.faults book.disk)) (first_talks ran.berths) now.kept
+    ensures { (o : Opening) (from count migration rounds : ℕ) (homes : List ℕ)
+        (before : FleetPorts T) (end : RunEnd) (book : Chronicled D) (now : FleetPorts T)
+        (ran : Ran D.told T.told o from count migration rounds homes before end book now)
+        → IsSure T.told o migration (homes_of o.rollout.problem) rounds (first_talks ran.berths)
+        → IsWithoutFault T.told (Rose count (D.told book.disk).faults) (first_talks ran.berths)
+        now.kept
         → FinishesOrWants end }
 {}
 
 /// A run that says that the rest is held back leaves nothing in flight, and each operation that may begin
 /// then is one that the policy holds back.
 pub fn a_held_run_is_held_by_its_policy<D: Disk, T: Port>()
-    ensures { (o : Opening) (from count migration rounds : ℕ) (homes : List ℕ) (before : FleetPorts T) (book : Chronicled D) (now : FleetPorts T)
-        (ran : Ran D.bytes D.may_leave D.moment D.left_since D.faults T.faults (telling T.offered T.heard T.held T.quiet T.faults T.honest T.prompt T.start) o from count migration rounds homes before run.Held book now)
+    ensures { (o : Opening) (from count migration rounds : ℕ) (homes : List ℕ)
+        (before : FleetPorts T) (book : Chronicled D) (now : FleetPorts T)
+        (ran : Ran D.told T.told o from count migration rounds homes before run.Held book now)
         → IsTrue (is_still o.rollout.problem (history_of o ran.log))
-        × ((n : ℕ) → IsTrue (may_begin o.rollout.problem o.rollout.plan (history_of o ran.log) (next_op (history_of o ran.log) n))
-        → IsTrue (is_held_back o.policy (view_of o.rollout.problem o.rollout.plan (history_of o ran.log) n))) }
+        × ((n : ℕ)
+        → IsTrue (may_begin o.rollout.problem o.rollout.plan (history_of o ran.log)
+        (next_op (history_of o ran.log) n))
+        → IsTrue (is_held_back o.policy
+        (view_of o.rollout.problem o.rollout.plan (history_of o ran.log) n))) }
 {}
 
 /// Workers whose ports are to switches of their own, each to one, are served apart.
 pub fn ports_that_are_apart_are_served_apart<T: Port>()
-    ensures { (shifts : List (Shift T)) (spare opened : List (Talk T)) → IsPermutation opened (given_ports shifts ++ spare) → IsDistinct nat_eq (map (λ t. t.switch) opened) → AreServedApart shifts }
+    ensures { (shifts : List (Shift T)) (spare opened : List (Talk T))
+        → IsPermutation opened (given_ports shifts ++ spare)
+        → IsDistinct nat_eq (map (λ t. t.switch) opened)
+        → AreServedApart shifts }
 {}
 
 /// The ports of a worker that is alone are served apart from all others.
 pub fn one_worker_serves_apart<T: Port>()
-    ensures { (shifts : List (Shift T)) (ports : List (Talk T)) → map (λ s. s.now.ports) shifts ≡ ports ∷ [] → AreServedApart shifts }
+    ensures { (shifts : List (Shift T)) (ports : List (Talk T))
+        → map (λ s. s.now.ports) shifts ≡ ports ∷ []
+        → AreServedApart shifts }
 {}

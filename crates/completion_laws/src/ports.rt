@@ -17,14 +17,26 @@ ghost use Rattle.completion_laws.specs.Answering.{IsReady, IsUpToDate, answer_fo
 /// A port that is ready for a run has answered all, and what its switch holds is on the way behind the
 /// history found.
 pub fn a_ready_port_is_up_to_date()
-    ensures { (r : Rollout) (migration : ℕ) (homes : List (Option ℕ)) (found : History) (first : PortView) → IsReady r migration homes found first → IsUpToDate r migration homes found first }
+    ensures { (r : Rollout) (migration : ℕ) (homes : List (Option ℕ)) (found : History)
+        (first : PortView)
+        → IsReady r migration homes found first
+        → IsUpToDate r migration homes found first }
 {}
 
 /// Where a port is up to date, and a round offers it its own among the commands of what is in flight, it
 /// tells the answer to each of them, of just its number, and nothing else; and then it is up to date again.
 pub fn a_port_that_is_up_to_date_answers_each_command()
-    ensures { (r : Rollout) (migration : ℕ) (homes : List (Option ℕ)) (h : History) (switches : List ℕ) (before offered now : PortView) (told : List Answer)
-        → IsNetwork r.problem → IsTrue (is_valid_plan r.problem r.plan) → IsTrue (is_legal r.problem r.plan h) → migration < 2 ^ 32 → IsUpToDate r migration homes h before
-        → OffersAll migration (own homes before.switch (asked r switches (in_flight r.problem h))) before offered → HearsOut migration homes offered told now
-        → (told ≡ map answer_for (own homes before.switch (asked r switches (in_flight r.problem h)))) × IsUpToDate r migration homes h now }
+    ensures { (r : Rollout) (migration : ℕ) (homes : List (Option ℕ)) (h : History)
+        (switches : List ℕ) (before offered now : PortView) (told : List Answer)
+        → IsNetwork r.problem
+        → IsTrue (is_valid_plan r.problem r.plan)
+        → IsTrue (is_legal r.problem r.plan h)
+        → migration < 2 ^ 32
+        → IsUpToDate r migration homes h before
+        → OffersAll migration (own homes before.switch (asked r switches (in_flight r.problem h)))
+        before offered
+        → HearsOut migration homes offered told now
+        → (told
+        ≡ map answer_for (own homes before.switch (asked r switches (in_flight r.problem h))))
+        × IsUpToDate r migration homes h now }
 {}

@@ -8,7 +8,7 @@ ghost use Rattle.shared_history.specs.declared.reply.Wake.TheVariants as wake;
 ghost use Rattle.shared_history.specs.Histories.{Opening, history_of};
 ghost use Rattle.shared_history.specs.Legal.{is_legal_shared};
 ghost use Rattle.shared_book.specs.Homes.{homes_of};
-ghost use Rattle.worker_ports.specs.Views.{telling, view};
+ghost use Rattle.worker_ports.specs.Views.{view};
 ghost use Rattle.controller_run.specs.Promises.{StopsNothing, switches_of};
 ghost use Rattle.controller_run.specs.Serving.{AreWhole, Moment, Served};
 ghost use Rattle.controller_run.specs.Working.{Standing};
@@ -22,23 +22,45 @@ use wan_edge::Port;
 /// one operation: so many fewer are unsettled as rounds were spent. Behind each round the ports have
 /// answered all again.
 pub fn each_round_settles_an_operation<T: Port>()
-    ensures { (o : Opening) (seat : ℕ) (joined : List ℕ) (migration : ℕ) (homes : List (Option ℕ)) (rounds : ℕ) (before : Standing T) (moments : List (Moment T)) (at : Moment T)
-        → IsNetwork o.rollout.problem → IsTrue (is_valid_plan o.rollout.problem o.rollout.plan) → migration < 2 ^ 32 → homes ≡ homes_of o.rollout.problem → IsTrue (is_legal_shared o before.seen) → StopsNothing seat before.seen
-        → All (λ t. IsUpToDate o.rollout migration homes (history_of o before.seen) (view (telling T.offered T.heard T.held T.quiet T.faults T.honest T.prompt T.start) t)) before.ports
-        → AreWhole (telling T.offered T.heard T.held T.quiet T.faults T.honest T.prompt T.start) o (seat ∷ joined) seat migration homes rounds (record { stands = before; left = rounds }) moments at
+    ensures { (o : Opening) (seat : ℕ) (joined : List ℕ) (migration : ℕ) (homes : List (Option ℕ))
+        (rounds : ℕ) (before : Standing T) (moments : List (Moment T)) (at : Moment T)
+        → IsNetwork o.rollout.problem
+        → IsTrue (is_valid_plan o.rollout.problem o.rollout.plan)
+        → migration < 2 ^ 32
+        → homes ≡ homes_of o.rollout.problem
+        → IsTrue (is_legal_shared o before.seen)
+        → StopsNothing seat before.seen
+        → All (λ t. IsUpToDate o.rollout migration homes (history_of o before.seen)
+        (view T.told t))
+        before.ports
+        → AreWhole T.told o
+        (seat ∷ joined) seat migration homes rounds (record { stands = before; left = rounds })
+        moments at
         → OthersEndElsewhere homes (switches_of before.ports) seat at.stands.seen
-        → (unsettled o.rollout.problem o.rollout.plan (history_of o at.stands.seen) + rounds ≤ unsettled o.rollout.problem o.rollout.plan (history_of o before.seen) + at.left)
-        × All (λ t. IsUpToDate o.rollout migration homes (history_of o at.stands.seen) (view (telling T.offered T.heard T.held T.quiet T.faults T.honest T.prompt T.start) t)) at.stands.ports }
+        → (unsettled o.rollout.problem o.rollout.plan (history_of o at.stands.seen) + rounds
+        ≤ unsettled o.rollout.problem o.rollout.plan (history_of o before.seen) + at.left)
+        × All (λ t. IsUpToDate o.rollout migration homes (history_of o at.stands.seen)
+        (view T.told t))
+        at.stands.ports }
 {}
 
 /// So a worker that has at least as many rounds as operations are unsettled asks that all stop only where
 /// memory ran out, or where the disk or a port failed: no answer of such ports is amiss, and no rounds are
 /// spent in vain.
 pub fn a_worker_stops_for_an_excuse<T: Port>()
-    ensures { (o : Opening) (seat : ℕ) (joined : List ℕ) (migration : ℕ) (homes : List (Option ℕ)) (rounds : ℕ) (before : Standing T) (halt : Halt) (now : Standing T)
-        → IsNetwork o.rollout.problem → IsTrue (is_valid_plan o.rollout.problem o.rollout.plan) → migration < 2 ^ 32 → homes ≡ homes_of o.rollout.problem → IsTrue (is_legal_shared o before.seen) → StopsNothing seat before.seen
-        → All (λ t. IsUpToDate o.rollout migration homes (history_of o before.seen) (view (telling T.offered T.heard T.held T.quiet T.faults T.honest T.prompt T.start) t)) before.ports
+    ensures { (o : Opening) (seat : ℕ) (joined : List ℕ) (migration : ℕ) (homes : List (Option ℕ))
+        (rounds : ℕ) (before : Standing T) (halt : Halt) (now : Standing T)
+        → IsNetwork o.rollout.problem
+        → IsTrue (is_valid_plan o.rollout.problem o.rollout.plan)
+        → migration < 2 ^ 32
+        → homes ≡ homes_of o.rollout.problem
+        → IsTrue (is_legal_shared o before.seen)
+        → StopsNothing seat before.seen
+        → All (λ t. IsUpToDate o.rollout migration homes (history_of o before.seen) (view T.told t))
+        before.ports
         → unsettled o.rollout.problem o.rollout.plan (history_of o before.seen) ≤ rounds
-        → Served (telling T.offered T.heard T.held T.quiet T.faults T.honest T.prompt T.start) o (seat ∷ joined) seat migration homes rounds before (wake.Stopped halt) now
-        → OthersEndElsewhere homes (switches_of before.ports) seat now.seen → halt.seat ≡ seat → IsExcused halt.cause }
+        → Served T.told o (seat ∷ joined) seat migration homes rounds before (wake.Stopped halt) now
+        → OthersEndElsewhere homes (switches_of before.ports) seat now.seen
+        → halt.seat ≡ seat
+        → IsExcused halt.cause }
 {}

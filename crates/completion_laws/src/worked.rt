@@ -29,7 +29,8 @@ pub fn others_may_settle_what_is_at_home_elsewhere()
     ensures elsewhere { EndsNoneAt both_at_first (7 ∷ []) settles_first }
     ensures here { EndsNoneAt both_at_first (0 ∷ []) settles_first → ⊥ }
     ensures begins { EndsNoneAt both_at_first (0 ∷ []) begins_first }
-    ensures others { OthersEndElsewhere both_at_first (0 ∷ []) 0 (begins_first ∷ settles_first ∷ []) → ⊥ }
+    ensures others { OthersEndElsewhere both_at_first (0 ∷ []) 0 (begins_first ∷ settles_first ∷ [])
+        → ⊥ }
     ensures own { OthersEndElsewhere both_at_first (0 ∷ []) 1 (begins_first ∷ settles_first ∷ []) }
 {}
 

@@ -5,13 +5,14 @@ use Rattle.std.proofs.lemmas.List.Elements.{Contains-append_cases}
 use Rattle.std.specs.List.{AllZip, Contains}
 use Rattle.std.specs.Prelude.{All, IsTrue, ⊤}
 use Rattle.wan_edge.specs.Frames.{Answer, Command}
+use Rattle.wan_edge.specs.Ports.{PortTrace}
 use Rattle.port_session.specs.Sessions.{Talk}
 use Rattle.worker_ports.specs.Hearing.{HearsOut, IsOwn}
 use Rattle.worker_ports.specs.Lots.{home_at, is_switch, own}
 use Rattle.worker_ports.specs.Offering.{OffersAll}
 use Rattle.worker_ports.specs.Rows.{AtOne, HearsEach, ListensEach, OffersAllEach, OffersEach}
 use Rattle.worker_ports.specs.Stories.{IsTold, LastStoryEach, Story, StoryEach, ToldAt}
-use Rattle.worker_ports.specs.Views.{PortView, Telling, view}
+use Rattle.worker_ports.specs.Views.{PortView, view}
 use Rattle.worker_ports.proofs.Stories.{story_begins, story_ends_in_hear, story_ends_in_offer, story_goes_on, told_now, told_stays}
 use Rattle.controller_run.specs.Exchanging.{Exchanges}
 
@@ -23,7 +24,7 @@ is-home switch (Some home) is = ap Some (eqb-true home switch is)
 contained : (P : Answer → Type 0) (xs : List Answer) (x : Answer) → Contains xs x → All P xs → P x
 contained P xs x at all = subst P at.2 (all at.0 x at.1)
 
-module _ {P : Type 0} (tell : P → Telling) (migration : ℕ) (homes : List (Option ℕ)) where
+module _ {P : Type 0} (tell : P → PortTrace) (migration : ℕ) (homes : List (Option ℕ)) where
   -- before the first round
   pub stories_begin : (ps : List (Talk P)) → All (λ (t : Talk P). IsTrue t.stream.live) ps → StoryEach tell migration homes [] ps ps
   stories_begin [] live = tt

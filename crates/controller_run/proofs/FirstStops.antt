@@ -5,6 +5,7 @@ use Rattle.std.specs.Prelude.{IsTrue}
 use Rattle.rollout_rules.specs.declared.op.Op.{Op}
 use Rattle.rollout_rules.specs.declared.op.Entry.{Entry}
 use Rattle.wan_edge.specs.Frames.{Answer, Command}
+use Rattle.wan_edge.specs.Ports.{PortTrace}
 use Rattle.wan_edge.specs.Streams.{Rose}
 use Rattle.rollout_book.specs.Aliens.{op_of, told_by}
 use Rattle.rollout_book.specs.declared.fault.BookFault.TheVariants as fault
@@ -30,7 +31,7 @@ use Rattle.worker_ports.specs.Lots.{own}
 use Rattle.worker_ports.specs.Offering.{IsOfferCause, OffersAll}
 use Rattle.worker_ports.specs.Rows.{AtOne, IsCauseOfHear, IsCauseOfOffer, OffersAllEach}
 use Rattle.worker_ports.specs.Stories.{Story, StoryEach}
-use Rattle.worker_ports.specs.Views.{Telling, view}
+use Rattle.worker_ports.specs.Views.{view}
 use Rattle.controller_run.specs.Exchanging.{StopsInHear, StopsInOffer}
 use Rattle.controller_run.specs.Finding.{Lists, Looks}
 use Rattle.controller_run.specs.Promises.{IsToldAtHome, StopsNothing, switches_of}
@@ -68,7 +69,7 @@ rose-on : (a b c : ℕ) → a ≤ b → Rose b c → Rose a c
 rose-on a b c le (inl rose) = inl (omega (arith, le, rose))
 rose-on a b c le (inr top) = inr top
 
-module _ {P : Type 0} (tell : P → Telling) where
+module _ {P : Type 0} (tell : P → PortTrace) where
   -- the same port, whose count hasn't fallen
   Later : Talk P → Talk P → Type 0
   Later before now = (now.switch ≡ before.switch) × ((tell before.port).faults ≤ (tell now.port).faults)
@@ -94,7 +95,7 @@ module _ {P : Type 0} (tell : P → Telling) where
         le-on : (a b c : ℕ) → a ≤ b → b ≤ c → a ≤ c
         le-on a b c le more = omega (arith, le, more)
 
-module _ {P : Type 0} (tell : P → Telling) (o : Opening) (seat : ℕ) (joined : List ℕ) (migration : ℕ) (homes : List (Option ℕ)) (rounds : ℕ) (before : Standing P) (quiet_before : StopsNothing seat before.seen) where
+module _ {P : Type 0} (tell : P → PortTrace) (o : Opening) (seat : ℕ) (joined : List ℕ) (migration : ℕ) (homes : List (Option ℕ)) (rounds : ℕ) (before : Standing P) (quiet_before : StopsNothing seat before.seen) where
   abbrev Reasons : Cause → Standing P → Type 0
   Reasons why now = IsReason tell o seat migration homes rounds before why now
 

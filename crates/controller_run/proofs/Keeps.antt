@@ -5,6 +5,7 @@ use Rattle.std.specs.Prelude.{IsTrue}
 use Rattle.rollout_rules.specs.declared.op.Op.{Op}
 use Rattle.turn_lock.specs.Histories.{Follows}
 use Rattle.wan_edge.specs.Frames.{Answer, Command}
+use Rattle.wan_edge.specs.Ports.{PortTrace}
 use Rattle.rollout_book.specs.Aliens.{told_by}
 use Rattle.port_session.specs.Sessions.{Talk}
 use Rattle.shared_history.specs.declared.note.Cause.{Cause}
@@ -29,7 +30,7 @@ use Rattle.worker_ports.specs.Hearing.{IsHearCause}
 use Rattle.worker_ports.specs.Offering.{IsOfferCause}
 use Rattle.worker_ports.specs.Rows.{AtOne, IsCauseOfHear, IsCauseOfOffer}
 use Rattle.worker_ports.specs.Stories.{LastStoryEach, StoryEach}
-use Rattle.worker_ports.specs.Views.{Telling, view}
+use Rattle.worker_ports.specs.Views.{view}
 use Rattle.controller_run.specs.Exchanging.{StopsInHear, StopsInOffer}
 use Rattle.controller_run.specs.Finding.{EndsAt, Lists, Looks, Wants}
 use Rattle.controller_run.specs.Promises.{BreaksOff, IsBreak, IsEndAt, Promises, StopsNothing, UnlessStopped, switches_of}
@@ -58,7 +59,7 @@ at-most-one : (b : Bool) → (if b then 1 else 0) ≤ 1
 at-most-one true = omega arith
 at-most-one false = omega arith
 
-module _ {P : Type 0} (tell : P → Telling) where
+module _ {P : Type 0} (tell : P → PortTrace) where
   pub offer-breaks : (why : Cause) (bs ns : List (Talk P)) → IsCauseOfOffer tell why bs ns → IsBreak why
   offer-breaks (cause.Spent given item number) bs ns is = no-one (λ b n. IsOfferCause (cause.Spent given item number) (view tell b) (view tell n)) (λ b n none. none) bs ns is
   offer-breaks (cause.Port switch) bs ns is = tt
@@ -77,7 +78,7 @@ module _ {P : Type 0} (tell : P → Telling) where
   hear-breaks migration homes cause.Disk bs ns is = no-one (λ b n. IsHearCause migration homes cause.Disk (view tell b) (view tell n)) (λ b n none. none) bs ns is
   hear-breaks migration homes cause.Memory bs ns is = tt
 
-module _ {P : Type 0} (tell : P → Telling) (o : Opening) (seat : ℕ) (joined : List ℕ) (migration : ℕ) (homes : List (Option ℕ)) (rounds : ℕ) (before : Standing P) (quiet_before : StopsNothing seat before.seen) where
+module _ {P : Type 0} (tell : P → PortTrace) (o : Opening) (seat : ℕ) (joined : List ℕ) (migration : ℕ) (homes : List (Option ℕ)) (rounds : ℕ) (before : Standing P) (quiet_before : StopsNothing seat before.seen) where
   abbrev pub ws : List ℕ
   ws = switches_of before.ports
 

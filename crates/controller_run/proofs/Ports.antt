@@ -2,6 +2,8 @@
 use Rattle.std.proofs.Common.{◌≡◌, ◌⊎◌, ℕ, List, [], ◌∷◌, map, Option, refl, ap₂, ◌∙◌, inl, inr}
 use Rattle.std.specs.List.{AllZip, Contains}
 use Rattle.wan_edge.specs.Frames.{Answer, Command}
+use Rattle.wan_edge.specs.Ports.{GoesOn, PortTrace}
+use Rattle.wan_edge.proofs.Chains.{stays}
 use Rattle.port_session.specs.Offers.{frames_of}
 use Rattle.port_session.specs.Sessions.{Talk}
 use Rattle.worker_ports.specs.Hearing.{Listens}
@@ -9,9 +11,9 @@ use Rattle.worker_ports.specs.Lots.{own}
 use Rattle.worker_ports.specs.Offering.{Offers, OffersAll}
 use Rattle.worker_ports.specs.Rows.{AtOne, HearsEach, ListensEach, OffersAllEach, OffersEach}
 use Rattle.worker_ports.specs.Stories.{IsTold, LastStory, LastStoryEach, Story, StoryEach, ToldAt}
-use Rattle.worker_ports.specs.Views.{GoesOn, PortView, Telling, view}
+use Rattle.worker_ports.specs.Views.{PortView, view}
 use Rattle.worker_ports.proofs.Stories.{goes_on_on}
-use Rattle.worker_ports.proofs.Told.{all_sent, stays}
+use Rattle.worker_ports.proofs.Told.{all_sent}
 use Rattle.controller_run.specs.Exchanging.{Exchanges, StopsInHear, StopsInOffer}
 use Rattle.controller_run.specs.Promises.{IsToldAtHome, WasTold, WasToldEach, switches_of}
 use Rattle.controller_run.proofs.Chains.{told_by_home}
@@ -58,7 +60,7 @@ one-ahead R S Q f (a ∷ xs) (b ∷ bs) [] one all = absurd all
 one-ahead R S Q f (a ∷ xs) (b ∷ bs) (c ∷ cs) (inl here) all = inl (f a b c here all.0)
 one-ahead R S Q f (a ∷ xs) (b ∷ bs) (c ∷ cs) (inr later) all = inr (one-ahead R S Q f xs bs cs later all.1)
 
-module _ {P : Type 0} (tell : P → Telling) where
+module _ {P : Type 0} (tell : P → PortTrace) where
   -- ---- all ports go on
   abbrev pub GoOn : List (Talk P) → List (Talk P) → Type 0
   GoOn = AllZip (λ before now. GoesOn (tell before.port) (tell now.port))

@@ -7,6 +7,7 @@ use Rattle.rollout_rules.specs.declared.op.Op.{Op}
 use Rattle.rollout_rules.specs.declared.op.Entry.{Entry}
 use Rattle.rollout_rules.specs.declared.op.Entry.TheVariants.{Done}
 use Rattle.wan_edge.specs.Frames.{Answer, Command}
+use Rattle.wan_edge.specs.Ports.{PortTrace}
 use Rattle.rollout_book.specs.Aliens.{op_of, told_by}
 use Rattle.port_session.specs.Sessions.{Talk}
 use Rattle.shared_history.specs.declared.note.What.{What}
@@ -18,7 +19,6 @@ use Rattle.shared_history.specs.Knows.{next_note}
 use Rattle.shared_history.specs.Notes.{cause_of}
 use Rattle.shared_history.specs.Replies.{batch_at}
 use Rattle.worker_ports.specs.Stories.{StoryEach}
-use Rattle.worker_ports.specs.Views.{Telling}
 use Rattle.controller_run.specs.Exchanging.{Exchanges}
 use Rattle.controller_run.specs.Finding.{Lists}
 use Rattle.controller_run.specs.Promises.{AreAnswered, switches_of}
@@ -33,7 +33,7 @@ use Rattle.controller_run.proofs.Noted.{caller, listed, then-none}
 use Rattle.controller_run.proofs.Ports.{GoOn, exchange-goes, home-now, home-on, same-switches}
 use Rattle.controller_run.proofs.Tallies.{Tally, tally-chain, tally-none, tally-note, tally-weaker}
 
-module _ {P : Type 0} (tell : P → Telling) (o : Opening) (seat : ℕ) (joined : List ℕ) (migration : ℕ) (homes : List (Option ℕ)) (before : Standing P) where
+module _ {P : Type 0} (tell : P → PortTrace) (o : Opening) (seat : ℕ) (joined : List ℕ) (migration : ℕ) (homes : List (Option ℕ)) (before : Standing P) where
   -- each operation that comes as done with a note is answered
   abbrev pub Answers : List (Talk P) → Written → Type 0
   Answers ports w = AreAnswered tell migration homes before.ports w.entries ports

@@ -6,7 +6,7 @@ use Rattle.shared_history.specs.declared.note.Written.{Written}
 use Rattle.shared_history.specs.declared.reply.Wake.{Wake}
 use Rattle.shared_history.specs.declared.reply.Wake.TheVariants as wake
 use Rattle.shared_history.specs.Histories.{Opening}
-use Rattle.worker_ports.specs.Views.{Telling}
+use Rattle.wan_edge.specs.Ports.{PortTrace}
 use Rattle.controller_run.specs.Finding.{Caller}
 use Rattle.controller_run.specs.Serving.{AreWhole, IsLast, Moment, Whole, Worked}
 use Rattle.controller_run.specs.Working.{IsWorked, OnWhole, Standing}
@@ -17,7 +17,7 @@ use Rattle.controller_run.specs.declared.outcome.Outcome.TheVariants as outcome
 pub of_whole : (given : Outcome) (offered : Bool) (holds : Type 0) → given ≡ outcome.Whole offered → OnWhole given holds → holds
 of_whole given offered holds is on = subst (λ (g : Outcome). OnWhole g holds) is on
 
-module _ {P : Type 0} (tell : P → Telling) (o : Opening) (migration : ℕ) (homes : List (Option ℕ)) (rounds : ℕ) where
+module _ {P : Type 0} (tell : P → PortTrace) (o : Opening) (migration : ℕ) (homes : List (Option ℕ)) (rounds : ℕ) where
   -- the same round, said of the pass that came in first
   pub of_seat : (seats seats' : List ℕ) (seat seat' : ℕ) (before : Moment P) (given known : Outcome) (now : Standing P) → seats' ≡ seats → seat' ≡ seat → given ≡ known
       → Worked tell o seats' seat' migration homes rounds before given now → Worked tell o seats seat migration homes rounds before known now

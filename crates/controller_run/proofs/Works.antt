@@ -2,11 +2,11 @@
 use Rattle.std.proofs.Common.{◌≡◌, ◌⊎◌, ℕ, ◌<◌, List, Option, [], subst}
 use Rattle.rollout_rules.specs.declared.op.Op.{Op}
 use Rattle.wan_edge.specs.Frames.{Command}
+use Rattle.wan_edge.specs.Ports.{PortTrace}
 use Rattle.port_session.specs.Sessions.{Talk}
 use Rattle.shared_history.specs.declared.note.Written.{Written}
 use Rattle.shared_history.specs.declared.reply.ListReply.TheVariants as list
 use Rattle.shared_history.specs.Histories.{Opening}
-use Rattle.worker_ports.specs.Views.{Telling}
 use Rattle.controller_run.specs.Finding.{Caller, IsFound, Lists, Wants}
 use Rattle.controller_run.specs.Working.{Breaks, Settles, Standing}
 use Rattle.controller_run.specs.declared.finding.Found.{Found}
@@ -30,7 +30,7 @@ module _ (o : Opening) (seats : List ℕ) (seat : ℕ) (asked switches : List �
   lists op is = subst (λ (s : List ℕ). Lists (caller o seats seat s) op seen commands list.Listed after) same (of-work op is).1
 
 -- the same seats, and the same commands
-pub carried : {P : Type 0} (tell : P → Telling) (o : Opening) (seats seats' : List ℕ) (seat seat' : ℕ) (migration : ℕ) (homes : List (Option ℕ)) (commands commands' : List Command) (before : Standing P) (given : Outcome) (now : Standing P)
+pub carried : {P : Type 0} (tell : P → PortTrace) (o : Opening) (seats seats' : List ℕ) (seat seat' : ℕ) (migration : ℕ) (homes : List (Option ℕ)) (commands commands' : List Command) (before : Standing P) (given : Outcome) (now : Standing P)
     → seats' ≡ seats → seat' ≡ seat → commands' ≡ commands
     → Settles tell o seats' seat' migration homes commands' before given now ⊎ Breaks tell migration homes commands' before given now
     → Settles tell o seats seat migration homes commands before given now ⊎ Breaks tell migration homes commands before given now

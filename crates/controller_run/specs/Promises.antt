@@ -8,6 +8,7 @@ use Rattle.rollout_rules.specs.declared.op.Op.{Op}
 use Rattle.rollout_rules.specs.declared.op.Entry.{Entry}
 use Rattle.rollout_rules.specs.declared.op.Entry.TheVariants.{Begin, Done}
 use Rattle.wan_edge.specs.Frames.{Answer, Command}
+use Rattle.wan_edge.specs.Ports.{GoesOn, PortTrace}
 use Rattle.wan_edge.specs.Streams.{Rose}
 use Rattle.rollout_book.specs.Commands.{command_of}
 use Rattle.port_session.specs.Sessions.{Talk}
@@ -28,7 +29,7 @@ use Rattle.shared_book.specs.Told.{commands_at}
 use Rattle.worker_ports.specs.Lots.{home_at}
 use Rattle.worker_ports.specs.Rows.{AtOne}
 use Rattle.worker_ports.specs.Stories.{LastStoryEach, StoryEach, ToldAt}
-use Rattle.worker_ports.specs.Views.{GoesOn, PortView, Telling, view}
+use Rattle.worker_ports.specs.Views.{PortView, view}
 use Rattle.controller_run.specs.Exchanging.{StopsInHear}
 use Rattle.controller_run.specs.Working.{Standing, is_some_command}
 
@@ -86,24 +87,24 @@ pub record WasTold (migration switch : ℕ) (answer : Answer) (before now : Port
   pub told : ToldAt migration switch answer before at
   pub later : GoesOn at.port now.port
 
-abbrev pub WasToldEach : {P : Type 0} → (P → Telling) → ℕ → ℕ → Answer → List (Talk P) → List (Talk P) → Type 0
+abbrev pub WasToldEach : {P : Type 0} → (P → PortTrace) → ℕ → ℕ → Answer → List (Talk P) → List (Talk P) → Type 0
 WasToldEach tell migration switch answer = AtOne (λ before now. WasTold migration switch answer (view tell before) (view tell now))
 
 -- the port of the item's home told this answer
-pub record IsToldAtHome {P : Type 0} (tell : P → Telling) (migration : ℕ) (homes : List (Option ℕ)) (before : List (Talk P)) (answer : Answer) (now : List (Talk P)) : Type 0 where
+pub record IsToldAtHome {P : Type 0} (tell : P → PortTrace) (migration : ℕ) (homes : List (Option ℕ)) (before : List (Talk P)) (answer : Answer) (now : List (Talk P)) : Type 0 where
   pub switch : ℕ
   pub home : home_at homes answer.item ≡ Some switch
   pub told : WasToldEach tell migration switch answer before now
 
 -- the port of an operation's item told an answer that covers the operation
-pub record IsAnswered {P : Type 0} (tell : P → Telling) (migration : ℕ) (homes : List (Option ℕ)) (before : List (Talk P)) (op : Op) (now : List (Talk P)) : Type 0 where
+pub record IsAnswered {P : Type 0} (tell : P → PortTrace) (migration : ℕ) (homes : List (Option ℕ)) (before : List (Talk P)) (op : Op) (now : List (Talk P)) : Type 0 where
   pub answer : Answer
   pub item : answer.item ≡ op.item
   pub covers : op.number ≤ answer.held
   pub told : IsToldAtHome tell migration homes before answer now
 
 -- so it is with each operation that is done among entries
-abbrev pub AreAnswered : {P : Type 0} → (P → Telling) → ℕ → List (Option ℕ) → List (Talk P) → List Entry → List (Talk P) → Type 0
+abbrev pub AreAnswered : {P : Type 0} → (P → PortTrace) → ℕ → List (Option ℕ) → List (Talk P) → List Entry → List (Talk P) → Type 0
 AreAnswered tell migration homes before es now = (op : Op) → Contains es (Done op) → IsAnswered tell migration homes before op now
 
 -- no entry says that an operation is done
@@ -165,7 +166,7 @@ switches_of ports = map (λ t. t.switch) ports
 -- the commands that the worker had listed went out, in order, or a front of them; all of them, unless the worker broke off. In no more
 -- rounds than were given some command was listed. Each operation that its notes say is done was answered by the port of its item's home. And
 -- the end is what the history says.
-pub record Promises {P : Type 0} (tell : P → Telling) (o : Opening) (seat migration : ℕ) (homes : List (Option ℕ)) (rounds : ℕ) (before : Standing P) (end : Wake) (now : Standing P) : Type 0 where
+pub record Promises {P : Type 0} (tell : P → PortTrace) (o : Opening) (seat migration : ℕ) (homes : List (Option ℕ)) (rounds : ℕ) (before : Standing P) (end : Wake) (now : Standing P) : Type 0 where
   pub more : List Written
   pub goes_on : now.seen ≡ before.seen ++ more
   pub legal : is_legal_shared o now.seen ≡ true

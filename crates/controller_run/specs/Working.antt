@@ -2,6 +2,7 @@
 use Rattle.std.specs.Prelude.{◌≡◌, ◌⊎◌, ◌<◌, ⊤, ℕ, Bool, true, false, List, [], ◌∷◌, Option}
 use Rattle.rollout_rules.specs.declared.op.Op.{Op}
 use Rattle.wan_edge.specs.Frames.{Answer, Command}
+use Rattle.wan_edge.specs.Ports.{PortTrace}
 use Rattle.rollout_book.specs.Aliens.{told_by}
 use Rattle.port_session.specs.Sessions.{Talk}
 use Rattle.shared_history.specs.declared.note.Cause.{Cause}
@@ -10,7 +11,6 @@ use Rattle.shared_history.specs.declared.note.Written.{Written}
 use Rattle.shared_history.specs.declared.reply.ListReply.TheVariants as list
 use Rattle.shared_history.specs.declared.reply.Wake.TheVariants as wake
 use Rattle.shared_history.specs.Histories.{Opening}
-use Rattle.worker_ports.specs.Views.{Telling}
 use Rattle.controller_run.specs.Exchanging.{Exchanges, StopsInHear, StopsInOffer}
 use Rattle.controller_run.specs.Finding.{Caller, EndsAt, Lists, Looks, Wants}
 use Rattle.controller_run.specs.Settling.{IsSettled}
@@ -27,13 +27,13 @@ pub record Standing (P : Type 0) : Type 0 where
   pub ports : List (Talk P)
 
 -- the ports answered, and the book was told
-pub record Settles {P : Type 0} (tell : P → Telling) (o : Opening) (seats : List ℕ) (seat : ℕ) (migration : ℕ) (homes : List (Option ℕ)) (commands : List Command) (before : Standing P) (given : Outcome) (now : Standing P) : Type 0 where
+pub record Settles {P : Type 0} (tell : P → PortTrace) (o : Opening) (seats : List ℕ) (seat : ℕ) (migration : ℕ) (homes : List (Option ℕ)) (commands : List Command) (before : Standing P) (given : Outcome) (now : Standing P) : Type 0 where
   pub told : List Answer
   pub exchanges : Exchanges tell migration homes before.ports commands told now.ports
   pub settled : IsSettled o seats seat before.seen (told_by told) (is_some_command commands) given now.seen
 
 -- a port failed, or told what it may not, or memory ran out, and the book was told nothing
-abbrev pub Breaks : {P : Type 0} → (P → Telling) → ℕ → List (Option ℕ) → List Command → Standing P → Outcome → Standing P → Type 0
+abbrev pub Breaks : {P : Type 0} → (P → PortTrace) → ℕ → List (Option ℕ) → List Command → Standing P → Outcome → Standing P → Type 0
 Breaks tell migration homes commands before (outcome.Whole offered) now = ⊥
 Breaks tell migration homes commands before (outcome.Ended end) now = ⊥
 Breaks tell migration homes commands before (outcome.Stops why) now =
@@ -63,7 +63,7 @@ Rests w left rounds seen (outcome.Ended end) after = (commands : List Command) �
 Rests w left rounds seen (outcome.Stops why) after = RestsFor w left rounds seen why after
 
 -- a round was left, and the commands of an operation in flight and of all others of the switches went out, or began to
-pub record Works {P : Type 0} (tell : P → Telling) (w : Caller) (migration : ℕ) (homes : List (Option ℕ)) (left : ℕ) (before : Standing P) (given : Outcome) (now : Standing P) : Type 0 where
+pub record Works {P : Type 0} (tell : P → PortTrace) (w : Caller) (migration : ℕ) (homes : List (Option ℕ)) (left : ℕ) (before : Standing P) (given : Outcome) (now : Standing P) : Type 0 where
   pub some_left : 0 < left
   pub op : Op
   pub commands : List Command
@@ -72,6 +72,6 @@ pub record Works {P : Type 0} (tell : P → Telling) (w : Caller) (migration : �
   pub exchanged : Settles tell w.opening w.seats w.seat migration homes commands (record { seen = log; ports = before.ports }) given now ⊎ Breaks tell migration homes commands (record { seen = log; ports = before.ports }) given now
 
 -- what a worker makes of a round, where so many of its rounds are left
-abbrev pub IsWorked : {P : Type 0} → (P → Telling) → Caller → ℕ → List (Option ℕ) → ℕ → ℕ → Standing P → Outcome → Standing P → Type 0
+abbrev pub IsWorked : {P : Type 0} → (P → PortTrace) → Caller → ℕ → List (Option ℕ) → ℕ → ℕ → Standing P → Outcome → Standing P → Type 0
 IsWorked tell w migration homes left rounds before given now =
     ((now.ports ≡ before.ports) × Rests w left rounds before.seen given now.seen) ⊎ Works tell w migration homes left before given now

@@ -1,6 +1,5 @@
 ghost use Rattle.std.specs.Prelude.{◌≡◌, ◌⊎◌, ℕ, [], All, List, Option, IfErr, IsTrue, OnOk};
 ghost use Rattle.controller_run.specs.Exchanging.{Exchanges, StopsInHear, StopsInOffer};
-ghost use Rattle.worker_ports.specs.Views.{telling};
 
 use port_session::AnswerList;
 use shared_history::Cause;
@@ -24,9 +23,12 @@ pub fn exchange<T: Port>(
 ) -> Result<(), Cause>
     requires live { All (λ s. IsTrue s.stream.live) ports.old }
     requires fresh { answers.old ≡ [] }
-    ensures ok { OnOk result (Exchanges (telling T.offered T.heard T.held T.quiet T.faults T.honest T.prompt T.start) migration homes.now ports.old commands.now answers.new ports.new) }
+    ensures ok { OnOk result
+        (Exchanges T.told migration homes.now ports.old commands.now answers.new ports.new) }
     ensures live { OnOk result (All (λ s. IsTrue s.stream.live) ports.new) }
-    ensures err { IfErr result (λ why. StopsInOffer (telling T.offered T.heard T.held T.quiet T.faults T.honest T.prompt T.start) migration homes.now why ports.old commands.now ports.new ⊎ StopsInHear (telling T.offered T.heard T.held T.quiet T.faults T.honest T.prompt T.start) migration homes.now why ports.old commands.now ports.new) }
+    ensures err { IfErr result
+        (λ why. StopsInOffer T.told migration homes.now why ports.old commands.now ports.new
+        ⊎ StopsInHear T.told migration homes.now why ports.old commands.now ports.new) }
 {
     ports.offer(commands, homes, migration)?;
     ports.hear(homes, migration, answers)

@@ -42,7 +42,13 @@ pub(crate) fn find_work<'d, R: Wait, D: Disk, M: Marker>(
     ensures lock { IsPassOf book.now.lock result.0.pass }
     ensures pass { IsSamePass pass.pass result.0.pass }
     ensures calls { IsCounted result.0.calls result.0.pass }
-    ensures found { IsFound (record { opening = M.opening; seats = seats_of pass.pass; seat = seat_of_pass pass.pass; switches = switches.now }) left (seen_of pass.pass) commands.new result.1 (seen_of result.0.pass) }
+    ensures found { IsFound (record {
+      opening = M.opening;
+      seats = seats_of pass.pass;
+      seat = seat_of_pass pass.pass;
+      switches = switches.now;
+    }) left (seen_of pass.pass) commands.new result.1
+        (seen_of result.0.pass) }
 {
     let (pass, woken) = book.wait_work(rt, pass, switches);
     match woken {
@@ -69,7 +75,13 @@ fn list_work<'d, R: Wait, D: Disk, M: Marker>(
     ensures lock { IsPassOf book.now.lock result.0.pass }
     ensures pass { IsSamePass pass.pass result.0.pass }
     ensures calls { IsCounted result.0.calls result.0.pass }
-    ensures listed { IsListed (record { opening = M.opening; seats = seats_of pass.pass; seat = seat_of_pass pass.pass; switches = switches.now }) op (seen_of pass.pass) commands.new result.1 (seen_of result.0.pass) }
+    ensures listed { IsListed (record {
+      opening = M.opening;
+      seats = seats_of pass.pass;
+      seat = seat_of_pass pass.pass;
+      switches = switches.now;
+    }) op (seen_of pass.pass) commands.new result.1
+        (seen_of result.0.pass) }
 {
     let (pass, reply) = book.commands(rt, alloc, pass, switches, commands);
     match reply {

@@ -4,7 +4,6 @@ ghost use Rattle.order_policy.specs.Answers.{rank_by};
 ghost use Rattle.turn_lock.specs.Passes.{IsPassOf, IsSamePass, seat_of_pass, seats_of, seen_of};
 ghost use Rattle.shared_book.specs.Calls.{IsCounted};
 ghost use Rattle.shared_book.specs.Homes.{homes_of};
-ghost use Rattle.worker_ports.specs.Views.{telling};
 ghost use Rattle.controller_run.specs.Serving.{Served};
 
 use crate::outcome::Outcome;
@@ -46,8 +45,10 @@ pub fn serve<'d, R: Wait, D: Disk, M: Marker, T: Port>(
     ensures lock { IsPassOf book.now.lock result.pass.pass }
     ensures pass { IsSamePass pass.pass result.pass.pass }
     ensures calls { IsCounted result.pass.calls result.pass.pass }
-    ensures served { Served (telling T.offered T.heard T.held T.quiet T.faults T.honest T.prompt T.start) M.opening (seats_of pass.pass) (seat_of_pass pass.pass) terms.entry.migration terms.entry.homes.now terms.entry.rounds
-        (record { seen = seen_of pass.pass; ports = ports }) result.end (record { seen = seen_of result.pass.pass; ports = result.ports }) }
+    ensures served { Served T.told M.opening (seats_of pass.pass) (seat_of_pass pass.pass)
+        terms.entry.migration terms.entry.homes.now terms.entry.rounds
+        (record { seen = seen_of pass.pass; ports = ports }) result.end
+        (record { seen = seen_of result.pass.pass; ports = result.ports }) }
 {
     let mut left = terms.rounds;
     for _ in rt.forever() {

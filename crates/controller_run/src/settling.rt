@@ -27,7 +27,8 @@ pub(crate) fn settle<'d, R: Wait, D: Disk, M: Marker>(
     ensures lock { IsPassOf book.now.lock result.0.pass }
     ensures pass { IsSamePass pass.pass result.0.pass }
     ensures calls { IsCounted result.0.calls result.0.pass }
-    ensures settled { IsSettled M.opening (seats_of pass.pass) (seat_of_pass pass.pass) (seen_of pass.pass) (told_by answers.now) offered result.1 (seen_of result.0.pass) }
+    ensures settled { IsSettled M.opening (seats_of pass.pass) (seat_of_pass pass.pass)
+        (seen_of pass.pass) (told_by answers.now) offered result.1 (seen_of result.0.pass) }
 {
     let (pass, reply) = book.round(rt, pass, answers);
     let outcome = match reply {

@@ -3,7 +3,6 @@ ghost use Rattle.order_policy.specs.Answers.{rank_by};
 ghost use Rattle.turn_lock.specs.Passes.{IsPassOf, IsSamePass, seat_of_pass, seats_of, seen_of};
 ghost use Rattle.shared_book.specs.Calls.{IsCounted};
 ghost use Rattle.shared_book.specs.Homes.{homes_of};
-ghost use Rattle.worker_ports.specs.Views.{telling};
 ghost use Rattle.controller_run.specs.Working.{Breaks, IsWorked, OnWhole, Settles};
 
 use crate::exchanging::exchange;
@@ -51,8 +50,15 @@ pub(crate) fn work<'d, R: Wait, D: Disk, M: Marker, T: Port>(
     ensures calls { IsCounted result.0.calls result.0.pass }
     ensures live { OnWhole result.1 (All (λ s. IsTrue s.stream.live) ports.new) }
     ensures some_left { OnWhole result.1 (0 < left) }
-    ensures worked { IsWorked (telling T.offered T.heard T.held T.quiet T.faults T.honest T.prompt T.start) (record { opening = M.opening; seats = seats_of pass.pass; seat = seat_of_pass pass.pass; switches = map (λ s. s.switch) ports.old }) terms.entry.migration terms.entry.homes.now left terms.entry.rounds
-        (record { seen = seen_of pass.pass; ports = ports.old }) result.1 (record { seen = seen_of result.0.pass; ports = ports.new }) }
+    ensures worked { IsWorked T.told
+        (record {
+          opening = M.opening;
+          seats = seats_of pass.pass;
+          seat = seat_of_pass pass.pass;
+          switches = map (λ s. s.switch) ports.old;
+        }) terms.entry.migration terms.entry.homes.now left
+        terms.entry.rounds (record { seen = seen_of pass.pass; ports = ports.old }) result.1
+        (record { seen = seen_of result.0.pass; ports = ports.new }) }
 {
     let mut commands = CommandList::new(alloc);
     let (pass, found) = find_work(rt, alloc, book, pass, ports.switches(), left, &mut commands);
@@ -89,8 +95,14 @@ fn carry_out<'d, R: Wait, D: Disk, M: Marker, T: Port>(
     ensures pass { IsSamePass pass.pass result.0.pass }
     ensures calls { IsCounted result.0.calls result.0.pass }
     ensures live { OnWhole result.1 (All (λ s. IsTrue s.stream.live) ports.new) }
-    ensures carried_out { Settles (telling T.offered T.heard T.held T.quiet T.faults T.honest T.prompt T.start) M.opening (seats_of pass.pass) (seat_of_pass pass.pass) terms.entry.migration terms.entry.homes.now commands.now (record { seen = seen_of pass.pass; ports = ports.old }) result.1 (record { seen = seen_of result.0.pass; ports = ports.new })
-        ⊎ Breaks (telling T.offered T.heard T.held T.quiet T.faults T.honest T.prompt T.start) terms.entry.migration terms.entry.homes.now commands.now (record { seen = seen_of pass.pass; ports = ports.old }) result.1 (record { seen = seen_of result.0.pass; ports = ports.new }) }
+    ensures carried_out { Settles T.told M.opening (seats_of pass.pass) (seat_of_pass pass.pass)
+        terms.entry.migration terms.entry.homes.now commands.now
+        (record { seen = seen_of pass.pass; ports = ports.old }) result.1
+        (record { seen = seen_of result.0.pass; ports = ports.new })
+        ⊎ Breaks T.told
+        terms.entry.migration terms.entry.homes.now commands.now
+        (record { seen = seen_of pass.pass; ports = ports.old }) result.1
+        (record { seen = seen_of result.0.pass; ports = ports.new }) }
 {
     let mut answers = AnswerList::new(alloc);
     match exchange(ports, commands, terms.homes, terms.migration, &mut answers) {

@@ -42,7 +42,9 @@ fn gain(plan: &CheckedPlan, item: Item, from: usize, to: usize, row: &ItemRow, k
     requires to { to ≤ wan.last_stage plan.now.plan }
     requires row { IsItemRow plan.now.problem item row.now }
     requires place { k < length row.now.resources }
-    ensures { result ≡ touched.gain plan.now.problem plan.now.plan from to item (cells.resource_at plan.now.problem (slice_index row.now.resources k)) }
+    ensures { result
+        ≡ touched.gain plan.now.problem plan.now.plan from to item
+        (cells.resource_at plan.now.problem (slice_index row.now.resources k)) }
 {
     checked_plan_is_valid(plan);
     match item {
@@ -55,9 +57,15 @@ fn gain(plan: &CheckedPlan, item: Item, from: usize, to: usize, row: &ItemRow, k
 fn rates_beyond(plan: &CheckedPlan, from: usize, to: usize, tunnels: &[u32]) -> u64
     requires from { from ≤ wan.last_stage plan.now.plan }
     requires to { to ≤ wan.last_stage plan.now.plan }
-    requires tunnels { (j : ℕ) → j < length tunnels.now → slice_index tunnels.now j < length plan.now.problem.tunnels }
-    requires few { sum_below (length tunnels.now) (λ j. touched.beyond plan.now.plan from to (slice_index tunnels.now j)) < 2 ^ 64 }
-    ensures { result ≡ sum_below (length tunnels.now) (λ j. touched.beyond plan.now.plan from to (slice_index tunnels.now j)) }
+    requires tunnels { (j : ℕ)
+        → j < length tunnels.now
+        → slice_index tunnels.now j < length plan.now.problem.tunnels }
+    requires few { sum_below (length tunnels.now)
+        (λ j. touched.beyond plan.now.plan from to (slice_index tunnels.now j))
+        < 2 ^ 64 }
+    ensures { result
+        ≡ sum_below (length tunnels.now)
+        (λ j. touched.beyond plan.now.plan from to (slice_index tunnels.now j)) }
 {
     let mut sum = 0u64;
     for j in 0..tunnels.len() {
@@ -81,7 +89,8 @@ fn width_beyond(plan: &CheckedPlan, from: usize, to: usize, t: usize) -> u64
     requires from { from ≤ wan.last_stage plan.now.plan }
     requires to { to ≤ wan.last_stage plan.now.plan }
     requires tunnel { t < length plan.now.problem.tunnels }
-    ensures { result ≡ (if touched.appears plan.now.plan from to t then wan.width_of plan.now.problem t else 0) }
+    ensures { result
+        ≡ (if touched.appears plan.now.plan from to t then wan.width_of plan.now.problem t else 0) }
 {
     if plan.mark(to, t) && !plan.mark(from, t) {
         u64::from(plan.width(t))
@@ -93,7 +102,9 @@ fn width_beyond(plan: &CheckedPlan, from: usize, to: usize, t: usize) -> u64
 /// How much there is of a resource, by number: of a link in units of 1/scale, of a table as it is.
 pub fn capacity(plan: &CheckedPlan, resource: usize) -> u128
     requires { resource < cells.resource_count plan.now.problem }
-    ensures { result ≡ items.capacity_of plan.now.problem plan.now.plan (cells.resource_at plan.now.problem resource) }
+    ensures { result
+        ≡ items.capacity_of plan.now.problem plan.now.plan
+        (cells.resource_at plan.now.problem resource) }
 {
     let links = plan.problem().links().len();
     if resource < links {

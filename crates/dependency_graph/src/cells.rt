@@ -28,7 +28,9 @@ impl Cells {
     /// A cell for each resource at each stage, of no meaning yet.
     pub(crate) fn new(alloc: Global, plan: &CheckedPlan) -> Result<Cells, Memory>
         ensures stages { IfOk result (λ t. t.stages ≡ last_stage plan.now.plan) }
-        ensures all { IfOk result (λ t. length t.cells ≡ rooms.resource_count plan.now.problem * last_stage plan.now.plan) }
+        ensures all { IfOk result
+            (λ t. length t.cells
+            ≡ rooms.resource_count plan.now.problem * last_stage plan.now.plan) }
     {
         let stages = plan.last_stage();
         let resources = plan.problem().links().len() + plan.problem().switches().len();
@@ -47,7 +49,9 @@ impl Cells {
 
     pub(crate) fn set(&mut self, resource: usize, stage: usize, amount: u64)
         requires { resource * self.old.stages + stage < length self.old.cells }
-        ensures { self.new ≡ record self.old { cells = slice_set self.old.cells (resource * self.old.stages + stage) amount } }
+        ensures { self.new
+            ≡ record self.old
+            { cells = slice_set self.old.cells (resource * self.old.stages + stage) amount } }
     {
         self.cells[resource * self.stages + stage] = amount;
     }
@@ -56,7 +60,10 @@ impl Cells {
     pub(crate) fn raise(&mut self, resource: usize, low: usize, high: usize, amount: u64)
         requires order { low ≤ high }
         requires stages { high ≤ self.old.stages }
-        requires inside { (s : ℕ) → low ≤ s → s < high → resource * self.old.stages + s < length self.old.cells }
+        requires inside { (s : ℕ)
+            → low ≤ s
+            → s < high
+            → resource * self.old.stages + s < length self.old.cells }
         requires fits { (s : ℕ) → low ≤ s → s < high → cell self.old resource s + amount < 2 ^ 64 }
         ensures { AreRaised low high (only resource amount) self.old self.new }
     {
@@ -79,7 +86,10 @@ impl Cells {
     pub(crate) fn lower(&mut self, resource: usize, low: usize, high: usize, amount: u64)
         requires order { low ≤ high }
         requires stages { high ≤ self.old.stages }
-        requires inside { (s : ℕ) → low ≤ s → s < high → resource * self.old.stages + s < length self.old.cells }
+        requires inside { (s : ℕ)
+            → low ≤ s
+            → s < high
+            → resource * self.old.stages + s < length self.old.cells }
         requires enough { (s : ℕ) → low ≤ s → s < high → amount ≤ cell self.old resource s }
         ensures { AreRaised low high (only resource amount) self.new self.old }
     {

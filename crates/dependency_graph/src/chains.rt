@@ -62,7 +62,8 @@ impl Chains {
 fn read(rows: &Many<Ids>, stage: usize, number: usize) -> u32
     requires stage { stage < length rows.now }
     requires number { number < length (slice_index_or rows.now (length rows.now - 1 - stage) []) }
-    ensures { result ≡ slice_index (slice_index_or rows.now (length rows.now - 1 - stage) []) number }
+    ensures { result
+        ≡ slice_index (slice_index_or rows.now (length rows.now - 1 - stage) []) number }
 {
     let rows = rows.as_slice();
     let row = &rows[rows.len() - 1 - stage];
@@ -94,8 +95,12 @@ fn all_rows(alloc: Global, plan: &CheckedPlan) -> Result<Rows, Memory>
 /// The rows of the stage at that many turns before the last.
 fn add_stage(alloc: Global, rows: &mut Rows, plan: &CheckedPlan, turn: usize) -> Result<(), Memory>
     requires turn { turn < last_stage plan.now.plan }
-    requires rows { AreChainsFrom plan.now.problem plan.now.plan turn rows.old.flows rows.old.tunnels rows.old.ahead.flows rows.old.ahead.own rows.old.ahead.departures rows.old.ahead.arrivals }
-    ensures { OnOk result (AreChainsFrom plan.now.problem plan.now.plan (turn + 1) rows.new.flows rows.new.tunnels rows.new.ahead.flows rows.new.ahead.own rows.new.ahead.departures rows.new.ahead.arrivals) }
+    requires rows { AreChainsFrom plan.now.problem plan.now.plan turn rows.old.flows
+        rows.old.tunnels rows.old.ahead.flows rows.old.ahead.own rows.old.ahead.departures
+        rows.old.ahead.arrivals }
+    ensures { OnOk result
+        (AreChainsFrom plan.now.problem plan.now.plan (turn + 1) rows.new.flows rows.new.tunnels
+        rows.new.ahead.flows rows.new.ahead.own rows.new.ahead.departures rows.new.ahead.arrivals) }
 {
     let s = plan.last_stage() - 1 - turn;
     let flows = flows_at(alloc, plan, s, &rows.ahead)?;

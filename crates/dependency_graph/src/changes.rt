@@ -46,7 +46,9 @@ pub fn stand_after(plan: &CheckedPlan, item: Item, settled: u64) -> u32
 pub(crate) fn stand_behind(plan: &CheckedPlan, item: Item, from: u32) -> u32
     requires item { IsTrue (is_item plan.now.problem item) }
     requires stage { from ≤ wan.last_stage plan.now.plan }
-    ensures { (j : ℕ) → from ≡ operation.stand_after plan.now.problem plan.now.plan item j → result ≡ operation.stand_after plan.now.problem plan.now.plan item (j + 1) }
+    ensures { (j : ℕ)
+        → from ≡ operation.stand_after plan.now.problem plan.now.plan item j
+        → result ≡ operation.stand_after plan.now.problem plan.now.plan item (j + 1) }
 {
     let last = plan.last_stage();
     let first = (from as usize + 1).min(last);

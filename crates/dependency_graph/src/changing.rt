@@ -28,7 +28,11 @@ pub(crate) fn raise_row(
     requires order { low ≤ x }
     requires row { IsItemRow plan.now.problem item row.now }
     requires cells { AreCells plan.now cells.old }
-    requires fits { (q s : ℕ) → q < resource_count plan.now.problem → low ≤ s → s < x → cell cells.old q s + rises plan.now item x q < 2 ^ 60 }
+    requires fits { (q s : ℕ)
+        → q < resource_count plan.now.problem
+        → low ≤ s
+        → s < x
+        → cell cells.old q s + rises plan.now item x q < 2 ^ 60 }
     ensures { AreRaised low x (rises plan.now item x) cells.old cells.new }
 {
     let resources = row.resources();
@@ -53,7 +57,11 @@ pub(crate) fn lower_row(
     requires order { low ≤ x }
     requires row { IsItemRow plan.now.problem item row.now }
     requires cells { AreCells plan.now cells.old }
-    requires there { (q s : ℕ) → q < resource_count plan.now.problem → low ≤ s → s < x + 1 → falls plan.now item x q ≤ cell cells.old q s }
+    requires there { (q s : ℕ)
+        → q < resource_count plan.now.problem
+        → low ≤ s
+        → s < x + 1
+        → falls plan.now item x q ≤ cell cells.old q s }
     ensures { AreRaised low (x + 1) (falls plan.now item x) cells.new cells.old }
 {
     let _ = plan.last_stage();
@@ -79,8 +87,10 @@ pub(crate) fn first_lacking(
     requires order { low ≤ x }
     requires row { IsItemRow plan.now.problem item row.now }
     requires cells { AreCells plan.now cells.now }
-    ensures none { is_none result ≡ rooms.row_holds plan.now cells.now low x (rises plan.now item x) row.now.resources }
-    ensures lacking { IfSome result (λ q. Fails plan.now cells.now low x (rises plan.now item x) q) }
+    ensures none { is_none result
+        ≡ rooms.row_holds plan.now cells.now low x (rises plan.now item x) row.now.resources }
+    ensures lacking { IfSome result
+        (λ q. Fails plan.now cells.now low x (rises plan.now item x) q) }
 {
     let resources = row.resources();
     for k in 0..resources.len() {

@@ -35,9 +35,13 @@ impl Model for Course {
 
     ghost Value = { Followed };
 
-    ghost view = { λ c. record { rollout = c.progress.rollout; history = record { start = c.start.items; entries = c.past.items } } };
+    ghost view = { λ c. record {
+      rollout = c.progress.rollout;
+      history = record { start = c.start.items; entries = c.past.items };
+    } };
 
-    ghost invariant = { λ c. IsFollowed c.progress (record { start = c.start.items; entries = c.past.items }) c.past.room };
+    ghost invariant = { λ c. IsFollowed c.progress
+        (record { start = c.start.items; entries = c.past.items }) c.past.room };
 }
 
 impl Course {
@@ -45,7 +49,8 @@ impl Course {
     pub(crate) fn new(alloc: Global, plan: &CheckedPlan, start: &[u32]) -> Result<Course, Memory>
         requires numbers { length start.now ≡ item_count plan.now.problem }
         requires sound { IsTrue (legal.is_sound plan.now.problem plan.now.plan start.now) }
-        ensures { IfOk result (λ course. course ≡ record { rollout = plan.now; history = started start.now }) }
+        ensures { IfOk result
+            (λ course. course ≡ record { rollout = plan.now; history = started start.now }) }
     {
         let start_kept = copied(alloc, start)?;
         let progress = Progress::new(alloc, plan, start)?;
@@ -103,20 +108,24 @@ impl Course {
     pub(crate) fn stands(&self, plan: &CheckedPlan, item: u32) -> u32
         requires own { plan.now ≡ self.now.rollout }
         requires item { item < item_count plan.now.problem }
-        ensures { result ≡ history.stand plan.now.problem plan.now.plan (graph.places self.now) (item_at plan.now.problem item) }
+        ensures { result
+            ≡ history.stand plan.now.problem plan.now.plan (graph.places self.now)
+            (item_at plan.now.problem item) }
     {
         self.progress.stage(plan, item)
     }
 
     pub(crate) fn least_stage(&self, plan: &CheckedPlan) -> u32
         requires own { plan.now ≡ self.now.rollout }
-        ensures { result ≡ rooms.least_stage plan.now.problem plan.now.plan (graph.places self.now) }
+        ensures { result
+            ≡ rooms.least_stage plan.now.problem plan.now.plan (graph.places self.now) }
     {
         self.progress.least_stage(plan)
     }
 
     pub(crate) fn finished(&self) -> bool
-        ensures { result ≡ legal.is_finished self.now.rollout.problem self.now.rollout.plan self.now.history }
+        ensures { result
+            ≡ legal.is_finished self.now.rollout.problem self.now.rollout.plan self.now.history }
     {
         self.progress.is_finished()
     }
@@ -164,7 +173,8 @@ impl Course {
     /// The next operation of an item.
     pub(crate) fn next_op(&self, item: u32) -> Op
         requires item { item < item_count self.now.rollout.problem }
-        requires left { history.settled self.now.history item < graph.count_of self.now.rollout item }
+        requires left { history.settled self.now.history item
+            < graph.count_of self.now.rollout item }
         ensures { result ≡ next_op self.now.history item }
     {
         let _ = self.op_count(item);
@@ -211,15 +221,18 @@ impl Course {
 
     /// What the type keeps of the history.
     pub(crate) fn history_is_legal(&self)
-        ensures { IsTrue (legal.is_legal self.now.rollout.problem self.now.rollout.plan self.now.history) }
+        ensures { IsTrue (legal.is_legal self.now.rollout.problem self.now.rollout.plan
+            self.now.history) }
     {
         let _ = &self.progress;
     }
 
     fn add(&mut self, plan: &CheckedPlan, entry: Entry)
         requires own { plan.now ≡ self.old.rollout }
-        requires may { IsTrue (legal.may_add plan.now.problem plan.now.plan self.old.history entry) }
-        ensures { self.new ≡ record self.old { history = with_entries self.old.history (entry ∷ []) } }
+        requires may { IsTrue (legal.may_add plan.now.problem plan.now.plan self.old.history
+            entry) }
+        ensures { self.new
+            ≡ record self.old { history = with_entries self.old.history (entry ∷ []) } }
     {
         self.past.add(entry);
         self.progress.add(plan, entry);

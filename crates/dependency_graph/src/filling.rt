@@ -30,8 +30,10 @@ fn fill_row(cells: &mut Cells, progress: &Progress, plan: &CheckedPlan, low: usi
     requires low { low ≡ least_stand plan.now progress.now [] }
     requires within { low ≤ last_stage plan.now.plan }
     requires resource { resource < resource_count plan.now.problem }
-    requires before { AreFilled plan.now (places_with plan.now progress.now []) low resource low cells.old }
-    ensures { AreFilled plan.now (places_with plan.now progress.now []) low (resource + 1) low cells.new }
+    requires before { AreFilled plan.now (places_with plan.now progress.now []) low resource low
+        cells.old }
+    ensures { AreFilled plan.now (places_with plan.now progress.now []) low (resource + 1) low
+        cells.new }
 {
     for stage in low..plan.last_stage() {
         let room = few_room(progress, plan, resource, stage);
@@ -45,7 +47,9 @@ fn few_room(progress: &Progress, plan: &CheckedPlan, resource: usize, stage: usi
     requires resource { resource < resource_count plan.now.problem }
     requires low { least_stand plan.now progress.now [] ≤ stage }
     requires stage { stage < last_stage plan.now.plan }
-    ensures { result ≡ rooms.room plan.now.problem plan.now.plan (places_with plan.now progress.now []) stage (resource_at plan.now.problem resource) }
+    ensures { result
+        ≡ rooms.room plan.now.problem plan.now.plan (places_with plan.now progress.now []) stage
+        (resource_at plan.now.problem resource) }
 {
     checked_plan_is_valid(plan);
     progress.room(plan, resource, stage) as u64

@@ -38,7 +38,9 @@ fn gather(
     requires flow { f < length plan.now.problem.flows }
     requires links { links.old ≡ [] }
     requires scratch { AreEmpty (length plan.now.problem.links) scratch.old.items }
-    ensures { OnOk result (AreGathered plan.now.problem f (wan.flow_at plan.now.problem f).tunnels 0 links.new scratch.new.items) }
+    ensures { OnOk result
+        (AreGathered plan.now.problem f (wan.flow_at plan.now.problem f).tunnels 0 links.new
+        scratch.new.items) }
 {
     for j in 0..plan.tunnel_count(f) {
         gather_tunnel(links, plan, scratch, f, j)?;
@@ -74,8 +76,13 @@ fn gather_link(
     tunnel: u32,
 ) -> Result<(), Memory>
     requires { l < vec_len scratch.old }
-    ensures links { OnOk result (links.new ≡ (if length (slice_index_or scratch.old.items l []) == 0 then links.old ++ l ∷ [] else links.old)) }
-    ensures scratch { OnOk result (scratch.new.items ≡ slice_set scratch.old.items l (slice_index_or scratch.old.items l [] ++ tunnel ∷ [])) }
+    ensures links { OnOk result
+        (links.new
+        ≡ (if length (slice_index_or scratch.old.items l [])
+        == 0 then links.old ++ l ∷ [] else links.old)) }
+    ensures scratch { OnOk result
+        (scratch.new.items
+        ≡ slice_set scratch.old.items l (slice_index_or scratch.old.items l [] ++ tunnel ∷ [])) }
 {
     if scratch[l as usize].is_empty() {
         links.push(l)?;
@@ -91,7 +98,8 @@ fn taken_out(
     f: usize,
     links: Ids,
 ) -> Result<ItemRow, Memory>
-    requires { AreGathered plan.now.problem f (wan.flow_at plan.now.problem f).tunnels 0 links scratch.old.items }
+    requires { AreGathered plan.now.problem f (wan.flow_at plan.now.problem f).tunnels 0 links
+        scratch.old.items }
     ensures row { IfOk result (λ row. IsItemRow plan.now.problem (variants.Flow f) row) }
     ensures scratch { OnOk result (AreEmpty (length plan.now.problem.links) scratch.new.items) }
 {
@@ -108,7 +116,8 @@ fn taken_out(
 /// Takes what stands in a link's scratch out of it.
 fn take_out(tunnels: &mut Ids, scratch: &mut Vec<Scratch>, l: usize) -> Result<(), Memory>
     requires { l < vec_len scratch.old }
-    ensures tunnels { OnOk result (tunnels.new ≡ tunnels.old ++ slice_index_or scratch.old.items l []) }
+    ensures tunnels { OnOk result
+        (tunnels.new ≡ tunnels.old ++ slice_index_or scratch.old.items l []) }
     ensures scratch { OnOk result (scratch.new.items ≡ slice_set scratch.old.items l []) }
 {
     tunnels.extend_from_slice(scratch[l].as_slice())?;

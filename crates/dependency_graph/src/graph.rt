@@ -53,7 +53,8 @@ impl Model for Graph {
 impl Graph {
     /// The graph at the start at which nothing is settled. An Err is want of memory, and gives the plan back.
     pub fn new(alloc: Global, plan: CheckedPlan) -> Result<Graph, CheckedPlan>
-        ensures ok { IfOk result (λ g. g ≡ record { rollout = plan; history = from_nothing plan.problem [] }) }
+        ensures ok { IfOk result
+            (λ g. g ≡ record { rollout = plan; history = from_nothing plan.problem [] }) }
         ensures err { IfErr result (λ back. back ≡ plan) }
     {
         match first_parts(alloc, &plan) {
@@ -79,7 +80,8 @@ impl Graph {
     pub fn restart(&mut self, start: &[u32])
         requires empty { self.old.history.entries ≡ [] }
         requires numbers { length start.now ≡ item_count self.old.rollout.problem }
-        requires sound { IsTrue (legal.is_sound self.old.rollout.problem self.old.rollout.plan start.now) }
+        requires sound { IsTrue (legal.is_sound self.old.rollout.problem self.old.rollout.plan
+            start.now) }
         ensures { self.new ≡ record self.old { history = started start.now } }
     {
         self.course.restart(&self.plan, start);
@@ -131,6 +133,18 @@ impl Graph {
         self.course.settled(item)
     }
 
+    /// How many operations aren't settled. Time: the items.
+    pub fn unsettled(&self) -> u64
+        ensures { result
+            ≡ legal.unsettled self.now.rollout.problem self.now.rollout.plan self.now.history }
+    {
+        let mut left = 0;
+        for item in 0..self.item_count() {
+            left += u64::from(self.op_count(item).saturating_sub(self.settled(item)));
+        }
+        left
+    }
+
     /// Whether one of them is in flight.
     pub fn flying(&self, item: u32) -> bool
         requires { item < item_count self.now.rollout.problem }
@@ -142,21 +156,26 @@ impl Graph {
     /// The stage at which an item stands.
     pub fn stands(&self, item: u32) -> u32
         requires { item < item_count self.now.rollout.problem }
-        ensures { result ≡ history.stand self.now.rollout.problem self.now.rollout.plan (graph.places self.now) (item_at self.now.rollout.problem item) }
+        ensures { result
+            ≡ history.stand self.now.rollout.problem self.now.rollout.plan (graph.places self.now)
+            (item_at self.now.rollout.problem item) }
     {
         self.course.stands(&self.plan, item)
     }
 
     /// The least stage at which an item stands.
     pub fn least_stage(&self) -> u32
-        ensures { result ≡ rooms.least_stage self.now.rollout.problem self.now.rollout.plan (graph.places self.now) }
+        ensures { result
+            ≡ rooms.least_stage self.now.rollout.problem self.now.rollout.plan
+            (graph.places self.now) }
     {
         self.course.least_stage(&self.plan)
     }
 
     /// Whether every operation of every item is settled. Time: the items.
     pub fn finished(&self) -> bool
-        ensures { result ≡ legal.is_finished self.now.rollout.problem self.now.rollout.plan self.now.history }
+        ensures { result
+            ≡ legal.is_finished self.now.rollout.problem self.now.rollout.plan self.now.history }
     {
         self.course.finished()
     }
@@ -191,7 +210,8 @@ impl Graph {
     pub fn woken(&self) -> &[u32]
         ensures woken { AreWoken self.now result.now }
         ensures network { IsNetwork self.now.rollout.problem }
-        ensures legal { IsTrue (legal.is_legal self.now.rollout.problem self.now.rollout.plan self.now.history) }
+        ensures legal { IsTrue (legal.is_legal self.now.rollout.problem self.now.rollout.plan
+            self.now.history) }
     {
         self.course.history_is_legal();
         checked_plan_is_valid(&self.plan);
@@ -222,7 +242,8 @@ impl Graph {
     pub fn view(&self, item: u32) -> OpView
         requires item { item < item_count self.now.rollout.problem }
         requires next { IsTrue (graph.has_next self.now item) }
-        ensures { result ≡ view_of self.now.rollout.problem self.now.rollout.plan self.now.history item }
+        ensures { result
+            ≡ view_of self.now.rollout.problem self.now.rollout.plan self.now.history item }
     {
         let op = self.course.next_op(item);
         let stage = self.course.stands(&self.plan, item);
@@ -294,10 +315,14 @@ impl Graph {
     /// How much is taken of a resource at a stage, from the least stage at which an item stands on. The
     /// resources are the links, in units of 1/scale, and then the switches' tables.
     pub fn cell(&self, stage: u32, resource: u32) -> u64
-        requires least { rooms.least_stage self.now.rollout.problem self.now.rollout.plan (graph.places self.now) ≤ stage }
+        requires least { rooms.least_stage self.now.rollout.problem self.now.rollout.plan
+            (graph.places self.now)
+            ≤ stage }
         requires stage { stage < last_stage self.now.rollout.plan }
         requires resource { resource < resource_count self.now.rollout.problem }
-        ensures { result ≡ rooms.room self.now.rollout.problem self.now.rollout.plan (graph.places self.now) stage (resource_at self.now.rollout.problem resource) }
+        ensures { result
+            ≡ rooms.room self.now.rollout.problem self.now.rollout.plan (graph.places self.now)
+            stage (resource_at self.now.rollout.problem resource) }
     {
         self.cells.cell(resource as usize, stage as usize)
     }
@@ -335,7 +360,8 @@ impl Graph {
     /// Lets an item go that has no next operation, or one whose needs aren't met.
     fn rest(&mut self, item: u32)
         requires item { item < item_count self.old.rollout.problem }
-        requires idle { IsFalse (graph.has_next self.old item && graph.are_needs_met self.old item) }
+        requires idle { IsFalse (graph.has_next self.old item
+            && graph.are_needs_met self.old item) }
         ensures { self.new ≡ self.old }
     {
         if self.wakes.has(item) {
@@ -380,8 +406,12 @@ fn of_parts(plan: CheckedPlan, parts: Parts) -> Graph
 }
 
 fn first_parts(alloc: Global, plan: &CheckedPlan) -> Result<Parts, Memory>
-    ensures course { IfOk result (λ parts. parts.course ≡ record { rollout = plan.now; history = from_nothing plan.now.problem [] }) }
-    ensures graph { IfOk result (λ parts. IsWakefulGraph plan.now parts.touched parts.chains parts.course parts.cells parts.wakes) }
+    ensures course { IfOk result
+        (λ parts. parts.course
+        ≡ record { rollout = plan.now; history = from_nothing plan.now.problem [] }) }
+    ensures graph { IfOk result
+        (λ parts. IsWakefulGraph plan.now parts.touched parts.chains parts.course parts.cells
+        parts.wakes) }
 {
     let start = zeros(alloc, plan)?;
     parts_at(alloc, plan, &start)
@@ -390,8 +420,11 @@ fn first_parts(alloc: Global, plan: &CheckedPlan) -> Result<Parts, Memory>
 fn parts_at(alloc: Global, plan: &CheckedPlan, start: &[u32]) -> Result<Parts, Memory>
     requires numbers { length start.now ≡ item_count plan.now.problem }
     requires sound { IsTrue (legal.is_sound plan.now.problem plan.now.plan start.now) }
-    ensures course { IfOk result (λ parts. parts.course ≡ record { rollout = plan.now; history = started start.now }) }
-    ensures graph { IfOk result (λ parts. IsWakefulGraph plan.now parts.touched parts.chains parts.course parts.cells parts.wakes) }
+    ensures course { IfOk result
+        (λ parts. parts.course ≡ record { rollout = plan.now; history = started start.now }) }
+    ensures graph { IfOk result
+        (λ parts. IsWakefulGraph plan.now parts.touched parts.chains parts.course parts.cells
+        parts.wakes) }
 {
     let course = Course::new(alloc, plan, start)?;
     let touched = Touched::new(alloc, plan, course.lookup())?;

@@ -43,7 +43,8 @@ impl Model for Index {
 
     ghost view = { λ c. c.plan.value };
 
-    ghost invariant = { λ c. IsIndex c.plan.value c.items c.operations c.first_entries c.crossings.items c.tables.items };
+    ghost invariant = { λ c. IsIndex c.plan.value c.items c.operations c.first_entries
+        c.crossings.items c.tables.items };
 }
 
 impl Index {
@@ -84,7 +85,9 @@ impl Index {
     /// How many operations the item with a number has.
     pub(crate) fn operations(&self, number: u32) -> u32
         requires { number < item_count self.now.problem }
-        ensures { result ≡ operation.operations self.now.problem self.now.plan (item_at self.now.problem number) }
+        ensures { result
+            ≡ operation.operations self.now.problem self.now.plan
+            (item_at self.now.problem number) }
     {
         self.operations.as_slice()[number as usize]
     }

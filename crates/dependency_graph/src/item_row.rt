@@ -19,7 +19,11 @@ impl Model for ItemRow {
 
     ghost Value = { touched.ItemRow };
 
-    ghost view = { λ r. record { resources = r.resources; tunnels = r.tunnels; bounds = r.bounds } };
+    ghost view = { λ r. record {
+      resources = r.resources;
+      tunnels = r.tunnels;
+      bounds = r.bounds;
+    } };
 
     ghost invariant = { λ r. touched.AreBounds r.tunnels r.bounds };
 }

@@ -69,7 +69,8 @@ impl Kept {
         requires item { item < length self.old.lacks }
         requires resource { resource < self.old.resources }
         requires free { slice_index self.old.lacks item ≡ 0 }
-        ensures { self.new ≡ record self.old { lacks = slice_set self.old.lacks item (resource + 1) } }
+        ensures { self.new
+            ≡ record self.old { lacks = slice_set self.old.lacks item (resource + 1) } }
     {
         self.nexts[item as usize] = self.heads[resource as usize];
         self.heads[resource as usize] = item + 1;
@@ -79,9 +80,12 @@ impl Kept {
     /// Gives one that is kept at a resource, and keeps it no more. None where there is none.
     pub(crate) fn pop(&mut self, resource: u32) -> Option<u32>
         requires { resource < self.old.resources }
-        ensures none { MatchOption result (AreFreeOf resource self.old.lacks) (λ n. n < length self.old.lacks) }
-        ensures some { MatchOption result (self.new ≡ self.old) (λ n. self.new ≡ record self.old { lacks = slice_set self.old.lacks n 0 }) }
-        ensures own { MatchOption result (self.new ≡ self.old) (λ n. slice_index self.old.lacks n ≡ resource + 1) }
+        ensures none { MatchOption result (AreFreeOf resource self.old.lacks)
+            (λ n. n < length self.old.lacks) }
+        ensures some { MatchOption result (self.new ≡ self.old)
+            (λ n. self.new ≡ record self.old { lacks = slice_set self.old.lacks n 0 }) }
+        ensures own { MatchOption result (self.new ≡ self.old)
+            (λ n. slice_index self.old.lacks n ≡ resource + 1) }
     {
         let head = self.heads[resource as usize];
         if head == 0 {

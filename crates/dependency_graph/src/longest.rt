@@ -29,7 +29,9 @@ pub(crate) struct Ahead {
 impl Ahead {
     /// What is ahead of the last stage: nothing.
     pub(crate) fn of_the_last(alloc: Global, plan: &CheckedPlan) -> Result<Ahead, Memory>
-        ensures { IfOk result (λ ahead. AreAhead plan.now.problem plan.now.plan (last_stage plan.now.plan) ahead.flows ahead.own ahead.departures ahead.arrivals) }
+        ensures { IfOk result
+            (λ ahead. AreAhead plan.now.problem plan.now.plan (last_stage plan.now.plan) ahead.flows
+            ahead.own ahead.departures ahead.arrivals) }
     {
         let tunnels = plan.problem().tunnels().len();
         Ok(Ahead {
@@ -68,8 +70,11 @@ pub(crate) fn flows_at(
     ahead: &Ahead,
 ) -> Result<FlowsAt, Memory>
     requires stage { s < last_stage plan.now.plan }
-    requires ahead { AreAhead plan.now.problem plan.now.plan (s + 1) ahead.now.flows ahead.now.own ahead.now.departures ahead.now.arrivals }
-    ensures { IfOk result (λ rows. AreFlowsAt plan.now.problem plan.now.plan s (length plan.now.problem.flows) rows.chains rows.own rows.steps) }
+    requires ahead { AreAhead plan.now.problem plan.now.plan (s + 1) ahead.now.flows ahead.now.own
+        ahead.now.departures ahead.now.arrivals }
+    ensures { IfOk result
+        (λ rows. AreFlowsAt plan.now.problem plan.now.plan s (length plan.now.problem.flows)
+        rows.chains rows.own rows.steps) }
 {
     let mut rows = FlowsAt {
         chains: Ids::new(alloc),
@@ -91,9 +96,13 @@ fn add_flow(
 ) -> Result<(), Memory>
     requires stage { s < last_stage plan.now.plan }
     requires flow { f < length plan.now.problem.flows }
-    requires ahead { AreAhead plan.now.problem plan.now.plan (s + 1) ahead.now.flows ahead.now.own ahead.now.departures ahead.now.arrivals }
-    requires rows { AreFlowsAt plan.now.problem plan.now.plan s f rows.old.chains rows.old.own rows.old.steps }
-    ensures { OnOk result (AreFlowsAt plan.now.problem plan.now.plan s (f + 1) rows.new.chains rows.new.own rows.new.steps) }
+    requires ahead { AreAhead plan.now.problem plan.now.plan (s + 1) ahead.now.flows ahead.now.own
+        ahead.now.departures ahead.now.arrivals }
+    requires rows { AreFlowsAt plan.now.problem plan.now.plan s f rows.old.chains rows.old.own
+        rows.old.steps }
+    ensures { OnOk result
+        (AreFlowsAt plan.now.problem plan.now.plan s (f + 1) rows.new.chains rows.new.own
+        rows.new.steps) }
 {
     checked_plan_is_valid(plan);
     let own = at(&ahead.flows, f);
@@ -123,7 +132,9 @@ fn flow_chain(plan: &CheckedPlan, s: usize, f: usize, own: u32, departures: &Ids
     requires stage { s < last_stage plan.now.plan }
     requires flow { f < length plan.now.problem.flows }
     requires own { own ≡ longest_own plan.now.problem plan.now.plan (variants.Flow f) (s + 1) }
-    requires departures { departures.now ≡ list_below (length plan.now.problem.tunnels) (λ t. longest_departure plan.now.problem plan.now.plan t (s + 1)) }
+    requires departures { departures.now
+        ≡ list_below (length plan.now.problem.tunnels)
+        (λ t. longest_departure plan.now.problem plan.now.plan t (s + 1)) }
     ensures { result ≡ release.chain plan.now.problem plan.now.plan (variants.Flow f) s }
 {
     checked_plan_is_valid(plan);
@@ -138,8 +149,12 @@ fn flow_chain(plan: &CheckedPlan, s: usize, f: usize, own: u32, departures: &Ids
 fn departure(plan: &CheckedPlan, s: usize, t: usize, departures: &Ids) -> u32
     requires stage { s < last_stage plan.now.plan }
     requires tunnel { t < length plan.now.problem.tunnels }
-    requires departures { departures.now ≡ list_below (length plan.now.problem.tunnels) (λ u. longest_departure plan.now.problem plan.now.plan u (s + 1)) }
-    ensures { result ≡ (if not (wan.rate_at plan.now.plan s t == 0) then longest_departure plan.now.problem plan.now.plan t (s + 1) else 0) }
+    requires departures { departures.now
+        ≡ list_below (length plan.now.problem.tunnels)
+        (λ u. longest_departure plan.now.problem plan.now.plan u (s + 1)) }
+    ensures { result
+        ≡ (if not (wan.rate_at plan.now.plan s t == 0) then longest_departure plan.now.problem
+        plan.now.plan t (s + 1) else 0) }
 {
     only_if(plan.rate(s, t) != 0, at(departures, t))
 }
@@ -162,9 +177,15 @@ pub(crate) fn tunnels_at(
     steps: &Ids,
 ) -> Result<TunnelsAt, Memory>
     requires stage { s < last_stage plan.now.plan }
-    requires ahead { AreAhead plan.now.problem plan.now.plan (s + 1) ahead.now.flows ahead.now.own ahead.now.departures ahead.now.arrivals }
-    requires steps { steps.now ≡ list_below (length plan.now.problem.flows) (λ f. if operation.changes_behind plan.now.problem plan.now.plan (variants.Flow f) s then release.chain plan.now.problem plan.now.plan (variants.Flow f) s else 0) }
-    ensures { IfOk result (λ rows. AreTunnelsAt plan.now.problem plan.now.plan s (length plan.now.problem.tunnels) rows.chains rows.own rows.departures rows.arrivals) }
+    requires ahead { AreAhead plan.now.problem plan.now.plan (s + 1) ahead.now.flows ahead.now.own
+        ahead.now.departures ahead.now.arrivals }
+    requires steps { steps.now
+        ≡ list_below (length plan.now.problem.flows)
+        (λ f. if operation.changes_behind plan.now.problem plan.now.plan (variants.Flow f) s then
+        release.chain plan.now.problem plan.now.plan (variants.Flow f) s else 0) }
+    ensures { IfOk result
+        (λ rows. AreTunnelsAt plan.now.problem plan.now.plan s (length plan.now.problem.tunnels)
+        rows.chains rows.own rows.departures rows.arrivals) }
 {
     let mut rows = TunnelsAt {
         chains: Ids::new(alloc),
@@ -188,10 +209,17 @@ fn add_tunnel(
 ) -> Result<(), Memory>
     requires stage { s < last_stage plan.now.plan }
     requires tunnel { t < length plan.now.problem.tunnels }
-    requires ahead { AreAhead plan.now.problem plan.now.plan (s + 1) ahead.now.flows ahead.now.own ahead.now.departures ahead.now.arrivals }
-    requires steps { steps.now ≡ list_below (length plan.now.problem.flows) (λ f. if operation.changes_behind plan.now.problem plan.now.plan (variants.Flow f) s then release.chain plan.now.problem plan.now.plan (variants.Flow f) s else 0) }
-    requires rows { AreTunnelsAt plan.now.problem plan.now.plan s t rows.old.chains rows.old.own rows.old.departures rows.old.arrivals }
-    ensures { OnOk result (AreTunnelsAt plan.now.problem plan.now.plan s (t + 1) rows.new.chains rows.new.own rows.new.departures rows.new.arrivals) }
+    requires ahead { AreAhead plan.now.problem plan.now.plan (s + 1) ahead.now.flows ahead.now.own
+        ahead.now.departures ahead.now.arrivals }
+    requires steps { steps.now
+        ≡ list_below (length plan.now.problem.flows)
+        (λ f. if operation.changes_behind plan.now.problem plan.now.plan (variants.Flow f) s then
+        release.chain plan.now.problem plan.now.plan (variants.Flow f) s else 0) }
+    requires rows { AreTunnelsAt plan.now.problem plan.now.plan s t rows.old.chains rows.old.own
+        rows.old.departures rows.old.arrivals }
+    ensures { OnOk result
+        (AreTunnelsAt plan.now.problem plan.now.plan s (t + 1) rows.new.chains rows.new.own
+        rows.new.departures rows.new.arrivals) }
 {
     let own = at(&ahead.own, t);
     let arrived = at(&ahead.arrivals, t);
@@ -224,7 +252,9 @@ fn entry_chain(plan: &CheckedPlan, s: usize, t: usize, own: u32, arrived: u32) -
 fn entry_step(plan: &CheckedPlan, s: usize, t: usize, chain: u32) -> u32
     requires stage { s < last_stage plan.now.plan }
     requires tunnel { t < length plan.now.problem.tunnels }
-    ensures { result ≡ (if operation.changes_behind plan.now.problem plan.now.plan (variants.Entry t 0) s then chain else 0) }
+    ensures { result
+        ≡ (if operation.changes_behind plan.now.problem plan.now.plan (variants.Entry t 0) s then
+        chain else 0) }
 {
     checked_plan_is_valid(plan);
     let item = Item::Entry {
@@ -238,7 +268,9 @@ fn entry_step(plan: &CheckedPlan, s: usize, t: usize, chain: u32) -> u32
 fn departure_from(plan: &CheckedPlan, s: usize, t: usize, step: u32, behind: u32) -> u32
     requires stage { s < last_stage plan.now.plan }
     requires tunnel { t < length plan.now.problem.tunnels }
-    requires step { step ≡ (if operation.changes_behind plan.now.problem plan.now.plan (variants.Entry t 0) s then release.chain plan.now.problem plan.now.plan (variants.Entry t 0) s else 0) }
+    requires step { step
+        ≡ (if operation.changes_behind plan.now.problem plan.now.plan (variants.Entry t 0) s then
+        release.chain plan.now.problem plan.now.plan (variants.Entry t 0) s else 0) }
     requires behind { behind ≡ longest_departure plan.now.problem plan.now.plan t (s + 1) }
     ensures { result ≡ longest_departure plan.now.problem plan.now.plan t s }
 {
@@ -251,7 +283,11 @@ fn departure_from(plan: &CheckedPlan, s: usize, t: usize, step: u32, behind: u32
 fn arrival_from(plan: &CheckedPlan, s: usize, t: usize, step: u32, behind: u32) -> u32
     requires stage { s < last_stage plan.now.plan }
     requires tunnel { t < length plan.now.problem.tunnels }
-    requires step { step ≡ (if operation.changes_behind plan.now.problem plan.now.plan (variants.Flow (wan.tunnel_at plan.now.problem t).flow) s then release.chain plan.now.problem plan.now.plan (variants.Flow (wan.tunnel_at plan.now.problem t).flow) s else 0) }
+    requires step { step
+        ≡ (if operation.changes_behind plan.now.problem plan.now.plan
+        (variants.Flow (wan.tunnel_at plan.now.problem t).flow) s then release.chain
+        plan.now.problem plan.now.plan (variants.Flow (wan.tunnel_at plan.now.problem t).flow) s
+        else 0) }
     requires behind { behind ≡ longest_arrival plan.now.problem plan.now.plan t (s + 1) }
     ensures { result ≡ longest_arrival plan.now.problem plan.now.plan t s }
 {

@@ -18,7 +18,10 @@ impl Model for Past {
 
     ghost Value = { Entries };
 
-    ghost view = { λ p. record { room = vec_capacity p.entries; items = map (λ e. e.value) p.entries.items } };
+    ghost view = { λ p. record {
+      room = vec_capacity p.entries;
+      items = map (λ e. e.value) p.entries.items;
+    } };
 }
 
 impl Past {

@@ -51,9 +51,14 @@ impl Model for Progress {
 
     ghost Value = { Counts };
 
-    ghost view = { λ c. record { rollout = arc_value c.index; settled = c.settled.items; begun = c.begun.items } };
+    ghost view = { λ c. record {
+      rollout = arc_value c.index;
+      settled = c.settled.items;
+      begun = c.begun.items;
+    } };
 
-    ghost invariant = { λ c. IsProgress (arc_value c.index) c.settled.items c.begun.items c.stands };
+    ghost invariant = { λ c. IsProgress (arc_value c.index) c.settled.items c.begun.items
+        c.stands };
 }
 
 impl Progress {
@@ -113,7 +118,9 @@ impl Progress {
     /// How many operations an item has.
     pub fn operations(&self, item: u32) -> u32
         requires { item < item_count self.now.rollout.problem }
-        ensures { result ≡ operation.operations self.now.rollout.problem self.now.rollout.plan (item_at self.now.rollout.problem item) }
+        ensures { result
+            ≡ operation.operations self.now.rollout.problem self.now.rollout.plan
+            (item_at self.now.rollout.problem item) }
     {
         self.lookup().operations(item)
     }
@@ -144,7 +151,9 @@ impl Progress {
 
     /// Whether every operation of every item is settled.
     pub fn is_finished(&self) -> bool
-        ensures { (h : History) → AreCountsOf self.now h → result ≡ legal.is_finished self.now.rollout.problem self.now.rollout.plan h }
+        ensures { (h : History)
+            → AreCountsOf self.now h
+            → result ≡ legal.is_finished self.now.rollout.problem self.now.rollout.plan h }
     {
         all_settled(self)
     }
@@ -161,7 +170,11 @@ impl Progress {
     pub fn stage(&self, plan: &CheckedPlan, item: u32) -> u32
         requires own { plan.now ≡ self.now.rollout }
         requires item { item < item_count plan.now.problem }
-        ensures { (h : History) → AreCountsOf self.now h → result ≡ stand plan.now.problem plan.now.plan (places_of plan.now.problem h) (item_at plan.now.problem item) }
+        ensures { (h : History)
+            → AreCountsOf self.now h
+            → result
+            ≡ stand plan.now.problem plan.now.plan (places_of plan.now.problem h)
+            (item_at plan.now.problem item) }
     {
         checked_plan_is_valid(plan);
         stand(self, plan, &[], item) as u32
@@ -170,7 +183,10 @@ impl Progress {
     /// The least stage at which an item stands.
     pub fn least_stage(&self, plan: &CheckedPlan) -> u32
         requires { plan.now ≡ self.now.rollout }
-        ensures { (h : History) → AreCountsOf self.now h → result ≡ rooms.least_stage plan.now.problem plan.now.plan (places_of plan.now.problem h) }
+        ensures { (h : History)
+            → AreCountsOf self.now h
+            → result
+            ≡ rooms.least_stage plan.now.problem plan.now.plan (places_of plan.now.problem h) }
     {
         let _ = plan.last_stage();
         least_stage(self, plan, &[]) as u32
@@ -198,7 +214,9 @@ impl Progress {
         requires own { plan.now ≡ self.now.rollout }
         requires resource { resource < resource_count plan.now.problem }
         requires stage { stage < wan.last_stage plan.now.plan }
-        ensures { result ≡ rooms.room plan.now.problem plan.now.plan (places_with plan.now self.now []) stage (resource_at plan.now.problem resource) }
+        ensures { result
+            ≡ rooms.room plan.now.problem plan.now.plan (places_with plan.now self.now []) stage
+            (resource_at plan.now.problem resource) }
     {
         room(self, plan, resource, stage)
     }
@@ -208,7 +226,11 @@ impl Progress {
         requires own { plan.now ≡ self.now.rollout }
         requires item { item < item_count plan.now.problem }
         requires left { slice_index self.now.settled item < graph.count_of plan.now item }
-        ensures { (h : History) → AreCountsOf self.now h → result ≡ needs.needs_met plan.now.problem plan.now.plan (places_of plan.now.problem h) (item_at plan.now.problem item) }
+        ensures { (h : History)
+            → AreCountsOf self.now h
+            → result
+            ≡ needs.needs_met plan.now.problem plan.now.plan (places_of plan.now.problem h)
+            (item_at plan.now.problem item) }
     {
         checked_plan_is_valid(plan);
         needs_met(self, plan, &[], item)
@@ -219,7 +241,9 @@ impl Progress {
         requires own { plan.now ≡ self.now.rollout }
         requires item { IsTrue (is_item plan.now.problem item) }
         requires stage { s < wan.last_stage plan.now.plan }
-        ensures { result ≡ needs.needs_met_at plan.now.problem plan.now.plan (places_with plan.now self.now []) item s }
+        ensures { result
+            ≡ needs.needs_met_at plan.now.problem plan.now.plan (places_with plan.now self.now [])
+            item s }
     {
         needs_met_at(self, plan, item, s)
     }
@@ -229,7 +253,9 @@ impl Progress {
         requires own { plan.now ≡ self.old.rollout }
         requires left { MayCount self.old entry }
         ensures rollout { self.new.rollout ≡ self.old.rollout }
-        ensures counts { (h : History) → AreCountsOf self.old h → AreCountsOf self.new (with_entries h (entry ∷ [])) }
+        ensures counts { (h : History)
+            → AreCountsOf self.old h
+            → AreCountsOf self.new (with_entries h (entry ∷ [])) }
     {
         match entry {
             Entry::Begin(op) => self.begun[op.item as usize] += 1,
@@ -252,7 +278,8 @@ fn first_stages(
 ) -> Result<Vec<u32>, Memory>
     requires own { index.now ≡ plan.now }
     requires numbers { length start.now ≡ item_count plan.now.problem }
-    ensures { IfOk result (λ stages. AreStands plan.now start.now stages.items (item_count plan.now.problem)) }
+    ensures { IfOk result
+        (λ stages. AreStands plan.now start.now stages.items (item_count plan.now.problem)) }
 {
     let mut stages = Vec::new(alloc);
     for item in 0..index.item_count() {
@@ -266,7 +293,9 @@ fn first_stages(
 fn stage_behind(progress: &Progress, plan: &CheckedPlan, item: u32) -> u32
     requires own { plan.now ≡ progress.now.rollout }
     requires item { item < item_count plan.now.problem }
-    ensures { result ≡ operation.stand_after plan.now.problem plan.now.plan (item_at plan.now.problem item) (slice_index progress.now.settled item + 1) }
+    ensures { result
+        ≡ operation.stand_after plan.now.problem plan.now.plan (item_at plan.now.problem item)
+        (slice_index progress.now.settled item + 1) }
 {
     let from = progress.stands.stage(item);
     stand_behind(plan, progress.lookup().item(item), from)

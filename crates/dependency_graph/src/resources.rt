@@ -31,7 +31,8 @@ impl Model for Touched {
 
     ghost view = { λ t. t.plan.value };
 
-    ghost invariant = { λ t. AreRows t.plan.value.problem t.rows (item_count t.plan.value.problem) };
+    ghost invariant = { λ t. AreRows t.plan.value.problem t.rows
+        (item_count t.plan.value.problem) };
 }
 
 impl Touched {
@@ -107,7 +108,8 @@ fn row(
 fn table_of(alloc: Global, plan: &CheckedPlan, t: usize, hop: usize) -> Result<Ids, Memory>
     requires tunnel { t < length plan.now.problem.tunnels }
     requires hop { hop < wan.hops plan.now.problem t }
-    ensures is { IfOk result (λ row. row ≡ (length plan.now.problem.links + wan.switch_of plan.now.problem t hop) ∷ []) }
+    ensures is { IfOk result
+        (λ row. row ≡ (length plan.now.problem.links + wan.switch_of plan.now.problem t hop) ∷ []) }
     ensures inside { wan.switch_of plan.now.problem t hop < length plan.now.problem.switches }
 {
     let table = plan.problem().links().len() + plan.switch_of(t, hop);

@@ -41,7 +41,9 @@ pub(crate) fn rouse(
 pub(crate) fn rouse_each(wakes: &mut Wakes, course: &Course)
     requires { length wakes.old.lacks ≡ item_count course.now.rollout.problem }
     ensures rouses { Rouses wakes.old wakes.new }
-    ensures each { (n : ℕ) → n < item_count course.now.rollout.problem → IsRoused course.now wakes.new n }
+    ensures each { (n : ℕ)
+        → n < item_count course.now.rollout.problem
+        → IsRoused course.now wakes.new n }
 {
     for item in 0..course.item_count() {
         rouse_item(wakes, course, item);
@@ -66,7 +68,10 @@ fn rouse_related(wakes: &mut Wakes, plan: &CheckedPlan, course: &Course, item: I
     requires item { IsTrue (is_item plan.now.problem item) }
     requires items { length wakes.old.lacks ≡ item_count plan.now.problem }
     ensures rouses { Rouses wakes.old wakes.new }
-    ensures related { (k : Item) → IsTrue (is_item plan.now.problem k) → AreRelated plan.now.problem item k → IsRoused course.now wakes.new (number_of plan.now.problem k) }
+    ensures related { (k : Item)
+        → IsTrue (is_item plan.now.problem k)
+        → AreRelated plan.now.problem item k
+        → IsRoused course.now wakes.new (number_of plan.now.problem k) }
 {
     checked_plan_is_valid(plan);
     match item {
@@ -83,7 +88,11 @@ fn rouse_tunnels(wakes: &mut Wakes, plan: &CheckedPlan, course: &Course, flow: u
     requires flow { flow < length plan.now.problem.flows }
     requires items { length wakes.old.lacks ≡ item_count plan.now.problem }
     ensures rouses { Rouses wakes.old wakes.new }
-    ensures entries { (j h : ℕ) → j < (wan.flow_at plan.now.problem flow).tunnels → h < wan.hops plan.now.problem (wan.tunnel_of plan.now.problem flow j) → IsRoused course.now wakes.new (number_of plan.now.problem (variants.Entry (wan.tunnel_of plan.now.problem flow j) h)) }
+    ensures entries { (j h : ℕ)
+        → j < (wan.flow_at plan.now.problem flow).tunnels
+        → h < wan.hops plan.now.problem (wan.tunnel_of plan.now.problem flow j)
+        → IsRoused course.now wakes.new
+        (number_of plan.now.problem (variants.Entry (wan.tunnel_of plan.now.problem flow j) h)) }
 {
     checked_plan_is_valid(plan);
     for j in 0..plan.tunnel_count(flow) {
@@ -97,7 +106,9 @@ fn rouse_entries(wakes: &mut Wakes, plan: &CheckedPlan, course: &Course, tunnel:
     requires tunnel { tunnel < length plan.now.problem.tunnels }
     requires items { length wakes.old.lacks ≡ item_count plan.now.problem }
     ensures rouses { Rouses wakes.old wakes.new }
-    ensures entries { (h : ℕ) → h < wan.hops plan.now.problem tunnel → IsRoused course.now wakes.new (number_of plan.now.problem (variants.Entry tunnel h)) }
+    ensures entries { (h : ℕ)
+        → h < wan.hops plan.now.problem tunnel
+        → IsRoused course.now wakes.new (number_of plan.now.problem (variants.Entry tunnel h)) }
 {
     let first = course.lookup().first_entry(tunnel);
     let path = plan.path(tunnel);

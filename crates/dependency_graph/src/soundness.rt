@@ -20,7 +20,8 @@ use wan_model::CheckedPlan;
 /// room fits.
 pub fn sound(alloc: Global, plan: &CheckedPlan, start: &[u32]) -> Result<bool, Memory>
     requires { length start.now ≡ item_count plan.now.problem }
-    ensures { IfOk result (λ sound. sound ≡ legal.is_sound plan.now.problem plan.now.plan start.now) }
+    ensures { IfOk result
+        (λ sound. sound ≡ legal.is_sound plan.now.problem plan.now.plan start.now) }
 {
     checked_plan_is_valid(plan);
     let progress = Progress::new(alloc, plan, start)?;
@@ -92,7 +93,8 @@ fn had_needs_at(progress: &Progress, plan: &CheckedPlan, item: Item, stage: usiz
 /// Whether every room fits, from the least stage at which an item stands on.
 fn all_fit(progress: &Progress, plan: &CheckedPlan) -> bool
     requires { plan.now ≡ progress.now.rollout }
-    ensures { result ≡ rooms.fits plan.now.problem plan.now.plan (places_with plan.now progress.now []) }
+    ensures { result
+        ≡ rooms.fits plan.now.problem plan.now.plan (places_with plan.now progress.now []) }
 {
     for stage in progress.least_stand(plan)..plan.last_stage() {
         if !fit_at(progress, plan, stage) {
@@ -105,7 +107,9 @@ fn all_fit(progress: &Progress, plan: &CheckedPlan) -> bool
 fn fit_at(progress: &Progress, plan: &CheckedPlan, stage: usize) -> bool
     requires own { plan.now ≡ progress.now.rollout }
     requires stage { stage < last_stage plan.now.plan }
-    ensures { result ≡ rooms.fits_at plan.now.problem plan.now.plan (places_with plan.now progress.now []) stage }
+    ensures { result
+        ≡ rooms.fits_at plan.now.problem plan.now.plan (places_with plan.now progress.now [])
+        stage }
 {
     for resource in 0..plan.problem().links().len() + plan.problem().switches().len() {
         if progress.room(plan, resource, stage) > capacity(plan, resource) {

@@ -53,7 +53,8 @@ impl StageCounts {
     pub(crate) fn least_from(&self, low: u32) -> u32
         requires low { low ≤ self.now.last }
         requires none { (k : ℕ) → k < length self.now.stages → low ≤ slice_index self.now.stages k }
-        ensures { result ≡ least_below (length self.now.stages) self.now.last (slice_index self.now.stages) }
+        ensures { result
+            ≡ least_below (length self.now.stages) self.now.last (slice_index self.now.stages) }
     {
         for stage in low..self.last() {
             if self.count(stage) > 0 {
@@ -65,7 +66,9 @@ impl StageCounts {
 
     fn last(&self) -> u32
         ensures last { result ≡ self.now.last }
-        ensures within { (k : ℕ) → k < length self.now.stages → slice_index self.now.stages k ≤ self.now.last }
+        ensures within { (k : ℕ)
+            → k < length self.now.stages
+            → slice_index self.now.stages k ≤ self.now.last }
     {
         self.last
     }
@@ -94,7 +97,8 @@ impl StageCounts {
 fn standings(alloc: Global, last: u32, stages: &[u32]) -> Result<Vec<u32>, Memory>
     requires few { length stages.now < 2 ^ 32 }
     requires within { (k : ℕ) → k < length stages.now → slice_index stages.now k ≤ last }
-    ensures { IfOk result (λ counts. AreStageCounts last stages.now (length stages.now) counts.items) }
+    ensures { IfOk result
+        (λ counts. AreStageCounts last stages.now (length stages.now) counts.items) }
 {
     let mut counts = vec![in alloc; 0u32; last as usize + 1]?;
     for item in 0..stages.len() {

@@ -45,7 +45,8 @@ impl Stands {
 
     /// The least stage at which an item stands, or the last stage where there is no item.
     pub(crate) fn least(&self) -> u32
-        ensures { result ≡ least_below (length self.now.stages) self.now.last (slice_index self.now.stages) }
+        ensures { result
+            ≡ least_below (length self.now.stages) self.now.last (slice_index self.now.stages) }
     {
         self.least
     }

@@ -51,7 +51,9 @@ impl Wakes {
     /// The items that are woken.
     pub(crate) fn row(&self) -> &[u32]
         ensures row { result.now ≡ self.now.row }
-        ensures inside { (j : ℕ) → j < length result.now → slice_index result.now j < length self.now.lacks }
+        ensures inside { (j : ℕ)
+            → j < length result.now
+            → slice_index result.now j < length self.now.lacks }
         ensures once { AreOnce result.now }
         ensures few { length result.now ≤ length self.now.lacks }
     {

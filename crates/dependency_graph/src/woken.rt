@@ -48,7 +48,9 @@ impl Woken {
     /// Those that are in.
     pub(crate) fn row(&self) -> &[u32]
         ensures row { result.now ≡ self.now.row }
-        ensures inside { (j : ℕ) → j < length result.now → slice_index result.now j < self.now.items }
+        ensures inside { (j : ℕ)
+            → j < length result.now
+            → slice_index result.now j < self.now.items }
         ensures once { AreOnce result.now }
         ensures few { length result.now ≤ self.now.items }
     {
@@ -65,7 +67,9 @@ impl Woken {
     pub(crate) fn insert(&mut self, item: u32)
         requires { item < self.old.items }
         ensures items { self.new.items ≡ self.old.items }
-        ensures row { (n : ℕ) → n < self.old.items → has self.new.row n ≡ (has self.old.row n || (item == n)) }
+        ensures row { (n : ℕ)
+            → n < self.old.items
+            → has self.new.row n ≡ (has self.old.row n || (item == n)) }
     {
         let place = self.places[item as usize];
         if place >= self.count {
@@ -77,7 +81,9 @@ impl Woken {
     pub(crate) fn remove(&mut self, item: u32)
         requires { item < self.old.items }
         ensures items { self.new.items ≡ self.old.items }
-        ensures row { (n : ℕ) → n < self.old.items → has self.new.row n ≡ (has self.old.row n && not (item == n)) }
+        ensures row { (n : ℕ)
+            → n < self.old.items
+            → has self.new.row n ≡ (has self.old.row n && not (item == n)) }
     {
         let place = self.places[item as usize];
         if place < self.count {

@@ -12,7 +12,8 @@ use wan_model::{CheckedPlan, item_count};
 pub(crate) fn zeros(alloc: Global, plan: &CheckedPlan) -> Result<Vec<u32>, Memory>
     ensures list { IfOk result (λ start. start.items ≡ no_start plan.now.problem) }
     ensures numbers { IfOk result (λ start. length start.items ≡ item_count plan.now.problem) }
-    ensures sound { IfOk result (λ start. IsTrue (is_sound plan.now.problem plan.now.plan start.items)) }
+    ensures sound { IfOk result
+        (λ start. IsTrue (is_sound plan.now.problem plan.now.plan start.items)) }
 {
     checked_plan_is_valid(plan);
     let mut start = Vec::new(alloc);

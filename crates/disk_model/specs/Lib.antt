@@ -1,7 +1,9 @@
 pub mod Crashes
+pub mod Effects
 pub mod Logs
 pub mod Memory
 pub mod Moments
 pub mod Past
 pub mod Places
+pub mod Traces
 pub mod Writes

@@ -2,6 +2,7 @@
 use Rattle.std.specs.Prelude.{◌≡◌, ◌⊎◌, ℕ, nat_le, Bool, true, false, List, [], ◌∷◌, ◌++◌, length, drop, Option, Some, None, if◌then◌else◌}
 use Rattle.wan_edge.specs.FailingTurns as turns
 use Rattle.wan_edge.specs.FailingTurns.{Turning}
+use Rattle.disk_model.specs.Traces.{DiskTrace}
 use Rattle.disk_model.specs.Writes.{Torn, written}
 
 -- what a read gives, what was on the disk at the last sync, and the place and length of each write since then
@@ -74,3 +75,13 @@ after_call calls failed = record { turns = turns.after_call calls.turns failed; 
 pub record Storing : Type 0 where
   pub timeline : Timeline
   pub calls : Calls
+
+-- what it tells: the medium's bytes, and its moment as how often the medium has moved
+abbrev pub trace_of : Storing → DiskTrace
+trace_of disk = record {
+  bytes = Some disk.timeline.medium.bytes;
+  may_leave = MayLeave disk.timeline.medium;
+  moment = length disk.timeline.past;
+  left_since = LeftSince disk.timeline;
+  faults = disk.calls.turns.failures;
+}

@@ -33,7 +33,11 @@ impl Model for Medium {
 
     ghost Value = { Medium };
 
-    ghost view = { λ m. record { bytes = applied m.first m.writes.items; synced = applied m.first (take m.synced m.writes.items); pending = map range_of (drop m.synced m.writes.items) } };
+    ghost view = { λ m. record {
+      bytes = applied m.first m.writes.items;
+      synced = applied m.first (take m.synced m.writes.items);
+      pending = map range_of (drop m.synced m.writes.items);
+    } };
 
     ghost invariant = { λ m. IsLogged m.first m.bytes.items m.writes.items m.synced };
 }
@@ -147,7 +151,8 @@ fn overwrite(bytes: &mut Vec<u8>, at: u64, from: &[u8]) -> Result<(), Memory>
 
 // Zeros behind bytes up to an end.
 fn fill_up(bytes: &mut Vec<u8>, end: usize) -> Result<(), Memory>
-    ensures ok { OnOk result (bytes.new.items ≡ bytes.old.items ++ replicate (end - length bytes.old.items) 0) }
+    ensures ok { OnOk result
+        (bytes.new.items ≡ bytes.old.items ++ replicate (end - length bytes.old.items) 0) }
     ensures err { OnErr result (bytes.new.items ≡ bytes.old.items) }
 {
     if bytes.len() < end {
@@ -159,7 +164,8 @@ fn fill_up(bytes: &mut Vec<u8>, end: usize) -> Result<(), Memory>
 // Bytes over those of a range.
 fn put_over(bytes: &mut [u8], start: usize, from: &[u8])
     requires { start + length from.now ≤ length bytes.old }
-    ensures { bytes.new ≡ take start bytes.old ++ (from.now ++ drop (start + length from.now) bytes.old) }
+    ensures { bytes.new
+        ≡ take start bytes.old ++ (from.now ++ drop (start + length from.now) bytes.old) }
 {
     bytes[start..start + from.len()].copy_from_slice(from);
 }

@@ -3,7 +3,7 @@ ghost use Rattle.std.proofs.Common.{inl, refl};
 ghost use Rattle.disk_model.specs.Crashes.{Only, Stepped, Within};
 ghost use Rattle.disk_model.specs.Writes.{Torn};
 ghost use Rattle.disk_model.specs.Moments.{Passes};
-ghost use Rattle.disk_model.specs.Memory.{LeftSince, MayLeave, after_call, after_write, at_rest, fails_now, fresh, moves_to};
+ghost use Rattle.disk_model.specs.Memory.{LeftSince, MayLeave, after_call, after_write, at_rest, fails_now, fresh, moves_to, trace_of};
 ghost use Rattle.disk_model.specs.Past.{only_now};
 
 use crate::Disk;
@@ -36,7 +36,11 @@ impl MemoryDisk {
     /// A disk with these bytes, all of them synced. The calls whose numbers, from 0, stand in `fails` are
     /// to fail.
     pub fn new(alloc: Global, bytes: Nums8, fails: Turns) -> Self
-        ensures fresh { result ≡ record { timeline = record { medium = at_rest bytes; past = [] }; calls = fresh fails } }
+        ensures fresh { result
+            ≡ record {
+              timeline = record { medium = at_rest bytes; past = [] };
+              calls = fresh fails;
+            } }
         ensures synced { Only bytes (MayLeave result.timeline.medium) }
     {
         MemoryDisk {
@@ -48,7 +52,8 @@ impl MemoryDisk {
 
     /// From the call with this number on, counted from 0, every call is to fail.
     pub fn stop_at(&mut self, call: u64)
-        ensures { self.new ≡ record self.old { calls = record self.old.calls { stop = Some call } } }
+        ensures { self.new
+            ≡ record self.old { calls = record self.old.calls { stop = Some call } } }
     {
         self.calls.stop_at(call);
     }
@@ -56,7 +61,9 @@ impl MemoryDisk {
     #[tactic(auto, using(crate::proofs::Reaching::untorn))]
     /// The image that a crash leaves where the writes since the last sync are kept, or none of them is.
     pub fn left(&self, keep: bool) -> Result<Nums8, Memory>
-        ensures image { IfOk result (λ image. image ≡ (if keep then self.now.timeline.medium.bytes else self.now.timeline.medium.synced)) }
+        ensures image { IfOk result
+            (λ image. image
+            ≡ (if keep then self.now.timeline.medium.bytes else self.now.timeline.medium.synced)) }
         ensures may_leave { IfOk result (λ image. MayLeave self.now.timeline.medium image) }
     {
         let medium = self.timeline.medium();
@@ -93,15 +100,7 @@ impl MemoryDisk {
 }
 
 impl Disk for MemoryDisk {
-    ghost bytes = { λ d. Some d.timeline.medium.bytes };
-
-    ghost may_leave = { λ d. MayLeave d.timeline.medium };
-
-    ghost moment = { λ d. length d.timeline.past };
-
-    ghost left_since = { λ d. LeftSince d.timeline };
-
-    ghost faults = { λ d. d.calls.turns.failures };
+    ghost told = { trace_of };
 
     ghost shows_one = { λ d. inl refl };
 
@@ -127,8 +126,10 @@ impl Disk for MemoryDisk {
     /// As many bytes as there are and as fit, or a failure exactly where it is this call's turn.
     fn read_at(&mut self, at: u64, into: &mut [u8]) -> Result<usize, Failed>
         ensures fails { is_err result ≡ fails_now self.old.calls }
-        ensures answer { IfOk result (λ n. n ≡ min (length into.old) (length self.old.timeline.medium.bytes - at)) }
-        ensures given { IfOk result (λ n. take n into.new ≡ take n (drop at self.old.timeline.medium.bytes)) }
+        ensures answer { IfOk result
+            (λ n. n ≡ min (length into.old) (length self.old.timeline.medium.bytes - at)) }
+        ensures given { IfOk result
+            (λ n. take n into.new ≡ take n (drop at self.old.timeline.medium.bytes)) }
         ensures stays { self.new.timeline ≡ self.old.timeline }
         ensures calls { self.new.calls ≡ after_call self.old.calls (is_err result) }
     {
@@ -144,10 +145,15 @@ impl Disk for MemoryDisk {
     /// Writes all the bytes, or fails: where it is this call's turn, or for want of memory.
     fn write_at(&mut self, at: u64, from: &[u8]) -> Result<(), Failed>
         ensures fails { IsTrue (fails_now self.old.calls) → IsErr result }
-        ensures ok { OnOk result (self.new.timeline ≡ moves_to self.old.timeline (after_write at from.now self.old.timeline.medium)) }
+        ensures ok { OnOk result
+            (self.new.timeline
+            ≡ moves_to self.old.timeline (after_write at from.now self.old.timeline.medium)) }
         ensures err { OnErr result (self.new.timeline ≡ self.old.timeline) }
-        ensures crash { Within (MayLeave self.new.timeline.medium) (Stepped (Torn at (length from.now)) (MayLeave self.old.timeline.medium)) }
-        ensures time { Passes (length self.old.timeline.past) (length self.new.timeline.past) (LeftSince self.old.timeline) (LeftSince self.new.timeline) (MayLeave self.new.timeline.medium) }
+        ensures crash { Within (MayLeave self.new.timeline.medium)
+            (Stepped (Torn at (length from.now)) (MayLeave self.old.timeline.medium)) }
+        ensures time { Passes (length self.old.timeline.past) (length self.new.timeline.past)
+            (LeftSince self.old.timeline) (LeftSince self.new.timeline)
+            (MayLeave self.new.timeline.medium) }
         ensures calls { self.new.calls ≡ after_call self.old.calls (is_err result) }
     {
         let failed = self.calls.fails_now() || self.timeline.write(self.alloc, at, from).is_err();
@@ -159,9 +165,13 @@ impl Disk for MemoryDisk {
     /// Syncs all that was written, or fails: where it is this call's turn, or for want of memory.
     fn sync(&mut self) -> Result<(), Failed>
         ensures fails { IsTrue (fails_now self.old.calls) → IsErr result }
-        ensures ok { OnOk result (self.new.timeline ≡ moves_to self.old.timeline (at_rest self.old.timeline.medium.bytes)) }
+        ensures ok { OnOk result
+            (self.new.timeline
+            ≡ moves_to self.old.timeline (at_rest self.old.timeline.medium.bytes)) }
         ensures err { OnErr result (self.new.timeline ≡ self.old.timeline) }
-        ensures time { Passes (length self.old.timeline.past) (length self.new.timeline.past) (LeftSince self.old.timeline) (LeftSince self.new.timeline) (MayLeave self.new.timeline.medium) }
+        ensures time { Passes (length self.old.timeline.past) (length self.new.timeline.past)
+            (LeftSince self.old.timeline) (LeftSince self.new.timeline)
+            (MayLeave self.new.timeline.medium) }
         ensures calls { self.new.calls ≡ after_call self.old.calls (is_err result) }
     {
         let failed = self.calls.fails_now() || self.timeline.sync().is_err();

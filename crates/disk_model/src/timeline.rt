@@ -43,7 +43,8 @@ impl Timeline {
 
     /// A write. Want of memory changes nothing.
     pub fn write(&mut self, alloc: Global, at: u64, from: &[u8]) -> Result<(), Memory>
-        ensures ok { OnOk result (self.new ≡ moves_to self.old (after_write at from.now self.old.medium)) }
+        ensures ok { OnOk result
+            (self.new ≡ moves_to self.old (after_write at from.now self.old.medium)) }
         ensures err { OnErr result (self.new ≡ self.old) }
     {
         self.past.reserve(1)?;

@@ -51,7 +51,8 @@ impl Dictionary {
         unknowns: u32,
         rows: &[Row],
     ) -> Result<Dictionary, AllocError>
-        ensures { IfOk result (λ d. d ≡ first_dictionary (record { unknowns = unknowns; rows = rows.now })) }
+        ensures { IfOk result
+            (λ d. d ≡ first_dictionary (record { unknowns = unknowns; rows = rows.now })) }
     {
         let mut lines = Vec::new(alloc);
         for _unknown in 0..unknowns {

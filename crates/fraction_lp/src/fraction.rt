@@ -152,7 +152,9 @@ impl Fraction {
 
     /// Each top times the other's bottom, where both fit.
     fn crossed(self, other: Fraction) -> Option<(i128, i128)>
-        ensures { result ≡ where_they_fit ((self.top *ℤ pos other.bottom) ∷ (other.top *ℤ pos self.bottom) ∷ []) ((self.top *ℤ pos other.bottom), (other.top *ℤ pos self.bottom)) }
+        ensures { result
+            ≡ where_they_fit ((self.top *ℤ pos other.bottom) ∷ (other.top *ℤ pos self.bottom) ∷ [])
+            ((self.top *ℤ pos other.bottom), (other.top *ℤ pos self.bottom)) }
     {
         let left = formed_product(self.top(), other.bottom())?;
         let right = formed_product(other.top(), self.bottom())?;

@@ -21,5 +21,10 @@ pub fn a_quotient_times_its_divisor_is_the_dividend()
 
 /// Farkas' lemma: the multipliers of a certificate exclude every feasible point.
 pub fn a_certificate_excludes_every_feasible_point()
-    ensures { (p : Program) → (xs : List Ratio) → (ys : List Ratio) → IsCertificate p ys → IsFeasible p xs → ⊥ }
+    ensures { (p : Program)
+        → (xs : List Ratio)
+        → (ys : List Ratio)
+        → IsCertificate p ys
+        → IsFeasible p xs
+        → ⊥ }
 {}

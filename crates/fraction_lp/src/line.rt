@@ -72,7 +72,8 @@ impl Line {
         solved: &Line,
         spare: &mut Vec<Term>,
     ) -> Result<(), Unfinished>
-        ensures { Leaves result (put_in_where solved.now c self.old (coefficient_at c self.old.terms)) self.new }
+        ensures { Leaves result
+            (put_in_where solved.now c self.old (coefficient_at c self.old.terms)) self.new }
     {
         let Some(t) = take_term(c, &mut self.terms) else {
             return Ok(());

@@ -24,14 +24,19 @@ impl Model for Row {
 
     ghost Value = { TheRow };
 
-    ghost view = { λ r. record { coefficients = coefficients_of 0 r.unknowns r.terms.items; bound = r.bound } };
+    ghost view = { λ r. record {
+      coefficients = coefficients_of 0 r.unknowns r.terms.items;
+      bound = r.bound;
+    } };
 
-    ghost invariant = { λ r. negated_terms 0 (coefficients_of 0 r.unknowns r.terms.items) ≡ r.terms.items };
+    ghost invariant = { λ r. negated_terms 0 (coefficients_of 0 r.unknowns r.terms.items)
+        ≡ r.terms.items };
 }
 
 impl Row {
     fn new(alloc: Global, coefficients: &[Fraction], bound: Fraction) -> Result<Row, Memory>
-        ensures { IfOk result (λ row. row ≡ record { coefficients = coefficients.now; bound = bound }) }
+        ensures { IfOk result
+            (λ row. row ≡ record { coefficients = coefficients.now; bound = bound }) }
     {
         Ok(Row {
             unknowns: coefficients.len(),
@@ -80,7 +85,10 @@ impl Rows {
     /// Asks that a row times the unknowns is at most a bound. Want of memory changes nothing.
     pub fn add(&mut self, row: &[Fraction], bound: Fraction) -> Result<(), Memory>
         requires { length row.now ≡ self.old.unknowns }
-        ensures ok { OnOk result (self.new ≡ record self.old { rows = self.old.rows ++ record { coefficients = row.now; bound = bound } ∷ [] }) }
+        ensures ok { OnOk result
+            (self.new
+            ≡ record self.old
+            { rows = self.old.rows ++ record { coefficients = row.now; bound = bound } ∷ [] }) }
         ensures err { OnErr result (self.new ≡ self.old) }
     {
         let row = Row::new(*self.rows.allocator(), row, bound)?;

@@ -9,7 +9,8 @@ use std::alloc::{AllocError, Global};
 
 /// Adds a term at the end, where its coefficient isn't 0.
 fn keep(kept: &mut Vec<Term>, number: usize, coefficient: Fraction) -> Result<(), Unfinished>
-    ensures { Leaves result (behind kept.old.items (with_term number (Some coefficient) (Some []))) kept.new.items }
+    ensures { Leaves result (behind kept.old.items (with_term number (Some coefficient) (Some [])))
+        kept.new.items }
 {
     if !coefficient.is_zero() {
         kept.push(Term {
@@ -58,7 +59,8 @@ fn add_first(
     others: &[Term],
     made: &mut Vec<Term>,
 ) -> Result<usize, Unfinished>
-    ensures { TakesSome result (λ rest. behind made.old.items (add_first t term rest others.now)) made.new.items others.now }
+    ensures { TakesSome result (λ rest. behind made.old.items (add_first t term rest others.now))
+        made.new.items others.now }
 {
     if let Some(first) = others.first() {
         if first.number == term.number {
@@ -79,7 +81,8 @@ pub(crate) fn add_times(
     others: &[Term],
     made: &mut Vec<Term>,
 ) -> Result<(), Unfinished>
-    ensures { Leaves result (behind made.old.items (add_times t terms.now others.now)) made.new.items }
+    ensures { Leaves result (behind made.old.items (add_times t terms.now others.now))
+        made.new.items }
 {
     let mut rest = others;
     for term in terms {

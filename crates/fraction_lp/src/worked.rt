@@ -23,6 +23,7 @@ pub fn a_ratio_of_two_to_the_two_hundred_overflows_at_once()
 
 /// The one link idles in between, which two exchanges find and one doesn't.
 pub fn a_trade_takes_two_exchanges()
-    ensures found { end_from trade 2 0 (first_dictionary trade) ≡ Point (map whole (pos 0 ∷ pos 0 ∷ pos 2 ∷ pos 0 ∷ pos 0 ∷ pos 2 ∷ [])) }
+    ensures found { end_from trade 2 0 (first_dictionary trade)
+        ≡ Point (map whole (pos 0 ∷ pos 0 ∷ pos 2 ∷ pos 0 ∷ pos 0 ∷ pos 2 ∷ [])) }
     ensures not_yet { end_from trade 1 0 (first_dictionary trade) ≡ Spent 1 }
 {}

@@ -7,13 +7,13 @@ use Rattle.host_edge.specs.declared.tcp_guest.TcpGuest.{TcpGuest}
 use Rattle.host_edge.specs.declared.tcp_port.TcpPort.{TcpPort}
 
 -- the ports given back, by switch
-abbrev pub kept_in : {S : Type 0} → Loans S → ℕ → Option (TcpPort S)
+abbrev pub kept_in : {R : Type 0} → Loans R → ℕ → Option (TcpPort R)
 kept_in Nothing = λ n. None
 kept_in (Given' marker before switch) = without (kept_in before) switch.value
 kept_in (Back' marker before switch port) = with_one (kept_in before) switch.value port.value
 
 -- whether the port of a switch was given and not given back
-abbrev pub lent_in : {S : Type 0} → Loans S → ℕ → Bool
+abbrev pub lent_in : {R : Type 0} → Loans R → ℕ → Bool
 lent_in Nothing = λ n. false
 lent_in (Given' marker before switch) = marked (lent_in before) switch.value true
 lent_in (Back' marker before switch port) = marked (lent_in before) switch.value false

@@ -1,1 +1,3 @@
+pub mod Connections
+pub mod Inboxes
 pub mod Ledgers

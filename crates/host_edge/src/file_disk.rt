@@ -34,15 +34,13 @@ impl<R> FileDisk<R> {
 impl<R: Files<File = File> + Alloc> Disk for FileDisk<R> {
     ghost use Rattle.std.specs.Prelude.{None, ⊤};
 
-    ghost bytes = { λ _. None };
-
-    ghost may_leave = { λ _ _. ⊤ };
-
-    ghost moment = { λ _. 0 };
-
-    ghost left_since = { λ _ _ _. ⊤ };
-
-    ghost faults = { λ disk. disk.faults };
+    ghost told = { λ disk. record {
+      bytes = None;
+      may_leave = λ _. ⊤;
+      moment = 0;
+      left_since = λ _ _. ⊤;
+      faults = disk.faults;
+    } };
 
     fn len(&mut self) -> Result<u64, Failed> {
         let answer = self.file.len();

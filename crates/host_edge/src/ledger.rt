@@ -9,10 +9,10 @@ use std::snapshot::Snapshot;
 
 /// The ports that were given and given back.
 #[derive(Drop)]
-pub(crate) enum Loans<S> {
+pub(crate) enum Loans<R> {
     Nothing,
-    Given(Snapshot<Loans<S>>, Snapshot<u32>),
-    Back(Snapshot<Loans<S>>, Snapshot<u32>, Snapshot<TcpPort<S>>),
+    Given(Snapshot<Loans<R>>, Snapshot<u32>),
+    Back(Snapshot<Loans<R>>, Snapshot<u32>, Snapshot<TcpPort<R>>),
 }
 
 /// The guests that were given and given back.
@@ -23,7 +23,7 @@ pub(crate) enum Visits<S> {
     Back(Snapshot<Visits<S>>, Snapshot<TcpGuest<S>>),
 }
 
-impl<S> Loans<S> {
+impl<R> Loans<R> {
     pub(crate) fn given(&self, switch: u32) -> Self
         ensures kept { kept_in result ≡ without (kept_in self.now) switch }
         ensures lent { lent_in result ≡ marked (lent_in self.now) switch true }
@@ -31,7 +31,7 @@ impl<S> Loans<S> {
         Loans::Given(Snapshot::of(self), Snapshot::of(&switch))
     }
 
-    pub(crate) fn back(&self, switch: u32, port: &TcpPort<S>) -> Self
+    pub(crate) fn back(&self, switch: u32, port: &TcpPort<R>) -> Self
         ensures kept { kept_in result ≡ with_one (kept_in self.now) switch port.now }
         ensures lent { lent_in result ≡ marked (lent_in self.now) switch false }
     {

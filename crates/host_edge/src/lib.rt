@@ -7,8 +7,12 @@
 //! again.
 #![tactic(auto)]
 
+mod connection;
+mod dialer;
 mod faults;
 mod file_disk;
+mod fleet_file;
+mod inbox;
 mod ledger;
 mod locked_file;
 mod std_sink;
@@ -19,6 +23,7 @@ mod tcp_guest;
 mod tcp_port;
 #[cfg(test)]
 mod tests;
+mod time_limit;
 mod unbroken;
 
 pub use file_disk::FileDisk;

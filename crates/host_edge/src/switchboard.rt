@@ -1,3 +1,4 @@
+use crate::fleet_file::read_fleet;
 use indexmap::IndexMap;
 use std::alloc::Global;
 use std::fs::File;
@@ -24,6 +25,10 @@ impl Switchboard {
         }
     }
 
+    pub(crate) fn path(&self) -> &str {
+        self.path.as_str()
+    }
+
     /// The address of the switch of this name, where one line names it.
     pub(crate) fn address<R: Files<File = File>>(
         &mut self,
@@ -31,8 +36,8 @@ impl Switchboard {
         name: &str,
     ) -> io::Result<&str> {
         if self.addresses.is_none() {
-            let lines = io::read_to_string(self.alloc, File::open(rt, self.path.as_str())?)?;
-            self.addresses = Some(addresses_in(self.alloc, lines.as_str())?);
+            let text = read_fleet(self.alloc, rt, self.path.as_str())?;
+            self.addresses = Some(addresses_in(self.alloc, text.as_str())?);
         }
         match self.addresses.as_ref().and_then(|all| all.get(name)) {
             Some(Some(address)) => Ok(address.as_str()),

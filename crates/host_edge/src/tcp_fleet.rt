@@ -1,32 +1,37 @@
 ghost use Rattle.std.specs.Prelude.{◌≡◌, None, IsSome, OnOk};
 ghost use Rattle.host_edge.specs.Ledgers.{kept_in, lent_in, served_in, visiting_in};
 
+use crate::dialer::Dialer;
 use crate::faults::Faults;
+use crate::fleet_file::is_address;
 use crate::ledger::{Loans, Visits};
 use crate::switchboard::Switchboard;
+use crate::time_limit::TimeLimit;
 use crate::{TcpGuest, TcpPort};
 use std::alloc::Global;
 use std::fs::File;
 use std::io::{self, ErrorKind};
-use std::net::{Net, OpenListener, OpenStream, SocketAddr, TcpListener, TcpStream, ToSocketAddrs};
+use std::net::{Net, OpenListener, OpenStream, TcpListener};
 use std::rt::Files;
-use std::time::Duration;
+use std::time::{Clock, Duration};
 use wan_edge::{Failed, Fleet};
 
 /// Switches behind addresses, and the controllers that connect to an address. It tells nothing of what
 /// waits or comes.
 ///
-/// The file of addresses is read at the first use of a switch, and the address for controllers is bound at
-/// the first wait for one. A line of the file is a switch's name and its address, split at the last space.
-/// A switch that no line names, or more than one does, fails at each use.
+/// The file of addresses is read at the first use of a switch, and again where a connection is begun anew;
+/// the address for controllers is bound at the first wait for one. A line of the file is a switch's name and
+/// its address, split at the last space. A switch that no line names, or more than one does, or whose
+/// address is none, fails at each use. One that can't be reached has its port all the same.
 #[derive(Drop)]
 pub struct TcpFleet<R: Net> {
+    alloc: Global,
     rt: R,
     switches: Switchboard,
     listen: String,
     listener: Option<R::Listener>,
-    limit: Duration,
-    loans: Loans<R::Stream>,
+    limit: TimeLimit,
+    loans: Loans<R>,
     visits: Visits<R::Stream>,
     faults: Faults,
 }
@@ -39,11 +44,12 @@ impl<R: Net> TcpFleet<R> {
         ensures { result.faults ≡ 0 }
     {
         TcpFleet {
+            alloc,
             rt,
             switches: Switchboard::new(alloc, path),
             listen,
             listener: None,
-            limit: Duration::from_millis(milliseconds),
+            limit: TimeLimit::of_millis(milliseconds),
             loans: Loans::Nothing,
             visits: Visits::Nobody,
             faults: Faults::new(),
@@ -51,8 +57,8 @@ impl<R: Net> TcpFleet<R> {
     }
 }
 
-impl<R: Net + Files<File = File>> Fleet for TcpFleet<R> {
-    type Port = TcpPort<R::Stream>;
+impl<R: Net + Files<File = File> + Clock + Copy> Fleet for TcpFleet<R> {
+    type Port = TcpPort<R>;
 
     type Guest = TcpGuest<R::Stream>;
 
@@ -70,14 +76,14 @@ impl<R: Net + Files<File = File>> Fleet for TcpFleet<R> {
 
     ghost faults = { λ f. f.faults };
 
-    fn port(&mut self, switch: u32, name: &str) -> Result<TcpPort<R::Stream>, Failed> {
-        let answer = connect(&self.rt, &mut self.switches, name, self.limit);
-        let stream = self.faults.counted(answer)?;
+    fn port(&mut self, switch: u32, name: &str) -> Result<TcpPort<R>, Failed> {
+        let answer = open_port(self.alloc, &self.rt, &mut self.switches, name, self.limit);
+        let port = self.faults.counted(answer)?;
         self.loans = self.loans.given(switch);
-        Ok(TcpPort::new(stream))
+        Ok(port)
     }
 
-    fn keep(&mut self, switch: u32, port: TcpPort<R::Stream>) {
+    fn keep(&mut self, switch: u32, port: TcpPort<R>) {
         self.loans = self.loans.back(switch, &port);
     }
 
@@ -86,7 +92,7 @@ impl<R: Net + Files<File = File>> Fleet for TcpFleet<R> {
             &self.rt,
             self.listen.as_str(),
             &mut self.listener,
-            self.limit,
+            self.limit.whole(),
         );
         let stream = self.faults.counted(answer)?;
         self.visits = self.visits.given();
@@ -98,31 +104,21 @@ impl<R: Net + Files<File = File>> Fleet for TcpFleet<R> {
     }
 }
 
-// A connection to the switch of this name, with its time limits.
-fn connect<R: Net + Files<File = File>>(
+// A port to the switch of this name, where the file has one address for it.
+fn open_port<R: Net + Files<File = File> + Clock + Copy>(
+    alloc: Global,
     rt: &R,
     switches: &mut Switchboard,
     name: &str,
-    limit: Duration,
-) -> io::Result<R::Stream> {
+    limit: TimeLimit,
+) -> io::Result<TcpPort<R>> {
+    let path = String::from_str(alloc, switches.path())?;
+    let dialer = Dialer::new(alloc, *rt, path, String::from_str(alloc, name)?, limit);
     let address = switches.address(rt, name)?;
-    let stream = connect_within(rt, address, limit)?;
-    stream.set_nodelay(true)?;
-    stream.set_read_timeout(Some(limit))?;
-    stream.set_write_timeout(Some(limit))?;
-    Ok(stream)
-}
-
-// Tries what the address stands for, one after the other.
-fn connect_within<R: Net>(rt: &R, address: &str, limit: Duration) -> io::Result<R::Stream> {
-    let mut answer = Err(ErrorKind::AddrNotAvailable.into());
-    for place in address.to_socket_addrs(rt)? {
-        answer = TcpStream::connect_timeout(rt, &place, limit);
-        if answer.is_ok() {
-            return answer;
-        }
+    if !is_address(address) {
+        return Err(ErrorKind::InvalidInput.into());
     }
-    answer
+    Ok(TcpPort::new(dialer, address))
 }
 
 // The next connection from a controller, with its time limit.

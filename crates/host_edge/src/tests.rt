@@ -57,8 +57,6 @@ fn a_port_and_a_guest_talk_over_loopback(rt: HostRuntime) -> Result<(), Fail> {
     assert!(rt; guest.write(b"de") == Ok(2));
     assert!(rt; port.hear(&mut into) == Ok(2));
     assert_eq!(rt; into, *b"dec\0");
-    drop(guest);
-    assert!(rt; port.hear(&mut into).is_err());
     fs::remove_file(&rt, FLEET_PATH)?;
     Ok(())
 }

@@ -7,8 +7,10 @@ use std::io::{self, ErrorKind, Read, Write};
 /// One read.
 pub(crate) fn read_some<R: Read>(reader: &mut R, into: &mut [u8]) -> io::Result<usize>
     ensures within { IfOk result (λ n. n ≤ length into.old) }
-    ensures taken { IfOk result (λ n. Consumes (R.remaining reader.old) (R.remaining reader.new) (take n into.new)) }
-    ensures end { IfOk result (λ n. n ≡ 0 → 0 < length into.old → IsAtEnd (R.remaining reader.new)) }
+    ensures taken { IfOk result
+        (λ n. Consumes (R.remaining reader.old) (R.remaining reader.new) (take n into.new)) }
+    ensures end { IfOk result
+        (λ n. n ≡ 0 → 0 < length into.old → IsAtEnd (R.remaining reader.new)) }
     ensures unread { OnErr result (Keeps (R.remaining reader.old) (R.remaining reader.new)) }
 {
     for _ in 0..u64::MAX {
@@ -25,7 +27,9 @@ pub(crate) fn read_some<R: Read>(reader: &mut R, into: &mut [u8]) -> io::Result<
 pub(crate) fn write_some<W: Write>(writer: &mut W, from: &[u8]) -> io::Result<usize>
     ensures within { IfOk result (λ n. n ≤ length from.now) }
     ensures some { IfOk result (λ n. 0 < length from.now → 0 < n) }
-    ensures taken { IfOk result (λ n. Appends (W.contents writer.old) (W.contents writer.new) (take n from.now)) }
+    ensures taken { IfOk result
+        (λ n. Appends (W.contents writer.old) (W.contents writer.new) (take n from.now)) }
+    ensures untaken { OnErr result (Keeps (W.contents writer.old) (W.contents writer.new)) }
 {
     for _ in 0..u64::MAX {
         match writer.write(from) {

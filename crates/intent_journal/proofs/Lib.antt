@@ -19,6 +19,7 @@ pub mod Made
 pub mod NewParts
 pub mod Nothing
 pub mod NumbersRead
+pub mod Openings
 pub mod Passages
 pub mod Pieces
 pub mod Placings

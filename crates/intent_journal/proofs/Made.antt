@@ -2,8 +2,9 @@
 use Rattle.std.proofs.Common.{◌≡◌, inl, inr, ⊎_elim, ◌==◌, true, ℕ, ◌+◌, ◌*◌, ◌<◌, ◌≤◌, ◌^◌, ◌∷◌, [], List, ◌++◌, length, drop, get_or, replicate, Option, Some, None, IfSome, refl, sym, ◌∙◌, ap, arith, length-append}
 use Rattle.std.proofs.lemmas.Bool.{cases_eq}
 use Rattle.std.proofs.lemmas.List.{append_assoc, drop-drop, drop_at, get_or-drop}
+use Rattle.disk_model.specs.Traces.{DiskTrace}
 use Rattle.disk_model.specs.Crashes.{Stepped, Within}
-use Rattle.disk_model.specs.Moments.{LeavesOnly, Passes}
+use Rattle.disk_model.specs.Moments.{GoesOn, LeavesOnly}
 use Rattle.disk_model.specs.Writes.{Torn, written}
 use Rattle.disk_model.proofs.Parting.{written-behind, written-drop}
 use Rattle.disk_model.proofs.Running.{LeavesOnly-durable, LeavesOnly-goes_on, Stepped-only}
@@ -146,24 +147,24 @@ module _ (part : Planned) (image : List ℕ) (is : IsReady part image) (rows : p
       made_moved part now is.behind is.stands is.placed is.small (written_one 0 open_journal image) ((Torn-written 0 (open_journal ∷ []) image).after ∙ is.there)
 
 -- two writes and one sync behind the first byte, done or not
-module _ {D : Type 0} (moment : D → ℕ) (left_since : D → ℕ → List ℕ → Type 0) (may_leave : D → List ℕ → Type 0) where
-  pub slots_run : (told : Option (List ℕ)) (old mid : D) (at n : ℕ) → ((c : List ℕ) → left_since old (moment old) c → may_leave old c) → Holds IsClear told (may_leave old)
-      → Within (may_leave mid) (Stepped (Torn at n) (may_leave old)) → Passes (moment old) (moment mid) (left_since old) (left_since mid) (may_leave mid)
-      → ((image c : List ℕ) → IsClear image → Torn at n image c → IsClear c) → IfSome told (λ image. LeavesOnly moment left_since old mid IsClear)
+module _ {D : Type 0} (trace : D → DiskTrace) where
+  pub slots_run : (told : Option (List ℕ)) (old mid : D) (at n : ℕ) → ((c : List ℕ) → (trace old).left_since (trace old).moment c → (trace old).may_leave c) → Holds IsClear told (trace old).may_leave
+      → Within (trace mid).may_leave (Stepped (Torn at n) (trace old).may_leave) → GoesOn (trace old) (trace mid) (trace mid).may_leave
+      → ((image c : List ℕ) → IsClear image → Torn at n image c → IsClear c) → IfSome told (λ image. LeavesOnly trace old mid IsClear)
   slots_run None old mid at n now holds crash time torn = tt
   slots_run (Some image) old mid at n now holds crash time torn =
-      LeavesOnly-goes_on moment left_since old old mid IsClear (may_leave mid) (LeavesOnly-durable moment left_since (may_leave old) old image IsClear now holds.1 holds.0) time
-      (λ c left. torn image c holds.0 (Stepped-only (Torn at n) image (may_leave old) holds.1 c (crash c left)))
+      LeavesOnly-goes_on trace old old mid IsClear (trace mid).may_leave (LeavesOnly-durable trace (trace old).may_leave old image IsClear now holds.1 holds.0) time
+      (λ c left. torn image c holds.0 (Stepped-only (Torn at n) image (trace old).may_leave holds.1 c (crash c left)))
 
-  pub both_run : (told : Option (List ℕ)) (old mid new : D) (at n : ℕ) → ((t : ℕ) (c : List ℕ) → t ≤ moment mid → may_leave mid c → left_since mid t c)
-      → IfSome told (λ image. LeavesOnly moment left_since old mid IsClear) → Passes (moment mid) (moment new) (left_since mid) (left_since new) (Stepped (Torn at n) (may_leave mid))
-      → ((image c : List ℕ) → IsClear image → Torn at n image c → IsClear c) → IfSome told (λ image. LeavesOnly moment left_since old new IsClear)
+  pub both_run : (told : Option (List ℕ)) (old mid new : D) (at n : ℕ) → ((t : ℕ) (c : List ℕ) → t ≤ (trace mid).moment → (trace mid).may_leave c → (trace mid).left_since t c)
+      → IfSome told (λ image. LeavesOnly trace old mid IsClear) → GoesOn (trace mid) (trace new) (Stepped (Torn at n) (trace mid).may_leave)
+      → ((image c : List ℕ) → IsClear image → Torn at n image c → IsClear c) → IfSome told (λ image. LeavesOnly trace old new IsClear)
   both_run None old mid new at n counts first time torn = tt
   both_run (Some image) old mid new at n counts first time torn =
-      LeavesOnly-goes_on moment left_since old mid new IsClear (Stepped (Torn at n) (may_leave mid)) first time
-      (λ c stepped. torn stepped.0 c (first.each stepped.0 (counts (moment old) stepped.0 first.later stepped.1)) stepped.2)
+      LeavesOnly-goes_on trace old mid new IsClear (Stepped (Torn at n) (trace mid).may_leave) first time
+      (λ c stepped. torn stepped.0 c (first.each stepped.0 (counts (trace old).moment stepped.0 first.later stepped.1)) stepped.2)
 
-  pub clear_run : (told : Option (List ℕ)) (old new : D) → IfSome told (λ image. LeavesOnly moment left_since old new IsClear) → IfSome told (λ image. LeavesOnly moment left_since old new IsBlank)
+  pub clear_run : (told : Option (List ℕ)) (old new : D) → IfSome told (λ image. LeavesOnly trace old new IsClear) → IfSome told (λ image. LeavesOnly trace old new IsBlank)
   clear_run None old new run = tt
   clear_run (Some image) old new run = record {
     later = run.later;

@@ -1,8 +1,9 @@
 -- Writes that are synced one after the other: what a crash inside leaves, and what stands on the disk behind them.
 use Rattle.std.proofs.Common.{◌≡◌, ℕ, ◌≤◌, List, Option, Some, None, IfSome, Result, Ok, Err, OnOk, refl}
 use Rattle.wan_edge.specs.Streams.{KeepsTelling}
+use Rattle.disk_model.specs.Traces.{DiskTrace}
 use Rattle.disk_model.specs.Crashes.{IsDurable, Only, Stepped}
-use Rattle.disk_model.specs.Moments.{LeavesOnly, Passes}
+use Rattle.disk_model.specs.Moments.{GoesOn, LeavesOnly}
 use Rattle.disk_model.specs.Writes.{Torn, Writes, written}
 use Rattle.disk_model.proofs.Running.{LeavesOnly-chain, LeavesOnly-durable, LeavesOnly-torn, LeavesOnly-weaker}
 use Rattle.disk_model.proofs.Telling.{at_told, told_by}
@@ -46,37 +47,37 @@ pub holds_still : (S T : List ℕ → Type 0) (told : Option (List ℕ)) (left :
 holds_still S T None left becomes holds = tt
 holds_still S T (Some image) left becomes holds = (becomes image holds.0, holds.1)
 
-module _ {D : Type 0} (moment : D → ℕ) (left_since : D → ℕ → List ℕ → Type 0) (may_leave : D → List ℕ → Type 0) where
+module _ {D : Type 0} (trace : D → DiskTrace) where
   -- a write and a sync, done or not
   pub write_run : (S : List ℕ → Type 0) (P : List ℕ → List ℕ → Type 0) (told : Option (List ℕ)) (old new : D) (at n : ℕ)
-      → ((c : List ℕ) → left_since old (moment old) c → may_leave old c) → Holds S told (may_leave old)
-      → Passes (moment old) (moment new) (left_since old) (left_since new) (Stepped (Torn at n) (may_leave old))
-      → ((image c : List ℕ) → S image → Torn at n image c → P image c) → IfSome told (λ image. LeavesOnly moment left_since old new (P image))
+      → ((c : List ℕ) → (trace old).left_since (trace old).moment c → (trace old).may_leave c) → Holds S told (trace old).may_leave
+      → GoesOn (trace old) (trace new) (Stepped (Torn at n) (trace old).may_leave)
+      → ((image c : List ℕ) → S image → Torn at n image c → P image c) → IfSome told (λ image. LeavesOnly trace old new (P image))
   write_run S P None old new at n now holds time torn = tt
   write_run S P (Some image) old new at n now holds time torn =
-      LeavesOnly-torn moment left_since (may_leave old) old new image at n (P image) now holds.1 time (λ c is. torn image c holds.0 is)
+      LeavesOnly-torn trace (trace old).may_leave old new image at n (P image) now holds.1 time (λ c is. torn image c holds.0 is)
 
   -- nothing
-  pub still_run : (S : List ℕ → Type 0) (P : List ℕ → List ℕ → Type 0) (told : Option (List ℕ)) (old : D) → ((c : List ℕ) → left_since old (moment old) c → may_leave old c)
-      → Holds S told (may_leave old) → ((image : List ℕ) → S image → P image image) → IfSome told (λ image. LeavesOnly moment left_since old old (P image))
+  pub still_run : (S : List ℕ → Type 0) (P : List ℕ → List ℕ → Type 0) (told : Option (List ℕ)) (old : D) → ((c : List ℕ) → (trace old).left_since (trace old).moment c → (trace old).may_leave c)
+      → Holds S told (trace old).may_leave → ((image : List ℕ) → S image → P image image) → IfSome told (λ image. LeavesOnly trace old old (P image))
   still_run S P None old now holds same = tt
-  still_run S P (Some image) old now holds same = LeavesOnly-durable moment left_since (may_leave old) old image (P image) now holds.1 (same image holds.0)
+  still_run S P (Some image) old now holds same = LeavesOnly-durable trace (trace old).may_leave old image (P image) now holds.1 (same image holds.0)
 
   -- a weaker word
   pub weaker_run : (P Q : List ℕ → List ℕ → Type 0) (told : Option (List ℕ)) (old new : D) → ((image c : List ℕ) → P image c → Q image c)
-      → IfSome told (λ image. LeavesOnly moment left_since old new (P image)) → IfSome told (λ image. LeavesOnly moment left_since old new (Q image))
+      → IfSome told (λ image. LeavesOnly trace old new (P image)) → IfSome told (λ image. LeavesOnly trace old new (Q image))
   weaker_run P Q None old new weaker run = tt
-  weaker_run P Q (Some image) old new weaker run = LeavesOnly-weaker moment left_since old new (P image) (Q image) run (λ c. weaker image c)
+  weaker_run P Q (Some image) old new weaker run = LeavesOnly-weaker trace old new (P image) (Q image) run (λ c. weaker image c)
 
   -- one run behind another
   pub chained_run : (P Q R : List ℕ → List ℕ → Type 0) (told between : Option (List ℕ)) (old mid new : D) → KeepsTelling told between
       → ((image c : List ℕ) → P image c → R image c) → ((image m c : List ℕ) → P image m → Q m c → R image c)
-      → IfSome between (may_leave mid) → ((t : ℕ) (c : List ℕ) → t ≤ moment mid → may_leave mid c → left_since mid t c)
-      → IfSome told (λ image. LeavesOnly moment left_since old mid (P image)) → IfSome between (λ m. LeavesOnly moment left_since mid new (Q m))
-      → IfSome told (λ image. LeavesOnly moment left_since old new (R image))
+      → IfSome between (trace mid).may_leave → ((t : ℕ) (c : List ℕ) → t ≤ (trace mid).moment → (trace mid).may_leave c → (trace mid).left_since t c)
+      → IfSome told (λ image. LeavesOnly trace old mid (P image)) → IfSome between (λ m. LeavesOnly trace mid new (Q m))
+      → IfSome told (λ image. LeavesOnly trace old new (R image))
   chained_run P Q R None between old mid new keeps weaker joins shows counts first second = tt
   chained_run P Q R (Some image) None old mid new keeps weaker joins shows counts first second = absurd (cc keeps)
   chained_run P Q R (Some image) (Some m) old mid new keeps weaker joins shows counts first second =
-      let middle : P image m = first.each m (counts (moment old) m first.later shows) in
-      LeavesOnly-chain moment left_since old mid new (R image) (Q m) (LeavesOnly-weaker moment left_since old mid (P image) (R image) first (λ c. weaker image c)) second
+      let middle : P image m = first.each m (counts (trace old).moment m first.later shows) in
+      LeavesOnly-chain trace old mid new (R image) (Q m) (LeavesOnly-weaker trace old mid (P image) (R image) first (λ c. weaker image c)) second
       (λ c. joins image m c middle)

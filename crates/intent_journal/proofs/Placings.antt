@@ -2,6 +2,7 @@
 use Rattle.std.proofs.Common.{◌≡◌, inl, inr, ◌⊎◌, ⊎_elim, ◌==◌, Bool, true, false, ℕ, ◌≤◌, List, Option, Some, None, IfSome, Result, Ok, Err, OnOk, if◌then◌else◌, refl, sym, subst, ◌∙◌, ap, arith}
 use Rattle.std.specs.Prelude.{is_some}
 use Rattle.std.specs.Option.{option_map}
+use Rattle.disk_model.specs.Traces.{DiskTrace}
 use Rattle.disk_model.specs.Crashes.{IsDurable}
 use Rattle.disk_model.specs.Moments.{LeavesOnly}
 use Rattle.disk_model.proofs.Running.{LeavesOnly-chain, LeavesOnly-weaker}
@@ -64,24 +65,24 @@ read_may (Ok x) image None read may = tt
 read_may (Ok x) image (Some all) read may = subst MayBePlaced read may
 read_may (Err e) image told read may = tt
 
-module _ {D : Type 0} (moment : D → ℕ) (left_since : D → ℕ → List ℕ → Type 0) where
+module _ {D : Type 0} (trace : D → DiskTrace) where
   -- what is known of the image that is told makes one word another
   pub known_run : (S : List ℕ → Type 0) (P Q : List ℕ → List ℕ → Type 0) (told : Option (List ℕ)) (left : List ℕ → Type 0) (old new : D) → Holds S told left
-      → ((image c : List ℕ) → S image → P image c → Q image c) → IfSome told (λ image. LeavesOnly moment left_since old new (P image)) → IfSome told (λ image. LeavesOnly moment left_since old new (Q image))
+      → ((image c : List ℕ) → S image → P image c → Q image c) → IfSome told (λ image. LeavesOnly trace old new (P image)) → IfSome told (λ image. LeavesOnly trace old new (Q image))
   known_run S P Q None left old new holds becomes run = tt
   known_run S P Q (Some image) left old new holds becomes run =
-      LeavesOnly-weaker moment left_since old new (P image) (Q image) run (λ c. becomes image c holds.0)
+      LeavesOnly-weaker trace old new (P image) (Q image) run (λ c. becomes image c holds.0)
 
   -- reading alone
-  pub left_run : (L : List ℕ → Type 0) (Q : List ℕ → List ℕ → Type 0) (told : Option (List ℕ)) (old new : D) → LeavesOnly moment left_since old new L
-      → IfSome told (λ image. LeavesOnly moment left_since old new (λ c. L c ⊎ Q image c))
+  pub left_run : (L : List ℕ → Type 0) (Q : List ℕ → List ℕ → Type 0) (told : Option (List ℕ)) (old new : D) → LeavesOnly trace old new L
+      → IfSome told (λ image. LeavesOnly trace old new (λ c. L c ⊎ Q image c))
   left_run L Q None old new run = tt
-  left_run L Q (Some image) old new run = LeavesOnly-weaker moment left_since old new L (λ c. L c ⊎ Q image c) run (λ c. inl)
+  left_run L Q (Some image) old new run = LeavesOnly-weaker trace old new L (λ c. L c ⊎ Q image c) run (λ c. inl)
 
   -- and then writing
-  pub read_run : (L : List ℕ → Type 0) (Q : List ℕ → List ℕ → Type 0) (told before : Option (List ℕ)) (old mid new : D) → told ≡ before → LeavesOnly moment left_since old mid L
-      → IfSome told (λ image. LeavesOnly moment left_since mid new (Q image)) → IfSome before (λ image. LeavesOnly moment left_since old new (λ c. L c ⊎ Q image c))
+  pub read_run : (L : List ℕ → Type 0) (Q : List ℕ → List ℕ → Type 0) (told before : Option (List ℕ)) (old mid new : D) → told ≡ before → LeavesOnly trace old mid L
+      → IfSome told (λ image. LeavesOnly trace mid new (Q image)) → IfSome before (λ image. LeavesOnly trace old new (λ c. L c ⊎ Q image c))
   read_run L Q told None old mid new same first second = tt
   read_run L Q told (Some image) old mid new same first second =
-      LeavesOnly-chain moment left_since old mid new (λ c. L c ⊎ Q image c) (Q image) (LeavesOnly-weaker moment left_since old mid L (λ c. L c ⊎ Q image c) first (λ c. inl))
-      (subst (λ (t : Option (List ℕ)). IfSome t (λ b. LeavesOnly moment left_since mid new (Q b))) same second) (λ c. inr)
+      LeavesOnly-chain trace old mid new (λ c. L c ⊎ Q image c) (Q image) (LeavesOnly-weaker trace old mid L (λ c. L c ⊎ Q image c) first (λ c. inl))
+      (subst (λ (t : Option (List ℕ)). IfSome t (λ b. LeavesOnly trace mid new (Q b))) same second) (λ c. inr)

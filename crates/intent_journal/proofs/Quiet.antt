@@ -1,29 +1,30 @@
 -- Calls of a disk that write nothing, one behind the other.
 use Rattle.std.proofs.Common.{◌≡◌, inl, inr, arith, ℕ, ◌≤◌, List, Option, Some, None, refl, sym, ◌∙◌}
+use Rattle.disk_model.specs.Traces.{DiskTrace}
 use Rattle.disk_model.specs.Crashes.{IsDurable, Within}
-use Rattle.disk_model.specs.Moments.{Passes}
+use Rattle.disk_model.specs.Moments.{GoesOn}
 use Rattle.disk_model.proofs.Running.{LeavesOnly-chain, LeavesOnly-goes_on, LeavesOnly-start}
 use Rattle.intent_journal.specs.Whole.{Causes, IsQuiet}
 use Rattle.intent_journal.specs.declared.fault.JournalFault.{JournalFault}
 use Rattle.intent_journal.specs.declared.fault.JournalFault.TheVariants.{BadStart, Disk, Illegal, Memory, NotJournal, OtherPlan}
 
-module _ {D : Type 0} (bytes : D → Option (List ℕ)) (moment : D → ℕ) (left_since : D → ℕ → List ℕ → Type 0) (may_leave : D → List ℕ → Type 0) where
-  pub no_call : (old : D) → ((c : List ℕ) → left_since old (moment old) c → may_leave old c) → IsQuiet bytes moment left_since may_leave old old
-  no_call old now = record { same = refl; crash = λ c left. left; run = LeavesOnly-start moment left_since old (may_leave old) now }
+module _ {D : Type 0} (trace : D → DiskTrace) where
+  pub no_call : (old : D) → ((c : List ℕ) → (trace old).left_since (trace old).moment c → (trace old).may_leave c) → IsQuiet trace old old
+  no_call old now = record { same = refl; crash = λ c left. left; run = LeavesOnly-start trace old (trace old).may_leave now }
 
-  pub one_call : (old new : D) → ((c : List ℕ) → left_since old (moment old) c → may_leave old c) → bytes new ≡ bytes old → Within (may_leave new) (may_leave old)
-      → Passes (moment old) (moment new) (left_since old) (left_since new) (may_leave new) → IsQuiet bytes moment left_since may_leave old new
+  pub one_call : (old new : D) → ((c : List ℕ) → (trace old).left_since (trace old).moment c → (trace old).may_leave c) → (trace new).bytes ≡ (trace old).bytes → Within (trace new).may_leave (trace old).may_leave
+      → GoesOn (trace old) (trace new) (trace new).may_leave → IsQuiet trace old new
   one_call old new now same crash time = record {
     same = same;
     crash = crash;
-    run = LeavesOnly-goes_on moment left_since old old new (may_leave old) (may_leave new) (LeavesOnly-start moment left_since old (may_leave old) now) time crash;
+    run = LeavesOnly-goes_on trace old old new (trace old).may_leave (trace new).may_leave (LeavesOnly-start trace old (trace old).may_leave now) time crash;
   }
 
-  pub more_calls : (old mid new : D) → IsQuiet bytes moment left_since may_leave old mid → IsQuiet bytes moment left_since may_leave mid new → IsQuiet bytes moment left_since may_leave old new
+  pub more_calls : (old mid new : D) → IsQuiet trace old mid → IsQuiet trace mid new → IsQuiet trace old new
   more_calls old mid new first second = record {
     same = second.same ∙ first.same;
     crash = λ c left. first.crash c (second.crash c left);
-    run = LeavesOnly-chain moment left_since old mid new (may_leave old) (may_leave mid) first.run second.run first.crash;
+    run = LeavesOnly-chain trace old mid new (trace old).may_leave (trace mid).may_leave first.run second.run first.crash;
   }
 
 -- what was on the disk still is

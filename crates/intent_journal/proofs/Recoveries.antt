@@ -4,8 +4,9 @@ use Rattle.std.proofs.lemmas.Bool.Decides.{nat_tests}
 use Rattle.std.specs.Prelude.{IfErr, IfOk}
 use Rattle.std.specs.Result.{IsErrAnd}
 use Rattle.rollout_rules.specs.Wan.{Rollout}
-use Rattle.rollout_rules.specs.History.{from_nothing, no_start}
+use Rattle.rollout_rules.specs.History.{no_start}
 use Rattle.rollout_rules.specs.declared.op.Entry.{Entry}
+use Rattle.disk_model.specs.Traces.{DiskTrace}
 use Rattle.disk_model.specs.Crashes.{IsDurable, Within}
 use Rattle.disk_model.specs.Moments.{LeavesOnly}
 use Rattle.disk_model.proofs.Running.{LeavesOnly-chain, LeavesOnly-start, LeavesOnly-weaker}
@@ -16,7 +17,7 @@ use Rattle.intent_journal.specs.Images.{is_blank, is_placed, journal_in, second_
 use Rattle.intent_journal.specs.Opened.{HasRoom}
 use Rattle.intent_journal.specs.Parts.{Kept, size_of}
 use Rattle.intent_journal.specs.Phases.{Holds, IsBlankOrMade, IsFound, IsOldOrNew, IsRenewed, Planned, end_of, home_of, kept_of}
-use Rattle.intent_journal.specs.Recovered.{IsBrought, IsBroughtTo, IsCause, KeepsNow, MayBeLeft, MayStand, OnRefusal, kept_for}
+use Rattle.intent_journal.specs.Recovered.{IsBroughtTo, IsCause, KeepsNow, MayBeLeft, MayStand, OnRefusal, kept_for}
 use Rattle.intent_journal.specs.Verdicts.{Fresh, IsRefusal, NoJournal, NoStart, NotLegal, OfAnother, Stands, Verdict, judged_journal, verdict, with_history}
 use Rattle.intent_journal.specs.Whole.{Causes, IsQuiet}
 use Rattle.wan_edge.specs.Streams.{KeepsTelling, Rose}
@@ -39,22 +40,22 @@ pub holds_of : (P : List ℕ → Type 0) (told : Option (List ℕ)) (left : List
 holds_of P None left image holds is = tt
 holds_of P (Some all) left image holds is = (subst P (sym holds.0) is, holds.1)
 
-module _ {D : Type 0} (moment : D → ℕ) (left_since : D → ℕ → List ℕ → Type 0) (may_leave : D → List ℕ → Type 0) (r : Rollout) (digest : Digest) (image : List ℕ) (v : Verdict) where
+module _ {D : Type 0} (trace : D → DiskTrace) (r : Rollout) (digest : Digest) (image : List ℕ) (v : Verdict) where
   -- nothing was written
-  pub still : (told : Option (List ℕ)) (old new : D) → ((c : List ℕ) → left_since old (moment old) c → may_leave old c) → new ≡ old
-      → IfSome told (λ _. LeavesOnly moment left_since old new (MayStand r digest image v (may_leave old)))
+  pub still : (told : Option (List ℕ)) (old new : D) → ((c : List ℕ) → (trace old).left_since (trace old).moment c → (trace old).may_leave c) → new ≡ old
+      → IfSome told (λ _. LeavesOnly trace old new (MayStand r digest image v (trace old).may_leave))
   still None old new now same = tt
   still (Some all) old new now same =
-      subst (λ (d : D). LeavesOnly moment left_since old d (MayStand r digest image v (may_leave old))) (sym same)
-      (LeavesOnly-start moment left_since old (MayStand r digest image v (may_leave old)) (λ c left. inl (now c left)))
+      subst (λ (d : D). LeavesOnly trace old d (MayStand r digest image v (trace old).may_leave)) (sym same)
+      (LeavesOnly-start trace old (MayStand r digest image v (trace old).may_leave) (λ c left. inl (now c left)))
 
   -- the journal was written anew, or in part
-  pub rewritten : (told : Option (List ℕ)) (old new : D) (start : List ℕ) (list : List Entry) (kept : Kept) → Holds (λ all. all ≡ image) told (may_leave old) → v ≡ Stands start list
-      → kept ≡ kept_of digest start list → IfSome told (λ all. LeavesOnly moment left_since old new (IsOldOrNew (journal_in all) kept))
-      → IfSome told (λ _. LeavesOnly moment left_since old new (MayStand r digest image v (may_leave old)))
+  pub rewritten : (told : Option (List ℕ)) (old new : D) (start : List ℕ) (list : List Entry) (kept : Kept) → Holds (λ all. all ≡ image) told (trace old).may_leave → v ≡ Stands start list
+      → kept ≡ kept_of digest start list → IfSome told (λ all. LeavesOnly trace old new (IsOldOrNew (journal_in all) kept))
+      → IfSome told (λ _. LeavesOnly trace old new (MayStand r digest image v (trace old).may_leave))
   rewritten None old new start list kept holds stands is run = tt
   rewritten (Some all) old new start list kept holds stands is run =
-      LeavesOnly-weaker moment left_since old new (IsOldOrNew (journal_in all) kept) (MayStand r digest image v (may_leave old)) run
+      LeavesOnly-weaker trace old new (IsOldOrNew (journal_in all) kept) (MayStand r digest image v (trace old).may_leave) run
       (λ c left. inr (subst (λ (w : Verdict). MayBeLeft r digest image w c) (sym stands)
       (subst (λ (k : Kept). IsOldOrNew (journal_in image) k c) is (subst (λ (a : List ℕ). IsOldOrNew (journal_in a) kept c) holds.0 left))))
 
@@ -141,24 +142,24 @@ holds_read (Some was) (Some all) left image same read durable =
     let is : all ≡ was = cc same in
     (is ∙ sym read, durable)
 
-module _ {D : Type 0} (bytes : D → Option (List ℕ)) (moment : D → ℕ) (left_since : D → ℕ → List ℕ → Type 0) (may_leave : D → List ℕ → Type 0) (r : Rollout) (digest : Digest) where
+module _ {D : Type 0} (trace : D → DiskTrace) (r : Rollout) (digest : Digest) where
   -- reading, and then the writes
-  pub opened_run : (image : List ℕ) (v : Verdict) (old mid new : D) → IfSome (bytes old) (λ all. image ≡ all) → IsQuiet bytes moment left_since may_leave old mid → verdict r digest image ≡ v
-      → IfSome (bytes mid) (λ _. LeavesOnly moment left_since mid new (MayStand r digest image v (may_leave mid)))
-      → IfSome (bytes old) (λ all. LeavesOnly moment left_since old new (MayStand r digest all (verdict r digest all) (may_leave old)))
+  pub opened_run : (image : List ℕ) (v : Verdict) (old mid new : D) → IfSome (trace old).bytes (λ all. image ≡ all) → IsQuiet trace old mid → verdict r digest image ≡ v
+      → IfSome (trace mid).bytes (λ _. LeavesOnly trace mid new (MayStand r digest image v (trace mid).may_leave))
+      → IfSome (trace old).bytes (λ all. LeavesOnly trace old new (MayStand r digest all (verdict r digest all) (trace old).may_leave))
   opened_run image v old mid new read quiet is run =
-      told_over (bytes old) (bytes mid) image (LeavesOnly moment left_since mid new (MayStand r digest image v (may_leave mid)))
-      (λ all. LeavesOnly moment left_since old new (MayStand r digest all (verdict r digest all) (may_leave old))) quiet.same read run
-      (λ writes. subst (λ (w : Verdict). LeavesOnly moment left_since old new (MayStand r digest image w (may_leave old))) (sym is)
-      (LeavesOnly-chain moment left_since old mid new (MayStand r digest image v (may_leave old)) (MayStand r digest image v (may_leave mid))
-      (LeavesOnly-weaker moment left_since old mid (may_leave old) (MayStand r digest image v (may_leave old)) quiet.run (λ c left. inl left)) writes
+      told_over (trace old).bytes (trace mid).bytes image (LeavesOnly trace mid new (MayStand r digest image v (trace mid).may_leave))
+      (λ all. LeavesOnly trace old new (MayStand r digest all (verdict r digest all) (trace old).may_leave)) quiet.same read run
+      (λ writes. subst (λ (w : Verdict). LeavesOnly trace old new (MayStand r digest image w (trace old).may_leave)) (sym is)
+      (LeavesOnly-chain trace old mid new (MayStand r digest image v (trace old).may_leave) (MayStand r digest image v (trace mid).may_leave)
+      (LeavesOnly-weaker trace old mid (trace old).may_leave (MayStand r digest image v (trace old).may_leave) quiet.run (λ c left. inl left)) writes
       (λ c stands. ⊎_elim (λ left. inl (quiet.crash c left)) inr stands)))
 
   -- reading alone
-  pub read_run : (old mid : D) → IsQuiet bytes moment left_since may_leave old mid
-      → IfSome (bytes old) (λ all. LeavesOnly moment left_since old mid (MayStand r digest all (verdict r digest all) (may_leave old)))
-  read_run old mid quiet = told_all (bytes old) (λ all. LeavesOnly moment left_since old mid (MayStand r digest all (verdict r digest all) (may_leave old)))
-      (λ all. LeavesOnly-weaker moment left_since old mid (may_leave old) (MayStand r digest all (verdict r digest all) (may_leave old)) quiet.run (λ c left. inl left))
+  pub read_run : (old mid : D) → IsQuiet trace old mid
+      → IfSome (trace old).bytes (λ all. LeavesOnly trace old mid (MayStand r digest all (verdict r digest all) (trace old).may_leave))
+  read_run old mid quiet = told_all (trace old).bytes (λ all. LeavesOnly trace old mid (MayStand r digest all (verdict r digest all) (trace old).may_leave))
+      (λ all. LeavesOnly-weaker trace old mid (trace old).may_leave (MayStand r digest all (verdict r digest all) (trace old).may_leave) quiet.run (λ c left. inl left))
 
 -- the verdict on an image that is blank, and on one that isn't
 pub verdict_blank : (r : Rollout) (digest : Digest) (image : List ℕ) → is_blank image ≡ true → verdict r digest image ≡ Fresh
@@ -168,12 +169,12 @@ pub verdict_journal : (r : Rollout) (digest : Digest) (image : List ℕ) → is_
 verdict_journal r digest image other = ap (λ (b : Bool). if b then Fresh else judged_journal r digest image) other
 
 -- a journal is made, or in part
-pub made_run : {D : Type 0} (moment : D → ℕ) (left_since : D → ℕ → List ℕ → Type 0) (may_leave : D → List ℕ → Type 0) (r : Rollout) (digest : Digest) (image : List ℕ) (told : Option (List ℕ)) (old new : D) (kept : Kept)
-    → Holds (λ all. all ≡ image) told (may_leave old) → kept ≡ kept_of digest (no_start r.problem) [] → IfSome told (λ all. LeavesOnly moment left_since old new (IsBlankOrMade kept all))
-    → IfSome told (λ _. LeavesOnly moment left_since old new (MayStand r digest image Fresh (may_leave old)))
-made_run moment left_since may_leave r digest image None old new kept holds is run = tt
-made_run moment left_since may_leave r digest image (Some all) old new kept holds is run =
-    LeavesOnly-weaker moment left_since old new (IsBlankOrMade kept all) (MayStand r digest image Fresh (may_leave old)) run
+pub made_run : {D : Type 0} (trace : D → DiskTrace) (r : Rollout) (digest : Digest) (image : List ℕ) (told : Option (List ℕ)) (old new : D) (kept : Kept)
+    → Holds (λ all. all ≡ image) told (trace old).may_leave → kept ≡ kept_of digest (no_start r.problem) [] → IfSome told (λ all. LeavesOnly trace old new (IsBlankOrMade kept all))
+    → IfSome told (λ _. LeavesOnly trace old new (MayStand r digest image Fresh (trace old).may_leave))
+made_run trace r digest image None old new kept holds is run = tt
+made_run trace r digest image (Some all) old new kept holds is run =
+    LeavesOnly-weaker trace old new (IsBlankOrMade kept all) (MayStand r digest image Fresh (trace old).may_leave) run
     (λ c left. inr (subst (λ (k : Kept). IsBlankOrMade k image c) is (subst (λ (a : List ℕ). IsBlankOrMade kept a c) holds.0 left)))
 
 -- a fault of reading is one of these two
@@ -215,6 +216,15 @@ pub err_as : {A B : Type 0} (P Q : B → Type 0) (result : Result A B) → IfErr
 err_as P Q (Ok a) holds gives = tt
 err_as P Q (Err b) holds gives = gives b holds
 
+-- by two words, and by three
+pub ok_both : {A B : Type 0} (result : Result A B) (P Q R : A → Type 0) → IfOk result P → IfOk result Q → ((a : A) → P a → Q a → R a) → IfOk result R
+ok_both (Ok a) P Q R one other gives = gives a one other
+ok_both (Err b) P Q R one other gives = tt
+
+pub err_of_three : {A B : Type 0} (result : Result A B) (P Q S R : B → Type 0) → IfErr result P → IfErr result Q → IfErr result S → ((b : B) → P b → Q b → S b → R b) → IfErr result R
+err_of_three (Ok a) P Q S R one second third gives = tt
+err_of_three (Err b) P Q S R one second third gives = gives b one second third
+
 -- a fault that was passed on
 pub given_err : {A B : Type 0} (result : Result A B) (fault : B) (P : B → Type 0) → IsErrAnd result (λ given. given ≡ fault) → P fault → IfErr result P
 given_err (Ok a) fault P is holds = tt
@@ -230,21 +240,11 @@ refused_as BadStart P Q gives holds = gives holds
 refused_as (Illegal place) P Q gives holds = gives holds
 
 -- nothing was written while the image was read, and nothing since
-pub quiet_since : {D : Type 0} (bytes : D → Option (List ℕ)) (moment : D → ℕ) (left_since : D → ℕ → List ℕ → Type 0) (may_leave : D → List ℕ → Type 0) (old mid new : D)
-    → IsQuiet bytes moment left_since may_leave old mid → new ≡ mid → (bytes new ≡ bytes old) × Within (may_leave new) (may_leave old)
-quiet_since {D} bytes moment left_since may_leave old mid new quiet is =
-    subst (λ (d : D). (bytes d ≡ bytes old) × Within (may_leave d) (may_leave old)) (sym is) (quiet.same, quiet.crash)
+pub quiet_since : {D : Type 0} (trace : D → DiskTrace) (old mid new : D)
+    → IsQuiet trace old mid → new ≡ mid → ((trace new).bytes ≡ (trace old).bytes) × Within (trace new).may_leave (trace old).may_leave
+quiet_since {D} trace old mid new quiet is =
+    subst (λ (d : D). ((trace d).bytes ≡ (trace old).bytes) × Within (trace d).may_leave (trace old).may_leave) (sym is) (quiet.same, quiet.crash)
 
 -- what holds of the disk that was written holds of the one that the journal owns
 pub owned : {D : Type 0} (P : D → Type 0) (has disk : D) → has ≡ disk → P disk → P has
 owned P has disk is holds = subst P (sym is) holds
-
--- a graph that was brought to the list of a verdict was brought to it from some start
-pub to_list : (v : Verdict) (list : List Entry) (old new : Followed) → old.history ≡ from_nothing old.rollout.problem [] → IsBroughtTo v list old new → IsBrought list old new
-to_list Fresh list old new empty is =
-    (no_start old.rollout.problem, is.1 ∙ ap (λ h. record old { history = h }) empty ∙ ap (with_history old (no_start old.rollout.problem)) (sym is.0))
-to_list (Stands start entries) list old new empty is = (start, is.1 ∙ ap (with_history old start) (sym is.0))
-to_list (NoJournal first) list old new empty is = absurd is
-to_list (OfAnother bytes migration) list old new empty is = absurd is
-to_list NoStart list old new empty is = absurd is
-to_list (NotLegal place) list old new empty is = absurd is

@@ -1,7 +1,8 @@
 -- The two steps of an append as one run.
 use Rattle.std.proofs.Common.{◌≡◌, inl, ℕ, ◌+◌, List, [], ◌∷◌, length, Option, Some, None, IfSome, Result, Ok, Err, OnOk, refl}
+use Rattle.disk_model.specs.Traces.{DiskTrace}
 use Rattle.disk_model.specs.Crashes.{IsDurable, Only, Stepped}
-use Rattle.disk_model.specs.Moments.{LeavesOnly, Passes}
+use Rattle.disk_model.specs.Moments.{GoesOn, LeavesOnly}
 use Rattle.disk_model.specs.Writes.{Torn, Writes, written}
 use Rattle.disk_model.proofs.Running.{LeavesOnly-goes_on, LeavesOnly-torn, Stepped-only}
 use Rattle.disk_model.proofs.Telling.{at_told, told_by}
@@ -10,31 +11,31 @@ use Rattle.intent_journal.specs.Images.{journal_in}
 use Rattle.intent_journal.specs.States.{Home, IsAtRest, IsBeforeOrAfter, IsBody, IsCommitted}
 use Rattle.intent_journal.proofs.Committing.{both_done, first_crash, second_crash}
 
-module _ {D : Type 0} (moment : D → ℕ) (left_since : D → ℕ → List ℕ → Type 0) (may_leave : D → List ℕ → Type 0) where
+module _ {D : Type 0} (trace : D → DiskTrace) where
   -- the first step, done or not
-  pub first_run : (told : Option (List ℕ)) (old mid : D) (gate : ℕ) (body : List ℕ) → ((c : List ℕ) → left_since old (moment old) c → may_leave old c)
-      → Passes (moment old) (moment mid) (left_since old) (left_since mid) (Stepped (Torn (gate + 1) (length body)) (may_leave old))
-      → IfSome told (λ image. (home : Home) (batch : List (List ℕ)) → IsAtRest home gate image → IsBody home gate batch body → Only image (may_leave old)
-      → LeavesOnly moment left_since old mid (IsBeforeOrAfter (journal_in image) batch))
+  pub first_run : (told : Option (List ℕ)) (old mid : D) (gate : ℕ) (body : List ℕ) → ((c : List ℕ) → (trace old).left_since (trace old).moment c → (trace old).may_leave c)
+      → GoesOn (trace old) (trace mid) (Stepped (Torn (gate + 1) (length body)) (trace old).may_leave)
+      → IfSome told (λ image. (home : Home) (batch : List (List ℕ)) → IsAtRest home gate image → IsBody home gate batch body → Only image (trace old).may_leave
+      → LeavesOnly trace old mid (IsBeforeOrAfter (journal_in image) batch))
   first_run None old mid gate body now time = tt
   first_run (Some image) old mid gate body now time = λ home batch rest is_body only.
-      LeavesOnly-torn moment left_since (may_leave old) old mid image (gate + 1) (length body) (IsBeforeOrAfter (journal_in image) batch) now only time
+      LeavesOnly-torn trace (trace old).may_leave old mid image (gate + 1) (length body) (IsBeforeOrAfter (journal_in image) batch) now only time
       (λ c torn. inl (first_crash home gate (length body) image c rest torn))
 
   -- and then the second, done or not
-  pub second_run : (told told_mid : Option (List ℕ)) (old mid new : D) (gate : ℕ) (body : List ℕ) → ((c : List ℕ) → left_since old (moment old) c → may_leave old c)
-      → Passes (moment old) (moment mid) (left_since old) (left_since mid) (Stepped (Torn (gate + 1) (length body)) (may_leave old))
-      → Writes (gate + 1) body told told_mid → IsDurable told_mid (may_leave mid)
-      → Passes (moment mid) (moment new) (left_since mid) (left_since new) (Stepped (Torn gate 1) (may_leave mid))
-      → IfSome told (λ image. (home : Home) (batch : List (List ℕ)) → IsAtRest home gate image → IsBody home gate batch body → Only image (may_leave old)
-      → LeavesOnly moment left_since old new (IsBeforeOrAfter (journal_in image) batch))
+  pub second_run : (told told_mid : Option (List ℕ)) (old mid new : D) (gate : ℕ) (body : List ℕ) → ((c : List ℕ) → (trace old).left_since (trace old).moment c → (trace old).may_leave c)
+      → GoesOn (trace old) (trace mid) (Stepped (Torn (gate + 1) (length body)) (trace old).may_leave)
+      → Writes (gate + 1) body told told_mid → IsDurable told_mid (trace mid).may_leave
+      → GoesOn (trace mid) (trace new) (Stepped (Torn gate 1) (trace mid).may_leave)
+      → IfSome told (λ image. (home : Home) (batch : List (List ℕ)) → IsAtRest home gate image → IsBody home gate batch body → Only image (trace old).may_leave
+      → LeavesOnly trace old new (IsBeforeOrAfter (journal_in image) batch))
   second_run None told_mid old mid new gate body now time writes durable later = tt
   second_run (Some image) told_mid old mid new gate body now time writes durable later = λ home batch rest is_body only.
       let between = written (gate + 1) body image in
-      let only_between : Only between (may_leave mid) = at_told (λ bytes. Only bytes (may_leave mid)) told_mid between writes durable in
-      LeavesOnly-goes_on moment left_since old mid new (IsBeforeOrAfter (journal_in image) batch) (Stepped (Torn gate 1) (may_leave mid))
+      let only_between : Only between (trace mid).may_leave = at_told (λ bytes. Only bytes (trace mid).may_leave) told_mid between writes durable in
+      LeavesOnly-goes_on trace old mid new (IsBeforeOrAfter (journal_in image) batch) (Stepped (Torn gate 1) (trace mid).may_leave)
       (first_run (Some image) old mid gate body now time home batch rest is_body only) later
-      (λ c stepped. second_crash home gate batch body image c rest is_body (Stepped-only (Torn gate 1) between (may_leave mid) only_between c stepped))
+      (λ c stepped. second_crash home gate batch body image c rest is_body (Stepped-only (Torn gate 1) between (trace mid).may_leave only_between c stepped))
 
 -- what both leave where both were done
 pub done_run : {X E : Type 0} (told told_mid told_new : Option (List ℕ)) (left : List ℕ → Type 0) (gate : ℕ) (body : List ℕ) (result : Result X E)

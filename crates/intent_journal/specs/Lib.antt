@@ -6,6 +6,7 @@ pub mod Judging
 pub mod Makings
 pub mod Numbers
 pub mod Opened
+pub mod Openings
 pub mod Parts
 pub mod Phases
 pub mod Placements

@@ -23,10 +23,6 @@ IsBroughtTo (OfAnother bytes migration) list old new = ⊥
 IsBroughtTo NoStart list old new = ⊥
 IsBroughtTo (NotLegal place) list old new = ⊥
 
--- The graph was brought to some start and to this list, whatever a disk tells.
-abbrev pub IsBrought : List Entry → Followed → Followed → Type 0
-IsBrought list old new = (start : List ℕ) × (new ≡ with_history old start list)
-
 -- the fault is that of this verdict; a failure of the disk and want of memory say nothing of the image
 abbrev pub IsCause : JournalFault → Digest → Verdict → Type 0
 IsCause Disk digest v = ⊤

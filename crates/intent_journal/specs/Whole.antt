@@ -1,6 +1,7 @@
 -- Reading an image from its first byte to its last, and what a fault of that shows.
 use Rattle.std.specs.Prelude.{◌≡◌, ⊤, ℕ, ◌≤◌, Bool, false, List, length, take, Option}
 use Rattle.wan_edge.specs.Streams.{Rose}
+use Rattle.disk_model.specs.Traces.{DiskTrace}
 use Rattle.disk_model.specs.Crashes.{Within}
 use Rattle.disk_model.specs.Moments.{LeavesOnly}
 use Rattle.intent_journal.specs.declared.fault.JournalFault.{JournalFault}
@@ -12,10 +13,10 @@ pub record Reads (more : Bool) (old new all : List ℕ) : Type 0 where
   pub ends : more ≡ false → length all ≤ length new
 
 -- Nothing was written: the disk tells what it told, and a crash at any moment leaves what it might have left before.
-pub record IsQuiet {D : Type 0} (bytes : D → Option (List ℕ)) (moment : D → ℕ) (left_since : D → ℕ → List ℕ → Type 0) (may_leave : D → List ℕ → Type 0) (old new : D) : Type 0 where
-  pub same : bytes new ≡ bytes old
-  pub crash : Within (may_leave new) (may_leave old)
-  pub run : LeavesOnly moment left_since old new (may_leave old)
+pub record IsQuiet {D : Type 0} (trace : D → DiskTrace) (old new : D) : Type 0 where
+  pub same : (trace new).bytes ≡ (trace old).bytes
+  pub crash : Within (trace new).may_leave (trace old).may_leave
+  pub run : LeavesOnly trace old new (trace old).may_leave
 
 -- The disk failed, and its count rose; or memory ran out.
 abbrev pub Causes : JournalFault → ℕ → ℕ → Type 0

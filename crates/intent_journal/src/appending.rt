@@ -15,14 +15,23 @@ const OPEN_BATCH: u8 = 0x47;
 /// any moment leaves what was kept, or that with the batch; after `Ok` the batch is there.
 pub(crate) fn commit<D: Disk>(disk: &mut D, gate: u64, body: &[u8]) -> Result<(), Failed>
     requires { gate < 2 ^ 63 }
-    ensures any_moment { IfSome (D.bytes disk.old) (λ image. (home : Home) (batch : List (List ℕ)) → IsAtRest home gate image → IsBody home gate batch body.now
-        → Only image (D.may_leave disk.old) → LeavesOnly D.moment D.left_since disk.old disk.new (IsBeforeOrAfter (journal_in image) batch)) }
-    ensures done { OnOk result (IfSome (D.bytes disk.old) (λ image. (home : Home) (batch : List (List ℕ)) → IsAtRest home gate image → IsBody home gate batch body.now
-        → IsCommitted home gate batch body.now image (D.bytes disk.new) (D.may_leave disk.new))) }
-    ensures durable { OnOk result (IsDurable (D.bytes disk.new) (D.may_leave disk.new)) }
-    ensures told { KeepsTelling (D.bytes disk.old) (D.bytes disk.new) }
-    ensures cause { OnErr result (Rose (D.faults disk.old) (D.faults disk.new)) }
-    ensures count { D.faults disk.old ≤ D.faults disk.new }
+    ensures any_moment { IfSome (D.told disk.old).bytes
+        (λ image. (home : Home) (batch : List (List ℕ))
+        → IsAtRest home gate image
+        → IsBody home gate batch body.now
+        → Only image (D.told disk.old).may_leave
+        → LeavesOnly D.told disk.old disk.new (IsBeforeOrAfter (journal_in image) batch)) }
+    ensures done { OnOk result
+        (IfSome (D.told disk.old).bytes
+        (λ image. (home : Home) (batch : List (List ℕ))
+        → IsAtRest home gate image
+        → IsBody home gate batch body.now
+        → IsCommitted home gate batch body.now image (D.told disk.new).bytes
+        (D.told disk.new).may_leave)) }
+    ensures durable { OnOk result (IsDurable (D.told disk.new).bytes (D.told disk.new).may_leave) }
+    ensures told { KeepsTelling (D.told disk.old).bytes (D.told disk.new).bytes }
+    ensures cause { OnErr result (Rose (D.told disk.old).faults (D.told disk.new).faults) }
+    ensures count { (D.told disk.old).faults ≤ (D.told disk.new).faults }
 {
     put(disk, gate + 1, body)?;
     put(disk, gate, &[OPEN_BATCH])

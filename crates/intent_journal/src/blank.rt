@@ -43,7 +43,8 @@ pub(crate) fn is_cleared(image: &[u8]) -> bool
 // Whether a part is live, and its list is empty.
 fn keeps_nothing(alloc: Global, image: &[u8]) -> Result<bool, Memory>
     requires { 0 < length image.now }
-    ensures { IfOk result (λ empty. empty ≡ images.keeps_nothing (images.live_part (images.opened image.now))) }
+    ensures { IfOk result
+        (λ empty. empty ≡ images.keeps_nothing (images.live_part (images.opened image.now))) }
 {
     match live_side(image) {
         Some(side) => list_is_empty(alloc, &Slot::at(side, image), image),
@@ -53,7 +54,8 @@ fn keeps_nothing(alloc: Global, image: &[u8]) -> Result<bool, Memory>
 
 fn list_is_empty(alloc: Global, slot: &Slot, image: &[u8]) -> Result<bool, Memory>
     requires { IsTrue (is_whole slot.now (drop slot.now.start image.now)) }
-    ensures { IfOk result (λ empty. empty ≡ images.keeps_nothing (Some (images.kept_at slot.now image.now))) }
+    ensures { IfOk result
+        (λ empty. empty ≡ images.keeps_nothing (Some (images.kept_at slot.now image.now))) }
 {
     let (listed, _) = read_list(alloc, slot, part_of(slot, image))?;
     Ok(listed.is_empty())

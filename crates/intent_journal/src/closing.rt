@@ -13,13 +13,15 @@ use wan_edge::Failed;
 /// batch that is cut. Then the image is filled with zeros up to the end of the live part. A crash at any
 /// moment leaves what was kept.
 pub(crate) fn close<D: Disk>(disk: &mut D, found: &Found) -> Result<(), Failed>
-    requires found { Holds (IsFound found.now) (D.bytes disk.old) (D.may_leave disk.old) }
+    requires found { Holds (IsFound found.now) (D.told disk.old).bytes (D.told disk.old).may_leave }
     requires small { end_of found.now < 2 ^ 62 }
-    ensures any_moment { IfSome (D.bytes disk.old) (λ image. LeavesOnly D.moment D.left_since disk.old disk.new (IsOld (journal_in image))) }
-    ensures done { OnOk result (Holds (IsFilled found.now) (D.bytes disk.new) (D.may_leave disk.new)) }
-    ensures told { KeepsTelling (D.bytes disk.old) (D.bytes disk.new) }
-    ensures cause { OnErr result (Rose (D.faults disk.old) (D.faults disk.new)) }
-    ensures count { D.faults disk.old ≤ D.faults disk.new }
+    ensures any_moment { IfSome (D.told disk.old).bytes
+        (λ image. LeavesOnly D.told disk.old disk.new (IsOld (journal_in image))) }
+    ensures done { OnOk result
+        (Holds (IsFilled found.now) (D.told disk.new).bytes (D.told disk.new).may_leave) }
+    ensures told { KeepsTelling (D.told disk.old).bytes (D.told disk.new).bytes }
+    ensures cause { OnErr result (Rose (D.told disk.old).faults (D.told disk.new).faults) }
+    ensures count { (D.told disk.old).faults ≤ (D.told disk.new).faults }
 {
     close_also(disk, found)?;
     close_cut(disk, found)?;
@@ -28,12 +30,14 @@ pub(crate) fn close<D: Disk>(disk: &mut D, found: &Found) -> Result<(), Failed>
 
 // Closes the other slot. A byte there that opens nothing stays, since a torn write over it could open it.
 fn close_also<D: Disk>(disk: &mut D, found: &Found) -> Result<(), Failed>
-    requires found { Holds (IsFound found.now) (D.bytes disk.old) (D.may_leave disk.old) }
-    ensures any_moment { IfSome (D.bytes disk.old) (λ image. LeavesOnly D.moment D.left_since disk.old disk.new (IsOld (journal_in image))) }
-    ensures done { OnOk result (Holds (IsCut found.now) (D.bytes disk.new) (D.may_leave disk.new)) }
-    ensures told { KeepsTelling (D.bytes disk.old) (D.bytes disk.new) }
-    ensures cause { OnErr result (Rose (D.faults disk.old) (D.faults disk.new)) }
-    ensures count { D.faults disk.old ≤ D.faults disk.new }
+    requires found { Holds (IsFound found.now) (D.told disk.old).bytes (D.told disk.old).may_leave }
+    ensures any_moment { IfSome (D.told disk.old).bytes
+        (λ image. LeavesOnly D.told disk.old disk.new (IsOld (journal_in image))) }
+    ensures done { OnOk result
+        (Holds (IsCut found.now) (D.told disk.new).bytes (D.told disk.new).may_leave) }
+    ensures told { KeepsTelling (D.told disk.old).bytes (D.told disk.new).bytes }
+    ensures cause { OnErr result (Rose (D.told disk.old).faults (D.told disk.new).faults) }
+    ensures count { (D.told disk.old).faults ≤ (D.told disk.new).faults }
 {
     if found.also {
         put(disk, found.other, &[0])?;
@@ -43,12 +47,14 @@ fn close_also<D: Disk>(disk: &mut D, found: &Found) -> Result<(), Failed>
 
 // Closes the gate of a batch that is cut.
 fn close_cut<D: Disk>(disk: &mut D, found: &Found) -> Result<(), Failed>
-    requires found { Holds (IsCut found.now) (D.bytes disk.old) (D.may_leave disk.old) }
-    ensures any_moment { IfSome (D.bytes disk.old) (λ image. LeavesOnly D.moment D.left_since disk.old disk.new (IsOld (journal_in image))) }
-    ensures done { OnOk result (Holds (IsClosed found.now) (D.bytes disk.new) (D.may_leave disk.new)) }
-    ensures told { KeepsTelling (D.bytes disk.old) (D.bytes disk.new) }
-    ensures cause { OnErr result (Rose (D.faults disk.old) (D.faults disk.new)) }
-    ensures count { D.faults disk.old ≤ D.faults disk.new }
+    requires found { Holds (IsCut found.now) (D.told disk.old).bytes (D.told disk.old).may_leave }
+    ensures any_moment { IfSome (D.told disk.old).bytes
+        (λ image. LeavesOnly D.told disk.old disk.new (IsOld (journal_in image))) }
+    ensures done { OnOk result
+        (Holds (IsClosed found.now) (D.told disk.new).bytes (D.told disk.new).may_leave) }
+    ensures told { KeepsTelling (D.told disk.old).bytes (D.told disk.new).bytes }
+    ensures cause { OnErr result (Rose (D.told disk.old).faults (D.told disk.new).faults) }
+    ensures count { (D.told disk.old).faults ≤ (D.told disk.new).faults }
 {
     if found.cut {
         put(disk, found.gate, &[0])?;
@@ -59,13 +65,16 @@ fn close_cut<D: Disk>(disk: &mut D, found: &Found) -> Result<(), Failed>
 // Fills a shorter image with zeros up to the end of the live part. The gap before the last byte is zeros
 // by itself, so one byte is written, and never over one that stands.
 fn fill_up<D: Disk>(disk: &mut D, found: &Found) -> Result<(), Failed>
-    requires found { Holds (IsClosed found.now) (D.bytes disk.old) (D.may_leave disk.old) }
+    requires found { Holds (IsClosed found.now) (D.told disk.old).bytes
+        (D.told disk.old).may_leave }
     requires small { end_of found.now < 2 ^ 62 }
-    ensures any_moment { IfSome (D.bytes disk.old) (λ image. LeavesOnly D.moment D.left_since disk.old disk.new (IsOld (journal_in image))) }
-    ensures done { OnOk result (Holds (IsFilled found.now) (D.bytes disk.new) (D.may_leave disk.new)) }
-    ensures told { KeepsTelling (D.bytes disk.old) (D.bytes disk.new) }
-    ensures cause { OnErr result (Rose (D.faults disk.old) (D.faults disk.new)) }
-    ensures count { D.faults disk.old ≤ D.faults disk.new }
+    ensures any_moment { IfSome (D.told disk.old).bytes
+        (λ image. LeavesOnly D.told disk.old disk.new (IsOld (journal_in image))) }
+    ensures done { OnOk result
+        (Holds (IsFilled found.now) (D.told disk.new).bytes (D.told disk.new).may_leave) }
+    ensures told { KeepsTelling (D.told disk.old).bytes (D.told disk.new).bytes }
+    ensures cause { OnErr result (Rose (D.told disk.old).faults (D.told disk.new).faults) }
+    ensures count { (D.told disk.old).faults ≤ (D.told disk.new).faults }
 {
     let end = found.end();
     if found.length < end {

@@ -11,10 +11,17 @@ use rollout_rules::{Entry, Op};
 /// Brings a graph along entries. The place of the first that may not follow, if there is one; then the
 /// graph has followed those before it.
 pub(crate) fn follow_all(graph: &mut Graph, entries: &[Entry]) -> Option<usize>
-    requires legal { IsTrue (legal.is_legal graph.old.rollout.problem graph.old.rollout.plan graph.old.history) }
-    ensures place { MatchOption result (legal_count graph.old.rollout.problem graph.old.rollout.plan graph.old.history entries.now ≡ length entries.now)
-        (λ n. (legal_count graph.old.rollout.problem graph.old.rollout.plan graph.old.history entries.now ≡ n) × (n < length entries.now)) }
-    ensures all { IfNone result (graph.new ≡ record graph.old { history = with_entries graph.old.history entries.now }) }
+    requires legal { IsTrue (legal.is_legal graph.old.rollout.problem graph.old.rollout.plan
+        graph.old.history) }
+    ensures place { MatchOption result
+        (legal_count graph.old.rollout.problem graph.old.rollout.plan graph.old.history entries.now
+        ≡ length entries.now)
+        (λ n. (legal_count graph.old.rollout.problem graph.old.rollout.plan graph.old.history
+        entries.now
+        ≡ n)
+        × (n < length entries.now)) }
+    ensures all { IfNone result
+        (graph.new ≡ record graph.old { history = with_entries graph.old.history entries.now }) }
 {
     let items = graph.item_count();
     for place in 0..entries.len() {
@@ -28,9 +35,14 @@ pub(crate) fn follow_all(graph: &mut Graph, entries: &[Entry]) -> Option<usize>
 // Brings a graph of so many items along an entry, where it may follow.
 fn follow(graph: &mut Graph, items: u32, entry: &Entry) -> bool
     requires items { items ≡ item_count graph.old.rollout.problem }
-    requires legal { IsTrue (legal.is_legal graph.old.rollout.problem graph.old.rollout.plan graph.old.history) }
-    ensures may { result ≡ legal.may_add graph.old.rollout.problem graph.old.rollout.plan graph.old.history entry.now }
-    ensures graph { graph.new ≡ (if result then record graph.old { history = with_entries graph.old.history (entry.now ∷ []) } else graph.old) }
+    requires legal { IsTrue (legal.is_legal graph.old.rollout.problem graph.old.rollout.plan
+        graph.old.history) }
+    ensures may { result
+        ≡ legal.may_add graph.old.rollout.problem graph.old.rollout.plan graph.old.history
+        entry.now }
+    ensures graph { graph.new
+        ≡ (if result then record graph.old
+        { history = with_entries graph.old.history (entry.now ∷ []) } else graph.old) }
 {
     match entry {
         Entry::Begin(op) => begin(graph, items, *op),
@@ -40,8 +52,11 @@ fn follow(graph: &mut Graph, items: u32, entry: &Entry) -> bool
 
 fn begin(graph: &mut Graph, items: u32, op: Op) -> bool
     requires items { items ≡ item_count graph.old.rollout.problem }
-    ensures may { result ≡ legal.may_begin graph.old.rollout.problem graph.old.rollout.plan graph.old.history op }
-    ensures graph { graph.new ≡ (if result then record graph.old { history = with_entries graph.old.history (entry.Begin op ∷ []) } else graph.old) }
+    ensures may { result
+        ≡ legal.may_begin graph.old.rollout.problem graph.old.rollout.plan graph.old.history op }
+    ensures graph { graph.new
+        ≡ (if result then record graph.old
+        { history = with_entries graph.old.history (entry.Begin op ∷ []) } else graph.old) }
 {
     if !may_begin(graph, items, op) {
         return false;
@@ -52,7 +67,8 @@ fn begin(graph: &mut Graph, items: u32, op: Op) -> bool
 
 fn may_begin(graph: &Graph, items: u32, op: Op) -> bool
     requires items { items ≡ item_count graph.now.rollout.problem }
-    ensures { result ≡ legal.may_begin graph.now.rollout.problem graph.now.rollout.plan graph.now.history op }
+    ensures { result
+        ≡ legal.may_begin graph.now.rollout.problem graph.now.rollout.plan graph.now.history op }
 {
     if op.item >= items {
         return false;
@@ -71,9 +87,12 @@ fn may_begin(graph: &Graph, items: u32, op: Op) -> bool
 
 fn end(graph: &mut Graph, items: u32, op: Op) -> bool
     requires items { items ≡ item_count graph.old.rollout.problem }
-    requires legal { IsTrue (legal.is_legal graph.old.rollout.problem graph.old.rollout.plan graph.old.history) }
+    requires legal { IsTrue (legal.is_legal graph.old.rollout.problem graph.old.rollout.plan
+        graph.old.history) }
     ensures may { result ≡ legal.may_end graph.old.history op }
-    ensures graph { graph.new ≡ (if result then record graph.old { history = with_entries graph.old.history (entry.Done op ∷ []) } else graph.old) }
+    ensures graph { graph.new
+        ≡ (if result then record graph.old
+        { history = with_entries graph.old.history (entry.Done op ∷ []) } else graph.old) }
 {
     if !may_end(graph, items, op) {
         return false;
@@ -84,7 +103,8 @@ fn end(graph: &mut Graph, items: u32, op: Op) -> bool
 
 fn may_end(graph: &Graph, items: u32, op: Op) -> bool
     requires items { items ≡ item_count graph.now.rollout.problem }
-    requires legal { IsTrue (legal.is_legal graph.now.rollout.problem graph.now.rollout.plan graph.now.history) }
+    requires legal { IsTrue (legal.is_legal graph.now.rollout.problem graph.now.rollout.plan
+        graph.now.history) }
     ensures may { result ≡ legal.may_end graph.now.history op }
     ensures item { IsTrue result → op.item < item_count graph.now.rollout.problem }
 {

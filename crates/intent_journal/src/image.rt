@@ -14,11 +14,14 @@ const PIECE: usize = 65_536;
 /// Syncs a disk and reads all of its bytes. Then they are what a crash leaves.
 #[tactic(auto, using(crate::proofs::Quiet::causes_later))]
 pub(crate) fn read_image<D: Disk>(alloc: Global, disk: &mut D) -> Result<Vec<u8>, JournalFault>
-    ensures read { IfOk result (λ image. IfSome (D.bytes disk.old) (λ all. image.items ≡ all)) }
-    ensures durable { IfOk result (λ _. IsDurable (D.bytes disk.new) (D.may_leave disk.new)) }
-    ensures quiet { IsQuiet D.bytes D.moment D.left_since D.may_leave disk.old disk.new }
-    ensures cause { IfErr result (λ fault. Causes fault (D.faults disk.old) (D.faults disk.new)) }
-    ensures count { D.faults disk.old ≤ D.faults disk.new }
+    ensures read { IfOk result
+        (λ image. IfSome (D.told disk.old).bytes (λ all. image.items ≡ all)) }
+    ensures durable { IfOk result
+        (λ _. IsDurable (D.told disk.new).bytes (D.told disk.new).may_leave) }
+    ensures quiet { IsQuiet D.told disk.old disk.new }
+    ensures cause { IfErr result
+        (λ fault. Causes fault (D.told disk.old).faults (D.told disk.new).faults) }
+    ensures count { (D.told disk.old).faults ≤ (D.told disk.new).faults }
 {
     let mut buffer = buffer_of(alloc, PIECE)?;
     let mut image = Vec::new(alloc);
@@ -42,10 +45,11 @@ fn read_pieces<D: Disk>(
 ) -> Result<(), JournalFault>
     requires some { 0 < length buffer.old }
     requires empty { image.old.items ≡ [] }
-    ensures read { OnOk result (IfSome (D.bytes disk.old) (λ all. image.new.items ≡ all)) }
-    ensures quiet { IsQuiet D.bytes D.moment D.left_since D.may_leave disk.old disk.new }
-    ensures cause { IfErr result (λ fault. Causes fault (D.faults disk.old) (D.faults disk.new)) }
-    ensures count { D.faults disk.old ≤ D.faults disk.new }
+    ensures read { OnOk result (IfSome (D.told disk.old).bytes (λ all. image.new.items ≡ all)) }
+    ensures quiet { IsQuiet D.told disk.old disk.new }
+    ensures cause { IfErr result
+        (λ fault. Causes fault (D.told disk.old).faults (D.told disk.new).faults) }
+    ensures count { (D.told disk.old).faults ≤ (D.told disk.new).faults }
 {
     for _turn in 0..u64::MAX {
         let more = read_more(disk, buffer, image)?;
@@ -63,11 +67,13 @@ fn read_more<D: Disk>(
     image: &mut Vec<u8>,
 ) -> Result<bool, JournalFault>
     requires { 0 < length buffer.old }
-    ensures read { IfOk result (λ more. IfSome (D.bytes disk.old) (Reads more image.old.items image.new.items)) }
+    ensures read { IfOk result
+        (λ more. IfSome (D.told disk.old).bytes (Reads more image.old.items image.new.items)) }
     ensures buffer { length buffer.new ≡ length buffer.old }
-    ensures quiet { IsQuiet D.bytes D.moment D.left_since D.may_leave disk.old disk.new }
-    ensures cause { IfErr result (λ fault. Causes fault (D.faults disk.old) (D.faults disk.new)) }
-    ensures count { D.faults disk.old ≤ D.faults disk.new }
+    ensures quiet { IsQuiet D.told disk.old disk.new }
+    ensures cause { IfErr result
+        (λ fault. Causes fault (D.told disk.old).faults (D.told disk.new).faults) }
+    ensures count { (D.told disk.old).faults ≤ (D.told disk.new).faults }
 {
     let n = disk.read_at(image.len() as u64, buffer)?;
     image.extend_from_slice(&buffer[..n])?;

@@ -34,9 +34,16 @@ impl<D: Disk> Model for Journal<D> {
 
     ghost Value = { Opened D };
 
-    ghost view = { λ j. record { disk = j.disk; live = j.live; entries = j.entries; most = j.most } };
+    ghost view = { λ j. record {
+      disk = j.disk;
+      live = j.live;
+      entries = j.entries;
+      most = j.most;
+    } };
 
-    ghost invariant = { λ j. OnTrue j.live (IsKept j.gate j.end (D.bytes j.disk) (D.may_leave j.disk)) × HasRoom j.gate j.end j.entries j.most (vec_capacity j.body) };
+    ghost invariant = { λ j. OnTrue j.live
+        (IsKept j.gate j.end (D.told j.disk).bytes (D.told j.disk).may_leave)
+        × HasRoom j.gate j.end j.entries j.most (vec_capacity j.body) };
 }
 
 impl<D: Disk> Journal<D> {
@@ -50,7 +57,7 @@ impl<D: Disk> Journal<D> {
         most: u32,
         body: Vec<u8>,
     ) -> Self
-        requires kept { IsKept gate end (D.bytes disk) (D.may_leave disk) }
+        requires kept { IsKept gate end (D.told disk).bytes (D.told disk).may_leave }
         requires room { HasRoom gate end entries most (vec_capacity body) }
         ensures { result ≡ record { disk = disk; live = true; entries = entries; most = most } }
     {
@@ -93,14 +100,20 @@ impl<D: Disk> Journal<D> {
         requires live { self.old.live ≡ true }
         requires some { 0 < length batch.now }
         requires room { self.old.entries + length batch.now ≤ self.old.most }
-        ensures any_moment { IfSome (D.bytes self.old.disk) (λ image. LeavesOnly D.moment D.left_since self.old.disk self.new.disk (IsBeforeOrAfter (journal_in image) (entry_rows batch.now))) }
-        ensures done { OnOk result (IfSome (D.bytes self.old.disk) (λ image. HasAdded batch.now image (D.bytes self.new.disk) (D.may_leave self.new.disk))) }
-        ensures told { KeepsTelling (D.bytes self.old.disk) (D.bytes self.new.disk) }
+        ensures any_moment { IfSome (D.told self.old.disk).bytes
+            (λ image. LeavesOnly D.told self.old.disk self.new.disk
+            (IsBeforeOrAfter (journal_in image) (entry_rows batch.now))) }
+        ensures done { OnOk result
+            (IfSome (D.told self.old.disk).bytes
+            (λ image. HasAdded batch.now image (D.told self.new.disk).bytes
+            (D.told self.new.disk).may_leave)) }
+        ensures told { KeepsTelling (D.told self.old.disk).bytes (D.told self.new.disk).bytes }
         ensures live { self.new.live ≡ is_ok result }
         ensures entries { OnOk result (self.new.entries ≡ self.old.entries + length batch.now) }
         ensures most { self.new.most ≡ self.old.most }
-        ensures cause { OnErr result (Rose (D.faults self.old.disk) (D.faults self.new.disk)) }
-        ensures count { D.faults self.old.disk ≤ D.faults self.new.disk }
+        ensures cause { OnErr result
+            (Rose (D.told self.old.disk).faults (D.told self.new.disk).faults) }
+        ensures count { (D.told self.old.disk).faults ≤ (D.told self.new.disk).faults }
     {
         self.live = false;
         fill(&mut self.body, batch);

@@ -45,8 +45,12 @@ pub(crate) fn judge(
     graph: &mut Graph,
 ) -> Result<Judged, JournalFault>
     requires empty { graph.old.history ≡ from_nothing graph.old.rollout.problem [] }
-    ensures ok { IfOk result (λ judged. IsJudged image.now digest.now judged.found judged.start.items judged.list graph.old graph.new) }
-    ensures err { IfErr result (λ fault. IsRefusal fault digest.now (judged_journal graph.old.rollout digest.now image.now)) }
+    ensures ok { IfOk result
+        (λ judged. IsJudged image.now digest.now judged.found judged.start.items judged.list
+        graph.old graph.new) }
+    ensures err { IfErr result
+        (λ fault. IsRefusal fault digest.now
+        (judged_journal graph.old.rollout digest.now image.now)) }
     ensures unmoved { IfErr result (λ fault. BeforeList fault (graph.new ≡ graph.old)) }
 {
     let first = byte_in(image, 0);
@@ -69,8 +73,12 @@ fn judge_side(
     requires journal { numbers.byte_at 0 image.now ≡ open_journal }
     requires side { reading.live_side image.now ≡ Some side }
     requires empty { graph.old.history ≡ from_nothing graph.old.rollout.problem [] }
-    ensures ok { IfOk result (λ judged. IsJudged image.now digest.now judged.found judged.start.items judged.list graph.old graph.new) }
-    ensures err { IfErr result (λ fault. IsRefusal fault digest.now (judged_journal graph.old.rollout digest.now image.now)) }
+    ensures ok { IfOk result
+        (λ judged. IsJudged image.now digest.now judged.found judged.start.items judged.list
+        graph.old graph.new) }
+    ensures err { IfErr result
+        (λ fault. IsRefusal fault digest.now
+        (judged_journal graph.old.rollout digest.now image.now)) }
     ensures unmoved { IfErr result (λ fault. BeforeList fault (graph.new ≡ graph.old)) }
 {
     let slot = Slot::at(side, image);
@@ -89,7 +97,9 @@ pub(crate) fn found_at(image: &[u8], side: usize, slot: &Slot, gate: usize) -> F
     requires side { reading.live_side image.now ≡ Some side }
     requires slot { slot.now ≡ images.slot_at side image.now }
     requires gate { gate < length (drop slot.now.start image.now) }
-    ensures { (list : reading.Listed) → IsRead slot.now (drop slot.now.start image.now) list gate → IsFound result image.now }
+    ensures { (list : reading.Listed)
+        → IsRead slot.now (drop slot.now.start image.now) list gate
+        → IsFound result image.now }
 {
     let other = other_side(side);
     Found {
@@ -105,7 +115,8 @@ pub(crate) fn found_at(image: &[u8], side: usize, slot: &Slot, gate: usize) -> F
 }
 
 fn other_side(side: usize) -> usize
-    ensures { result ≡ (if side == images.first_side then images.second_side else images.first_side) }
+    ensures { result
+        ≡ (if side == images.first_side then images.second_side else images.first_side) }
 {
     if side == FIRST_SIDE {
         SECOND_SIDE
@@ -132,8 +143,12 @@ fn judge_part(
 ) -> Result<KeptPart, JournalFault>
     requires whole { IsTrue (is_whole slot.now part.now) }
     requires empty { graph.old.history ≡ from_nothing graph.old.rollout.problem [] }
-    ensures ok { IfOk result (λ kept. IsJudgedPart slot.now part.now digest.now kept.start.items kept.list kept.gate graph.old graph.new) }
-    ensures err { IfErr result (λ fault. IsRefusal fault digest.now (judged_part graph.old.rollout digest.now slot.now part.now)) }
+    ensures ok { IfOk result
+        (λ kept. IsJudgedPart slot.now part.now digest.now kept.start.items kept.list kept.gate
+        graph.old graph.new) }
+    ensures err { IfErr result
+        (λ fault. IsRefusal fault digest.now
+        (judged_part graph.old.rollout digest.now slot.now part.now)) }
     ensures unmoved { IfErr result (λ fault. BeforeList fault (graph.new ≡ graph.old)) }
 {
     let kept = kept_digest(slot, part);
@@ -169,7 +184,9 @@ fn kept_digest(slot: &Slot, part: &[u8]) -> Digest
 }
 
 fn is_same(kept: &Digest, wanted: &Digest) -> bool
-    ensures { result ≡ (bytes_eq kept.now.bytes wanted.now.bytes && (kept.now.migration == wanted.now.migration)) }
+    ensures { result
+        ≡ (bytes_eq kept.now.bytes wanted.now.bytes
+        && (kept.now.migration == wanted.now.migration)) }
 {
     kept.bytes == wanted.bytes && kept.migration == wanted.migration
 }
@@ -179,10 +196,12 @@ fn is_same(kept: &Digest, wanted: &Digest) -> bool
 fn bring(graph: &mut Graph, start: &[u32], listed: &Listed) -> Option<usize>
     requires start { IsTrue (verdicts.is_start graph.old.rollout start.now) }
     requires empty { graph.old.history ≡ from_nothing graph.old.rollout.problem [] }
-    ensures place { MatchOption result (judged_list graph.old.rollout start.now listed.now ≡ Stands start.now listed.now.entries)
+    ensures place { MatchOption result
+        (judged_list graph.old.rollout start.now listed.now ≡ Stands start.now listed.now.entries)
         (λ n. judged_list graph.old.rollout start.now listed.now ≡ NotLegal n) }
     ensures whole { IfNone result (IsTrue listed.now.whole) }
-    ensures graph { IfNone result (graph.new ≡ with_history graph.old start.now listed.now.entries) }
+    ensures graph { IfNone result
+        (graph.new ≡ with_history graph.old start.now listed.now.entries) }
 {
     begin_at(graph, start);
     let entries = listed.entries.as_slice();

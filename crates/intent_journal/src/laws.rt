@@ -13,7 +13,9 @@ use rollout_rules::{Entry, Op};
 
 /// An image of which this start and list were judged stands for that list.
 pub fn what_was_judged_is_the_list_of_the_image()
-    ensures { (r : Rollout) (digest : Digest) (image start : List ℕ) (list : List Entry) → verdict r digest image ≡ Stands start list → Lists list image }
+    ensures { (r : Rollout) (digest : Digest) (image start : List ℕ) (list : List Entry)
+        → verdict r digest image ≡ Stands start list
+        → Lists list image }
 {}
 
 /// A blank image stands for the empty list.
@@ -24,7 +26,10 @@ pub fn a_blank_image_has_the_empty_list()
 
 /// A journal that keeps the rows of entries stands for these entries.
 pub fn the_rows_of_entries_are_these_entries(entries: &[Entry])
-    ensures { (kept : Kept) (image : List ℕ) → kept.rows ≡ entry_rows entries.now → journal_in image ≡ Some kept → Lists entries.now image }
+    ensures { (kept : Kept) (image : List ℕ)
+        → kept.rows ≡ entry_rows entries.now
+        → journal_in image ≡ Some kept
+        → Lists entries.now image }
 {
     see_all(entries);
 }

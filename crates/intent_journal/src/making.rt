@@ -16,14 +16,18 @@ use wan_edge::Failed;
 /// at any moment leaves a blank image or the new journal; or, where only the gate of a journal with the
 /// empty list was torn, that journal.
 pub(crate) fn make<D: Disk>(disk: &mut D, cleared: bool, part: &NewPart) -> Result<Rest, Failed>
-    requires blank { Holds (IsBlankFound cleared) (D.bytes disk.old) (D.may_leave disk.old) }
+    requires blank { Holds (IsBlankFound cleared) (D.told disk.old).bytes
+        (D.told disk.old).may_leave }
     requires empty { part.now.kept.rows ≡ [] }
     requires few { 80 + 4 * length part.now.kept.starts ≤ blank_most }
-    ensures any_moment { IfSome (D.bytes disk.old) (λ image. LeavesOnly D.moment D.left_since disk.old disk.new (IsBlankOrMade part.now.kept image)) }
-    ensures done { IfOk result (λ rest. IsRenewed rest.gate rest.end part.now (D.bytes disk.new) (D.may_leave disk.new)) }
-    ensures told { KeepsTelling (D.bytes disk.old) (D.bytes disk.new) }
-    ensures cause { OnErr result (Rose (D.faults disk.old) (D.faults disk.new)) }
-    ensures count { D.faults disk.old ≤ D.faults disk.new }
+    ensures any_moment { IfSome (D.told disk.old).bytes
+        (λ image. LeavesOnly D.told disk.old disk.new (IsBlankOrMade part.now.kept image)) }
+    ensures done { IfOk result
+        (λ rest. IsRenewed rest.gate rest.end part.now (D.told disk.new).bytes
+        (D.told disk.new).may_leave) }
+    ensures told { KeepsTelling (D.told disk.old).bytes (D.told disk.new).bytes }
+    ensures cause { OnErr result (Rose (D.told disk.old).faults (D.told disk.new).faults) }
+    ensures count { (D.told disk.old).faults ≤ (D.told disk.new).faults }
 {
     clear_gate(disk, cleared)?;
     lay_first(disk, part)?;
@@ -36,12 +40,14 @@ pub(crate) fn make<D: Disk>(disk: &mut D, cleared: bool, part: &NewPart) -> Resu
 
 // Writes the first byte as 0, where it is missing or isn't.
 fn clear_gate<D: Disk>(disk: &mut D, cleared: bool) -> Result<(), Failed>
-    requires blank { Holds (IsBlankFound cleared) (D.bytes disk.old) (D.may_leave disk.old) }
-    ensures any_moment { IfSome (D.bytes disk.old) (λ image. LeavesOnly D.moment D.left_since disk.old disk.new (IsBlankOrTorn image)) }
-    ensures done { OnOk result (Holds IsClear (D.bytes disk.new) (D.may_leave disk.new)) }
-    ensures told { KeepsTelling (D.bytes disk.old) (D.bytes disk.new) }
-    ensures cause { OnErr result (Rose (D.faults disk.old) (D.faults disk.new)) }
-    ensures count { D.faults disk.old ≤ D.faults disk.new }
+    requires blank { Holds (IsBlankFound cleared) (D.told disk.old).bytes
+        (D.told disk.old).may_leave }
+    ensures any_moment { IfSome (D.told disk.old).bytes
+        (λ image. LeavesOnly D.told disk.old disk.new (IsBlankOrTorn image)) }
+    ensures done { OnOk result (Holds IsClear (D.told disk.new).bytes (D.told disk.new).may_leave) }
+    ensures told { KeepsTelling (D.told disk.old).bytes (D.told disk.new).bytes }
+    ensures cause { OnErr result (Rose (D.told disk.old).faults (D.told disk.new).faults) }
+    ensures count { (D.told disk.old).faults ≤ (D.told disk.new).faults }
 {
     if !cleared {
         put(disk, 0, &[0])?;
@@ -51,14 +57,16 @@ fn clear_gate<D: Disk>(disk: &mut D, cleared: bool) -> Result<(), Failed>
 
 // Writes the slots and the first part behind the first byte.
 fn lay_first<D: Disk>(disk: &mut D, part: &NewPart) -> Result<(), Failed>
-    requires clear { Holds IsClear (D.bytes disk.old) (D.may_leave disk.old) }
+    requires clear { Holds IsClear (D.told disk.old).bytes (D.told disk.old).may_leave }
     requires empty { part.now.kept.rows ≡ [] }
     requires few { 80 + 4 * length part.now.kept.starts ≤ blank_most }
-    ensures any_moment { IfSome (D.bytes disk.old) (λ image. LeavesOnly D.moment D.left_since disk.old disk.new IsBlank) }
-    ensures done { OnOk result (Holds (IsReady part.now) (D.bytes disk.new) (D.may_leave disk.new)) }
-    ensures told { KeepsTelling (D.bytes disk.old) (D.bytes disk.new) }
-    ensures cause { OnErr result (Rose (D.faults disk.old) (D.faults disk.new)) }
-    ensures count { D.faults disk.old ≤ D.faults disk.new }
+    ensures any_moment { IfSome (D.told disk.old).bytes
+        (λ image. LeavesOnly D.told disk.old disk.new IsBlank) }
+    ensures done { OnOk result
+        (Holds (IsReady part.now) (D.told disk.new).bytes (D.told disk.new).may_leave) }
+    ensures told { KeepsTelling (D.told disk.old).bytes (D.told disk.new).bytes }
+    ensures cause { OnErr result (Rose (D.told disk.old).faults (D.told disk.new).faults) }
+    ensures count { (D.told disk.old).faults ≤ (D.told disk.new).faults }
 {
     disk.write_at(1, &made_slots(part.size()))?;
     put(disk, FIRST_START, part.bytes())

@@ -41,7 +41,12 @@ impl NewPart {
     ) -> Result<NewPart, Memory>
         requires entries { 9 * length entries.now ≤ 28 * operations }
         requires size { 45 + 4 * length starts.now + 28 * operations ≤ 1000000000 }
-        ensures { IfOk result (λ part. part ≡ record { kept = kept_of digest.now starts.now entries.now; size = 45 + 4 * length starts.now + 28 * operations }) }
+        ensures { IfOk result
+            (λ part. part
+            ≡ record {
+              kept = kept_of digest.now starts.now entries.now;
+              size = 45 + 4 * length starts.now + 28 * operations;
+            }) }
     {
         let list = list_bytes(alloc, entries)?;
         let mut bytes = head_bytes(alloc, digest, starts)?;
@@ -82,7 +87,11 @@ fn list_bytes(alloc: Global, entries: &[Entry]) -> Result<Vec<u8>, Memory>
 #[tactic(auto, unfolding(crate::specs::Numbers::bytes_4))]
 fn head_bytes(alloc: Global, digest: &Digest, starts: &[u32]) -> Result<Vec<u8>, Memory>
     requires { length starts.now < 2 ^ 32 }
-    ensures head { IfOk result (λ head. head.items ≡ digest.now.bytes ++ (bytes_4 digest.now.migration ++ (bytes_4 (length starts.now) ++ number_bytes starts.now))) }
+    ensures head { IfOk result
+        (λ head. head.items
+        ≡ digest.now.bytes
+        ++ (bytes_4 digest.now.migration
+        ++ (bytes_4 (length starts.now) ++ number_bytes starts.now))) }
     ensures digest { IfOk result (λ head. length digest.now.bytes ≡ 32) }
     ensures migration { IfOk result (λ head. digest.now.migration < 2 ^ 32) }
     ensures small { IfOk result (λ head. AreSmall starts.now) }

@@ -44,14 +44,26 @@ pub fn place<D: Disk>(
     digest: &Digest,
     graph: &Graph,
 ) -> Result<(), JournalFault>
-    requires still { (item : ℕ) → item < item_count graph.now.rollout.problem → flies graph.now.history item ≡ false }
-    ensures any_moment { IfSome (D.bytes disk.old) (λ image. LeavesOnly D.moment D.left_since disk.old disk.new (λ c. D.may_leave disk.old c ⊎ IsStoodOrPlaced (placed_kept digest.now graph.now) image c)) }
-    ensures done { OnOk result (IsPlaced (placed_kept digest.now graph.now) (D.bytes disk.new) (D.may_leave disk.new)) }
-    ensures may { OnOk result (IfSome (D.bytes disk.old) MayBePlaced) }
-    ensures told { KeepsTelling (D.bytes disk.old) (D.bytes disk.new) }
-    ensures cause { IfErr result (λ fault. IsPlacingFault fault (D.bytes disk.old) (D.faults disk.old) (D.faults disk.new)) }
-    ensures unwritten { IfErr result (λ fault. OnRefusal fault ((D.bytes disk.new ≡ D.bytes disk.old) × Within (D.may_leave disk.new) (D.may_leave disk.old))) }
-    ensures count { D.faults disk.old ≤ D.faults disk.new }
+    requires still { (item : ℕ)
+        → item < item_count graph.now.rollout.problem
+        → flies graph.now.history item ≡ false }
+    ensures any_moment { IfSome (D.told disk.old).bytes
+        (λ image. LeavesOnly D.told disk.old disk.new
+        (λ c. (D.told disk.old).may_leave c
+        ⊎ IsStoodOrPlaced (placed_kept digest.now graph.now) image c)) }
+    ensures done { OnOk result
+        (IsPlaced (placed_kept digest.now graph.now) (D.told disk.new).bytes
+        (D.told disk.new).may_leave) }
+    ensures may { OnOk result (IfSome (D.told disk.old).bytes MayBePlaced) }
+    ensures told { KeepsTelling (D.told disk.old).bytes (D.told disk.new).bytes }
+    ensures cause { IfErr result
+        (λ fault. IsPlacingFault fault (D.told disk.old).bytes (D.told disk.old).faults
+        (D.told disk.new).faults) }
+    ensures unwritten { IfErr result
+        (λ fault. OnRefusal fault
+        (((D.told disk.new).bytes ≡ (D.told disk.old).bytes)
+        × Within (D.told disk.new).may_leave (D.told disk.old).may_leave)) }
+    ensures count { (D.told disk.old).faults ≤ (D.told disk.new).faults }
 {
     let image = read_image(alloc, disk)?;
     let part = settled_part(alloc, digest, graph)?;
@@ -87,16 +99,21 @@ fn write_over<D: Disk>(
     image: &[u8],
     part: &NewPart,
 ) -> Result<(), JournalFault>
-    requires read { Holds (λ all. image.now ≡ all) (D.bytes disk.old) (D.may_leave disk.old) }
+    requires read { Holds (λ all. image.now ≡ all) (D.told disk.old).bytes
+        (D.told disk.old).may_leave }
     requires empty { part.now.kept.rows ≡ [] }
     requires few { 80 + 4 * length part.now.kept.starts ≤ blank_most }
-    ensures any_moment { IfSome (D.bytes disk.old) (λ all. LeavesOnly D.moment D.left_since disk.old disk.new (IsStoodOrPlaced part.now.kept all)) }
-    ensures done { OnOk result (IsPlaced part.now.kept (D.bytes disk.new) (D.may_leave disk.new)) }
+    ensures any_moment { IfSome (D.told disk.old).bytes
+        (λ all. LeavesOnly D.told disk.old disk.new (IsStoodOrPlaced part.now.kept all)) }
+    ensures done { OnOk result
+        (IsPlaced part.now.kept (D.told disk.new).bytes (D.told disk.new).may_leave) }
     ensures may { OnOk result (MayBePlaced image.now) }
-    ensures told { KeepsTelling (D.bytes disk.old) (D.bytes disk.new) }
-    ensures cause { IfErr result (λ fault. IsPlacingFault fault (D.bytes disk.old) (D.faults disk.old) (D.faults disk.new)) }
+    ensures told { KeepsTelling (D.told disk.old).bytes (D.told disk.new).bytes }
+    ensures cause { IfErr result
+        (λ fault. IsPlacingFault fault (D.told disk.old).bytes (D.told disk.old).faults
+        (D.told disk.new).faults) }
     ensures unwritten { IfErr result (λ fault. OnRefusal fault (disk.new ≡ disk.old)) }
-    ensures count { D.faults disk.old ≤ D.faults disk.new }
+    ensures count { (D.told disk.old).faults ≤ (D.told disk.new).faults }
 {
     if blank::is_blank(alloc, image)? {
         make(disk, is_cleared(image), part)?;

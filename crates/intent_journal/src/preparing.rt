@@ -34,7 +34,12 @@ pub(crate) fn prepare(
     start: &[u32],
     list: &[Entry],
 ) -> Result<Prepared, JournalFault>
-    ensures part { IfOk result (λ p. p.part ≡ record { kept = kept_of digest.now start.now list.now; size = 45 + 4 * length start.now + 28 * op_total graph.now.rollout }) }
+    ensures part { IfOk result
+        (λ p. p.part
+        ≡ record {
+          kept = kept_of digest.now start.now list.now;
+          size = 45 + 4 * length start.now + 28 * op_total graph.now.rollout;
+        }) }
     ensures most { IfOk result (λ p. p.most ≡ 2 * op_total graph.now.rollout) }
     ensures small { IfOk result (λ p. p.most < 2 ^ 32) }
     ensures fits { IfOk result (λ p. length list.now ≤ p.most) }

@@ -6,8 +6,9 @@ ghost use Rattle.dependency_graph.specs.Graph.{op_total};
 ghost use Rattle.intent_journal.specs.Images as images;
 ghost use Rattle.intent_journal.specs.Judging.{BeforeList};
 ghost use Rattle.intent_journal.specs.Opened.{HasRoom, IsKept};
+ghost use Rattle.intent_journal.specs.Openings.{IsLeft, IsMadeReady, IsOpenFor, IsOpenedFrom};
 ghost use Rattle.intent_journal.specs.Phases.{Holds};
-ghost use Rattle.intent_journal.specs.Recovered.{IsBrought, IsBroughtTo, IsCause, IsReady, KeepsNow, MayStand, OnRefusal, kept_for};
+ghost use Rattle.intent_journal.specs.Recovered.{IsCause, IsReady, MayStand, OnRefusal, kept_for};
 ghost use Rattle.intent_journal.specs.Verdicts.{Fresh, judged_journal, verdict};
 ghost use Rattle.intent_journal.specs.Whole.{Causes};
 ghost use Rattle.intent_journal.specs.declared.fault.JournalFault.TheVariants as fault;
@@ -50,23 +51,13 @@ pub fn recover<D: Disk>(
     graph: &mut Graph,
 ) -> Result<(Journal<D>, EntryList), Unopened<D>>
     requires empty { graph.old.history ≡ from_nothing graph.old.rollout.problem [] }
-    ensures list { IfOk result (λ opened. IfSome (D.bytes disk) (λ image. IsBroughtTo (verdict graph.old.rollout digest.now image) opened.1 graph.old graph.new)) }
-    ensures brought { IfOk result (λ opened. IsBrought opened.1 graph.old graph.new) }
-    ensures keeps { IfOk result (λ opened. IfSome (D.bytes disk) (λ image.
-        KeepsNow (kept_for graph.old.rollout digest.now (verdict graph.old.rollout digest.now image)) (D.bytes opened.0.disk) (D.may_leave opened.0.disk))) }
-    ensures live { IfOk result (λ opened. opened.0.live ≡ true) }
-    ensures entries { IfOk result (λ opened. opened.0.entries ≡ length opened.1) }
-    ensures most { IfOk result (λ opened. opened.0.most ≡ 2 * op_total graph.old.rollout) }
-    ensures any_moment { IfOk result (λ opened. IfSome (D.bytes disk) (λ image.
-        LeavesOnly D.moment D.left_since disk opened.0.disk (MayStand graph.old.rollout digest.now image (verdict graph.old.rollout digest.now image) (D.may_leave disk)))) }
-    ensures told { IfOk result (λ opened. KeepsTelling (D.bytes disk) (D.bytes opened.0.disk)) }
-    ensures count { IfOk result (λ opened. D.faults disk ≤ D.faults opened.0.disk) }
-    ensures cause { IfErr result (λ unopened. unopened.cause ≡ fault.Disk → Rose (D.faults disk) (D.faults unopened.disk)) }
-    ensures refusal { IfErr result (λ unopened. IfSome (D.bytes disk) (λ image. IsCause unopened.cause digest.now (verdict graph.old.rollout digest.now image))) }
+    ensures opened { IfOk result
+        (λ opened. IsOpenedFrom D.told graph.old.rollout digest.now disk graph.new opened.1
+        opened.0.disk) }
+    ensures journal { IfOk result (λ opened. IsOpenFor graph.old.rollout opened.1 opened.0) }
+    ensures left { IfErr result
+        (λ unopened. IsLeft D.told graph.old.rollout digest.now disk unopened.cause unopened.disk) }
     ensures unmoved { IfErr result (λ unopened. BeforeList unopened.cause (graph.new ≡ graph.old)) }
-    ensures unwritten { IfErr result (λ unopened. OnRefusal unopened.cause ((D.bytes unopened.disk ≡ D.bytes disk) × Within (D.may_leave unopened.disk) (D.may_leave disk))) }
-    ensures meanwhile { IfErr result (λ unopened. IfSome (D.bytes disk) (λ image.
-        LeavesOnly D.moment D.left_since disk unopened.disk (MayStand graph.old.rollout digest.now image (verdict graph.old.rollout digest.now image) (D.may_leave disk)))) }
 {
     let mut disk = disk;
     match open(alloc, &mut disk, digest, graph) {
@@ -77,8 +68,10 @@ pub fn recover<D: Disk>(
 
 // The open journal that owns this disk, and its list.
 fn opened<D: Disk>(disk: D, ready: Ready) -> (Journal<D>, EntryList)
-    requires kept { IsKept ready.rest.gate ready.rest.end (D.bytes disk) (D.may_leave disk) }
-    requires room { HasRoom ready.rest.gate ready.rest.end (length ready.list) ready.most (vec_capacity ready.body) }
+    requires kept { IsKept ready.rest.gate ready.rest.end (D.told disk).bytes
+        (D.told disk).may_leave }
+    requires room { HasRoom ready.rest.gate ready.rest.end (length ready.list) ready.most
+        (vec_capacity ready.body) }
     ensures disk { result.0.disk ≡ disk }
     ensures live { result.0.live ≡ true }
     ensures entries { result.0.entries ≡ length ready.list }
@@ -104,21 +97,15 @@ fn open<D: Disk>(
     graph: &mut Graph,
 ) -> Result<Ready, JournalFault>
     requires empty { graph.old.history ≡ from_nothing graph.old.rollout.problem [] }
-    ensures rest { IfOk result (λ ready. IsKept ready.rest.gate ready.rest.end (D.bytes disk.new) (D.may_leave disk.new)) }
-    ensures room { IfOk result (λ ready. HasRoom ready.rest.gate ready.rest.end (length ready.list) ready.most (vec_capacity ready.body)) }
-    ensures list { IfOk result (λ ready. IfSome (D.bytes disk.old) (λ image. IsBroughtTo (verdict graph.old.rollout digest.now image) ready.list graph.old graph.new)) }
-    ensures brought { IfOk result (λ ready. IsBrought ready.list graph.old graph.new) }
-    ensures keeps { IfOk result (λ ready. IfSome (D.bytes disk.old) (λ image.
-        KeepsNow (kept_for graph.old.rollout digest.now (verdict graph.old.rollout digest.now image)) (D.bytes disk.new) (D.may_leave disk.new))) }
-    ensures most { IfOk result (λ ready. ready.most ≡ 2 * op_total graph.old.rollout) }
-    ensures any_moment { IfSome (D.bytes disk.old) (λ image.
-        LeavesOnly D.moment D.left_since disk.old disk.new (MayStand graph.old.rollout digest.now image (verdict graph.old.rollout digest.now image) (D.may_leave disk.old))) }
-    ensures cause { IfErr result (λ given. given ≡ fault.Disk → Rose (D.faults disk.old) (D.faults disk.new)) }
-    ensures refusal { IfErr result (λ fault. IfSome (D.bytes disk.old) (λ image. IsCause fault digest.now (verdict graph.old.rollout digest.now image))) }
-    ensures unmoved { IfErr result (λ fault. BeforeList fault (graph.new ≡ graph.old)) }
-    ensures unwritten { IfErr result (λ fault. OnRefusal fault ((D.bytes disk.new ≡ D.bytes disk.old) × Within (D.may_leave disk.new) (D.may_leave disk.old))) }
-    ensures told { KeepsTelling (D.bytes disk.old) (D.bytes disk.new) }
-    ensures count { D.faults disk.old ≤ D.faults disk.new }
+    ensures opened { IfOk result
+        (λ ready. IsOpenedFrom D.told graph.old.rollout digest.now disk.old graph.new ready.list
+        disk.new) }
+    ensures ready { IfOk result
+        (λ ready. IsMadeReady graph.old.rollout ready.list ready.rest.gate ready.rest.end ready.most
+        (vec_capacity ready.body) (D.told disk.new).bytes (D.told disk.new).may_leave) }
+    ensures left { IfErr result
+        (λ cause. IsLeft D.told graph.old.rollout digest.now disk.old cause disk.new) }
+    ensures unmoved { IfErr result (λ cause. BeforeList cause (graph.new ≡ graph.old)) }
 {
     let image = read_image(alloc, disk)?;
     open_read(alloc, disk, image.as_slice(), digest, graph)
@@ -132,19 +119,27 @@ fn open_read<D: Disk>(
     digest: &Digest,
     graph: &mut Graph,
 ) -> Result<Ready, JournalFault>
-    requires image { Holds (λ all. all ≡ image.now) (D.bytes disk.old) (D.may_leave disk.old) }
+    requires image { Holds (λ all. all ≡ image.now) (D.told disk.old).bytes
+        (D.told disk.old).may_leave }
     requires empty { graph.old.history ≡ from_nothing graph.old.rollout.problem [] }
-    ensures ok { IfOk result (λ ready. IsReady (verdict graph.old.rollout digest.now image.now) (kept_for graph.old.rollout digest.now (verdict graph.old.rollout digest.now image.now))
-        ready.list ready.rest.gate ready.rest.end ready.most (vec_capacity ready.body) graph.old graph.new (D.bytes disk.new) (D.may_leave disk.new)) }
+    ensures ok { IfOk result
+        (λ ready. IsReady (verdict graph.old.rollout digest.now image.now)
+        (kept_for graph.old.rollout digest.now (verdict graph.old.rollout digest.now image.now))
+        ready.list ready.rest.gate ready.rest.end ready.most (vec_capacity ready.body) graph.old
+        graph.new (D.told disk.new).bytes (D.told disk.new).may_leave) }
     ensures most { IfOk result (λ ready. ready.most ≡ 2 * op_total graph.old.rollout) }
-    ensures any_moment { IfSome (D.bytes disk.old) (λ _. LeavesOnly D.moment D.left_since disk.old disk.new
-        (MayStand graph.old.rollout digest.now image.now (verdict graph.old.rollout digest.now image.now) (D.may_leave disk.old))) }
-    ensures cause { IfErr result (λ given. given ≡ fault.Disk → Rose (D.faults disk.old) (D.faults disk.new)) }
-    ensures refusal { IfErr result (λ fault. IsCause fault digest.now (verdict graph.old.rollout digest.now image.now)) }
+    ensures any_moment { IfSome (D.told disk.old).bytes
+        (λ _. LeavesOnly D.told disk.old disk.new
+        (MayStand graph.old.rollout digest.now image.now
+        (verdict graph.old.rollout digest.now image.now) (D.told disk.old).may_leave)) }
+    ensures cause { IfErr result
+        (λ given. given ≡ fault.Disk → Rose (D.told disk.old).faults (D.told disk.new).faults) }
+    ensures refusal { IfErr result
+        (λ fault. IsCause fault digest.now (verdict graph.old.rollout digest.now image.now)) }
     ensures unmoved { IfErr result (λ fault. BeforeList fault (graph.new ≡ graph.old)) }
     ensures unwritten { IfErr result (λ fault. OnRefusal fault (disk.new ≡ disk.old)) }
-    ensures told { KeepsTelling (D.bytes disk.old) (D.bytes disk.new) }
-    ensures count { D.faults disk.old ≤ D.faults disk.new }
+    ensures told { KeepsTelling (D.told disk.old).bytes (D.told disk.new).bytes }
+    ensures count { (D.told disk.old).faults ≤ (D.told disk.new).faults }
 {
     let blank = is_blank(alloc, image)?;
     if blank {
@@ -161,16 +156,21 @@ fn make_anew<D: Disk>(
     digest: &Digest,
     graph: &Graph,
 ) -> Result<Ready, JournalFault>
-    requires image { Holds (λ all. all ≡ image.now) (D.bytes disk.old) (D.may_leave disk.old) }
+    requires image { Holds (λ all. all ≡ image.now) (D.told disk.old).bytes
+        (D.told disk.old).may_leave }
     requires blank { images.is_blank image.now ≡ true }
-    ensures ok { IfOk result (λ ready. IsReady Fresh (kept_for graph.now.rollout digest.now Fresh)
-        ready.list ready.rest.gate ready.rest.end ready.most (vec_capacity ready.body) graph.now graph.now (D.bytes disk.new) (D.may_leave disk.new)) }
+    ensures ok { IfOk result
+        (λ ready. IsReady Fresh (kept_for graph.now.rollout digest.now Fresh) ready.list
+        ready.rest.gate ready.rest.end ready.most (vec_capacity ready.body) graph.now graph.now
+        (D.told disk.new).bytes (D.told disk.new).may_leave) }
     ensures most { IfOk result (λ ready. ready.most ≡ 2 * op_total graph.now.rollout) }
-    ensures any_moment { IfSome (D.bytes disk.old) (λ _. LeavesOnly D.moment D.left_since disk.old disk.new
-        (MayStand graph.now.rollout digest.now image.now Fresh (D.may_leave disk.old))) }
-    ensures cause { IfErr result (λ fault. Causes fault (D.faults disk.old) (D.faults disk.new)) }
-    ensures told { KeepsTelling (D.bytes disk.old) (D.bytes disk.new) }
-    ensures count { D.faults disk.old ≤ D.faults disk.new }
+    ensures any_moment { IfSome (D.told disk.old).bytes
+        (λ _. LeavesOnly D.told disk.old disk.new
+        (MayStand graph.now.rollout digest.now image.now Fresh (D.told disk.old).may_leave)) }
+    ensures cause { IfErr result
+        (λ fault. Causes fault (D.told disk.old).faults (D.told disk.new).faults) }
+    ensures told { KeepsTelling (D.told disk.old).bytes (D.told disk.new).bytes }
+    ensures count { (D.told disk.old).faults ≤ (D.told disk.new).faults }
 {
     let start = zeros(alloc, item_count(graph.plan().problem()))?;
     let list = EntryList::new(alloc);
@@ -192,19 +192,29 @@ fn go_on<D: Disk>(
     digest: &Digest,
     graph: &mut Graph,
 ) -> Result<Ready, JournalFault>
-    requires image { Holds (λ all. all ≡ image.now) (D.bytes disk.old) (D.may_leave disk.old) }
+    requires image { Holds (λ all. all ≡ image.now) (D.told disk.old).bytes
+        (D.told disk.old).may_leave }
     requires empty { graph.old.history ≡ from_nothing graph.old.rollout.problem [] }
-    ensures ok { IfOk result (λ ready. IsReady (judged_journal graph.old.rollout digest.now image.now) (kept_for graph.old.rollout digest.now (judged_journal graph.old.rollout digest.now image.now))
-        ready.list ready.rest.gate ready.rest.end ready.most (vec_capacity ready.body) graph.old graph.new (D.bytes disk.new) (D.may_leave disk.new)) }
+    ensures ok { IfOk result
+        (λ ready. IsReady (judged_journal graph.old.rollout digest.now image.now)
+        (kept_for graph.old.rollout digest.now
+        (judged_journal graph.old.rollout digest.now image.now)) ready.list ready.rest.gate
+        ready.rest.end ready.most (vec_capacity ready.body) graph.old graph.new
+        (D.told disk.new).bytes (D.told disk.new).may_leave) }
     ensures most { IfOk result (λ ready. ready.most ≡ 2 * op_total graph.old.rollout) }
-    ensures any_moment { IfSome (D.bytes disk.old) (λ _. LeavesOnly D.moment D.left_since disk.old disk.new
-        (MayStand graph.old.rollout digest.now image.now (judged_journal graph.old.rollout digest.now image.now) (D.may_leave disk.old))) }
-    ensures cause { IfErr result (λ given. given ≡ fault.Disk → Rose (D.faults disk.old) (D.faults disk.new)) }
-    ensures refusal { IfErr result (λ fault. IsCause fault digest.now (judged_journal graph.old.rollout digest.now image.now)) }
+    ensures any_moment { IfSome (D.told disk.old).bytes
+        (λ _. LeavesOnly D.told disk.old disk.new
+        (MayStand graph.old.rollout digest.now image.now
+        (judged_journal graph.old.rollout digest.now image.now) (D.told disk.old).may_leave)) }
+    ensures cause { IfErr result
+        (λ given. given ≡ fault.Disk → Rose (D.told disk.old).faults (D.told disk.new).faults) }
+    ensures refusal { IfErr result
+        (λ fault. IsCause fault digest.now
+        (judged_journal graph.old.rollout digest.now image.now)) }
     ensures unmoved { IfErr result (λ fault. BeforeList fault (graph.new ≡ graph.old)) }
     ensures unwritten { IfErr result (λ fault. OnRefusal fault (disk.new ≡ disk.old)) }
-    ensures told { KeepsTelling (D.bytes disk.old) (D.bytes disk.new) }
-    ensures count { D.faults disk.old ≤ D.faults disk.new }
+    ensures told { KeepsTelling (D.told disk.old).bytes (D.told disk.new).bytes }
+    ensures count { (D.told disk.old).faults ≤ (D.told disk.new).faults }
 {
     let judged = judge(alloc, image, digest, graph)?;
     if judged.found.start > LATEST_START {

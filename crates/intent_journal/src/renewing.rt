@@ -23,14 +23,18 @@ pub(crate) struct Rest {
 /// live one, and its slot is opened before the old one is closed. A crash at any moment leaves what was
 /// kept or what the new part keeps; after `Ok` the count of the open part has the whole list.
 pub(crate) fn renew<D: Disk>(disk: &mut D, found: &Found, part: &NewPart) -> Result<Rest, Failed>
-    requires found { Holds (IsFound found.now) (D.bytes disk.old) (D.may_leave disk.old) }
+    requires found { Holds (IsFound found.now) (D.told disk.old).bytes (D.told disk.old).may_leave }
     requires small { end_of found.now < 2 ^ 62 }
     requires side { found.now.other ≤ second_side }
-    ensures any_moment { IfSome (D.bytes disk.old) (λ image. LeavesOnly D.moment D.left_since disk.old disk.new (IsOldOrNew (journal_in image) part.now.kept)) }
-    ensures done { IfOk result (λ rest. IsRenewed rest.gate rest.end part.now (D.bytes disk.new) (D.may_leave disk.new)) }
-    ensures told { KeepsTelling (D.bytes disk.old) (D.bytes disk.new) }
-    ensures cause { OnErr result (Rose (D.faults disk.old) (D.faults disk.new)) }
-    ensures count { D.faults disk.old ≤ D.faults disk.new }
+    ensures any_moment { IfSome (D.told disk.old).bytes
+        (λ image. LeavesOnly D.told disk.old disk.new
+        (IsOldOrNew (journal_in image) part.now.kept)) }
+    ensures done { IfOk result
+        (λ rest. IsRenewed rest.gate rest.end part.now (D.told disk.new).bytes
+        (D.told disk.new).may_leave) }
+    ensures told { KeepsTelling (D.told disk.old).bytes (D.told disk.new).bytes }
+    ensures cause { OnErr result (Rose (D.told disk.old).faults (D.told disk.new).faults) }
+    ensures count { (D.told disk.old).faults ≤ (D.told disk.new).faults }
 {
     close(disk, found)?;
     move_list(disk, found, part)?;
@@ -43,14 +47,19 @@ pub(crate) fn renew<D: Disk>(disk: &mut D, found: &Found, part: &NewPart) -> Res
 
 // Lays the new part, lets the other slot name it, and changes over.
 fn move_list<D: Disk>(disk: &mut D, found: &Found, part: &NewPart) -> Result<(), Failed>
-    requires filled { Holds (IsFilled found.now) (D.bytes disk.old) (D.may_leave disk.old) }
+    requires filled { Holds (IsFilled found.now) (D.told disk.old).bytes
+        (D.told disk.old).may_leave }
     requires small { end_of found.now < 2 ^ 62 }
     requires side { found.now.other ≤ second_side }
-    ensures any_moment { IfSome (D.bytes disk.old) (λ image. LeavesOnly D.moment D.left_since disk.old disk.new (IsOldOrNew (journal_in image) part.now.kept)) }
-    ensures done { OnOk result (Holds (IsMoved (new_home found.now part.now) part.now) (D.bytes disk.new) (D.may_leave disk.new)) }
-    ensures told { KeepsTelling (D.bytes disk.old) (D.bytes disk.new) }
-    ensures cause { OnErr result (Rose (D.faults disk.old) (D.faults disk.new)) }
-    ensures count { D.faults disk.old ≤ D.faults disk.new }
+    ensures any_moment { IfSome (D.told disk.old).bytes
+        (λ image. LeavesOnly D.told disk.old disk.new
+        (IsOldOrNew (journal_in image) part.now.kept)) }
+    ensures done { OnOk result
+        (Holds (IsMoved (new_home found.now part.now) part.now) (D.told disk.new).bytes
+        (D.told disk.new).may_leave) }
+    ensures told { KeepsTelling (D.told disk.old).bytes (D.told disk.new).bytes }
+    ensures cause { OnErr result (Rose (D.told disk.old).faults (D.told disk.new).faults) }
+    ensures count { (D.told disk.old).faults ≤ (D.told disk.new).faults }
 {
     lay_part(disk, found, part)?;
     name_part(disk, found, part)?;
@@ -59,27 +68,33 @@ fn move_list<D: Disk>(disk: &mut D, found: &Found, part: &NewPart) -> Result<(),
 
 // Writes the new part where it doesn't touch the live one.
 fn lay_part<D: Disk>(disk: &mut D, found: &Found, part: &NewPart) -> Result<(), Failed>
-    requires filled { Holds (IsFilled found.now) (D.bytes disk.old) (D.may_leave disk.old) }
+    requires filled { Holds (IsFilled found.now) (D.told disk.old).bytes
+        (D.told disk.old).may_leave }
     requires small { end_of found.now < 2 ^ 62 }
-    ensures any_moment { IfSome (D.bytes disk.old) (λ image. LeavesOnly D.moment D.left_since disk.old disk.new (IsOld (journal_in image))) }
-    ensures done { OnOk result (Holds (IsLaid found.now part.now) (D.bytes disk.new) (D.may_leave disk.new)) }
-    ensures told { KeepsTelling (D.bytes disk.old) (D.bytes disk.new) }
-    ensures cause { OnErr result (Rose (D.faults disk.old) (D.faults disk.new)) }
-    ensures count { D.faults disk.old ≤ D.faults disk.new }
+    ensures any_moment { IfSome (D.told disk.old).bytes
+        (λ image. LeavesOnly D.told disk.old disk.new (IsOld (journal_in image))) }
+    ensures done { OnOk result
+        (Holds (IsLaid found.now part.now) (D.told disk.new).bytes (D.told disk.new).may_leave) }
+    ensures told { KeepsTelling (D.told disk.old).bytes (D.told disk.new).bytes }
+    ensures cause { OnErr result (Rose (D.told disk.old).faults (D.told disk.new).faults) }
+    ensures count { (D.told disk.old).faults ≤ (D.told disk.new).faults }
 {
     put(disk, place_of(found, part), part.bytes())
 }
 
 // Writes the place and the size of the new part into the other slot, whose gate stays as it is.
 fn name_part<D: Disk>(disk: &mut D, found: &Found, part: &NewPart) -> Result<(), Failed>
-    requires laid { Holds (IsLaid found.now part.now) (D.bytes disk.old) (D.may_leave disk.old) }
+    requires laid { Holds (IsLaid found.now part.now) (D.told disk.old).bytes
+        (D.told disk.old).may_leave }
     requires small { end_of found.now < 2 ^ 62 }
     requires side { found.now.other ≤ second_side }
-    ensures any_moment { IfSome (D.bytes disk.old) (λ image. LeavesOnly D.moment D.left_since disk.old disk.new (IsOld (journal_in image))) }
-    ensures done { OnOk result (Holds (IsNamed found.now part.now) (D.bytes disk.new) (D.may_leave disk.new)) }
-    ensures told { KeepsTelling (D.bytes disk.old) (D.bytes disk.new) }
-    ensures cause { OnErr result (Rose (D.faults disk.old) (D.faults disk.new)) }
-    ensures count { D.faults disk.old ≤ D.faults disk.new }
+    ensures any_moment { IfSome (D.told disk.old).bytes
+        (λ image. LeavesOnly D.told disk.old disk.new (IsOld (journal_in image))) }
+    ensures done { OnOk result
+        (Holds (IsNamed found.now part.now) (D.told disk.new).bytes (D.told disk.new).may_leave) }
+    ensures told { KeepsTelling (D.told disk.old).bytes (D.told disk.new).bytes }
+    ensures cause { OnErr result (Rose (D.told disk.old).faults (D.told disk.new).faults) }
+    ensures count { (D.told disk.old).faults ≤ (D.told disk.new).faults }
 {
     let name = name_bytes(place_of(found, part), part.size());
     put(disk, found.other + 1, &name)
@@ -87,12 +102,17 @@ fn name_part<D: Disk>(disk: &mut D, found: &Found, part: &NewPart) -> Result<(),
 
 // Opens the new part's slot, and then closes the old one.
 fn switch_parts<D: Disk>(disk: &mut D, found: &Found, part: &NewPart) -> Result<(), Failed>
-    requires named { Holds (IsNamed found.now part.now) (D.bytes disk.old) (D.may_leave disk.old) }
-    ensures any_moment { IfSome (D.bytes disk.old) (λ image. LeavesOnly D.moment D.left_since disk.old disk.new (IsOldOrNew (journal_in image) part.now.kept)) }
-    ensures done { OnOk result (Holds (IsMoved (new_home found.now part.now) part.now) (D.bytes disk.new) (D.may_leave disk.new)) }
-    ensures told { KeepsTelling (D.bytes disk.old) (D.bytes disk.new) }
-    ensures cause { OnErr result (Rose (D.faults disk.old) (D.faults disk.new)) }
-    ensures count { D.faults disk.old ≤ D.faults disk.new }
+    requires named { Holds (IsNamed found.now part.now) (D.told disk.old).bytes
+        (D.told disk.old).may_leave }
+    ensures any_moment { IfSome (D.told disk.old).bytes
+        (λ image. LeavesOnly D.told disk.old disk.new
+        (IsOldOrNew (journal_in image) part.now.kept)) }
+    ensures done { OnOk result
+        (Holds (IsMoved (new_home found.now part.now) part.now) (D.told disk.new).bytes
+        (D.told disk.new).may_leave) }
+    ensures told { KeepsTelling (D.told disk.old).bytes (D.told disk.new).bytes }
+    ensures cause { OnErr result (Rose (D.told disk.old).faults (D.told disk.new).faults) }
+    ensures count { (D.told disk.old).faults ≤ (D.told disk.new).faults }
 {
     put(disk, found.other, &[OPEN_SLOT])?;
     put(disk, found.this, &[0])

@@ -23,7 +23,8 @@ pub(crate) fn start_of(
     slot: &Slot,
     part: &[u8],
 ) -> Result<Vec<u32>, Memory>
-    ensures { IfOk result (λ start. start.items ≡ verdicts.start_of plan.now.problem slot.now part.now) }
+    ensures { IfOk result
+        (λ start. start.items ≡ verdicts.start_of plan.now.problem slot.now part.now) }
 {
     if slot.is_second() {
         numbers(alloc, start_count(slot, part), from_place(part, STARTS))

@@ -7,7 +7,8 @@ ghost use Rattle.intent_journal.specs.Worked.{begin_row, first_image, first_kept
 #[tactic(auto, unfolding(crate::specs::Images::is_placed, crate::specs::Images::blank_most, crate::specs::Numbers::number_4, crate::specs::Numbers::number_8))]
 pub fn a_batch_behind_an_open_gate_counts()
     ensures first { journal_in (first_image (one_batch 0x47)) ≡ Some (first_kept (begin_row ∷ [])) }
-    ensures second { journal_in (second_image 0x54 (one_batch 0x47)) ≡ Some (second_kept (begin_row ∷ [])) }
+    ensures second { journal_in (second_image 0x54 (one_batch 0x47))
+        ≡ Some (second_kept (begin_row ∷ [])) }
 {}
 
 #[tactic(auto, unfolding(crate::specs::Images::is_placed, crate::specs::Images::blank_most, crate::specs::Numbers::number_4, crate::specs::Numbers::number_8))]
@@ -19,7 +20,8 @@ pub fn a_batch_behind_a_closed_gate_does_not_count()
 #[tactic(auto, unfolding(crate::specs::Images::is_placed, crate::specs::Images::blank_most, crate::specs::Numbers::number_4, crate::specs::Numbers::number_8))]
 pub fn a_batch_that_is_cut_does_not_count()
     ensures three { journal_in (take 83 (first_image (one_batch 0x47))) ≡ Some (first_kept []) }
-    ensures gate { journal_in (take 97 (second_image 0x54 (one_batch 0x47))) ≡ Some (second_kept []) }
+    ensures gate { journal_in (take 97 (second_image 0x54 (one_batch 0x47)))
+        ≡ Some (second_kept []) }
 {}
 
 #[tactic(auto, unfolding(crate::specs::Images::is_placed, crate::specs::Images::blank_most, crate::specs::Numbers::number_4, crate::specs::Numbers::number_8))]

@@ -34,7 +34,13 @@ impl Model for AlienPort {
 
     ghost Value = { Alien };
 
-    ghost view = { λ p. record { offered = offered_of p.incoming; back = p.back; number = p.held; down = p.down; counts = p.counters } };
+    ghost view = { λ p. record {
+      offered = offered_of p.incoming;
+      back = p.back;
+      number = p.held;
+      down = p.down;
+      counts = p.counters;
+    } };
 
     ghost invariant = { λ p. IsTaken p.incoming p.down };
 }
@@ -57,10 +63,13 @@ impl AlienPort {
     fn take(&mut self, from: &[u8]) -> Result<(), Memory>
         requires { self.old.down ≡ false }
         ensures all { OnOk result (self.new.offered ≡ self.old.offered ++ from.now) }
-        ensures answered { OnOk result (Came (AreAnsweredWith self.old.number self.old.back self.new.back) self.old.offered self.new.offered) }
+        ensures answered { OnOk result
+            (Came (AreAnsweredWith self.old.number self.old.back self.new.back) self.old.offered
+            self.new.offered) }
         ensures up { OnOk result (self.new.down ≡ false) }
         ensures down { OnErr result (self.new.down ≡ true) }
-        ensures part { OnErr result (AppendsFront (Some self.old.offered) from.now (Some self.new.offered)) }
+        ensures part { OnErr result
+            (AppendsFront (Some self.old.offered) from.now (Some self.new.offered)) }
         ensures unheard { self.new.back.heard ≡ self.old.back.heard }
         ensures counts { self.new.counts ≡ self.old.counts }
         ensures number { self.new.number ≡ self.old.number }
@@ -75,10 +84,15 @@ impl AlienPort {
 
 // Answers this number to the whole commands that are still to be taken, one after the other.
 fn answer_each(incoming: &mut Incoming, back: &mut WayBack, held: u32) -> Result<(), Memory>
-    ensures answered { OnOk result ((earlier : List CommandFrame) → HasCommands incoming.old.taken earlier → TakesBehind (AreAnsweredWith held back.old back.new) earlier incoming.new.taken) }
+    ensures answered { OnOk result
+        ((earlier : List CommandFrame)
+        → HasCommands incoming.old.taken earlier
+        → TakesBehind (AreAnsweredWith held back.old back.new) earlier incoming.new.taken) }
     ensures all { OnOk result (incoming.new.pending ≡ []) }
     ensures same { offered_of incoming.new ≡ offered_of incoming.old }
-    ensures has { (earlier : List CommandFrame) → HasCommands incoming.old.taken earlier → TakesMore earlier incoming.new.taken }
+    ensures has { (earlier : List CommandFrame)
+        → HasCommands incoming.old.taken earlier
+        → TakesMore earlier incoming.new.taken }
     ensures unheard { back.new.heard ≡ back.old.heard }
 {
     while let Some(command) = incoming.next() {
@@ -91,34 +105,33 @@ fn answer_each(incoming: &mut Incoming, back: &mut WayBack, held: u32) -> Result
 impl Port for AlienPort {
     ghost use Rattle.std.specs.Prelude.{false, ◌≡◌};
 
-    ghost offered = { λ p. Some p.offered };
-
-    ghost heard = { λ p. Some p.back.heard };
-
-    ghost held = { λ _. Some holding_nothing };
-
-    ghost quiet = { λ p. told_quiet p.counts };
-
-    ghost faults = { λ p. p.counts.faults };
-
-    ghost honest = { λ _. false };
-
-    ghost prompt = { λ _. false };
-
-    ghost start = { λ _. holding_nothing };
+    ghost told = { λ p. record {
+      offered = Some p.offered;
+      heard = Some p.back.heard;
+      held = Some holding_nothing;
+      quiet = told_quiet p.counts;
+      faults = p.counts.faults;
+      honest = false;
+      prompt = false;
+      start = holding_nothing;
+    } };
 
     ghost prompt_is_honest = { λ _ prompt. prompt };
 
     /// Takes all the bytes and answers each whole command, or fails for want of memory.
     fn offer(&mut self, from: &[u8]) -> Result<(), Failed>
-        ensures all { OnOk result (Appends (Some self.old.offered) from.now (Some self.new.offered)) }
-        ensures answered { OnOk result (Came (AreAnsweredWith self.old.number self.old.back self.new.back) self.old.offered self.new.offered) }
+        ensures all { OnOk result
+            (Appends (Some self.old.offered) from.now (Some self.new.offered)) }
+        ensures answered { OnOk result
+            (Came (AreAnsweredWith self.old.number self.old.back self.new.back) self.old.offered
+            self.new.offered) }
         ensures number { self.new.number ≡ self.old.number }
         ensures up { OnOk result ((self.old.down ≡ false) × (self.new.down ≡ false)) }
         ensures down { OnErr result (self.new.down ≡ true) }
         ensures counts { OnOk result (self.new.counts ≡ self.old.counts) }
         ensures fault { OnErr result (self.new.counts ≡ one_fault_more self.old.counts) }
-        ensures part { OnErr result (AppendsFront (Some self.old.offered) from.now (Some self.new.offered)) }
+        ensures part { OnErr result
+            (AppendsFront (Some self.old.offered) from.now (Some self.new.offered)) }
         ensures unheard { Some self.new.back.heard ≡ Some self.old.back.heard }
         ensures no_hear { told_quiet self.new.counts ≡ told_quiet self.old.counts }
         ensures cause { OnErr result (Rose self.old.counts.faults self.new.counts.faults) }
@@ -136,16 +149,20 @@ impl Port for AlienPort {
         ensures within { IfOk result (λ n. n ≤ length into.old) }
         ensures most { IfOk result (λ n. n ≡ min (length into.old) (length self.old.back.due)) }
         ensures left { IfOk result (λ n. self.new.back ≡ after_hearing self.old.back n) }
-        ensures given { IfOk result (λ n. Appends (Some self.old.back.heard) (take n into.new) (Some self.new.back.heard)) }
+        ensures given { IfOk result
+            (λ n. Appends (Some self.old.back.heard) (take n into.new) (Some self.new.back.heard)) }
         ensures same { (self.new.number ≡ self.old.number) × (self.new.down ≡ self.old.down) }
         ensures up { OnErr result (self.old.down ≡ true) }
         ensures nothing { OnErr result (self.new.back ≡ self.old.back) }
         ensures counts { IfOk result (λ n. self.new.counts ≡ after_giving self.old.counts n) }
         ensures fault { OnErr result (self.new.counts ≡ one_fault_more self.old.counts) }
         ensures unsent { Some self.new.offered ≡ Some self.old.offered }
-        ensures quieter { IfOk result (λ n. n ≡ 0 → IsOneMore (told_quiet self.old.counts) (told_quiet self.new.counts)) }
-        ensures as_quiet { IfOk result (λ n. 0 < n → told_quiet self.new.counts ≡ told_quiet self.old.counts) }
-        ensures failed_hear { OnErr result (told_quiet self.new.counts ≡ told_quiet self.old.counts) }
+        ensures quieter { IfOk result
+            (λ n. n ≡ 0 → IsOneMore (told_quiet self.old.counts) (told_quiet self.new.counts)) }
+        ensures as_quiet { IfOk result
+            (λ n. 0 < n → told_quiet self.new.counts ≡ told_quiet self.old.counts) }
+        ensures failed_hear { OnErr result
+            (told_quiet self.new.counts ≡ told_quiet self.old.counts) }
         ensures cause { OnErr result (Rose self.old.counts.faults self.new.counts.faults) }
         ensures count { self.old.counts.faults ≤ self.new.counts.faults }
     {

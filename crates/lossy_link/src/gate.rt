@@ -51,8 +51,10 @@ impl Model for Gate {
 impl Gate {
     /// The two halves of a gate that nobody has come to yet.
     pub fn new(alloc: Global) -> Result<(Gate, Gate), Memory>
-        ensures first { IfOk result (λ halves. halves.0 ≡ record { gate = halves.1.gate; second = false; seen = [] }) }
-        ensures second { IfOk result (λ halves. halves.1 ≡ record { gate = halves.1.gate; second = true; seen = [] }) }
+        ensures first { IfOk result
+            (λ halves. halves.0 ≡ record { gate = halves.1.gate; second = false; seen = [] }) }
+        ensures second { IfOk result
+            (λ halves. halves.1 ≡ record { gate = halves.1.gate; second = true; seen = [] }) }
     {
         let (seen, mut pen, _spare) = Seen::open(Start::alone(), NOBODY, 0);
         let word = Arc::new(alloc, Word::tracked(NOBODY, &mut pen))?;
@@ -73,7 +75,8 @@ impl Gate {
     /// not met it. Where the gate is open it is so at the first look.
     pub(crate) fn meet(&mut self) -> bool
         ensures met { result ≡ have_met self.new.seen }
-        ensures alone { IsFalse result → is_inside (not self.new.second) (inside_at self.new.seen) ≡ false }
+        ensures alone { IsFalse result
+            → is_inside (not self.new.second) (inside_at self.new.seen) ≡ false }
         ensures seen { IsPrefix self.old.seen self.new.seen }
         ensures half { (self.new.gate ≡ self.old.gate) × (self.new.second ≡ self.old.second) }
     {
@@ -88,7 +91,8 @@ impl Gate {
     // Comes in where nobody is inside, and says whether the two have met.
     fn look(&mut self) -> bool
         ensures met { result ≡ have_met self.new.seen }
-        ensures alone { IsFalse result → is_inside (not self.new.second) (inside_at self.new.seen) ≡ false }
+        ensures alone { IsFalse result
+            → is_inside (not self.new.second) (inside_at self.new.seen) ≡ false }
         ensures seen { IsPrefix self.old.seen self.new.seen }
         ensures half { (self.new.gate ≡ self.old.gate) × (self.new.second ≡ self.old.second) }
     {
@@ -102,7 +106,8 @@ impl Gate {
     // Goes out, unless the two have met.
     fn leave(&mut self) -> bool
         ensures met { result ≡ have_met self.new.seen }
-        ensures alone { IsFalse result → is_inside (not self.new.second) (inside_at self.new.seen) ≡ false }
+        ensures alone { IsFalse result
+            → is_inside (not self.new.second) (inside_at self.new.seen) ≡ false }
         ensures seen { IsPrefix self.old.seen self.new.seen }
         ensures half { (self.new.gate ≡ self.old.gate) × (self.new.second ≡ self.old.second) }
     {
@@ -114,7 +119,8 @@ impl Gate {
     fn join(&mut self, word: u64) -> bool
         requires { word_of self.old.seen ≡ word }
         ensures met { result ≡ have_met self.new.seen }
-        ensures alone { IsFalse result → is_inside (not self.new.second) (inside_at self.new.seen) ≡ false }
+        ensures alone { IsFalse result
+            → is_inside (not self.new.second) (inside_at self.new.seen) ≡ false }
         ensures seen { IsPrefix self.old.seen self.new.seen }
         ensures half { (self.new.gate ≡ self.old.gate) × (self.new.second ≡ self.old.second) }
     {

@@ -22,9 +22,13 @@ impl Model for Incoming {
 
     ghost Value = { Stream };
 
-    ghost view = { λ i. record { taken = take i.taken i.offered; pending = drop i.taken i.offered } };
+    ghost view = { λ i. record {
+      taken = take i.taken i.offered;
+      pending = drop i.taken i.offered;
+    } };
 
-    ghost invariant = { λ i. (i.taken ≤ length i.offered) × IsReading (take i.taken i.offered) i.reader };
+    ghost invariant = { λ i. (i.taken ≤ length i.offered)
+        × IsReading (take i.taken i.offered) i.reader };
 }
 
 impl Incoming {
@@ -40,7 +44,9 @@ impl Incoming {
 
     /// Adds bytes behind those that came before. Want of memory changes nothing.
     pub(crate) fn accept(&mut self, bytes: &[u8]) -> Result<(), Memory>
-        ensures ok { OnOk result (self.new ≡ record { taken = self.old.taken; pending = self.old.pending ++ bytes.now }) }
+        ensures ok { OnOk result
+            (self.new
+            ≡ record { taken = self.old.taken; pending = self.old.pending ++ bytes.now }) }
         ensures err { OnErr result (self.new ≡ self.old) }
     {
         self.offered.extend_from_slice(bytes)

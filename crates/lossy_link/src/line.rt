@@ -31,7 +31,12 @@ impl Model for Line {
 
     ghost Value = { LineState };
 
-    ghost view = { λ l. record { fates = l.fates; items = l.agent; waiting = l.waiting.items; back = l.back } };
+    ghost view = { λ l. record {
+      fates = l.fates;
+      items = l.agent;
+      waiting = l.waiting.items;
+      back = l.back;
+    } };
 
     ghost invariant = { λ l. IsAnswered (holding l.agent) l.waiting.items l.back };
 }
@@ -53,8 +58,11 @@ impl Line {
     /// times less.
     pub(crate) fn send(&mut self, command: &(u32, Command)) -> Result<(), Memory>
         requires { IsCommand command.now }
-        ensures ok { OnOk result (traffic_of self.new ≡ after_sending (traffic_of self.old) command.now) }
-        ensures moves { (n : ℕ) × (holding self.new.items ≡ after_commands (holding self.old.items) (replicate n command.now)) }
+        ensures ok { OnOk result
+            (traffic_of self.new ≡ after_sending (traffic_of self.old) command.now) }
+        ensures moves { (n : ℕ)
+            × (holding self.new.items
+            ≡ after_commands (holding self.old.items) (replicate n command.now)) }
         ensures back { self.new.back ≡ self.old.back }
         ensures honest { AnswersHeld self.new.back.heard (holding self.new.items) }
     {
@@ -98,8 +106,10 @@ impl Line {
 
 // Delivers a command with its migration so many times.
 fn deliver(agent: &mut Agent, command: &(u32, Command), times: u8) -> Result<(), Memory>
-    ensures ok { OnOk result (holding agent.new ≡ after_commands (holding agent.old) (replicate times command.now)) }
-    ensures some { (n : ℕ) × (holding agent.new ≡ after_commands (holding agent.old) (replicate n command.now)) }
+    ensures ok { OnOk result
+        (holding agent.new ≡ after_commands (holding agent.old) (replicate times command.now)) }
+    ensures some { (n : ℕ)
+        × (holding agent.new ≡ after_commands (holding agent.old) (replicate n command.now)) }
 {
     for _time in 0..times {
         agent.apply(command.0, &command.1)?;

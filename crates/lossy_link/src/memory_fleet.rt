@@ -32,12 +32,23 @@ impl<P> Model for MemoryFleet<P> {
 
     ghost Value = { FleetState P };
 
-    ghost view = { λ f. record { places = f.berths; guests = f.guests; guests_fail = f.guests_fail; faults = f.faults } };
+    ghost view = { λ f. record {
+      places = f.berths;
+      guests = f.guests;
+      guests_fail = f.guests_fail;
+      faults = f.faults;
+    } };
 }
 
 impl<P> MemoryFleet<P> {
     pub fn new(alloc: Global) -> Self
-        ensures { result ≡ record { places = []; guests = record { coming = []; served = []; visiting = 0 }; guests_fail = false; faults = 0 } }
+        ensures { result
+            ≡ record {
+              places = [];
+              guests = record { coming = []; served = []; visiting = 0 };
+              guests_fail = false;
+              faults = 0;
+            } }
     {
         MemoryFleet {
             berths: Berths::new(alloc),
@@ -52,12 +63,16 @@ impl<P> MemoryFleet<P> {
     pub fn put(&mut self, switch: u32, port: P) -> Result<(), Memory>
     where
         P: Drop,
-        ensures waiting { OnOk result (waiting_at self.new.places ≡ with_one (waiting_at self.old.places) switch port) }
-        ensures kept { OnOk result (kept_at self.new.places ≡ without (kept_at self.old.places) switch) }
+        ensures waiting { OnOk result
+            (waiting_at self.new.places ≡ with_one (waiting_at self.old.places) switch port) }
+        ensures kept { OnOk result
+            (kept_at self.new.places ≡ without (kept_at self.old.places) switch) }
         ensures lent { OnOk result (lent_at self.new.places ≡ lent_at self.old.places) }
         ensures others { self.new ≡ record self.old { places = self.new.places } }
         ensures err { OnErr result (self.new ≡ self.old) }
-        ensures memory { OnErr result ((waiting_at self.old.places switch ≡ None) × (lent_at self.old.places switch ≡ false)) }
+        ensures memory { OnErr result
+            ((waiting_at self.old.places switch ≡ None)
+            × (lent_at self.old.places switch ≡ false)) }
     {
         self.berths.put(switch, port)
     }
@@ -77,7 +92,10 @@ impl<P> MemoryFleet<P> {
 
     /// Adds a guest to those that come. Want of memory changes nothing but drops the guest.
     pub fn put_guest(&mut self, guest: MemoryGuest) -> Result<(), Memory>
-        ensures ok { OnOk result (self.new ≡ record self.old { guests = record self.old.guests { coming = self.old.guests.coming ++ guest ∷ [] } }) }
+        ensures ok { OnOk result
+            (self.new
+            ≡ record self.old
+            { guests = record self.old.guests { coming = self.old.guests.coming ++ guest ∷ [] } }) }
         ensures err { OnErr result (self.new ≡ self.old) }
     {
         self.guests.put(guest)
@@ -122,11 +140,15 @@ impl<P: Port + Drop> Fleet for MemoryFleet<P> {
     fn port(&mut self, switch: u32, _name: &str) -> Result<P, Failed>
         ensures waits { is_ok result ≡ is_some (waiting_at self.old.places switch) }
         ensures given { IfOk result (λ port. waiting_at self.old.places switch ≡ Some port) }
-        ensures waiting { OnOk result (waiting_at self.new.places ≡ without (waiting_at self.old.places) switch) }
-        ensures kept { OnOk result (kept_at self.new.places ≡ without (kept_at self.old.places) switch) }
-        ensures lent { OnOk result (lent_at self.new.places ≡ marked (lent_at self.old.places) switch true) }
+        ensures waiting { OnOk result
+            (waiting_at self.new.places ≡ without (waiting_at self.old.places) switch) }
+        ensures kept { OnOk result
+            (kept_at self.new.places ≡ without (kept_at self.old.places) switch) }
+        ensures lent { OnOk result
+            (lent_at self.new.places ≡ marked (lent_at self.old.places) switch true) }
         ensures others { OnOk result (self.new ≡ record self.old { places = self.new.places }) }
-        ensures failed { OnErr result (self.new ≡ record self.old { faults = one_more self.old.faults }) }
+        ensures failed { OnErr result
+            (self.new ≡ record self.old { faults = one_more self.old.faults }) }
     {
         match self.berths.lend(switch) {
             Some(port) => Ok(port),
@@ -137,7 +159,8 @@ impl<P: Port + Drop> Fleet for MemoryFleet<P> {
     /// Takes the port back, which then waits again. One that was put meanwhile is dropped.
     fn keep(&mut self, switch: u32, port: P)
         requires { lent_at self.old.places switch ≡ true }
-        ensures waiting { waiting_at self.new.places ≡ with_one (waiting_at self.old.places) switch port }
+        ensures waiting { waiting_at self.new.places
+            ≡ with_one (waiting_at self.old.places) switch port }
         ensures kept { kept_at self.new.places ≡ with_one (kept_at self.old.places) switch port }
         ensures lent { lent_at self.new.places ≡ marked (lent_at self.old.places) switch false }
         ensures others { self.new ≡ record self.old { places = self.new.places } }
@@ -149,8 +172,10 @@ impl<P: Port + Drop> Fleet for MemoryFleet<P> {
     fn guest(&mut self) -> Result<Option<MemoryGuest>, Failed>
         ensures fails { is_err result ≡ self.old.guests_fail }
         ensures given { IfOk result (λ found. found ≡ first_guest self.old.guests.coming) }
-        ensures ok { OnOk result (self.new ≡ record self.old { guests = after_guest self.old.guests }) }
-        ensures failed { OnErr result (self.new ≡ record self.old { faults = one_more self.old.faults }) }
+        ensures ok { OnOk result
+            (self.new ≡ record self.old { guests = after_guest self.old.guests }) }
+        ensures failed { OnErr result
+            (self.new ≡ record self.old { faults = one_more self.old.faults }) }
     {
         if self.guests_fail {
             return Err(self.fail());

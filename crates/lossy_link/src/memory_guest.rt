@@ -39,13 +39,18 @@ impl Source for MemoryGuest {
 
     ghost faults = { λ g. g.reading.turns.failures };
 
-    ghost as_sink = { λ g. record { written = Some g.writing.written; faults = g.writing.turns.failures } };
+    ghost as_sink = { λ g. record {
+      written = Some g.writing.written;
+      faults = g.writing.turns.failures;
+    } };
 
     /// As many bytes as there are and as fit, or a failure exactly where it is this call's turn.
     fn read(&mut self, into: &mut [u8]) -> Result<usize, Failed>
         ensures fails { is_err result ≡ fails_now self.old.reading.turns }
-        ensures answer { IfOk result (λ n. n ≡ min (length into.old) (length self.old.reading.left)) }
-        ensures taken { IfOk result (λ n. self.old.reading.left ≡ take n into.new ++ self.new.reading.left) }
+        ensures answer { IfOk result
+            (λ n. n ≡ min (length into.old) (length self.old.reading.left)) }
+        ensures taken { IfOk result
+            (λ n. self.old.reading.left ≡ take n into.new ++ self.new.reading.left) }
         ensures unread { OnErr result (self.new.reading.left ≡ self.old.reading.left) }
         ensures turns { self.new.reading.turns ≡ after_call self.old.reading.turns (is_err result) }
         ensures unwritten { self.new.writing ≡ self.old.writing }
@@ -59,13 +64,17 @@ impl Sink for MemoryGuest {
 
     ghost faults = { λ g. g.writing.turns.failures };
 
-    ghost as_source = { λ g. record { left = Some g.reading.left; faults = g.reading.turns.failures } };
+    ghost as_source = { λ g. record {
+      left = Some g.reading.left;
+      faults = g.reading.turns.failures;
+    } };
 
     /// Takes all the bytes, or fails: where it is this call's turn, or for want of memory.
     fn write(&mut self, from: &[u8]) -> Result<usize, Failed>
         ensures fails { IsTrue (fails_now self.old.writing.turns) → IsErr result }
         ensures answer { IfOk result (λ n. n ≡ length from.now) }
-        ensures appended { OnOk result (self.new.writing.written ≡ self.old.writing.written ++ from.now) }
+        ensures appended { OnOk result
+            (self.new.writing.written ≡ self.old.writing.written ++ from.now) }
         ensures nothing { OnErr result (self.new.writing.written ≡ self.old.writing.written) }
         ensures turns { self.new.writing.turns ≡ after_call self.old.writing.turns (is_err result) }
         ensures unread { self.new.reading ≡ self.old.reading }

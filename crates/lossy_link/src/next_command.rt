@@ -13,7 +13,9 @@ pub(crate) fn next_command(
     ensures some { 0 < result.0 }
     ensures within { result.0 ≤ length piece.now }
     ensures all { IfNone result.1 (result.0 ≡ length piece.now) }
-    ensures advances { (rest : List ℕ) → GoesOnAs reader.old.live reader.old.kept rest → Advances rest (take result.0 piece.now) result.1 reader.new }
+    ensures advances { (rest : List ℕ)
+        → GoesOnAs reader.old.live reader.old.kept rest
+        → Advances rest (take result.0 piece.now) result.1 reader.new }
 {
     if !reader.live() {
         return (piece.len(), None);

@@ -27,7 +27,12 @@ impl Model for NoisePort {
 
     ghost Value = { Noise };
 
-    ghost view = { λ p. record { offered = drop p.noise p.bytes; back = record { heard = take p.heard p.bytes; due = take (p.noise - p.heard) (drop p.heard p.bytes) }; counts = p.counters } };
+    ghost view = { λ p. record {
+      offered = drop p.noise p.bytes;
+      back = record
+          { heard = take p.heard p.bytes; due = take (p.noise - p.heard) (drop p.heard p.bytes) };
+      counts = p.counters;
+    } };
 
     ghost invariant = { λ p. (p.heard ≤ p.noise) × (p.noise ≤ length p.bytes) };
 }
@@ -35,7 +40,12 @@ impl Model for NoisePort {
 impl NoisePort {
     /// A port from which these bytes come back.
     pub fn new(bytes: Nums8) -> Self
-        ensures { result ≡ record { offered = []; back = record { heard = []; due = bytes }; counts = no_counts } }
+        ensures { result
+            ≡ record {
+              offered = [];
+              back = record { heard = []; due = bytes };
+              counts = no_counts;
+            } }
     {
         let noise = bytes.as_slice().len();
         NoisePort {
@@ -50,30 +60,29 @@ impl NoisePort {
 impl Port for NoisePort {
     ghost use Rattle.std.specs.Prelude.{false, ◌≡◌};
 
-    ghost offered = { λ p. Some p.offered };
-
-    ghost heard = { λ p. Some p.back.heard };
-
-    ghost held = { λ _. Some holding_nothing };
-
-    ghost quiet = { λ p. told_quiet p.counts };
-
-    ghost faults = { λ p. p.counts.faults };
-
-    ghost honest = { λ _. false };
-
-    ghost prompt = { λ _. false };
-
-    ghost start = { λ _. holding_nothing };
+    ghost told = { λ p. record {
+      offered = Some p.offered;
+      heard = Some p.back.heard;
+      held = Some holding_nothing;
+      quiet = told_quiet p.counts;
+      faults = p.counts.faults;
+      honest = false;
+      prompt = false;
+      start = holding_nothing;
+    } };
 
     ghost prompt_is_honest = { λ _ prompt. prompt };
 
     /// Takes all the bytes, or fails for want of memory and takes none.
     fn offer(&mut self, from: &[u8]) -> Result<(), Failed>
-        ensures ok { OnOk result (self.new ≡ record self.old { offered = self.old.offered ++ from.now }) }
-        ensures err { OnErr result (self.new ≡ record self.old { counts = one_fault_more self.old.counts }) }
-        ensures all { OnOk result (Appends (Some self.old.offered) from.now (Some self.new.offered)) }
-        ensures part { OnErr result (AppendsFront (Some self.old.offered) from.now (Some self.new.offered)) }
+        ensures ok { OnOk result
+            (self.new ≡ record self.old { offered = self.old.offered ++ from.now }) }
+        ensures err { OnErr result
+            (self.new ≡ record self.old { counts = one_fault_more self.old.counts }) }
+        ensures all { OnOk result
+            (Appends (Some self.old.offered) from.now (Some self.new.offered)) }
+        ensures part { OnErr result
+            (AppendsFront (Some self.old.offered) from.now (Some self.new.offered)) }
         ensures unheard { Some self.new.back.heard ≡ Some self.old.back.heard }
         ensures no_hear { told_quiet self.new.counts ≡ told_quiet self.old.counts }
         ensures cause { OnErr result (Rose self.old.counts.faults self.new.counts.faults) }
@@ -91,10 +100,13 @@ impl Port for NoisePort {
         ensures next { result ≡ Ok (min (length into.old) (length self.old.back.due)) }
         ensures left { IfOk result (λ n. self.new ≡ after_noise self.old n) }
         ensures within { IfOk result (λ n. n ≤ length into.old) }
-        ensures given { IfOk result (λ n. Appends (Some self.old.back.heard) (take n into.new) (Some self.new.back.heard)) }
+        ensures given { IfOk result
+            (λ n. Appends (Some self.old.back.heard) (take n into.new) (Some self.new.back.heard)) }
         ensures unsent { Some self.new.offered ≡ Some self.old.offered }
-        ensures quieter { IfOk result (λ n. n ≡ 0 → IsOneMore (told_quiet self.old.counts) (told_quiet self.new.counts)) }
-        ensures as_quiet { IfOk result (λ n. 0 < n → told_quiet self.new.counts ≡ told_quiet self.old.counts) }
+        ensures quieter { IfOk result
+            (λ n. n ≡ 0 → IsOneMore (told_quiet self.old.counts) (told_quiet self.new.counts)) }
+        ensures as_quiet { IfOk result
+            (λ n. 0 < n → told_quiet self.new.counts ≡ told_quiet self.old.counts) }
         ensures count { self.old.counts.faults ≤ self.new.counts.faults }
     {
         let n = give_front(&self.bytes.as_slice()[self.heard..self.noise], into);

@@ -34,7 +34,12 @@ impl Model for ScriptPort {
 
     ghost Value = { Scripted };
 
-    ghost view = { λ p. record { offered = offered_of p.incoming; line = p.line; down = p.down; counts = p.counters } };
+    ghost view = { λ p. record {
+      offered = offered_of p.incoming;
+      line = p.line;
+      down = p.down;
+      counts = p.counters;
+    } };
 
     ghost invariant = { λ p. IsScripted p.incoming p.line p.down };
 }
@@ -57,13 +62,17 @@ impl ScriptPort {
     fn take(&mut self, from: &[u8]) -> Result<(), Memory>
         requires { self.old.down ≡ false }
         ensures all { OnOk result (self.new.offered ≡ self.old.offered ++ from.now) }
-        ensures sent { OnOk result (Came (AreSent (traffic_of self.old.line) (traffic_of self.new.line)) self.old.offered self.new.offered) }
+        ensures sent { OnOk result
+            (Came (AreSent (traffic_of self.old.line) (traffic_of self.new.line)) self.old.offered
+            self.new.offered) }
         ensures up { OnOk result (self.new.down ≡ false) }
         ensures down { OnErr result (self.new.down ≡ true) }
-        ensures part { OnErr result (AppendsFront (Some self.old.offered) from.now (Some self.new.offered)) }
+        ensures part { OnErr result
+            (AppendsFront (Some self.old.offered) from.now (Some self.new.offered)) }
         ensures unheard { self.new.line.back.heard ≡ self.old.line.back.heard }
         ensures counts { self.new.counts ≡ self.old.counts }
-        ensures by_rule { IsHonestStep (Some self.new.offered) (Some self.new.line.back.heard) (Some (holding self.old.line.items)) (Some (holding self.new.line.items)) }
+        ensures by_rule { IsHonestStep (Some self.new.offered) (Some self.new.line.back.heard)
+            (Some (holding self.old.line.items)) (Some (holding self.new.line.items)) }
     {
         self.down = true;
         self.incoming.accept(from)?;
@@ -76,11 +85,19 @@ impl ScriptPort {
 // Sends the whole commands that are still to be taken, one after the other.
 fn send_each(incoming: &mut Incoming, line: &mut Line) -> Result<(), Memory>
     requires honest { AnswersHeld line.old.back.heard (holding line.old.items) }
-    ensures sent { OnOk result ((earlier : List CommandFrame) → HasCommands incoming.old.taken earlier → TakesBehind (AreSent (traffic_of line.old) (traffic_of line.new)) earlier incoming.new.taken) }
+    ensures sent { OnOk result
+        ((earlier : List CommandFrame)
+        → HasCommands incoming.old.taken earlier
+        → TakesBehind (AreSent (traffic_of line.old) (traffic_of line.new)) earlier
+        incoming.new.taken) }
     ensures all { OnOk result (incoming.new.pending ≡ []) }
     ensures same { offered_of incoming.new ≡ offered_of incoming.old }
-    ensures has { (earlier : List CommandFrame) → HasCommands incoming.old.taken earlier → TakesMore earlier incoming.new.taken }
-    ensures moves { (earlier : List CommandFrame) → HasCommands incoming.old.taken earlier → MovesByRule (offered_of incoming.new) (holding line.old.items) (holding line.new.items) }
+    ensures has { (earlier : List CommandFrame)
+        → HasCommands incoming.old.taken earlier
+        → TakesMore earlier incoming.new.taken }
+    ensures moves { (earlier : List CommandFrame)
+        → HasCommands incoming.old.taken earlier
+        → MovesByRule (offered_of incoming.new) (holding line.old.items) (holding line.new.items) }
     ensures unheard { line.new.back.heard ≡ line.old.back.heard }
     ensures honest { AnswersHeld line.new.back.heard (holding line.new.items) }
 {
@@ -93,38 +110,38 @@ fn send_each(incoming: &mut Incoming, line: &mut Line) -> Result<(), Memory>
 impl Port for ScriptPort {
     ghost use Rattle.std.specs.Prelude.{refl};
 
-    ghost offered = { λ p. Some p.offered };
-
-    ghost heard = { λ p. Some p.line.back.heard };
-
-    ghost held = { λ p. Some (holding p.line.items) };
-
-    ghost quiet = { λ p. told_quiet p.counts };
-
-    ghost faults = { λ p. p.counts.faults };
-
-    ghost honest = { λ _. true };
-
-    ghost prompt = { λ _. false };
-
-    ghost start = { λ _. holding_nothing };
+    ghost told = { λ p. record {
+      offered = Some p.offered;
+      heard = Some p.line.back.heard;
+      held = Some (holding p.line.items);
+      quiet = told_quiet p.counts;
+      faults = p.counts.faults;
+      honest = true;
+      prompt = false;
+      start = holding_nothing;
+    } };
 
     ghost prompt_is_honest = { λ _ _. refl };
 
     /// Takes all the bytes and sends each whole command to its fate, or fails for want of memory.
     fn offer(&mut self, from: &[u8]) -> Result<(), Failed>
-        ensures all { OnOk result (Appends (Some self.old.offered) from.now (Some self.new.offered)) }
-        ensures sent { OnOk result (Came (AreSent (traffic_of self.old.line) (traffic_of self.new.line)) self.old.offered self.new.offered) }
+        ensures all { OnOk result
+            (Appends (Some self.old.offered) from.now (Some self.new.offered)) }
+        ensures sent { OnOk result
+            (Came (AreSent (traffic_of self.old.line) (traffic_of self.new.line)) self.old.offered
+            self.new.offered) }
         ensures up { OnOk result ((self.old.down ≡ false) × (self.new.down ≡ false)) }
         ensures down { OnErr result (self.new.down ≡ true) }
         ensures counts { OnOk result (self.new.counts ≡ self.old.counts) }
         ensures fault { OnErr result (self.new.counts ≡ one_fault_more self.old.counts) }
-        ensures part { OnErr result (AppendsFront (Some self.old.offered) from.now (Some self.new.offered)) }
+        ensures part { OnErr result
+            (AppendsFront (Some self.old.offered) from.now (Some self.new.offered)) }
         ensures unheard { Some self.new.line.back.heard ≡ Some self.old.line.back.heard }
         ensures no_hear { told_quiet self.new.counts ≡ told_quiet self.old.counts }
         ensures cause { OnErr result (Rose self.old.counts.faults self.new.counts.faults) }
         ensures count { self.old.counts.faults ≤ self.new.counts.faults }
-        ensures by_rule { IsHonestStep (Some self.new.offered) (Some self.new.line.back.heard) (Some (holding self.old.line.items)) (Some (holding self.new.line.items)) }
+        ensures by_rule { IsHonestStep (Some self.new.offered) (Some self.new.line.back.heard)
+            (Some (holding self.old.line.items)) (Some (holding self.new.line.items)) }
     {
         if self.down || self.take(from).is_err() {
             return Err(self.counters.fail());
@@ -136,20 +153,29 @@ impl Port for ScriptPort {
     fn hear(&mut self, into: &mut [u8]) -> Result<usize, Failed>
         requires room { 0 < length into.old }
         ensures within { IfOk result (λ n. n ≤ length into.old) }
-        ensures next { IfOk result (λ n. HearsNext (length into.old) n (traffic_of self.old.line) (traffic_of self.new.line)) }
-        ensures given { IfOk result (λ n. Appends (Some self.old.line.back.heard) (take n into.new) (Some self.new.line.back.heard)) }
+        ensures next { IfOk result
+            (λ n. HearsNext (length into.old) n (traffic_of self.old.line)
+            (traffic_of self.new.line)) }
+        ensures given { IfOk result
+            (λ n. Appends (Some self.old.line.back.heard) (take n into.new)
+            (Some self.new.line.back.heard)) }
         ensures up { OnOk result ((self.old.down ≡ false) × (self.new.down ≡ false)) }
         ensures down { OnErr result (self.new.down ≡ true) }
-        ensures nothing { OnErr result (Some self.new.line.back.heard ≡ Some self.old.line.back.heard) }
+        ensures nothing { OnErr result
+            (Some self.new.line.back.heard ≡ Some self.old.line.back.heard) }
         ensures counts { IfOk result (λ n. self.new.counts ≡ after_giving self.old.counts n) }
         ensures fault { OnErr result (self.new.counts ≡ one_fault_more self.old.counts) }
         ensures unsent { Some self.new.offered ≡ Some self.old.offered }
-        ensures quieter { IfOk result (λ n. n ≡ 0 → IsOneMore (told_quiet self.old.counts) (told_quiet self.new.counts)) }
-        ensures as_quiet { IfOk result (λ n. 0 < n → told_quiet self.new.counts ≡ told_quiet self.old.counts) }
-        ensures failed_hear { OnErr result (told_quiet self.new.counts ≡ told_quiet self.old.counts) }
+        ensures quieter { IfOk result
+            (λ n. n ≡ 0 → IsOneMore (told_quiet self.old.counts) (told_quiet self.new.counts)) }
+        ensures as_quiet { IfOk result
+            (λ n. 0 < n → told_quiet self.new.counts ≡ told_quiet self.old.counts) }
+        ensures failed_hear { OnErr result
+            (told_quiet self.new.counts ≡ told_quiet self.old.counts) }
         ensures cause { OnErr result (Rose self.old.counts.faults self.new.counts.faults) }
         ensures count { self.old.counts.faults ≤ self.new.counts.faults }
-        ensures by_rule { IsHonestStep (Some self.new.offered) (Some self.new.line.back.heard) (Some (holding self.old.line.items)) (Some (holding self.new.line.items)) }
+        ensures by_rule { IsHonestStep (Some self.new.offered) (Some self.new.line.back.heard)
+            (Some (holding self.old.line.items)) (Some (holding self.new.line.items)) }
     {
         if self.down || self.line.turn().is_err() {
             self.down = true;

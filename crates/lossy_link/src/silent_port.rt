@@ -38,34 +38,34 @@ impl SilentPort {
 impl Port for SilentPort {
     ghost use Rattle.std.specs.Prelude.{refl};
 
-    ghost offered = { λ p. Some p.offered };
-
-    ghost heard = { λ _. Some [] };
-
-    ghost held = { λ _. Some holding_nothing };
-
-    ghost quiet = { λ p. told_quiet p.counts };
-
-    ghost faults = { λ p. p.counts.faults };
-
-    ghost honest = { λ _. true };
-
-    ghost prompt = { λ _. false };
-
-    ghost start = { λ _. holding_nothing };
+    ghost told = { λ p. record {
+      offered = Some p.offered;
+      heard = Some [];
+      held = Some holding_nothing;
+      quiet = told_quiet p.counts;
+      faults = p.counts.faults;
+      honest = true;
+      prompt = false;
+      start = holding_nothing;
+    } };
 
     ghost prompt_is_honest = { λ _ _. refl };
 
     /// Takes all the bytes, or fails for want of memory and takes none.
     fn offer(&mut self, from: &[u8]) -> Result<(), Failed>
-        ensures ok { OnOk result (self.new ≡ record self.old { offered = self.old.offered ++ from.now }) }
-        ensures err { OnErr result (self.new ≡ record self.old { counts = one_fault_more self.old.counts }) }
-        ensures all { OnOk result (Appends (Some self.old.offered) from.now (Some self.new.offered)) }
-        ensures part { OnErr result (AppendsFront (Some self.old.offered) from.now (Some self.new.offered)) }
+        ensures ok { OnOk result
+            (self.new ≡ record self.old { offered = self.old.offered ++ from.now }) }
+        ensures err { OnErr result
+            (self.new ≡ record self.old { counts = one_fault_more self.old.counts }) }
+        ensures all { OnOk result
+            (Appends (Some self.old.offered) from.now (Some self.new.offered)) }
+        ensures part { OnErr result
+            (AppendsFront (Some self.old.offered) from.now (Some self.new.offered)) }
         ensures no_hear { told_quiet self.new.counts ≡ told_quiet self.old.counts }
         ensures cause { OnErr result (Rose self.old.counts.faults self.new.counts.faults) }
         ensures count { self.old.counts.faults ≤ self.new.counts.faults }
-        ensures by_rule { IsHonestStep (Some self.new.offered) (Some []) (Some holding_nothing) (Some holding_nothing) }
+        ensures by_rule { IsHonestStep (Some self.new.offered) (Some []) (Some holding_nothing)
+            (Some holding_nothing) }
     {
         match self.offered.extend_from_slice(from) {
             Ok(()) => Ok(()),
@@ -80,9 +80,11 @@ impl Port for SilentPort {
         ensures quiet { self.new ≡ record self.old { counts = one_quiet_more self.old.counts } }
         ensures given { IfOk result (λ n. Appends (Some []) (take n _into.new) (Some [])) }
         ensures unsent { Some self.new.offered ≡ Some self.old.offered }
-        ensures quieter { IfOk result (λ n. n ≡ 0 → IsOneMore (told_quiet self.old.counts) (told_quiet self.new.counts)) }
+        ensures quieter { IfOk result
+            (λ n. n ≡ 0 → IsOneMore (told_quiet self.old.counts) (told_quiet self.new.counts)) }
         ensures count { self.old.counts.faults ≤ self.new.counts.faults }
-        ensures by_rule { IsHonestStep (Some self.new.offered) (Some []) (Some holding_nothing) (Some holding_nothing) }
+        ensures by_rule { IsHonestStep (Some self.new.offered) (Some []) (Some holding_nothing)
+            (Some holding_nothing) }
     {
         self.counters.count_quiet();
         Ok(0)

@@ -38,7 +38,8 @@ impl WayBack {
 
     /// Adds the bytes of an answer of this migration. Want of memory changes nothing.
     pub(crate) fn add(&mut self, migration: u32, answer: &Answer) -> Result<(), Memory>
-        ensures ok { OnOk result (self.new ≡ with_due self.old (answer_bytes (migration, answer.now))) }
+        ensures ok { OnOk result
+            (self.new ≡ with_due self.old (answer_bytes (migration, answer.now))) }
         ensures err { OnErr result (self.new ≡ self.old) }
     {
         self.bytes

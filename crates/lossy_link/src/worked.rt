@@ -10,7 +10,8 @@ ghost use Rattle.wan_edge.specs.Switches.{Holdings, after_command, after_command
 
 /// A command that comes twice is one that was offered.
 pub fn a_repeat_is_by_the_rule()
-    ensures { MovesByRule (command_bytes first) holding_nothing (after_commands holding_nothing (first ∷ first ∷ [])) }
+    ensures { MovesByRule (command_bytes first) holding_nothing
+        (after_commands holding_nothing (first ∷ first ∷ [])) }
 {}
 
 pub fn a_command_that_was_never_offered_is_not_by_the_rule()
@@ -22,7 +23,10 @@ pub fn an_answer_above_what_is_held_is_not_honest()
 {}
 
 pub fn an_answer_that_is_heard_twice_is_not_prompt()
-    ensures { (now : Holdings) → AnswersInOrder holding_nothing (command_bytes first) (answer_bytes first_held ++ answer_bytes first_held) now → ⊥ }
+    ensures { (now : Holdings)
+        → AnswersInOrder holding_nothing (command_bytes first)
+        (answer_bytes first_held ++ answer_bytes first_held) now
+        → ⊥ }
 {}
 
 pub fn an_answer_that_was_not_heard_is_still_to_come()
@@ -37,8 +41,11 @@ pub fn a_lost_command_has_no_answer()
 
 /// The first hear finds nothing, the second both answers.
 pub fn two_answers_come_a_hear_late()
-    ensures early { (after_turn (after_sending (no_traffic (twice_late ∷ [])) first)).back.due ≡ [] }
-    ensures then { (after_turn (after_turn (after_sending (no_traffic (twice_late ∷ [])) first))).back.due ≡ answer_bytes first_held ++ (answer_bytes first_held ++ []) }
+    ensures early { (after_turn (after_sending (no_traffic (twice_late ∷ [])) first)).back.due
+        ≡ [] }
+    ensures then { (after_turn (after_turn (after_sending (no_traffic (twice_late ∷ []))
+        first))).back.due
+        ≡ answer_bytes first_held ++ (answer_bytes first_held ++ []) }
 {}
 
 /// The first half comes in, and then the second: both are inside at once.
@@ -48,11 +55,17 @@ pub fn two_halves_inside_have_met()
 
 /// The first half has gone out when the second comes in.
 pub fn a_half_that_went_out_is_not_met()
-    ensures apart { have_met (crossing false true ∷ crossing false false ∷ crossing true true ∷ []) ≡ false }
-    ensures inside { inside_at (crossing false true ∷ crossing false false ∷ crossing true true ∷ []) ≡ record { first = false; second = true } }
+    ensures apart { have_met (crossing false true ∷ crossing false false ∷ crossing true true ∷ [])
+        ≡ false }
+    ensures inside { inside_at (crossing false true
+        ∷ crossing false false
+        ∷ crossing true true
+        ∷ [])
+        ≡ record { first = false; second = true } }
 {}
 
 /// Once they have met, going out closes nothing.
 pub fn a_gate_that_was_opened_stays_open()
-    ensures { have_met (crossing false true ∷ crossing true true ∷ crossing false false ∷ []) ≡ true }
+    ensures { have_met (crossing false true ∷ crossing true true ∷ crossing false false ∷ [])
+        ≡ true }
 {}

@@ -42,8 +42,14 @@ fn work<R: Threads + Wait + Sync>(
     }
     let (pass, other) = lock.split(pass);
     let more = move || -> Pass<Log>
-        requires { IsSync R.row × (0 < others) × IsPassOf lock.now pass × (seat_of_pass pass ≡ 0) × (given_of pass + (others - 1) < 4294967296) }
-        ensures { IsPassOf lock.entry.now result × (seat_of_pass result ≡ 0) × (out_of result ≡ out_of pass) }
+        requires { IsSync R.row
+            × (0 < others)
+            × IsPassOf lock.now pass
+            × (seat_of_pass pass ≡ 0)
+            × (given_of pass + (others - 1) < 4294967296) }
+        ensures { IsPassOf lock.entry.now result
+            × (seat_of_pass result ≡ 0)
+            × (out_of result ≡ out_of pass) }
     { work(rt, lock, pass, turns, others - 1) };
     let own = move || -> Pass<Log>
         requires { IsPassOf lock.now other }

@@ -145,8 +145,13 @@ pub(crate) fn opened<'d, D: Disk>(
     disk: D,
 ) -> Result<Book<'d, D>, Unopened<D>>
     requires empty { graph.history ≡ from_nothing graph.rollout.problem [] }
-    ensures opened { IfOk result (λ book. IsOpened (opening_of book.chronicle (rank_by book.policy.now.answers)) book.chronicle) }
-    ensures has { IfOk result (λ book. IfSome (D.bytes book.chronicle.disk) (IsKeptList book.chronicle.history.start book.chronicle.entries (D.may_leave book.chronicle.disk))) }
+    ensures opened { IfOk result
+        (λ book. IsOpened (opening_of book.chronicle (rank_by book.policy.now.answers))
+        book.chronicle) }
+    ensures has { IfOk result
+        (λ book. IfSome (D.told book.chronicle.disk).bytes
+        (IsKeptList book.chronicle.history.start book.chronicle.entries
+        (D.told book.chronicle.disk).may_leave)) }
 {
     Book::open(alloc, graph, digest, policy, disk)
 }
@@ -157,8 +162,11 @@ fn dones_of<R: Wait, D: Disk + Drop>(
     book: Book<'_, D>,
     work: Work<'_>,
 ) -> Result<u64>
-    requires opened { IsOpened (opening_of book.chronicle (rank_by book.policy.now.answers)) book.chronicle }
-    requires has { IfSome (D.bytes book.chronicle.disk) (IsKeptList book.chronicle.history.start book.chronicle.entries (D.may_leave book.chronicle.disk)) }
+    requires opened { IsOpened (opening_of book.chronicle (rank_by book.policy.now.answers))
+        book.chronicle }
+    requires has { IfSome (D.told book.chronicle.disk).bytes
+        (IsKeptList book.chronicle.history.start book.chronicle.entries
+        (D.told book.chronicle.disk).may_leave) }
 {
     let (book, dones) = match work.load.guard {
         Guard::Alone => roll_alone(alloc, book, work),
@@ -225,8 +233,11 @@ fn roll_opened<'d, R: Wait, D: Disk>(
     book: Book<'d, D>,
     work: Work<'_>,
 ) -> (Book<'d, D>, u64)
-    requires opened { IsOpened (opening_of book.chronicle (rank_by book.policy.now.answers)) book.chronicle }
-    requires has { IfSome (D.bytes book.chronicle.disk) (IsKeptList book.chronicle.history.start book.chronicle.entries (D.may_leave book.chronicle.disk)) }
+    requires opened { IsOpened (opening_of book.chronicle (rank_by book.policy.now.answers))
+        book.chronicle }
+    requires has { IfSome (D.told book.chronicle.disk).bytes
+        (IsKeptList book.chronicle.history.start book.chronicle.entries
+        (D.told book.chronicle.disk).may_leave) }
 {
     roll_named::<R, D, Brand>(rt, alloc, book, work)
 }
@@ -238,7 +249,7 @@ fn roll_named<'d, R: Wait, D: Disk, M: Marker>(
     book: Book<'d, D>,
     work: Work<'_>,
 ) -> (Book<'d, D>, u64)
-    requires opened { IsOpenedOn D.bytes D.may_leave D.moment D.faults M.opening M.moment M.faults book.chronicle }
+    requires opened { IsOpenedOn D.told M.opening M.moment M.faults book.chronicle }
     requires policy { M.opening.policy ≡ rank_by book.policy.now.answers }
     requires seats { M.seats ≡ 1 }
 {

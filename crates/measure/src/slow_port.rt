@@ -46,21 +46,16 @@ impl<'r, R: Clock> Port for SlowPort<'r, R> {
     ghost use Rattle.switch_agent.specs.Items.{holding};
     ghost use Rattle.wan_edge.specs.Switches.{holding_nothing};
 
-    ghost offered = { λ p. Some p.port.offered };
-
-    ghost heard = { λ p. Some p.port.back.heard };
-
-    ghost held = { λ p. Some (holding p.port.items) };
-
-    ghost quiet = { λ p. told_quiet p.port.counts };
-
-    ghost faults = { λ p. p.port.counts.faults };
-
-    ghost honest = { λ _. true };
-
-    ghost prompt = { λ _. true };
-
-    ghost start = { λ _. holding_nothing };
+    ghost told = { λ p. record {
+      offered = Some p.port.offered;
+      heard = Some p.port.back.heard;
+      held = Some (holding p.port.items);
+      quiet = told_quiet p.port.counts;
+      faults = p.port.counts.faults;
+      honest = true;
+      prompt = true;
+      start = holding_nothing;
+    } };
 
     ghost prompt_is_honest = { λ _ _. refl };
 

@@ -68,9 +68,14 @@ impl<'s, 'd, R: Wait + Clock, D: Disk, M: Marker> Job
     for Duty<'s, R, SharedBook<'d, D, M>, Kept<D, M>> {
     type Output = Woken<Kept<D, M>>;
 
-    ghost may_begin = { λ d. (d.book.now.homes ≡ homes_of M.opening.rollout.problem) × (M.opening.policy ≡ rank_by d.book.now.policy.now.answers) × IsPassOf d.book.now.lock d.pass.pass × IsCounted d.pass.calls d.pass.pass };
+    ghost may_begin = { λ d. (d.book.now.homes ≡ homes_of M.opening.rollout.problem)
+        × (M.opening.policy ≡ rank_by d.book.now.policy.now.answers)
+        × IsPassOf d.book.now.lock d.pass.pass
+        × IsCounted d.pass.calls d.pass.pass };
 
-    ghost may_leave = { λ d woken. IsPassOf d.book.now.lock woken.pass.pass × IsCounted woken.pass.calls woken.pass.pass × IsSamePass d.pass.pass woken.pass.pass };
+    ghost may_leave = { λ d woken. IsPassOf d.book.now.lock woken.pass.pass
+        × IsCounted woken.pass.calls woken.pass.pass
+        × IsSamePass d.pass.pass woken.pass.pass };
 
     fn run(self) -> Woken<Kept<D, M>> {
         let Duty {
@@ -174,8 +179,11 @@ fn wake_of<R: Threads + Wait + Sync + Clock, D: Disk + Drop + Send>(
     book: Book<'_, D>,
     milliseconds: u32,
 ) -> Wake
-    requires opened { IsOpened (opening_of book.chronicle (rank_by book.policy.now.answers)) book.chronicle }
-    requires has { IfSome (D.bytes book.chronicle.disk) (IsKeptList book.chronicle.history.start book.chronicle.entries (D.may_leave book.chronicle.disk)) }
+    requires opened { IsOpened (opening_of book.chronicle (rank_by book.policy.now.answers))
+        book.chronicle }
+    requires has { IfSome (D.told book.chronicle.disk).bytes
+        (IsKeptList book.chronicle.history.start book.chronicle.entries
+        (D.told book.chronicle.disk).may_leave) }
 {
     let (book, wake) = wait_opened(rt, alloc, book, milliseconds);
     let_go(book);
@@ -188,8 +196,11 @@ fn wait_opened<'d, R: Threads + Wait + Sync + Clock, D: Disk + Drop + Send>(
     book: Book<'d, D>,
     milliseconds: u32,
 ) -> (Book<'d, D>, Wake)
-    requires opened { IsOpened (opening_of book.chronicle (rank_by book.policy.now.answers)) book.chronicle }
-    requires has { IfSome (D.bytes book.chronicle.disk) (IsKeptList book.chronicle.history.start book.chronicle.entries (D.may_leave book.chronicle.disk)) }
+    requires opened { IsOpened (opening_of book.chronicle (rank_by book.policy.now.answers))
+        book.chronicle }
+    requires has { IfSome (D.told book.chronicle.disk).bytes
+        (IsKeptList book.chronicle.history.start book.chronicle.entries
+        (D.told book.chronicle.disk).may_leave) }
 {
     wait_named::<R, D, Brand>(rt, alloc, book, milliseconds)
 }
@@ -201,7 +212,7 @@ fn wait_named<'d, R: Threads + Wait + Sync + Clock, D: Disk + Drop + Send, M: Ma
     book: Book<'d, D>,
     milliseconds: u32,
 ) -> (Book<'d, D>, Wake)
-    requires opened { IsOpenedOn D.bytes D.may_leave D.moment D.faults M.opening M.moment M.faults book.chronicle }
+    requires opened { IsOpenedOn D.told M.opening M.moment M.faults book.chronicle }
     requires policy { M.opening.policy ≡ rank_by book.policy.now.answers }
     requires seats { M.seats ≡ 2 }
 {
@@ -267,7 +278,9 @@ fn both_woken<R: Threads + Wait + Sync + Clock, D: Disk + Drop + Send, M: Marker
     requires policy { M.opening.policy ≡ rank_by book.now.policy.now.answers }
     requires first { IsPassOf book.now.lock first.pass × IsCounted first.calls first.pass }
     requires second { IsPassOf book.now.lock second.pass × IsCounted second.calls second.pass }
-    ensures first { IsPassOf book.now.lock result.0.pass.pass × IsCounted result.0.pass.calls result.0.pass.pass × IsSamePass first.pass result.0.pass.pass }
+    ensures first { IsPassOf book.now.lock result.0.pass.pass
+        × IsCounted result.0.pass.calls result.0.pass.pass
+        × IsSamePass first.pass result.0.pass.pass }
     ensures second { IsPassOf book.now.lock result.1.pass.pass }
 {
     let first = Duty {

@@ -71,7 +71,8 @@ impl<P> Policies<P> {
 }
 
 fn first_named<'a, P>(all: &'a [Named<P>], name: &str) -> Option<&'a Named<P>>
-    ensures { option_map (λ named. named.now) result ≡ find (λ named. bytes_eq named.0 name.now) all.now }
+    ensures { option_map (λ named. named.now) result
+        ≡ find (λ named. bytes_eq named.0 name.now) all.now }
 {
     for named in all {
         if named.name.as_str() == name {

@@ -24,7 +24,10 @@ impl Policy {
     pub fn new(ask: Box<dyn Fn(OpView) -> u64 + Send + Sync>) -> Policy
         requires callable { IsAlwaysCallable ask }
         requires answers { AreAnswers last_rank (λ view. post ask view) }
-        ensures ranks { (view : OpView) (rank : ℕ) → IsTrue (is_view view) → post ask view rank → rank ≡ rank_by result.answers view }
+        ensures ranks { (view : OpView) (rank : ℕ)
+            → IsTrue (is_view view)
+            → post ask view rank
+            → rank ≡ rank_by result.answers view }
         ensures unheld { (view : OpView) → rank_by result.answers view ≤ last_rank }
     {
         Policy::holding(ask)
@@ -35,7 +38,10 @@ impl Policy {
     pub fn holding(ask: Box<dyn Fn(OpView) -> u64 + Send + Sync>) -> Policy
         requires callable { IsAlwaysCallable ask }
         requires answers { AreAnswers held_back (λ view. post ask view) }
-        ensures { (view : OpView) (rank : ℕ) → IsTrue (is_view view) → post ask view rank → rank ≡ rank_by result.answers view }
+        ensures { (view : OpView) (rank : ℕ)
+            → IsTrue (is_view view)
+            → post ask view rank
+            → rank ≡ rank_by result.answers view }
     {
         Policy { ask }
     }

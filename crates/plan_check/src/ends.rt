@@ -35,7 +35,8 @@ fn stands_off(
     requires stage { s < length plan.now.stages }
     requires network { IsNetwork problem.now }
     requires tunnel { t < length problem.now.tunnels }
-    ensures { result ≡ first.stands_off plan.now clause s t (rate_on side (tunnel_at problem.now t)) }
+    ensures { result
+        ≡ first.stands_off plan.now clause s t (rate_on side (tunnel_at problem.now t)) }
 {
     let spot = Spot::Tunnel(t as u32);
     let split = problem.rate_on(side, t);

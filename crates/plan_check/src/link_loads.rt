@@ -14,7 +14,9 @@ use wan_model::Problem;
 pub fn loads(alloc: Global, problem: &Problem, rates: &[u64]) -> Result<Nums, Memory>
     requires count { length rates.now ≡ length problem.now.tunnels }
     requires within { (t : ℕ) → t < length rates.now → slice_index rates.now t ≤ LARGEST_PLAN_RATE }
-    ensures { IfOk result (λ sums. sums ≡ list_below (length problem.now.links) (load problem.now (slice_index rates.now))) }
+    ensures { IfOk result
+        (λ sums. sums
+        ≡ list_below (length problem.now.links) (load problem.now (slice_index rates.now))) }
 {
     let sums = wide_loads(alloc, problem, rates)?;
     nums_of(alloc, sums.as_slice())
@@ -23,8 +25,11 @@ pub fn loads(alloc: Global, problem: &Problem, rates: &[u64]) -> Result<Nums, Me
 fn wide_loads(alloc: Global, problem: &Problem, rates: &[u64]) -> Result<Vec<u128>, Memory>
     requires count { length rates.now ≡ length problem.now.tunnels }
     requires within { (t : ℕ) → t < length rates.now → slice_index rates.now t ≤ LARGEST_PLAN_RATE }
-    ensures sums { IfOk result (λ sums. sums.items ≡ list_below (length problem.now.links) (load problem.now (slice_index rates.now))) }
-    ensures small { IfOk result (λ sums. (k : ℕ) → k < length sums.items → slice_index sums.items k < 2 ^ 64) }
+    ensures sums { IfOk result
+        (λ sums. sums.items
+        ≡ list_below (length problem.now.links) (load problem.now (slice_index rates.now))) }
+    ensures small { IfOk result
+        (λ sums. (k : ℕ) → k < length sums.items → slice_index sums.items k < 2 ^ 64) }
 {
     let mut sums = vec![in alloc; 0u128; problem.links().len()]?;
     for t in 0..problem.tunnels().len() {
@@ -37,8 +42,11 @@ fn add_rate(sums: &mut [u128], problem: &Problem, rates: &[u64], t: usize)
     requires rates { length rates.now ≡ length problem.now.tunnels }
     requires tunnel { t < length problem.now.tunnels }
     requires count { length sums.old ≡ length problem.now.links }
-    requires room { (k : ℕ) → k < length sums.old → slice_index sums.old k + largest_share < 2 ^ 128 }
-    ensures { GrownBy sums.old sums.new (rate_share problem.now (slice_index rates.now) t) largest_share }
+    requires room { (k : ℕ)
+        → k < length sums.old
+        → slice_index sums.old k + largest_share < 2 ^ 128 }
+    ensures { GrownBy sums.old sums.new (rate_share problem.now (slice_index rates.now) t)
+        largest_share }
 {
     add_along(sums, problem.links_of(t), rates[t]);
 }

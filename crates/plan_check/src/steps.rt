@@ -18,7 +18,9 @@ use wan_model::{Plan, Problem, Spot};
 /// of the entries that are there at either end don't fit in a table (SWAN's step rule).
 pub fn first_over(alloc: Global, problem: &Problem, plan: &Plan) -> Result<Option<Broken>, Memory>
     requires { IsShaped problem.now plan.now }
-    ensures { IfOk result (λ broken. broken ≡ first_below (length plan.now.stages) (first.over_step problem.now plan.now)) }
+    ensures { IfOk result
+        (λ broken. broken
+        ≡ first_below (length plan.now.stages) (first.over_step problem.now plan.now)) }
 {
     for s in 0..plan.stages.as_slice().len() {
         if let Some(broken) = over_step(alloc, problem, plan, s)? {
@@ -49,7 +51,8 @@ fn over_step(
 fn over_link(problem: &Problem, plan: &Plan, s: usize, loads: &[u128]) -> Option<Broken>
     requires shape { IsShaped problem.now plan.now }
     requires stage { s < length plan.now.stages }
-    requires totals { AreTotals problem.now plan.now s (length problem.now.links) the_link loads.now }
+    requires totals { AreTotals problem.now plan.now s (length problem.now.links) the_link
+        loads.now }
     ensures { result ≡ first.over_link problem.now plan.now s }
 {
     for l in 0..problem.links().len() {
@@ -63,7 +66,8 @@ fn over_link(problem: &Problem, plan: &Plan, s: usize, loads: &[u128]) -> Option
 fn over_table(problem: &Problem, plan: &Plan, s: usize, entries: &[u128]) -> Option<Broken>
     requires shape { IsShaped problem.now plan.now }
     requires stage { s < length plan.now.stages }
-    requires totals { AreTotals problem.now plan.now s (length problem.now.switches) the_table entries.now }
+    requires totals { AreTotals problem.now plan.now s (length problem.now.switches) the_table
+        entries.now }
     ensures { result ≡ first.over_table problem.now plan.now s }
 {
     for w in 0..problem.switches().len() {

@@ -17,7 +17,8 @@ pub fn step_loads(
 ) -> Result<Vec<u128>, Memory>
     requires shape { IsShaped problem.now plan.now }
     requires stage { s < length plan.now.stages }
-    ensures { IfOk result (λ sums. AreTotals problem.now plan.now s (length problem.now.links) the_link sums.items) }
+    ensures { IfOk result
+        (λ sums. AreTotals problem.now plan.now s (length problem.now.links) the_link sums.items) }
 {
     let mut sums = vec![in alloc; 0u128; problem.links().len()]?;
     for t in 0..problem.tunnels().len() {
@@ -36,7 +37,9 @@ pub fn step_entries(
 ) -> Result<Vec<u128>, Memory>
     requires shape { IsShaped problem.now plan.now }
     requires stage { s < length plan.now.stages }
-    ensures { IfOk result (λ sums. AreTotals problem.now plan.now s (length problem.now.switches) the_table sums.items) }
+    ensures { IfOk result
+        (λ sums. AreTotals problem.now plan.now s (length problem.now.switches) the_table
+        sums.items) }
 {
     let mut sums = vec![in alloc; 0u128; problem.switches().len()]?;
     for t in 0..problem.tunnels().len() {
@@ -50,7 +53,9 @@ fn add_load(sums: &mut [u128], problem: &Problem, plan: &Plan, s: usize, t: usiz
     requires stage { s < length plan.now.stages }
     requires tunnel { t < length problem.now.tunnels }
     requires count { length sums.old ≡ length problem.now.links }
-    requires room { (k : ℕ) → k < length sums.old → slice_index sums.old k + largest_share < 2 ^ 128 }
+    requires room { (k : ℕ)
+        → k < length sums.old
+        → slice_index sums.old k + largest_share < 2 ^ 128 }
     ensures { GrownBy sums.old sums.new (load_share problem.now plan.now s t) largest_share }
 {
     add_along(sums, problem.links_of(t), plan.greater_rate(s, t));
@@ -61,7 +66,9 @@ fn add_entries(sums: &mut [u128], problem: &Problem, plan: &Plan, s: usize, t: u
     requires stage { s < length plan.now.stages }
     requires tunnel { t < length problem.now.tunnels }
     requires count { length sums.old ≡ length problem.now.switches }
-    requires room { (k : ℕ) → k < length sums.old → slice_index sums.old k + largest_share < 2 ^ 128 }
+    requires room { (k : ℕ)
+        → k < length sums.old
+        → slice_index sums.old k + largest_share < 2 ^ 128 }
     ensures { GrownBy sums.old sums.new (entry_share problem.now plan.now s t) largest_share }
 {
     if plan.either_mark(s, t) {
@@ -71,7 +78,9 @@ fn add_entries(sums: &mut [u128], problem: &Problem, plan: &Plan, s: usize, t: u
 
 pub fn add_along(sums: &mut [u128], row: &[u32], amount: u64)
     requires known { (h : ℕ) → h < length row.now → slice_index row.now h < length sums.old }
-    requires room { (k : ℕ) → k < length sums.old → slice_index sums.old k + length row.now * amount < 2 ^ 128 }
+    requires room { (k : ℕ)
+        → k < length sums.old
+        → slice_index sums.old k + length row.now * amount < 2 ^ 128 }
     ensures { GrownBy sums.old sums.new (added row.now amount) (length row.now * amount) }
 {
     for number in row {

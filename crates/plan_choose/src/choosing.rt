@@ -63,7 +63,8 @@ fn best_plan(alloc: Global, problem: &Problem) -> Result<Planned, NoPlan>
 
 // The plan of one rate step, where it is valid.
 fn direct_plan(alloc: Global, problem: &Problem) -> Result<Option<Plan>, Memory>
-    ensures { IfOk result (λ plan. plan ≡ spec.where_valid problem.now (Some (spec.direct_plan problem.now))) }
+    ensures { IfOk result
+        (λ plan. plan ≡ spec.where_valid problem.now (Some (spec.direct_plan problem.now))) }
 {
     let plan = frame(alloc, problem, 1, &[])?;
     where_valid(alloc, problem, plan)
@@ -84,7 +85,8 @@ fn moving_plan(alloc: Global, problem: &Problem) -> Result<Planned, NoPlan>
 
 fn plan_from_scratch(alloc: Global, problem: &Problem) -> Result<Planned, NoPlan>
     requires { refusal problem.now ≡ None }
-    ensures value { Answers result (spec.scratch_choice problem.now (slack.least_slack problem.now)) }
+    ensures value { Answers result
+        (spec.scratch_choice problem.now (slack.least_slack problem.now)) }
     ensures valid { IfOk result (λ found. IsTrue (is_valid_plan problem.now found.plan)) }
 {
     let plan = scratch(alloc, problem)?;

@@ -74,7 +74,8 @@ fn point_plan(
     requires least { 2 ≤ q }
     requires most { q ≤ 8 }
     requires point { IsFeasible (move_program problem.now q) point.now }
-    ensures { IfOk result (λ plan. plan ≡ spec.where_valid problem.now (points.plan_of problem.now q point.now)) }
+    ensures { IfOk result
+        (λ plan. plan ≡ spec.where_valid problem.now (points.plan_of problem.now q point.now)) }
 {
     match plan_of(alloc, problem, q, point)? {
         Some(plan) => where_valid(alloc, problem, plan),

@@ -5,12 +5,17 @@ ghost use Rattle.plan_choose.specs.Choice.{chosen};
 
 /// Equal rates need no step.
 pub fn equal_rates_stand_still()
-    ensures { chosen (pipe 2 2) ≡ Ok (record { plan = all_installed 1 1 ((2 ∷ []) ∷ []); rate_steps = 0 }) }
+    ensures { chosen (pipe 2 2)
+        ≡ Ok (record { plan = all_installed 1 1 ((2 ∷ []) ∷ []); rate_steps = 0 }) }
 {}
 
 /// Links of 10 carry both flows of 5 in the one step, and tables have room where an idle tunnel goes first.
 pub fn a_step_that_fits_is_direct()
-    ensures swap { chosen (swap 10 5) ≡ Ok (record { plan = all_installed 4 1 ((5 ∷ 0 ∷ 0 ∷ 5 ∷ []) ∷ (0 ∷ 5 ∷ 5 ∷ 0 ∷ []) ∷ []); rate_steps = 1 }) }
+    ensures swap { chosen (swap 10 5)
+        ≡ Ok (record {
+          plan = all_installed 4 1 ((5 ∷ 0 ∷ 0 ∷ 5 ∷ []) ∷ (0 ∷ 5 ∷ 5 ∷ 0 ∷ []) ∷ []);
+          rate_steps = 1;
+        }) }
     ensures table { chosen table_network ≡ Ok (record { plan = table_plan; rate_steps = 1 }) }
     ensures wide { chosen wide_network ≡ Ok (record { plan = table_plan; rate_steps = 1 }) }
 {}

@@ -1,37 +1,29 @@
 -- What a row of hears comes to: of what was read, and of the port's rule.
-use Rattle.std.proofs.Common.{◌≡◌, ◌⊎◌, ℕ, ◌+◌, ◌-◌, ◌*◌, ◌<◌, ◌≤◌, Bool, true, false, List, [], ◌∷◌, ◌++◌, length, take, Option, Some, None, is_some, IfSome, inl, inr, refl, sym, ap, subst, ◌∙◌, arith, length-append}
+use Rattle.std.proofs.Common.{◌≡◌, ◌⊎◌, ℕ, ◌+◌, ◌-◌, ◌*◌, ◌<◌, true, false, List, [], ◌∷◌, ◌++◌, length, take, Option, Some, None, IfSome, inl, inr, refl, sym, ap, subst, ◌∙◌, arith, length-append}
 use Rattle.std.proofs.lemmas.Bool.{OnTrue_at, OnTrue_from, true≢false}
-use Rattle.std.proofs.lemmas.List.{append-nil}
 use Rattle.std.proofs.lemmas.List.Elements.{All-append}
 use Rattle.std.specs.Bool.{OnTrue}
 use Rattle.std.specs.List.{flat_map}
 use Rattle.wan_edge.specs.Frames.{Answer, AnswerFrame, CommandFrame, IsAnswer, IsCutAnswer, answer_bytes}
-use Rattle.wan_edge.specs.Ports.{IsHonestStep, IsOffered, IsOneMore, IsPromptState, MovesByRule, NothingToCome}
+use Rattle.wan_edge.specs.Ports.{GoesOn, IsHonestStep, IsOffered, IsOneMore, IsPromptState, MovesByRule, NothingToCome, PortTrace, Steps}
 use Rattle.wan_edge.specs.Streams.{Appends, KeepsTelling}
 use Rattle.wan_edge.specs.Switches.{Holdings, after_command, after_commands}
-use Rattle.wan_edge.proofs.Chains.{Appends-chain}
+use Rattle.wan_edge.proofs.Chains.{Appends-chain, Appends-nothing}
 use Rattle.port_session.specs.Reading.{ReadsAnswers, Reckoning, Stream}
 use Rattle.port_session.specs.Sessions.{EndsAnswer, HearsAnswers, IsHeardOut, Listening, missing}
 use Rattle.port_session.specs.declared.fault.SessionFault.{SessionFault}
 use Rattle.port_session.specs.declared.fault.SessionFault.TheVariants.{Port}
 use Rattle.port_session.proofs.Chaining.{reads_nothing, reads_on, reads_stopped}
 
-appends_nothing : (told : Option (List ℕ)) → Appends told [] told
-appends_nothing None = refl
-appends_nothing (Some bytes) = ap some (sym (append-nil bytes))
-  where
-    some : List ℕ → Option (List ℕ)
-    some xs = Some xs
-
 -- before the first hear
 pub hears_nothing : (migration : ℕ) (a : Listening) → HearsAnswers migration a None a
-hears_nothing migration a = record { bytes = []; appended = appends_nothing a.heard; reads = reads_nothing migration a.reckoning }
+hears_nothing migration a = record { bytes = []; appended = Appends-nothing a.heard; reads = reads_nothing migration a.reckoning }
 
 -- a hear that failed
 pub hears_none : (migration : ℕ) (before now : Option (List ℕ)) (reckoning : Reckoning) → now ≡ before → HearsAnswers migration (record { heard = before; reckoning = reckoning }) (Some Port) (record { heard = now; reckoning = reckoning })
 hears_none migration before now reckoning same = record {
   bytes = [];
-  appended = subst (λ (told : Option (List ℕ)). Appends before [] told) (sym same) (appends_nothing before);
+  appended = subst (λ (told : Option (List ℕ)). Appends before [] told) (sym same) (Appends-nothing before);
   reads = reads_stopped migration reckoning reckoning [] (reads_nothing migration reckoning);
 }
 
@@ -118,24 +110,40 @@ step_on offered heard heard_now a b c told first second = record {
   answers = second.answers;
 }
 
-module _ {P : Type 0} (honest prompt : P → Bool) (offered heard : P → Option (List ℕ)) (held : P → Option Holdings) (start : P → Holdings) (a b c : P) where
+module _ (a b c : PortTrace) where
   -- a call of an honest port behind others, or the first one
-  pub rule_on : KeepsTelling (held a) (held b) → honest b ≡ honest a → offered b ≡ offered a → offered c ≡ offered b → OnTrue (honest a) ((b ≡ a) ⊎ IsHonestStep (offered b) (heard b) (held a) (held b))
-      → OnTrue (honest b) (IsHonestStep (offered c) (heard c) (held b) (held c)) → OnTrue (honest a) ((c ≡ a) ⊎ IsHonestStep (offered c) (heard c) (held a) (held c))
+  rule_on : KeepsTelling a.held b.held → b.honest ≡ a.honest → b.offered ≡ a.offered → c.offered ≡ b.offered → OnTrue a.honest ((b ≡ a) ⊎ IsHonestStep b.offered b.heard a.held b.held)
+      → OnTrue b.honest (IsHonestStep c.offered c.heard b.held c.held) → OnTrue a.honest ((c ≡ a) ⊎ IsHonestStep c.offered c.heard a.held c.held)
   rule_on told same unsent_first unsent first second =
-      OnTrue_from (honest a) _ (λ is.
-      let step : IsHonestStep (offered c) (heard c) (held b) (held c) = OnTrue_at (same ∙ is) second in
+      OnTrue_from a.honest _ (λ is.
+      let step : IsHonestStep c.offered c.heard b.held c.held = OnTrue_at (same ∙ is) second in
       inr (elim (OnTrue_at is first) [
-        | inl none ↦ subst (λ (p : P). IsHonestStep (offered c) (heard c) (held p) (held c)) none step
-        | inr earlier ↦ step_on (offered c) (heard b) (heard c) (held a) (held b) (held c) told (subst (λ (o : Option (List ℕ)). IsHonestStep o (heard b) (held a) (held b)) (sym unsent) earlier) step
+        | inl none ↦ subst (λ (p : PortTrace). IsHonestStep c.offered c.heard p.held c.held) none step
+        | inr earlier ↦ step_on c.offered b.heard c.heard a.held b.held c.held told (subst (λ (o : Option (List ℕ)). IsHonestStep o b.heard a.held b.held) (sym unsent) earlier) step
       ]))
 
   -- a call of a prompt port
-  pub order_on : prompt b ≡ prompt a → start b ≡ start a → OnTrue (prompt b) (IsPromptState (start b) (offered c) (heard c) (held c)) → OnTrue (prompt a) ((c ≡ a) ⊎ IsPromptState (start a) (offered c) (heard c) (held c))
+  order_on : b.prompt ≡ a.prompt → b.start ≡ a.start → OnTrue b.prompt (IsPromptState b.start c.offered c.heard c.held) → OnTrue a.prompt ((c ≡ a) ⊎ IsPromptState a.start c.offered c.heard c.held)
   order_on same same_start second =
-      OnTrue_from (prompt a) _ (λ is. inr (subst (λ (h : Holdings). IsPromptState h (offered c) (heard c) (held c)) same_start (OnTrue_at (same ∙ is) second)))
+      OnTrue_from a.prompt _ (λ is. inr (subst (λ (h : Holdings). IsPromptState h c.offered c.heard c.held) same_start (OnTrue_at (same ∙ is) second)))
+
+  -- one hear more
+  pub hears_further : (came : List ℕ) → GoesOn a b → b.offered ≡ a.offered → Appends b.heard came c.heard → c.offered ≡ b.offered → Steps b c → GoesOn a c
+  hears_further came on unsent_first heard unsent step = record {
+    sent = [];
+    offered = unsent ∙ unsent_first ∙ Appends-nothing a.offered;
+    came = on.came ++ came;
+    heard = Appends-chain a.heard b.heard c.heard on.came came on.heard heard;
+    count = omega (arith, on.count, step.count);
+    told = step.told ∙ on.told;
+    honest = step.honest ∙ on.honest;
+    prompt = step.prompt ∙ on.prompt;
+    start = step.start ∙ on.start;
+    by_rule = rule_on on.told on.honest unsent_first unsent on.by_rule step.by_rule;
+    in_order = order_on on.prompt on.start step.in_order;
+  }
 
   -- where a prompt port gave nothing
-  pub given_on : (awaited : ℕ) → prompt b ≡ prompt a → start b ≡ start a → OnTrue (prompt b) (NothingToCome (start b) (offered c) (heard c)) → OnTrue (prompt a) (0 < awaited → NothingToCome (start a) (offered c) (heard c))
+  pub given_on : (awaited : ℕ) → b.prompt ≡ a.prompt → b.start ≡ a.start → OnTrue b.prompt (NothingToCome b.start c.offered c.heard) → OnTrue a.prompt (0 < awaited → NothingToCome a.start c.offered c.heard)
   given_on awaited same same_start second =
-      OnTrue_from (prompt a) _ (λ is awaits. subst (λ (h : Holdings). NothingToCome h (offered c) (heard c)) same_start (OnTrue_at (same ∙ is) second))
+      OnTrue_from a.prompt _ (λ is awaits. subst (λ (h : Holdings). NothingToCome h c.offered c.heard) same_start (OnTrue_at (same ∙ is) second))

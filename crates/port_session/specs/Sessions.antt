@@ -1,7 +1,8 @@
 -- A session with a port, and what hearing in a round comes to.
-use Rattle.std.specs.Prelude.{◌≡◌, ◌⊎◌, ℕ, ◌*◌, ◌-◌, ◌<◌, List, ◌++◌, length, Option}
+use Rattle.std.specs.Prelude.{◌≡◌, ◌⊎◌, ℕ, ◌*◌, ◌-◌, ◌<◌, List, ◌++◌, length, Option, IsTrue}
+use Rattle.std.specs.Bool.{OnTrue}
 use Rattle.wan_edge.specs.Frames.{Answer, AnswerFrame, IsAnswer, Splits, answer_bytes}
-use Rattle.wan_edge.specs.Ports.{IsOneMore}
+use Rattle.wan_edge.specs.Ports.{IsOneMore, NothingToCome, PortTrace}
 use Rattle.wan_edge.specs.Streams.{Appends}
 use Rattle.port_session.specs.Reading.{ReadsAnswers, Reckoning, Stream, fresh_stream, reckoned}
 use Rattle.port_session.specs.declared.fault.SessionFault.{SessionFault}
@@ -46,6 +47,14 @@ pub record EndsAnswer (kept : List ℕ) (before now : Option (List ℕ)) : Type 
   pub rest : List ℕ
   pub whole : Splits answer_bytes IsAnswer (kept ++ bytes) answers rest
   pub some : 0 < length answers
+
+-- Hearing ended without a fault: all answers that were awaited were read, or the port was quiet once. Where answers were awaited, one ended or the port
+-- was quiet; more may be heard; and where answers are awaited still, a prompt port has given all.
+pub record IsDone (before : PortTrace) (stream : Stream) (now : PortTrace) (stream_now : Stream) : Type 0 where
+  pub heard_out : IsHeardOut stream_now.awaited before.quiet now.quiet
+  pub comes : 0 < stream.awaited → EndsAnswer stream.kept before.heard now.heard ⊎ IsOneMore before.quiet now.quiet
+  pub live : IsTrue stream_now.live
+  pub all_given : OnTrue before.prompt (0 < stream_now.awaited → NothingToCome before.start now.offered now.heard)
 
 -- how many bytes are missing to the end of the last answer that is awaited
 abbrev pub missing : Stream → ℕ

@@ -1,10 +1,9 @@
-ghost use Rattle.std.specs.Prelude.{◌≡◌, ◌⊎◌, ◌<◌, ◌≤◌, [], length, None, Some, IfErr, IfOk, IsErrOf, IsOk, IsTrue, OnErr, OnOk};
-ghost use Rattle.std.specs.Bool.{OnTrue};
+ghost use Rattle.std.specs.Prelude.{◌≡◌, [], length, None, Some, IfErr, IsErrOf, IsOk, IsTrue, OnErr, OnOk};
 ghost use Rattle.wan_edge.specs.Frames.{IsCutAnswer};
-ghost use Rattle.wan_edge.specs.Ports.{IsHonestStep, IsOneMore, IsPromptState, NothingToCome};
-ghost use Rattle.wan_edge.specs.Streams.{Appends, KeepsTelling, Rose};
+ghost use Rattle.wan_edge.specs.Ports.{GoesOn};
+ghost use Rattle.wan_edge.specs.Streams.{Appends, Rose};
 ghost use Rattle.port_session.specs.Offers.{OffersUntil, frames_of};
-ghost use Rattle.port_session.specs.Sessions.{EndsAnswer, HearsAnswers, IsHeardOut, awaiting, first_talk, listening};
+ghost use Rattle.port_session.specs.Sessions.{HearsAnswers, IsDone, awaiting, first_talk, listening};
 
 use crate::frames::write_frames;
 use crate::stream::AnswerStream;
@@ -76,22 +75,22 @@ impl<T: Port> Session<T> {
     /// `Port` where the port fails, which may have sent the first of the bytes; `Memory` for the bytes,
     /// and then nothing was sent. No answer is awaited then.
     pub fn offer_all(&mut self, commands: &[Command], migration: u32) -> Result<(), SessionFault>
-        ensures all { OnOk result (Appends (T.offered self.old.port) (frames_of migration commands.now) (T.offered self.new.port)) }
-        ensures until { IfErr result (λ fault. OffersUntil fault (T.offered self.old.port) (frames_of migration commands.now) (T.offered self.new.port)) }
-        ensures awaits { OnOk result (self.new ≡ awaiting self.old self.new.port (length commands.now)) }
+        ensures all { OnOk result
+            (Appends (T.told self.old.port).offered (frames_of migration commands.now)
+            (T.told self.new.port).offered) }
+        ensures until { IfErr result
+            (λ fault. OffersUntil fault (T.told self.old.port).offered
+            (frames_of migration commands.now) (T.told self.new.port).offered) }
+        ensures awaits { OnOk result
+            (self.new ≡ awaiting self.old self.new.port (length commands.now)) }
         ensures awaits_none { OnErr result (self.new ≡ awaiting self.old self.new.port 0) }
         ensures idle { commands.now ≡ [] → IsOk result × (self.new.port ≡ self.old.port) }
         ensures no_memory { IsErrOf result SessionFault.Memory → self.new.port ≡ self.old.port }
-        ensures cause { IsErrOf result SessionFault.Port → Rose (T.faults self.old.port) (T.faults self.new.port) }
-        ensures count { T.faults self.old.port ≤ T.faults self.new.port }
-        ensures unheard { T.heard self.new.port ≡ T.heard self.old.port }
-        ensures no_hear { T.quiet self.new.port ≡ T.quiet self.old.port }
-        ensures told { KeepsTelling (T.held self.old.port) (T.held self.new.port) }
-        ensures still_honest { T.honest self.new.port ≡ T.honest self.old.port }
-        ensures still_prompt { T.prompt self.new.port ≡ T.prompt self.old.port }
-        ensures same_start { T.start self.new.port ≡ T.start self.old.port }
-        ensures by_rule { OnTrue (T.honest self.old.port) ((self.new.port ≡ self.old.port) ⊎ IsHonestStep (T.offered self.new.port) (T.heard self.new.port) (T.held self.old.port) (T.held self.new.port)) }
-        ensures in_order { OnTrue (T.prompt self.old.port) ((self.new.port ≡ self.old.port) ⊎ IsPromptState (T.start self.old.port) (T.offered self.new.port) (T.heard self.new.port) (T.held self.new.port)) }
+        ensures cause { IsErrOf result SessionFault.Port
+            → Rose (T.told self.old.port).faults (T.told self.new.port).faults }
+        ensures port { GoesOn (T.told self.old.port) (T.told self.new.port) }
+        ensures unheard { (T.told self.new.port).heard ≡ (T.told self.old.port).heard }
+        ensures no_hear { (T.told self.new.port).quiet ≡ (T.told self.old.port).quiet }
     {
         self.stream.expect(0);
         if commands.is_empty() {
@@ -112,26 +111,27 @@ impl<T: Port> Session<T> {
     /// `Memory` for an answer that was to be added. What was read before is told all the same.
     pub fn hear_all(&mut self, migration: u32, answers: &mut AnswerList) -> Result<(), SessionFault>
         requires live { IsTrue self.old.stream.live }
-        ensures ok { OnOk result (HearsAnswers migration (listening (T.heard self.old.port) self.old.stream answers.old) None (listening (T.heard self.new.port) self.new.stream answers.new)) }
-        ensures err { IfErr result (λ fault. HearsAnswers migration (listening (T.heard self.old.port) self.old.stream answers.old) (Some fault) (listening (T.heard self.new.port) self.new.stream answers.new)) }
-        ensures heard_out { OnOk result (IsHeardOut self.new.stream.awaited (T.quiet self.old.port) (T.quiet self.new.port)) }
-        ensures answers_or_quiet { OnOk result (0 < self.old.stream.awaited → EndsAnswer self.old.stream.kept (T.heard self.old.port) (T.heard self.new.port) ⊎ IsOneMore (T.quiet self.old.port) (T.quiet self.new.port)) }
-        ensures as_quiet { OnErr result (T.quiet self.new.port ≡ T.quiet self.old.port) }
-        ensures still_live { OnOk result (IsTrue self.new.stream.live) }
+        ensures ok { OnOk result
+            (HearsAnswers migration
+            (listening (T.told self.old.port).heard self.old.stream answers.old) None
+            (listening (T.told self.new.port).heard self.new.stream answers.new)) }
+        ensures err { IfErr result
+            (λ fault. HearsAnswers migration
+            (listening (T.told self.old.port).heard self.old.stream answers.old) (Some fault)
+            (listening (T.told self.new.port).heard self.new.stream answers.new)) }
+        ensures done { OnOk result
+            (IsDone (T.told self.old.port) self.old.stream (T.told self.new.port) self.new.stream) }
+        ensures as_quiet { OnErr result
+            ((T.told self.new.port).quiet ≡ (T.told self.old.port).quiet) }
         ensures live_port { IsErrOf result SessionFault.Port → IsTrue self.new.stream.live }
+        ensures cause { IsErrOf result SessionFault.Port
+            → Rose (T.told self.old.port).faults (T.told self.new.port).faults }
         ensures cut { IsTrue self.new.stream.live → IsCutAnswer self.new.stream.kept }
-        ensures idle { self.old.stream.awaited ≡ 0 → IsOk result × (self.new ≡ self.old) × (answers.new ≡ answers.old) }
+        ensures idle { self.old.stream.awaited ≡ 0
+            → IsOk result × (self.new ≡ self.old) × (answers.new ≡ answers.old) }
         ensures switch { self.new.switch ≡ self.old.switch }
-        ensures cause { IsErrOf result SessionFault.Port → Rose (T.faults self.old.port) (T.faults self.new.port) }
-        ensures count { T.faults self.old.port ≤ T.faults self.new.port }
-        ensures unsent { T.offered self.new.port ≡ T.offered self.old.port }
-        ensures told { KeepsTelling (T.held self.old.port) (T.held self.new.port) }
-        ensures still_honest { T.honest self.new.port ≡ T.honest self.old.port }
-        ensures still_prompt { T.prompt self.new.port ≡ T.prompt self.old.port }
-        ensures same_start { T.start self.new.port ≡ T.start self.old.port }
-        ensures by_rule { OnTrue (T.honest self.old.port) ((self.new.port ≡ self.old.port) ⊎ IsHonestStep (T.offered self.new.port) (T.heard self.new.port) (T.held self.old.port) (T.held self.new.port)) }
-        ensures in_order { OnTrue (T.prompt self.old.port) ((self.new.port ≡ self.old.port) ⊎ IsPromptState (T.start self.old.port) (T.offered self.new.port) (T.heard self.new.port) (T.held self.new.port)) }
-        ensures all_given { OnTrue (T.prompt self.old.port) (OnOk result (0 < self.new.stream.awaited → NothingToCome (T.start self.old.port) (T.offered self.new.port) (T.heard self.new.port))) }
+        ensures port { GoesOn (T.told self.old.port) (T.told self.new.port) }
+        ensures unsent { (T.told self.new.port).offered ≡ (T.told self.old.port).offered }
     {
         let mut buffer = [0; BUFFER];
         while self.stream.awaited() > 0 {

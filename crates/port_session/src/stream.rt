@@ -70,8 +70,12 @@ impl AnswerStream {
         answers: &mut AnswerList,
     ) -> Result<(), SessionFault>
         requires live { IsTrue self.old.live }
-        ensures ok { OnOk result (ReadsAnswers migration (reckoned self.old answers.old) piece.now None (reckoned self.new answers.new)) }
-        ensures err { IfErr result (λ fault. ReadsAnswers migration (reckoned self.old answers.old) piece.now (Some fault) (reckoned self.new answers.new)) }
+        ensures ok { OnOk result
+            (ReadsAnswers migration (reckoned self.old answers.old) piece.now None
+            (reckoned self.new answers.new)) }
+        ensures err { IfErr result
+            (λ fault. ReadsAnswers migration (reckoned self.old answers.old) piece.now (Some fault)
+            (reckoned self.new answers.new)) }
         ensures own { IfErr result IsOfBytes }
         ensures live { OnOk result (IsTrue self.new.live) }
         ensures cut { OnOk result (IsCutAnswer self.new.kept) }
@@ -100,8 +104,15 @@ fn read_piece(
 ) -> Result<(), SessionFault>
     requires live { IsTrue reader.old.live }
     requires cut { IsCutAnswer reader.old.kept }
-    ensures ok { OnOk result (ReadsAnswers migration (record { kept = reader.old.kept; awaited = awaited.old; told = answers.old }) piece.now None (record { kept = reader.new.kept; awaited = awaited.new; told = answers.new })) }
-    ensures err { IfErr result (λ fault. ReadsAnswers migration (record { kept = reader.old.kept; awaited = awaited.old; told = answers.old }) piece.now (Some fault) (record { kept = reader.new.kept; awaited = awaited.new; told = answers.new })) }
+    ensures ok { OnOk result
+        (ReadsAnswers migration
+        (record { kept = reader.old.kept; awaited = awaited.old; told = answers.old }) piece.now
+        None (record { kept = reader.new.kept; awaited = awaited.new; told = answers.new })) }
+    ensures err { IfErr result
+        (λ fault. ReadsAnswers migration
+        (record { kept = reader.old.kept; awaited = awaited.old; told = answers.old }) piece.now
+        (Some fault)
+        (record { kept = reader.new.kept; awaited = awaited.new; told = answers.new })) }
     ensures own { IfErr result IsOfBytes }
     ensures live { OnOk result (IsTrue reader.new.live) }
     ensures cut { OnOk result (IsCutAnswer reader.new.kept) }
@@ -125,8 +136,16 @@ fn read_next(
     requires live { IsTrue reader.old.live }
     requires some { 0 < length piece.now }
     ensures taken { IfOk result (λ n. (0 < n) × (n ≤ length piece.now)) }
-    ensures ok { IfOk result (λ n. ReadsAnswers migration (record { kept = reader.old.kept; awaited = awaited.old; told = answers.old }) (take n piece.now) None (record { kept = reader.new.kept; awaited = awaited.new; told = answers.new })) }
-    ensures err { IfErr result (λ fault. ReadsAnswers migration (record { kept = reader.old.kept; awaited = awaited.old; told = answers.old }) piece.now (Some fault) (record { kept = reader.new.kept; awaited = awaited.new; told = answers.new })) }
+    ensures ok { IfOk result
+        (λ n. ReadsAnswers migration
+        (record { kept = reader.old.kept; awaited = awaited.old; told = answers.old })
+        (take n piece.now) None
+        (record { kept = reader.new.kept; awaited = awaited.new; told = answers.new })) }
+    ensures err { IfErr result
+        (λ fault. ReadsAnswers migration
+        (record { kept = reader.old.kept; awaited = awaited.old; told = answers.old }) piece.now
+        (Some fault)
+        (record { kept = reader.new.kept; awaited = awaited.new; told = answers.new })) }
     ensures own { IfErr result IsOfBytes }
     ensures live { OnOk result (IsTrue reader.new.live) }
     ensures cut { OnOk result (IsCutAnswer reader.new.kept) }

@@ -108,7 +108,8 @@ fn read_switches(
 ) -> Result<(), InputFault>
     requires { length problem.old.switches ≡ 0 }
     ensures added { Leaves result problem.new
-        (with_list object key.Switches (place_of part.Switches) MOST_SWITCHES with_one_switch (view value.now) problem.old) }
+        (with_list object key.Switches (place_of part.Switches) MOST_SWITCHES with_one_switch
+        (view value.now) problem.old) }
     ensures links { problem.new.links ≡ problem.old.links }
     ensures flows { problem.new.flows ≡ problem.old.flows }
 {
@@ -145,7 +146,8 @@ fn read_links(
 ) -> Result<(), InputFault>
     requires { length problem.old.links ≡ 0 }
     ensures added { Leaves result problem.new
-        (with_list object key.Links (place_of part.Links) MOST_LINKS with_one_link (view value.now) problem.old) }
+        (with_list object key.Links (place_of part.Links) MOST_LINKS with_one_link (view value.now)
+        problem.old) }
     ensures flows { problem.new.flows ≡ problem.old.flows }
 {
     let links = list_of(
@@ -181,7 +183,8 @@ fn read_flows(
 ) -> Result<(), InputFault>
     requires { length problem.old.flows ≡ 0 }
     ensures { Leaves result problem.new
-        (with_list object key.Flows (place_of part.Flows) MOST_FLOWS with_one_flow (view value.now) problem.old) }
+        (with_list object key.Flows (place_of part.Flows) MOST_FLOWS with_one_flow (view value.now)
+        problem.old) }
 {
     let flows = list_of(
         object,

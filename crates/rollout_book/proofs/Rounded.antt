@@ -1,5 +1,5 @@
 -- What a round makes of a book.
-use Rattle.std.proofs.Common.{◌≡◌, ℕ, ◌<◌, Bool, true, false, List, [], ◌∷◌, ◌++◌, append-nil, All, Option, Some, None, Result, Ok, Err, IfErr, OnErr, OnOk, if◌then◌else◌, is_ok, nat_lt, nat_le, refl, ap, ◌∙◌, ltb-true}
+use Rattle.std.proofs.Common.{◌≡◌, ℕ, ◌<◌, Bool, true, false, List, [], ◌∷◌, ◌++◌, append-nil, All, Option, Some, None, Result, Ok, Err, IfErr, OnErr, OnOk, if◌then◌else◌, is_ok, nat_lt, nat_le, refl, sym, subst, ap, ◌∙◌, ltb-true}
 use Rattle.std.proofs.lemmas.Bool.{and_parts}
 use Rattle.std.proofs.lemmas.List.Elements.{All-cons, All-nil}
 use Rattle.rollout_rules.specs.Items.{item_count}
@@ -13,7 +13,7 @@ use Rattle.rollout_rounds.specs.Rounds.{Turning}
 use Rattle.rollout_book.specs.declared.fault.BookFault.{BookFault}
 use Rattle.rollout_book.specs.declared.fault.BookFault.TheVariants.{Alien, Disk}
 use Rattle.rollout_book.specs.declared.turn.Turn.{Turn}
-use Rattle.rollout_book.specs.Aliens.{IsFault, OnDisk, begun_of, first_alien, is_known}
+use Rattle.rollout_book.specs.Aliens.{IsFault, OnAlien, OnDisk, begun_of, first_alien, is_known}
 use Rattle.rollout_book.specs.Chronicles.{Chronicled, with_batch, with_lost}
 
 -- ---- which answers are alien
@@ -77,3 +77,20 @@ pub on-lost : (r : Result Turn BookFault) (live : Bool) (P Q : Type 0) → live 
 on-lost (Ok turn) live P Q lives holds give = tt
 on-lost (Err (Alien item held begun)) live P Q lives holds give = tt
 on-lost (Err Disk) live P Q lives holds give = give lives holds
+
+-- what holds whatever is answered, and what is said of the disk alone
+pub on-ok : (r : Result Turn BookFault) (P : Type 0) → P → OnOk r P
+on-ok (Ok turn) P holds = holds
+on-ok (Err fault) P holds = tt
+
+pub alien-still : (fault : BookFault) (P : Type 0) → P → OnAlien fault P
+alien-still (Alien item held begun) P holds = holds
+alien-still Disk P holds = tt
+
+pub disk-refused : (r : Result Turn BookFault) (alien : Option BookFault) → IfErr r (λ fault. fault ≡ Disk) → alien ≡ None → IfErr r (λ fault. IsFault fault alien)
+disk-refused (Ok turn) alien disk none = tt
+disk-refused (Err fault) alien disk none = subst (λ f. IsFault f alien) (sym disk) none
+
+pub disk-alone : (r : Result Turn BookFault) (P : Type 0) → IfErr r (λ fault. fault ≡ Disk) → IfErr r (λ fault. OnAlien fault P)
+disk-alone (Ok turn) P disk = tt
+disk-alone (Err fault) P disk = subst (λ f. OnAlien f P) (sym disk) tt

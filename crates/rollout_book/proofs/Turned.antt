@@ -5,6 +5,7 @@ use Rattle.rollout_rules.specs.Wan.{Rollout}
 use Rattle.rollout_rules.specs.History.{History, with_entries}
 use Rattle.rollout_rules.specs.Legal.{is_legal}
 use Rattle.rollout_rules.specs.declared.op.Entry.{Entry}
+use Rattle.disk_model.specs.Traces.{DiskTrace}
 use Rattle.disk_model.specs.Moments.{LeavesOnly}
 use Rattle.disk_model.proofs.Running.{LeavesOnly-durable, LeavesOnly-weaker}
 use Rattle.dependency_graph.specs.Graph.{op_total}
@@ -39,22 +40,22 @@ module _ (start : List ℕ) (entries batch : List Entry) (image : List ℕ) (has
   has-either c (inl same) = inl (has-still c same)
   has-either c (inr more) = inr (has-more c more)
 
-module _ {D : Type 0} (bytes : D → Option (List ℕ)) (may_leave : D → List ℕ → Type 0) (moment : D → ℕ) (left_since : D → ℕ → List ℕ → Type 0) (start : List ℕ) (entries batch : List Entry) where
+module _ {D : Type 0} (trace : D → DiskTrace) (start : List ℕ) (entries batch : List Entry) where
   -- nothing was written
-  pub run-still : (told : Option (List ℕ)) (old new : D) → ((c : List ℕ) → left_since old (moment old) c → may_leave old c) → new ≡ old → IfSome told (IsKeptList start entries (may_leave old))
-      → IfSome told (λ _. LeavesOnly moment left_since old new (HasBeforeOrAfter start entries batch))
+  pub run-still : (told : Option (List ℕ)) (old new : D) → ((c : List ℕ) → (trace old).left_since (trace old).moment c → (trace old).may_leave c) → new ≡ old → IfSome told (IsKeptList start entries (trace old).may_leave)
+      → IfSome told (λ _. LeavesOnly trace old new (HasBeforeOrAfter start entries batch))
   run-still None old new now same kept = tt
   run-still (Some image) old new now same kept =
-      subst (λ (d : D). LeavesOnly moment left_since old d (HasBeforeOrAfter start entries batch)) (sym same)
-      (LeavesOnly-durable moment left_since (may_leave old) old image (HasBeforeOrAfter start entries batch) now kept.only (inl kept.has))
+      subst (λ (d : D). LeavesOnly trace old d (HasBeforeOrAfter start entries batch)) (sym same)
+      (LeavesOnly-durable trace (trace old).may_leave old image (HasBeforeOrAfter start entries batch) now kept.only (inl kept.has))
 
   -- the batch was written, wholly or in part
-  pub run-appended : (told : Option (List ℕ)) (old new : D) → IfSome told (IsKeptList start entries (may_leave old))
-      → IfSome told (λ image. LeavesOnly moment left_since old new (IsBeforeOrAfter (journal_in image) (entry_rows batch)))
-      → IfSome told (λ _. LeavesOnly moment left_since old new (HasBeforeOrAfter start entries batch))
+  pub run-appended : (told : Option (List ℕ)) (old new : D) → IfSome told (IsKeptList start entries (trace old).may_leave)
+      → IfSome told (λ image. LeavesOnly trace old new (IsBeforeOrAfter (journal_in image) (entry_rows batch)))
+      → IfSome told (λ _. LeavesOnly trace old new (HasBeforeOrAfter start entries batch))
   run-appended None old new kept run = tt
   run-appended (Some image) old new kept run =
-      LeavesOnly-weaker moment left_since old new (IsBeforeOrAfter (journal_in image) (entry_rows batch)) (HasBeforeOrAfter start entries batch) run (has-either start entries batch image kept.has)
+      LeavesOnly-weaker trace old new (IsBeforeOrAfter (journal_in image) (entry_rows batch)) (HasBeforeOrAfter start entries batch) run (has-either start entries batch image kept.has)
 
   -- and is there
   pub kept-appended : (told told_new : Option (List ℕ)) (left left_new : List ℕ → Type 0) → KeepsTelling told told_new → IfSome told (IsKeptList start entries left)
@@ -66,7 +67,7 @@ module _ {D : Type 0} (bytes : D → Option (List ℕ)) (may_leave : D → List 
       record { only = done.durable; has = has-more start entries batch image kept.has done.now done.keeps }
 
   -- the parts behind a round: the batch is there, or the disk failed, or there was none
-  module _ (t t' : Turning) (j j' : Opened D) (es' : List Entry) (room room' : ℕ) (was : IsChronicle bytes may_leave t j entries room) (rollout-is : t'.rollout ≡ t.rollout) (history-is : t'.history ≡ with_entries t.history batch)
+  module _ (t t' : Turning) (j j' : Opened D) (es' : List Entry) (room room' : ℕ) (was : IsChronicle trace t j entries room) (rollout-is : t'.rollout ≡ t.rollout) (history-is : t'.history ≡ with_entries t.history batch)
       (most-is : j'.most ≡ j.most) (more : room ≤ room') where
     most-now : j'.most ≡ 2 * op_total t'.rollout
     most-now = most-is ∙ was.most ∙ ap (λ (r : Rollout). 2 * op_total r) (sym rollout-is)
@@ -74,7 +75,7 @@ module _ {D : Type 0} (bytes : D → Option (List ℕ)) (may_leave : D → List 
     enough-now : 2 * op_total t'.rollout ≤ room'
     enough-now = omega (arith, was.enough, more, ap op_total rollout-is)
 
-    pub chronicle-lost : j'.live ≡ false → IsChronicle bytes may_leave t' j' es' room'
+    pub chronicle-lost : j'.live ≡ false → IsChronicle trace t' j' es' room'
     chronicle-lost dead = record {
       most = most-now;
       enough = enough-now;
@@ -83,8 +84,8 @@ module _ {D : Type 0} (bytes : D → Option (List ℕ)) (may_leave : D → List 
       kept = λ live. absurd (cc (live, dead));
     }
 
-    pub chronicle-written : j.live ≡ true → es' ≡ entries ++ batch → j'.entries ≡ j.entries + length batch → IfSome (bytes j'.disk) (IsKeptList t.history.start (entries ++ batch) (may_leave j'.disk))
-        → IsChronicle bytes may_leave t' j' es' room'
+    pub chronicle-written : j.live ≡ true → es' ≡ entries ++ batch → j'.entries ≡ j.entries + length batch → IfSome (trace j'.disk).bytes (IsKeptList t.history.start (entries ++ batch) (trace j'.disk).may_leave)
+        → IsChronicle trace t' j' es' room'
     chronicle-written live es-is count kept = record {
       most = most-now;
       enough = enough-now;

@@ -11,7 +11,8 @@ use wire_frames::Answer;
 /// What is said of the first answer that is alien: of an item that doesn't exist, or above what was begun.
 /// Time: the answers.
 pub(crate) fn first_alien(graph: &Graph, answers: &[Answer]) -> Option<BookFault>
-    requires legal { IsTrue (is_legal graph.now.rollout.problem graph.now.rollout.plan graph.now.history) }
+    requires legal { IsTrue (is_legal graph.now.rollout.problem graph.now.rollout.plan
+        graph.now.history) }
     ensures { result ≡ aliens.first_alien graph.now answers.now }
 {
     let items = graph.item_count();
@@ -24,7 +25,8 @@ pub(crate) fn first_alien(graph: &Graph, answers: &[Answer]) -> Option<BookFault
 }
 
 fn alien_fault(graph: &Graph, items: u32, answer: &Answer) -> Option<BookFault>
-    requires legal { IsTrue (is_legal graph.now.rollout.problem graph.now.rollout.plan graph.now.history) }
+    requires legal { IsTrue (is_legal graph.now.rollout.problem graph.now.rollout.plan
+        graph.now.history) }
     requires items { items ≡ item_count graph.now.rollout.problem }
     ensures { result ≡ aliens.fault_of graph.now answer.now }
 {
@@ -45,7 +47,8 @@ fn alien_fault(graph: &Graph, items: u32, answer: &Answer) -> Option<BookFault>
 
 // How many operations of an item were begun.
 fn begun(graph: &Graph, item: u32) -> u32
-    requires legal { IsTrue (is_legal graph.now.rollout.problem graph.now.rollout.plan graph.now.history) }
+    requires legal { IsTrue (is_legal graph.now.rollout.problem graph.now.rollout.plan
+        graph.now.history) }
     requires item { item < item_count graph.now.rollout.problem }
     ensures { result ≡ history.begun graph.now.history item }
 {

@@ -5,18 +5,13 @@ ghost use Rattle.rollout_rules.specs.Legal.{is_finished, is_legal};
 ghost use Rattle.rollout_rules.specs.World.{in_flight};
 ghost use Rattle.dependency_graph.specs.Graph.{op_total};
 ghost use Rattle.dependency_graph.specs.Index.{AreItems};
-ghost use Rattle.disk_model.specs.Crashes.{Within};
-ghost use Rattle.disk_model.specs.Moments.{LeavesOnly};
 ghost use Rattle.order_policy.specs.Answers.{rank_by};
-ghost use Rattle.intent_journal.specs.Recovered.{IsBroughtTo, IsCause, KeepsNow, MayStand, OnRefusal, kept_for};
-ghost use Rattle.intent_journal.specs.Verdicts.{verdict};
+ghost use Rattle.intent_journal.specs.Openings.{IsLeft, IsOpenedFrom};
 ghost use Rattle.intent_journal.specs.declared.fault.JournalFault.TheVariants as fault;
 ghost use Rattle.rollout_rounds.specs.Rounds as rounds;
-ghost use Rattle.wan_edge.specs.Streams.{KeepsTelling, Rose};
-ghost use Rattle.rollout_book.specs.Aliens as aliens;
-ghost use Rattle.rollout_book.specs.Chronicles.{batch_of, first_book, graph_of, turn_of, with_batch, with_lost, IsFound};
+ghost use Rattle.rollout_book.specs.Chronicles.{first_book, graph_of, IsFound, IsNewBook, IsRound};
 ghost use Rattle.rollout_book.specs.Commands.{commands_of};
-ghost use Rattle.rollout_book.specs.Lists.{HasBeforeOrAfter, IsKeptList, KeepsOwner};
+ghost use Rattle.rollout_book.specs.Lists.{IsKeptList};
 
 use crate::aliens::first_alien;
 use crate::commands::{CommandList, add_asked};
@@ -54,9 +49,18 @@ impl<D: Disk> Model for Chronicle<D> {
 
     ghost Value = { Chronicled D };
 
-    ghost view = { λ b. record { rollout = b.rounds.rollout; history = b.rounds.history; entries = b.entries.items; disk = b.journal.disk; live = b.journal.live; found = b.found } };
+    ghost view = { λ b. record {
+      rollout = b.rounds.rollout;
+      history = b.rounds.history;
+      entries = b.entries.items;
+      disk = b.journal.disk;
+      live = b.journal.live;
+      found = b.found;
+    } };
 
-    ghost invariant = { λ b. (b.rounds.heard ≡ []) × AreItems b.rounds.rollout.problem (item_count b.rounds.rollout.problem) b.items × IsChronicle D.bytes D.may_leave b.rounds b.journal b.entries.items (vec_capacity b.entries) };
+    ghost invariant = { λ b. (b.rounds.heard ≡ [])
+        × AreItems b.rounds.rollout.problem (item_count b.rounds.rollout.problem) b.items
+        × IsChronicle D.told b.rounds b.journal b.entries.items (vec_capacity b.entries) };
 }
 
 impl<D: Disk> Chronicle<D> {
@@ -70,24 +74,12 @@ impl<D: Disk> Chronicle<D> {
         disk: D,
     ) -> Result<Chronicle<D>, Unopened<D>>
         requires empty { graph.history ≡ from_nothing graph.rollout.problem [] }
-        ensures live { IfOk result (λ book. book.live ≡ true) }
-        ensures rollout { IfOk result (λ book. book.rollout ≡ graph.rollout) }
-        ensures list { IfOk result (λ book. book.entries ≡ book.history.entries) }
-        ensures found { IfOk result (λ book. book.found ≡ length book.entries) }
-        ensures legal { IfOk result (λ book. IsTrue (is_legal book.rollout.problem book.rollout.plan book.history)) }
-        ensures brought { IfOk result (λ book. IfSome (D.bytes disk) (λ image. IsBroughtTo (verdict graph.rollout digest.now image) book.entries graph (graph_of book))) }
-        ensures keeps { IfOk result (λ book. IfSome (D.bytes disk) (λ image.
-            KeepsNow (kept_for graph.rollout digest.now (verdict graph.rollout digest.now image)) (D.bytes book.disk) (D.may_leave book.disk))) }
-        ensures has { IfOk result (λ book. IfSome (D.bytes book.disk) (IsKeptList book.history.start book.entries (D.may_leave book.disk))) }
-        ensures any_moment { IfOk result (λ book. IfSome (D.bytes disk) (λ image.
-            LeavesOnly D.moment D.left_since disk book.disk (MayStand graph.rollout digest.now image (verdict graph.rollout digest.now image) (D.may_leave disk)))) }
-        ensures told { IfOk result (λ book. KeepsTelling (D.bytes disk) (D.bytes book.disk)) }
-        ensures count { IfOk result (λ book. D.faults disk ≤ D.faults book.disk) }
-        ensures cause { IfErr result (λ unopened. unopened.cause ≡ fault.Disk → Rose (D.faults disk) (D.faults unopened.disk)) }
-        ensures refusal { IfErr result (λ unopened. IfSome (D.bytes disk) (λ image. IsCause unopened.cause digest.now (verdict graph.rollout digest.now image))) }
-        ensures unwritten { IfErr result (λ unopened. OnRefusal unopened.cause ((D.bytes unopened.disk ≡ D.bytes disk) × Within (D.may_leave unopened.disk) (D.may_leave disk))) }
-        ensures meanwhile { IfErr result (λ unopened. IfSome (D.bytes disk) (λ image.
-            LeavesOnly D.moment D.left_since disk unopened.disk (MayStand graph.rollout digest.now image (verdict graph.rollout digest.now image) (D.may_leave disk)))) }
+        ensures opened { IfOk result
+            (λ book. IsOpenedFrom D.told graph.rollout digest.now disk (graph_of book) book.entries
+            book.disk) }
+        ensures book { IfOk result (λ book. IsNewBook D.told book) }
+        ensures left { IfErr result
+            (λ unopened. IsLeft D.told graph.rollout digest.now disk unopened.cause unopened.disk) }
     {
         let mut graph = graph;
         match find(alloc, &mut graph, digest, disk) {
@@ -105,19 +97,7 @@ impl<D: Disk> Chronicle<D> {
     /// lives no longer.
     pub fn round(&mut self, policy: &Policy, answers: &[Answer]) -> Result<Turn, BookFault>
         requires live { self.old.live ≡ true }
-        ensures alien { IfErr result (λ fault. aliens.IsFault fault (aliens.first_alien (graph_of self.old) answers.now)) }
-        ensures known { OnOk result (aliens.first_alien (graph_of self.old) answers.now ≡ None) }
-        ensures unchanged { IfErr result (λ fault. aliens.OnAlien fault (self.new ≡ self.old)) }
-        ensures turn { IfOk result (λ turn. turn ≡ turn_of (batch_of self.old (rank_by policy.now.answers) answers.now)) }
-        ensures written { OnOk result (self.new ≡ with_batch self.old (batch_of self.old (rank_by policy.now.answers) answers.now) self.new.disk) }
-        ensures lost { IfErr result (λ fault. aliens.OnDisk fault (self.new ≡ with_lost self.old (batch_of self.old (rank_by policy.now.answers) answers.now) self.new.disk)) }
-        ensures none { batch_of self.old (rank_by policy.now.answers) answers.now ≡ [] → self.new ≡ self.old }
-        ensures any_moment { IfSome (D.bytes self.old.disk) (λ _. LeavesOnly D.moment D.left_since self.old.disk self.new.disk (HasBeforeOrAfter self.old.history.start self.old.entries (batch_of self.old (rank_by policy.now.answers) answers.now))) }
-        ensures has { OnOk result (IfSome (D.bytes self.new.disk) (IsKeptList self.new.history.start self.new.entries (D.may_leave self.new.disk))) }
-        ensures owner { IfSome (D.bytes self.old.disk) (λ image. LeavesOnly D.moment D.left_since self.old.disk self.new.disk (KeepsOwner image)) }
-        ensures told { KeepsTelling (D.bytes self.old.disk) (D.bytes self.new.disk) }
-        ensures cause { IfErr result (λ fault. aliens.OnDisk fault (Rose (D.faults self.old.disk) (D.faults self.new.disk))) }
-        ensures count { D.faults self.old.disk ≤ D.faults self.new.disk }
+        ensures { IsRound D.told (rank_by policy.now.answers) answers.now self.old result self.new }
     {
         match first_alien(self.rounds.graph(), answers) {
             Some(fault) => Err(fault),
@@ -174,7 +154,8 @@ impl<D: Disk> Chronicle<D> {
 
     /// Whether every operation is settled.
     pub fn finished(&self) -> bool
-        ensures { result ≡ is_finished self.now.rollout.problem self.now.rollout.plan self.now.history }
+        ensures { result
+            ≡ is_finished self.now.rollout.problem self.now.rollout.plan self.now.history }
     {
         self.rounds.graph().finished()
     }
@@ -191,7 +172,9 @@ impl<D: Disk> Chronicle<D> {
     pub fn entries(&self) -> &[Entry]
         ensures value { result.now ≡ self.now.entries }
         ensures same { self.now.live ≡ true → self.now.entries ≡ self.now.history.entries }
-        ensures has { self.now.live ≡ true → IfSome (D.bytes self.now.disk) (IsKeptList self.now.history.start self.now.entries (D.may_leave self.now.disk)) }
+        ensures has { self.now.live ≡ true
+            → IfSome (D.told self.now.disk).bytes
+            (IsKeptList self.now.history.start self.now.entries (D.told self.now.disk).may_leave) }
     {
         self.entries.as_slice()
     }
@@ -199,7 +182,8 @@ impl<D: Disk> Chronicle<D> {
     /// The graph of the rollout, whose history is legal.
     pub fn graph(&self) -> &Graph
         ensures value { result.now ≡ graph_of self.now }
-        ensures legal { IsTrue (is_legal self.now.rollout.problem self.now.rollout.plan self.now.history) }
+        ensures legal { IsTrue (is_legal self.now.rollout.problem self.now.rollout.plan
+            self.now.history) }
     {
         self.rounds.graph()
     }
@@ -219,9 +203,10 @@ fn of_found<D: Disk>(
     graph: Graph,
     found: Found<D>,
 ) -> Result<Chronicle<D>, Unopened<D>>
-    requires { IsFound D.bytes D.may_leave graph found.journal found.list }
+    requires { IsFound D.told graph found.journal found.list }
     ensures ok { IfOk result (λ book. book ≡ first_book graph found.list found.journal.disk) }
-    ensures err { IfErr result (λ unopened. unopened ≡ record { disk = found.journal.disk; cause = fault.Memory }) }
+    ensures err { IfErr result
+        (λ unopened. unopened ≡ record { disk = found.journal.disk; cause = fault.Memory }) }
 {
     let Found { journal, list } = found;
     match Parts::new(alloc, graph, list.as_slice()) {
@@ -235,9 +220,10 @@ fn of_found<D: Disk>(
 
 fn of_parts<D: Disk>(parts: Parts, journal: Journal<D>) -> Chronicle<D>
     requires first { parts.rounds.heard ≡ [] }
-    requires items { AreItems parts.rounds.rollout.problem (item_count parts.rounds.rollout.problem) parts.items }
+    requires items { AreItems parts.rounds.rollout.problem (item_count parts.rounds.rollout.problem)
+        parts.items }
     requires room { 2 * op_total parts.rounds.rollout ≤ vec_capacity parts.entries }
-    requires found { IsFound D.bytes D.may_leave (rounds.graph_of parts.rounds) journal parts.entries.items }
+    requires found { IsFound D.told (rounds.graph_of parts.rounds) journal parts.entries.items }
     ensures { result ≡ first_book (rounds.graph_of parts.rounds) parts.entries.items journal.disk }
 {
     Chronicle {

@@ -8,10 +8,10 @@ ghost use Rattle.dependency_graph.specs.Index.{AreItems};
 ghost use Rattle.rollout_book.specs.Commands as commands;
 
 use crate::contents::command_to;
-use crate::homes::home_of;
 use dependency_graph::Graph;
 use lists::{Many, Memory};
 use rollout_rules::{Item, Op};
+use wan_model::home_of_item;
 use wire_frames::Command;
 
 /// Commands, in the order in which they are to be sent.
@@ -26,10 +26,13 @@ pub(crate) fn add_asked(
     switches: &[u32],
     out: &mut CommandList,
 ) -> Result<(), Memory>
-    requires legal { IsTrue (is_legal graph.now.rollout.problem graph.now.rollout.plan graph.now.history) }
-    requires items { AreItems graph.now.rollout.problem (item_count graph.now.rollout.problem) items.now }
+    requires legal { IsTrue (is_legal graph.now.rollout.problem graph.now.rollout.plan
+        graph.now.history) }
+    requires items { AreItems graph.now.rollout.problem (item_count graph.now.rollout.problem)
+        items.now }
     requires flying { All (commands.IsFlying graph.now.rollout.problem graph.now.history) ops.now }
-    ensures { OnOk result (out.new ≡ out.old ++ commands.asked graph.now.rollout switches.now ops.now) }
+    ensures { OnOk result
+        (out.new ≡ out.old ++ commands.asked graph.now.rollout switches.now ops.now) }
 {
     for op in ops {
         let item = items[op.item as usize];
@@ -45,7 +48,7 @@ fn is_asked(graph: &Graph, item: Item, switches: &[u32]) -> bool
     requires { IsTrue (is_item graph.now.rollout.problem item) }
     ensures { result ≡ commands.is_among switches.now (home_of graph.now.rollout.problem item) }
 {
-    match home_of(graph.plan(), item) {
+    match home_of_item(graph.plan().problem(), item) {
         Some(home) => is_among(switches, home),
         None => false,
     }
@@ -64,7 +67,8 @@ fn is_among(switches: &[u32], home: u32) -> bool
 
 // The command of an operation in flight.
 fn command_of(graph: &Graph, item: Item, op: Op) -> Command
-    requires legal { IsTrue (is_legal graph.now.rollout.problem graph.now.rollout.plan graph.now.history) }
+    requires legal { IsTrue (is_legal graph.now.rollout.problem graph.now.rollout.plan
+        graph.now.history) }
     requires flying { commands.IsFlying graph.now.rollout.problem graph.now.history op }
     requires item { item ≡ item_at graph.now.rollout.problem op.item }
     requires home { IsTrue (is_some (home_of graph.now.rollout.problem item)) }
@@ -76,11 +80,14 @@ fn command_of(graph: &Graph, item: Item, op: Op) -> Command
 
 // The stage to which an operation in flight takes its item.
 fn stage_behind(graph: &Graph, op: Op) -> usize
-    requires legal { IsTrue (is_legal graph.now.rollout.problem graph.now.rollout.plan graph.now.history) }
+    requires legal { IsTrue (is_legal graph.now.rollout.problem graph.now.rollout.plan
+        graph.now.history) }
     requires flying { commands.IsFlying graph.now.rollout.problem graph.now.history op }
     ensures within { result ≤ last_stage graph.now.rollout.plan }
-    ensures brings { content graph.now.rollout.problem graph.now.rollout.plan (item_at graph.now.rollout.problem op.item) result
-        ≡ content_after graph.now.rollout.problem graph.now.rollout.plan (item_at graph.now.rollout.problem op.item) op.number }
+    ensures brings { content graph.now.rollout.problem graph.now.rollout.plan
+        (item_at graph.now.rollout.problem op.item) result
+        ≡ content_after graph.now.rollout.problem graph.now.rollout.plan
+        (item_at graph.now.rollout.problem op.item) op.number }
 {
     graph.plan().next_stage(graph.stands(op.item) as usize)
 }

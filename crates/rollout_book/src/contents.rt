@@ -13,7 +13,13 @@ pub(crate) fn command_to(plan: &CheckedPlan, item: Item, op: Op, stage: usize) -
     requires item { IsTrue (is_item plan.now.problem item) }
     requires home { IsTrue (is_some (home_of plan.now.problem item)) }
     requires stage { stage ≤ last_stage plan.now.plan }
-    ensures { result ≡ record { item = op.item; number = op.number; scale = plan.now.plan.scale; content = content plan.now.problem plan.now.plan item stage } }
+    ensures { result
+        ≡ record {
+          item = op.item;
+          number = op.number;
+          scale = plan.now.plan.scale;
+          content = content plan.now.problem plan.now.plan item stage;
+        } }
 {
     Command {
         item: op.item,
@@ -57,7 +63,8 @@ fn rates_at(plan: &CheckedPlan, item: Item, stage: usize) -> [u64; 16]
 fn flow_rates(plan: &CheckedPlan, flow: usize, stage: usize) -> [u64; 16]
     requires flow { flow < length plan.now.problem.flows }
     requires stage { stage ≤ last_stage plan.now.plan }
-    ensures { result ≡ rates_of (content plan.now.problem plan.now.plan (variants.Flow flow) stage) }
+    ensures { result
+        ≡ rates_of (content plan.now.problem plan.now.plan (variants.Flow flow) stage) }
 {
     let mut rates = [0; 16];
     for j in 0..plan.tunnel_count(flow) {

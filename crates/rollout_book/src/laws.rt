@@ -16,8 +16,13 @@ use rollout_rules::Entry;
 /// together, is judged to stand with just these: no opening refuses it.
 pub fn a_legal_list_is_found_again(entries: &[Entry])
     ensures { (r : Rollout) (digest : Digest) (kept : Kept) (image start : List ℕ)
-        → length start ≡ item_count r.problem → is_legal r.problem r.plan (record { start = start; entries = entries.now }) ≡ true
-        → journal_in image ≡ Some kept → kept.digest ≡ digest.bytes → kept.migration ≡ digest.migration → kept.starts ≡ start → kept.rows ≡ entry_rows entries.now
+        → length start ≡ item_count r.problem
+        → is_legal r.problem r.plan (record { start = start; entries = entries.now }) ≡ true
+        → journal_in image ≡ Some kept
+        → kept.digest ≡ digest.bytes
+        → kept.migration ≡ digest.migration
+        → kept.starts ≡ start
+        → kept.rows ≡ entry_rows entries.now
         → verdict r digest image ≡ Stands start entries.now }
 {
     the_rows_of_entries_are_these_entries(entries);

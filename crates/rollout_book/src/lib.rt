@@ -18,7 +18,6 @@ mod commands;
 mod contents;
 mod fault;
 mod hearing;
-mod homes;
 pub mod laws;
 mod opening;
 mod turn;

@@ -1,17 +1,12 @@
-ghost use Rattle.std.specs.Prelude.{◌≡◌, ◌*◌, ◌≤◌, [], length, true, vec_capacity, IfErr, IfOk, IfSome, IsTrue};
+ghost use Rattle.std.specs.Prelude.{◌≡◌, ◌*◌, ◌≤◌, [], vec_capacity, IfErr, IfOk, IsTrue};
 ghost use Rattle.rollout_rules.specs.History.{from_nothing};
 ghost use Rattle.rollout_rules.specs.Items.{item_count};
 ghost use Rattle.rollout_rules.specs.Legal.{is_legal};
 ghost use Rattle.dependency_graph.specs.Graph.{op_total};
 ghost use Rattle.dependency_graph.specs.Index.{AreItems};
-ghost use Rattle.disk_model.specs.Crashes.{Within};
-ghost use Rattle.disk_model.specs.Moments.{LeavesOnly};
-ghost use Rattle.intent_journal.specs.Recovered.{IsBroughtTo, IsCause, KeepsNow, MayStand, OnRefusal, kept_for};
-ghost use Rattle.intent_journal.specs.Verdicts.{verdict};
-ghost use Rattle.intent_journal.specs.declared.fault.JournalFault.TheVariants as fault;
+ghost use Rattle.intent_journal.specs.Openings.{IsLeft, IsOpenedFrom};
 ghost use Rattle.rollout_rounds.specs.Rounds.{first_turn};
 ghost use Rattle.rollout_book.specs.Chronicles.{IsFound};
-ghost use Rattle.wan_edge.specs.Streams.{KeepsTelling, Rose};
 
 use dependency_graph::{Graph, items};
 use disk_model::Disk;
@@ -36,20 +31,12 @@ pub(crate) fn find<D: Disk>(
     disk: D,
 ) -> Result<Found<D>, Unopened<D>>
     requires empty { graph.old.history ≡ from_nothing graph.old.rollout.problem [] }
-    ensures found { IfOk result (λ found. IsFound D.bytes D.may_leave graph.new found.journal found.list) }
-    ensures rollout { IfOk result (λ _. graph.new.rollout ≡ graph.old.rollout) }
-    ensures brought { IfOk result (λ found. IfSome (D.bytes disk) (λ image. IsBroughtTo (verdict graph.old.rollout digest.now image) found.list graph.old graph.new)) }
-    ensures keeps { IfOk result (λ found. IfSome (D.bytes disk) (λ image.
-        KeepsNow (kept_for graph.old.rollout digest.now (verdict graph.old.rollout digest.now image)) (D.bytes found.journal.disk) (D.may_leave found.journal.disk))) }
-    ensures any_moment { IfOk result (λ found. IfSome (D.bytes disk) (λ image.
-        LeavesOnly D.moment D.left_since disk found.journal.disk (MayStand graph.old.rollout digest.now image (verdict graph.old.rollout digest.now image) (D.may_leave disk)))) }
-    ensures told { IfOk result (λ found. KeepsTelling (D.bytes disk) (D.bytes found.journal.disk)) }
-    ensures count { IfOk result (λ found. D.faults disk ≤ D.faults found.journal.disk) }
-    ensures cause { IfErr result (λ unopened. unopened.cause ≡ fault.Disk → Rose (D.faults disk) (D.faults unopened.disk)) }
-    ensures refusal { IfErr result (λ unopened. IfSome (D.bytes disk) (λ image. IsCause unopened.cause digest.now (verdict graph.old.rollout digest.now image))) }
-    ensures unwritten { IfErr result (λ unopened. OnRefusal unopened.cause ((D.bytes unopened.disk ≡ D.bytes disk) × Within (D.may_leave unopened.disk) (D.may_leave disk))) }
-    ensures meanwhile { IfErr result (λ unopened. IfSome (D.bytes disk) (λ image.
-        LeavesOnly D.moment D.left_since disk unopened.disk (MayStand graph.old.rollout digest.now image (verdict graph.old.rollout digest.now image) (D.may_leave disk)))) }
+    ensures opened { IfOk result
+        (λ found. IsOpenedFrom D.told graph.old.rollout digest.now disk graph.new found.list
+        found.journal.disk) }
+    ensures found { IfOk result (λ found. IsFound D.told graph.new found.journal found.list) }
+    ensures left { IfErr result
+        (λ unopened. IsLeft D.told graph.old.rollout digest.now disk unopened.cause unopened.disk) }
 {
     match recover(alloc, disk, digest, graph) {
         Ok((journal, list)) => Ok(Found { journal, list }),
@@ -70,9 +57,12 @@ impl Parts {
     /// Those of a graph that was brought to this list.
     pub(crate) fn new(alloc: Global, graph: Graph, list: &[Entry]) -> Result<Parts, Memory>
         ensures rounds { IfOk result (λ parts. parts.rounds ≡ first_turn graph) }
-        ensures items { IfOk result (λ parts. AreItems graph.rollout.problem (item_count graph.rollout.problem) parts.items) }
+        ensures items { IfOk result
+            (λ parts. AreItems graph.rollout.problem (item_count graph.rollout.problem)
+            parts.items) }
         ensures list { IfOk result (λ parts. parts.entries.items ≡ list.now) }
-        ensures room { IfOk result (λ parts. 2 * op_total graph.rollout ≤ vec_capacity parts.entries) }
+        ensures room { IfOk result
+            (λ parts. 2 * op_total graph.rollout ≤ vec_capacity parts.entries) }
     {
         let entries = room_for(alloc, &graph, list)?;
         let items = items(alloc, graph.plan())?;

@@ -27,21 +27,32 @@ pub(crate) fn turn<D: Disk>(
     entries: &mut Vec<Entry>,
     policy: &Policy,
 ) -> Result<Turn, BookFault>
-    requires own { IsChronicle D.bytes D.may_leave rounds.old journal.old entries.old.items (vec_capacity entries.old) }
+    requires own { IsChronicle D.told rounds.old journal.old entries.old.items
+        (vec_capacity entries.old) }
     requires live { journal.old.live ≡ true }
-    ensures own { IsChronicle D.bytes D.may_leave rounds.new journal.new entries.new.items (vec_capacity entries.new) }
+    ensures own { IsChronicle D.told rounds.new journal.new entries.new.items
+        (vec_capacity entries.new) }
     ensures rounds { rounds.new ≡ after_round rounds.old (rank_by policy.now.answers) }
-    ensures turn { IfOk result (λ turn. turn ≡ turn_of (batch_of rounds.old (rank_by policy.now.answers))) }
-    ensures added { OnOk result (entries.new.items ≡ entries.old.items ++ batch_of rounds.old (rank_by policy.now.answers)) }
+    ensures turn { IfOk result
+        (λ turn. turn ≡ turn_of (batch_of rounds.old (rank_by policy.now.answers))) }
+    ensures added { OnOk result
+        (entries.new.items
+        ≡ entries.old.items ++ batch_of rounds.old (rank_by policy.now.answers)) }
     ensures stays { OnErr result (entries.new.items ≡ entries.old.items) }
     ensures live { journal.new.live ≡ is_ok result }
-    ensures none { batch_of rounds.old (rank_by policy.now.answers) ≡ [] → journal.new ≡ journal.old }
-    ensures any_moment { IfSome (D.bytes journal.old.disk) (λ _. LeavesOnly D.moment D.left_since journal.old.disk journal.new.disk (HasBeforeOrAfter rounds.old.history.start entries.old.items (batch_of rounds.old (rank_by policy.now.answers)))) }
-    ensures owner { IfSome (D.bytes journal.old.disk) (λ image. LeavesOnly D.moment D.left_since journal.old.disk journal.new.disk (KeepsOwner image)) }
-    ensures told { KeepsTelling (D.bytes journal.old.disk) (D.bytes journal.new.disk) }
+    ensures none { batch_of rounds.old (rank_by policy.now.answers) ≡ []
+        → journal.new ≡ journal.old }
+    ensures any_moment { IfSome (D.told journal.old.disk).bytes
+        (λ _. LeavesOnly D.told journal.old.disk journal.new.disk
+        (HasBeforeOrAfter rounds.old.history.start entries.old.items
+        (batch_of rounds.old (rank_by policy.now.answers)))) }
+    ensures owner { IfSome (D.told journal.old.disk).bytes
+        (λ image. LeavesOnly D.told journal.old.disk journal.new.disk (KeepsOwner image)) }
+    ensures told { KeepsTelling (D.told journal.old.disk).bytes (D.told journal.new.disk).bytes }
     ensures fault { IfErr result (λ given. given ≡ fault.Disk) }
-    ensures cause { OnErr result (Rose (D.faults journal.old.disk) (D.faults journal.new.disk)) }
-    ensures faults { D.faults journal.old.disk ≤ D.faults journal.new.disk }
+    ensures cause { OnErr result
+        (Rose (D.told journal.old.disk).faults (D.told journal.new.disk).faults) }
+    ensures faults { (D.told journal.old.disk).faults ≤ (D.told journal.new.disk).faults }
 {
     rounds.round(policy);
     // What it says besides is that the history is legal.
@@ -66,14 +77,20 @@ fn write_batch<D: Disk>(
     requires some { 0 < length batch.now }
     requires room { journal.old.entries + length batch.now ≤ journal.old.most }
     requires capacity { vec_len entries.old + length batch.now ≤ vec_capacity entries.old }
-    ensures any_moment { IfSome (D.bytes journal.old.disk) (λ image. LeavesOnly D.moment D.left_since journal.old.disk journal.new.disk (IsBeforeOrAfter (journal_in image) (entry_rows batch.now))) }
-    ensures done { OnOk result (IfSome (D.bytes journal.old.disk) (λ image. HasAdded batch.now image (D.bytes journal.new.disk) (D.may_leave journal.new.disk))) }
-    ensures told { KeepsTelling (D.bytes journal.old.disk) (D.bytes journal.new.disk) }
+    ensures any_moment { IfSome (D.told journal.old.disk).bytes
+        (λ image. LeavesOnly D.told journal.old.disk journal.new.disk
+        (IsBeforeOrAfter (journal_in image) (entry_rows batch.now))) }
+    ensures done { OnOk result
+        (IfSome (D.told journal.old.disk).bytes
+        (λ image. HasAdded batch.now image (D.told journal.new.disk).bytes
+        (D.told journal.new.disk).may_leave)) }
+    ensures told { KeepsTelling (D.told journal.old.disk).bytes (D.told journal.new.disk).bytes }
     ensures live { journal.new.live ≡ is_ok result }
     ensures count { OnOk result (journal.new.entries ≡ journal.old.entries + length batch.now) }
     ensures most { journal.new.most ≡ journal.old.most }
-    ensures cause { OnErr result (Rose (D.faults journal.old.disk) (D.faults journal.new.disk)) }
-    ensures faults { D.faults journal.old.disk ≤ D.faults journal.new.disk }
+    ensures cause { OnErr result
+        (Rose (D.told journal.old.disk).faults (D.told journal.new.disk).faults) }
+    ensures faults { (D.told journal.old.disk).faults ≤ (D.told journal.new.disk).faults }
     ensures added { OnOk result (entries.new.items ≡ entries.old.items ++ batch.now) }
     ensures stays { OnErr result (entries.new.items ≡ entries.old.items) }
     ensures room { vec_capacity entries.old ≤ vec_capacity entries.new }

@@ -26,7 +26,10 @@ fn is_answered(migration: u32, handed: &[Given], entry: Entry) -> bool
 }
 
 fn is_covered(migration: u32, answers: &[Given], op: Op) -> bool
-    ensures { result ≡ list_any (λ a. (a.item == op.item) && (a.held.migration == migration) && nat_le op.number a.held.number) answers.now }
+    ensures { result
+        ≡ list_any (λ a. (a.item == op.item)
+        && (a.held.migration == migration)
+        && nat_le op.number a.held.number) answers.now }
 {
     answers.iter().any(|answer| {
         answer.item == op.item

@@ -57,7 +57,8 @@ impl Flights {
     pub(crate) fn note(&mut self, progress: &Progress)
         requires { self.old.room ≡ item_count progress.now.rollout.problem }
         ensures room { self.new.room ≡ self.old.room }
-        ensures items { self.new.items ≡ passing (flies_by progress.now) (item_count progress.now.rollout.problem) }
+        ensures items { self.new.items
+            ≡ passing (flies_by progress.now) (item_count progress.now.rollout.problem) }
     {
         self.clear();
         for item in 0..progress.item_count() {

@@ -32,9 +32,13 @@ impl<'p> Model for History<'p> {
 
     ghost Value = { Recorded };
 
-    ghost view = { λ h. record { rollout = h.plan.now; history = record { start = h.start.items; entries = h.entries } } };
+    ghost view = { λ h. record {
+      rollout = h.plan.now;
+      history = record { start = h.start.items; entries = h.entries };
+    } };
 
-    ghost invariant = { λ h. IsRecorded h.plan.now h.progress h.flights (record { start = h.start.items; entries = h.entries }) };
+    ghost invariant = { λ h. IsRecorded h.plan.now h.progress h.flights
+        (record { start = h.start.items; entries = h.entries }) };
 }
 
 impl<'p> History<'p> {
@@ -46,7 +50,8 @@ impl<'p> History<'p> {
     ) -> Result<History<'p>, Memory>
         requires numbers { length start.now ≡ item_count plan.now.problem }
         requires sound { IsTrue (legal.is_sound plan.now.problem plan.now.plan start.now) }
-        ensures { IfOk result (λ h. h ≡ record { rollout = plan.now; history = started start.now }) }
+        ensures { IfOk result
+            (λ h. h ≡ record { rollout = plan.now; history = started start.now }) }
     {
         let numbers = copied(alloc, start)?;
         let progress = Progress::new(alloc, plan, start)?;
@@ -77,7 +82,8 @@ impl<'p> History<'p> {
 
     pub(crate) fn entries(&self) -> &EntryList
         ensures entries { result.now ≡ self.now.history.entries }
-        ensures legal { IsTrue (legal.is_legal self.now.rollout.problem self.now.rollout.plan self.now.history) }
+        ensures legal { IsTrue (legal.is_legal self.now.rollout.problem self.now.rollout.plan
+            self.now.history) }
     {
         &self.entries
     }
@@ -100,7 +106,8 @@ impl<'p> History<'p> {
     /// The n-th operation in flight, by item.
     pub(crate) fn flying(&self, n: u32) -> Op
         requires { n < length (in_flight self.now.rollout.problem self.now.history) }
-        ensures operation { result ≡ slice_index_or (in_flight self.now.rollout.problem self.now.history) n no_op }
+        ensures operation { result
+            ≡ slice_index_or (in_flight self.now.rollout.problem self.now.history) n no_op }
         ensures item { result.item < item_count self.now.rollout.problem }
     {
         let item = self.flights.item(n);
@@ -110,7 +117,9 @@ impl<'p> History<'p> {
 
     /// Whether a batch may follow the history, entry by entry.
     pub(crate) fn may_follow(&self, batch: &[Entry]) -> bool
-        ensures { result ≡ legal.may_follow self.now.rollout.problem self.now.rollout.plan self.now.history batch.now }
+        ensures { result
+            ≡ legal.may_follow self.now.rollout.problem self.now.rollout.plan self.now.history
+            batch.now }
     {
         for n in 0..batch.len() {
             if !self.may_add(&batch[..n], batch[n]) {
@@ -121,8 +130,11 @@ impl<'p> History<'p> {
     }
 
     fn may_add(&self, ahead: &[Entry], entry: Entry) -> bool
-        requires { IsTrue (legal.may_follow self.now.rollout.problem self.now.rollout.plan self.now.history ahead.now) }
-        ensures { result ≡ legal.may_add self.now.rollout.problem self.now.rollout.plan (with_entries self.now.history ahead.now) entry }
+        requires { IsTrue (legal.may_follow self.now.rollout.problem self.now.rollout.plan
+            self.now.history ahead.now) }
+        ensures { result
+            ≡ legal.may_add self.now.rollout.problem self.now.rollout.plan
+            (with_entries self.now.history ahead.now) entry }
     {
         checked_plan_is_valid(self.plan);
         match entry {
@@ -133,8 +145,10 @@ impl<'p> History<'p> {
 
     /// Adds a batch that may follow. Want of memory changes nothing.
     pub(crate) fn append(&mut self, batch: &[Entry]) -> Result<(), Memory>
-        requires { IsTrue (legal.may_follow self.old.rollout.problem self.old.rollout.plan self.old.history batch.now) }
-        ensures ok { OnOk result (self.new ≡ record self.old { history = with_entries self.old.history batch.now }) }
+        requires { IsTrue (legal.may_follow self.old.rollout.problem self.old.rollout.plan
+            self.old.history batch.now) }
+        ensures ok { OnOk result
+            (self.new ≡ record self.old { history = with_entries self.old.history batch.now }) }
         ensures err { OnErr result (self.new ≡ self.old) }
     {
         self.entries.extend_from_slice(batch)?;
@@ -149,7 +163,9 @@ fn count(progress: &mut Progress, plan: &CheckedPlan, batch: &[Entry])
     requires own { plan.now ≡ progress.old.rollout }
     requires legal { GoesOn progress.old batch.now }
     ensures rollout { progress.new.rollout ≡ progress.old.rollout }
-    ensures counts { (h : counts.History) → AreCountsOf progress.old h → AreCountsOf progress.new (with_entries h batch.now) }
+    ensures counts { (h : counts.History)
+        → AreCountsOf progress.old h
+        → AreCountsOf progress.new (with_entries h batch.now) }
 {
     for entry in batch {
         progress.add(plan, *entry);

@@ -28,9 +28,14 @@ pub fn any_rollout<'p>(
     requires sound { IsTrue (is_sound plan.now.problem plan.now.plan start.now) }
     requires first { IsTrue (are_first_pairs plan.now.problem start.now migration first.now) }
     ensures rollout { IfOk result (λ w. w.rollout ≡ plan.now) }
-    ensures world { IfOk result (λ w. w.world ≡ after_events plan.now.problem plan.now.plan (first_world plan.now.problem plan.now.plan start.now migration first.now) events.now) }
+    ensures world { IfOk result
+        (λ w. w.world
+        ≡ after_events plan.now.problem plan.now.plan
+        (first_world plan.now.problem plan.now.plan start.now migration first.now) events.now) }
     ensures safe { IfOk result (λ w. IsSafeWorld plan.now.problem plan.now.plan w.world) }
-    ensures every { IfOk result (λ w. EveryWorldIsSafe plan.now.problem plan.now.plan (first_world plan.now.problem plan.now.plan start.now migration first.now) events.now) }
+    ensures every { IfOk result
+        (λ w. EveryWorldIsSafe plan.now.problem plan.now.plan
+        (first_world plan.now.problem plan.now.plan start.now migration first.now) events.now) }
 {
     checked_plan_is_valid(plan);
     let mut world = World::new(alloc, plan, start, migration, first)?;

@@ -13,7 +13,9 @@ use wan_model::CheckedPlan;
 /// once `op` has begun behind the entries ahead.
 pub(crate) fn fits(progress: &Progress, plan: &CheckedPlan, ahead: &[Entry], op: Op) -> bool
     requires { plan.now ≡ progress.now.rollout }
-    ensures { result ≡ rooms.fits plan.now.problem plan.now.plan (places_begun plan.now progress.now ahead.now op) }
+    ensures { result
+        ≡ rooms.fits plan.now.problem plan.now.plan
+        (places_begun plan.now progress.now ahead.now op) }
 {
     for stage in least_stage(progress, plan, ahead)..plan.last_stage() {
         if !fit_at(progress, plan, ahead, op, stage) {
@@ -26,7 +28,9 @@ pub(crate) fn fits(progress: &Progress, plan: &CheckedPlan, ahead: &[Entry], op:
 fn fit_at(progress: &Progress, plan: &CheckedPlan, ahead: &[Entry], op: Op, stage: usize) -> bool
     requires own { plan.now ≡ progress.now.rollout }
     requires stage { stage < last_stage plan.now.plan }
-    ensures { result ≡ rooms.fits_at plan.now.problem plan.now.plan (places_begun plan.now progress.now ahead.now op) stage }
+    ensures { result
+        ≡ rooms.fits_at plan.now.problem plan.now.plan
+        (places_begun plan.now progress.now ahead.now op) stage }
 {
     for resource in 0..plan.problem().links().len() + plan.problem().switches().len() {
         if room(progress, plan, ahead, op, stage, resource) > capacity(plan, resource) {
@@ -48,7 +52,10 @@ fn room(
     requires own { plan.now ≡ progress.now.rollout }
     requires stage { stage < last_stage plan.now.plan }
     requires resource { resource < resource_count plan.now.problem }
-    ensures { result ≡ rooms.room plan.now.problem plan.now.plan (places_begun plan.now progress.now ahead.now op) stage (resource_at plan.now.problem resource) }
+    ensures { result
+        ≡ rooms.room plan.now.problem plan.now.plan
+        (places_begun plan.now progress.now ahead.now op) stage
+        (resource_at plan.now.problem resource) }
 {
     checked_plan_is_valid(plan);
     let links = plan.problem().links().len();

@@ -38,9 +38,11 @@ impl<'p> Model for World<'p> {
 
     ghost Value = { Standing };
 
-    ghost view = { λ w. standing_of w.history w.migration w.first.items w.is_up w.writing w.sent w.given w.handed w.held.items };
+    ghost view = { λ w. standing_of w.history w.migration w.first.items w.is_up w.writing w.sent
+        w.given w.handed w.held.items };
 
-    ghost invariant = { λ w. IsStanding w.history w.writing w.sent w.given w.handed w.first.items w.held.items };
+    ghost invariant = { λ w. IsStanding w.history w.writing w.sent w.given w.handed w.first.items
+        w.held.items };
 }
 
 impl<'p> World<'p> {
@@ -57,7 +59,12 @@ impl<'p> World<'p> {
         requires pairs { length first.now ≡ item_count plan.now.problem }
         requires sound { IsTrue (legal.is_sound plan.now.problem plan.now.plan start.now) }
         requires first { IsTrue (are_first_pairs plan.now.problem start.now migration first.now) }
-        ensures { IfOk result (λ w. w ≡ record { rollout = plan.now; world = first_world plan.now.problem plan.now.plan start.now migration first.now }) }
+        ensures { IfOk result
+            (λ w. w
+            ≡ record {
+              rollout = plan.now;
+              world = first_world plan.now.problem plan.now.plan start.now migration first.now;
+            }) }
     {
         let history = History::new(alloc, plan, start)?;
         let first = copied(alloc, first)?;
@@ -78,7 +85,9 @@ impl<'p> World<'p> {
 
     /// The world of a network's first migration, where nothing was ever applied.
     pub fn fresh(alloc: Global, plan: &'p CheckedPlan) -> Result<World<'p>, Memory>
-        ensures { IfOk result (λ w. w ≡ record { rollout = plan.now; world = new_world plan.now.problem plan.now.plan }) }
+        ensures { IfOk result
+            (λ w. w
+            ≡ record { rollout = plan.now; world = new_world plan.now.problem plan.now.plan }) }
     {
         checked_plan_is_valid(plan);
         let items = item_count(plan.problem()) as usize;
@@ -89,7 +98,8 @@ impl<'p> World<'p> {
 
     /// Whether the event can happen in this world.
     pub fn allows(&self, event: &Event) -> bool
-        ensures { result ≡ allows self.now.rollout.problem self.now.rollout.plan self.now.world event.now }
+        ensures { result
+            ≡ allows self.now.rollout.problem self.now.rollout.plan self.now.world event.now }
     {
         match event {
             Event::Write(batch) => self.may_write(batch.as_slice()),
@@ -109,8 +119,14 @@ impl<'p> World<'p> {
 
     /// Makes an event happen. Want of memory changes nothing.
     pub fn step(&mut self, event: Event) -> Result<(), Memory>
-        requires { IsTrue (allows self.old.rollout.problem self.old.rollout.plan self.old.world event) }
-        ensures ok { OnOk result (self.new ≡ record self.old { world = happens self.old.rollout.problem self.old.rollout.plan self.old.world event }) }
+        requires { IsTrue (allows self.old.rollout.problem self.old.rollout.plan self.old.world
+            event) }
+        ensures ok { OnOk result
+            (self.new
+            ≡ record self.old {
+              world = happens self.old.rollout.problem self.old.rollout.plan self.old.world
+                  event;
+            }) }
         ensures err { OnErr result (self.new ≡ self.old) }
     {
         match event {
@@ -145,7 +161,9 @@ impl<'p> World<'p> {
     }
 
     fn may_write(&self, batch: &[Entry]) -> bool
-        ensures { result ≡ allows self.now.rollout.problem self.now.rollout.plan self.now.world (event.Write batch.now) }
+        ensures { result
+            ≡ allows self.now.rollout.problem self.now.rollout.plan self.now.world
+            (event.Write batch.now) }
     {
         if !self.is_up || self.is_writing() || batch.is_empty() {
             return false;
@@ -157,7 +175,9 @@ impl<'p> World<'p> {
     }
 
     fn may_come_late(&self, item: u32, migration: u32, number: u32) -> bool
-        ensures { result ≡ allows self.now.rollout.problem self.now.rollout.plan self.now.world (event.Old item migration number) }
+        ensures { result
+            ≡ allows self.now.rollout.problem self.now.rollout.plan self.now.world
+            (event.Old item migration number) }
     {
         if item >= self.items() || migration >= self.migration {
             return false;
@@ -166,7 +186,12 @@ impl<'p> World<'p> {
     }
 
     fn end_write(&mut self) -> Result<(), Memory>
-        ensures ok { OnOk result (self.new ≡ record self.old { world = happens self.old.rollout.problem self.old.rollout.plan self.old.world event.EndWrite }) }
+        ensures ok { OnOk result
+            (self.new
+            ≡ record self.old {
+              world = happens self.old.rollout.problem self.old.rollout.plan self.old.world
+                  event.EndWrite;
+            }) }
         ensures err { OnErr result (self.new ≡ self.old) }
     {
         self.history.append(self.writing.as_slice())?;
@@ -176,7 +201,12 @@ impl<'p> World<'p> {
 
     fn send(&mut self, n: u32) -> Result<(), Memory>
         requires { n < length (in_flight self.old.rollout.problem self.old.world.durable) }
-        ensures ok { OnOk result (self.new ≡ record self.old { world = happens self.old.rollout.problem self.old.rollout.plan self.old.world (event.Send n) }) }
+        ensures ok { OnOk result
+            (self.new
+            ≡ record self.old {
+              world = happens self.old.rollout.problem self.old.rollout.plan self.old.world
+                  (event.Send n);
+            }) }
         ensures err { OnErr result (self.new ≡ self.old) }
     {
         let command = self.history.flying(n);
@@ -186,7 +216,12 @@ impl<'p> World<'p> {
 
     fn hand(&mut self, n: usize) -> Result<(), Memory>
         requires { n < length self.old.world.given }
-        ensures ok { OnOk result (self.new ≡ record self.old { world = happens self.old.rollout.problem self.old.rollout.plan self.old.world (event.Hand n) }) }
+        ensures ok { OnOk result
+            (self.new
+            ≡ record self.old {
+              world = happens self.old.rollout.problem self.old.rollout.plan self.old.world
+                  (event.Hand n);
+            }) }
         ensures err { OnErr result (self.new ≡ self.old) }
     {
         let answer = self.given.as_slice()[n];
@@ -196,7 +231,12 @@ impl<'p> World<'p> {
 
     fn crash(&mut self, kept: usize) -> Result<(), Memory>
         requires { kept ≤ length self.old.world.writing }
-        ensures ok { OnOk result (self.new ≡ record self.old { world = happens self.old.rollout.problem self.old.rollout.plan self.old.world (event.Crash kept) }) }
+        ensures ok { OnOk result
+            (self.new
+            ≡ record self.old {
+              world = happens self.old.rollout.problem self.old.rollout.plan self.old.world
+                  (event.Crash kept);
+            }) }
         ensures err { OnErr result (self.new ≡ self.old) }
     {
         self.history.append(&self.writing.as_slice()[..kept])?;
@@ -208,7 +248,12 @@ impl<'p> World<'p> {
 
     fn deliver(&mut self, command: Op) -> Result<(), Memory>
         requires { command.item < item_count self.old.rollout.problem }
-        ensures ok { OnOk result (self.new ≡ record self.old { world = delivered self.old.rollout.problem self.old.rollout.plan self.old.world command }) }
+        ensures ok { OnOk result
+            (self.new
+            ≡ record self.old {
+              world = delivered self.old.rollout.problem self.old.rollout.plan self.old.world
+                  command;
+            }) }
         ensures err { OnErr result (self.new ≡ self.old) }
     {
         let asked = Held {
@@ -222,7 +267,12 @@ impl<'p> World<'p> {
     /// A command comes to the item's switch, which applies it or not, and answers.
     fn receive(&mut self, item: u32, asked: Held) -> Result<(), Memory>
         requires { item < item_count self.old.rollout.problem }
-        ensures ok { OnOk result (self.new ≡ record self.old { world = comes_late self.old.rollout.problem self.old.rollout.plan self.old.world item asked }) }
+        ensures ok { OnOk result
+            (self.new
+            ≡ record self.old {
+              world = comes_late self.old.rollout.problem self.old.rollout.plan self.old.world item
+                  asked;
+            }) }
         ensures err { OnErr result (self.new ≡ self.old) }
     {
         let place = item as usize;
@@ -235,7 +285,11 @@ impl<'p> World<'p> {
     /// Puts the pair that an item's switch holds, as it was found there.
     pub fn hold(&mut self, item: u32, held: Held)
         requires { item < item_count self.old.rollout.problem }
-        ensures { self.new ≡ record self.old { world = with_held self.old.rollout.problem self.old.rollout.plan self.old.world item held } }
+        ensures { self.new
+            ≡ record self.old {
+              world = with_held self.old.rollout.problem self.old.rollout.plan self.old.world item
+                  held;
+            } }
     {
         self.held[item as usize] = held;
     }
@@ -243,7 +297,8 @@ impl<'p> World<'p> {
     /// Adds an answer to those given: what an item's switch holds of it. Want of memory changes nothing.
     pub fn answer(&mut self, item: u32, held: Held) -> Result<(), Memory>
         requires { item < item_count self.old.rollout.problem }
-        ensures ok { OnOk result (self.new ≡ record self.old { world = with_answer self.old.world item held }) }
+        ensures ok { OnOk result
+            (self.new ≡ record self.old { world = with_answer self.old.world item held }) }
         ensures err { OnErr result (self.new ≡ self.old) }
     {
         let answer = Given { item, held };
@@ -255,7 +310,8 @@ impl<'p> World<'p> {
     /// The entries that every restart finds behind the start, which with it are a legal history.
     pub fn durable(&self) -> &EntryList
         ensures list { result.now ≡ self.now.world.durable.entries }
-        ensures legal { IsTrue (legal.is_legal self.now.rollout.problem self.now.rollout.plan self.now.world.durable) }
+        ensures legal { IsTrue (legal.is_legal self.now.rollout.problem self.now.rollout.plan
+            self.now.world.durable) }
     {
         self.history.entries()
     }

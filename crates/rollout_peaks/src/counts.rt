@@ -42,7 +42,8 @@ impl Counts {
         plan: &CheckedPlan,
         history: &History<'_>,
     ) -> Result<Counts, Memory>
-        ensures { IfOk result (λ counts. AreCountsOf plan.now.problem (front history.now 0) counts) }
+        ensures { IfOk result
+            (λ counts. AreCountsOf plan.now.problem (front history.now 0) counts) }
     {
         let items = item_count(plan.problem()) as usize;
         let settled = at_start(alloc, history, items)?;
@@ -70,7 +71,8 @@ impl Counts {
     pub fn flies(&self, item: u32) -> bool
         requires settled { item < length self.now.settled }
         requires begun { item < length self.now.begun }
-        ensures { result ≡ (slice_index self.now.begun item == slice_index self.now.settled item + 1) }
+        ensures { result
+            ≡ (slice_index self.now.begun item == slice_index self.now.settled item + 1) }
     {
         self.begun(item).checked_sub(1) == Some(self.settled(item))
     }
@@ -93,7 +95,10 @@ impl Counts {
 /// How many operations of each item were settled at the start of a history.
 fn at_start(alloc: Global, history: &History<'_>, items: usize) -> Result<Vec<u64>, Memory>
     ensures all { IfOk result (λ counts. length counts.items ≡ items) }
-    ensures each { IfOk result (λ counts. (n : ℕ) → n < items → slice_index counts.items n ≡ slice_index history.now.start n) }
+    ensures each { IfOk result
+        (λ counts. (n : ℕ)
+        → n < items
+        → slice_index counts.items n ≡ slice_index history.now.start n) }
 {
     let mut counts = vec![in alloc; 0u64; items]?;
     for item in 0..items {
@@ -104,8 +109,12 @@ fn at_start(alloc: Global, history: &History<'_>, items: usize) -> Result<Vec<u6
 
 /// Adds one to the count of an item that is counted here.
 fn add_one(counts: &mut [u64], item: usize)
-    requires { (n : ℕ) → n < length counts.old → slice_index counts.old n + 1 < 18446744073709551616 }
-    ensures { (n : ℕ) → n < length counts.old → slice_index counts.new n ≡ (if item == n then 1 else 0) + slice_index counts.old n }
+    requires { (n : ℕ)
+        → n < length counts.old
+        → slice_index counts.old n + 1 < 18446744073709551616 }
+    ensures { (n : ℕ)
+        → n < length counts.old
+        → slice_index counts.new n ≡ (if item == n then 1 else 0) + slice_index counts.old n }
 {
     if item < counts.len() {
         counts[item] += 1;

@@ -36,7 +36,8 @@ impl Model for Course {
 
     ghost view = { λ c. record { rollout = c.plan.value; counts = c.counts } };
 
-    ghost invariant = { λ c. IsCourse (record { rollout = c.plan.value; counts = c.counts }) c.items c.stands.items };
+    ghost invariant = { λ c. IsCourse (record { rollout = c.plan.value; counts = c.counts }) c.items
+        c.stands.items };
 }
 
 impl Course {
@@ -47,7 +48,8 @@ impl Course {
         history: &History<'_>,
     ) -> Result<Course, Memory>
         ensures rollout { IfOk result (λ course. course.rollout ≡ plan.now) }
-        ensures counts { IfOk result (λ course. AreCountsOf plan.now.problem (front history.now 0) course.counts) }
+        ensures counts { IfOk result
+            (λ course. AreCountsOf plan.now.problem (front history.now 0) course.counts) }
     {
         let items = items(alloc, plan)?;
         let counts = Counts::at_start(alloc, plan, history)?;
@@ -78,7 +80,8 @@ impl Course {
     /// The counts of the items' operations.
     pub(crate) fn counts(&self) -> &Counts
         ensures counts { result.now ≡ self.now.counts }
-        ensures settled { length self.now.counts.settled ≡ rules.item_count self.now.rollout.problem }
+        ensures settled { length self.now.counts.settled
+            ≡ rules.item_count self.now.rollout.problem }
         ensures begun { length self.now.counts.begun ≡ rules.item_count self.now.rollout.problem }
     {
         &self.counts
@@ -115,7 +118,8 @@ impl Course {
         requires place { place < length history.now.entries }
         requires counts { AreCountsOf plan.now.problem (front history.now place) self.old.counts }
         ensures rollout { self.new.rollout ≡ self.old.rollout }
-        ensures counts { AreCountsOf plan.now.problem (front history.now (place + 1)) self.new.counts }
+        ensures counts { AreCountsOf plan.now.problem (front history.now (place + 1))
+            self.new.counts }
     {
         self.counts.add(history, place);
         if let Entry::Done(op) = history.entry(place) {
@@ -139,7 +143,12 @@ fn first_stands(
     requires items { AreItems plan.now.problem (rules.item_count plan.now.problem) items.now }
     requires counts { length counts.now.settled ≡ rules.item_count plan.now.problem }
     ensures all { IfOk result (λ stands. length stands.items ≡ rules.item_count plan.now.problem) }
-    ensures each { IfOk result (λ stands. (n : ℕ) → n < rules.item_count plan.now.problem → slice_index stands.items n ≡ operation.stand_after plan.now.problem plan.now.plan (rules.item_at plan.now.problem n) (slice_index counts.now.settled n)) }
+    ensures each { IfOk result
+        (λ stands. (n : ℕ)
+        → n < rules.item_count plan.now.problem
+        → slice_index stands.items n
+        ≡ operation.stand_after plan.now.problem plan.now.plan (rules.item_at plan.now.problem n)
+        (slice_index counts.now.settled n)) }
 {
     let mut stands = vec![in alloc; 0usize; items.len()]?;
     for number in 0..item_count(plan.problem()) {
@@ -155,7 +164,9 @@ fn stand_behind(plan: &CheckedPlan, item: Item, here: usize) -> usize
     requires item { IsTrue (rules.is_item plan.now.problem item) }
     requires here { here ≤ wan.last_stage plan.now.plan }
     ensures inside { result ≤ wan.last_stage plan.now.plan }
-    ensures next { (j : ℕ) → here ≡ operation.stand_after plan.now.problem plan.now.plan item j → result ≡ operation.stand_after plan.now.problem plan.now.plan item (j + 1) }
+    ensures next { (j : ℕ)
+        → here ≡ operation.stand_after plan.now.problem plan.now.plan item j
+        → result ≡ operation.stand_after plan.now.problem plan.now.plan item (j + 1) }
 {
     let last = plan.last_stage();
     for s in plan.next_stage(here)..last {

@@ -19,7 +19,8 @@ pub fn push_end(
     history: &History<'_>,
     text: &mut Text,
 ) -> Result<(), Memory>
-    ensures { OnOk result (text.new ≡ text.old ++ end_lines plan.now.problem plan.now.plan history.now) }
+    ensures { OnOk result
+        (text.new ≡ text.old ++ end_lines plan.now.problem plan.now.plan history.now) }
 {
     let pass = Pass::over(alloc, plan, history)?;
     let left = pass.left(plan);
@@ -36,7 +37,11 @@ fn push_link_lines(
     text: &mut Text,
 ) -> Result<(), Memory>
     requires { length peaks.now.links ≡ length plan.now.problem.links }
-    ensures { (h : rules.History) → peaks.now ≡ peaks_of plan.now.problem plan.now.plan h → OnOk result (text.new ≡ text.old ++ link_lines plan.now.problem plan.now.plan h (length plan.now.problem.links)) }
+    ensures { (h : rules.History)
+        → peaks.now ≡ peaks_of plan.now.problem plan.now.plan h
+        → OnOk result
+        (text.new
+        ≡ text.old ++ link_lines plan.now.problem plan.now.plan h (length plan.now.problem.links)) }
 {
     let problem = plan.problem();
     let scale = u128::from(plan.plan().scale);
@@ -54,7 +59,12 @@ fn push_table_lines(
     text: &mut Text,
 ) -> Result<(), Memory>
     requires { length peaks.now.tables ≡ length plan.now.problem.switches }
-    ensures { (h : rules.History) → peaks.now ≡ peaks_of plan.now.problem plan.now.plan h → OnOk result (text.new ≡ text.old ++ table_lines plan.now.problem plan.now.plan h (length plan.now.problem.switches)) }
+    ensures { (h : rules.History)
+        → peaks.now ≡ peaks_of plan.now.problem plan.now.plan h
+        → OnOk result
+        (text.new
+        ≡ text.old
+        ++ table_lines plan.now.problem plan.now.plan h (length plan.now.problem.switches)) }
 {
     let problem = plan.problem();
     for (number, peak) in peaks.tables().iter().enumerate() {
@@ -64,8 +74,8 @@ fn push_table_lines(
     Ok(())
 }
 
-/// Adds the last line: whether operations are left unsettled, and how many.
-fn push_last_line(alloc: Global, text: &mut Text, left: u64) -> Result<(), Memory>
+/// Adds the last line: whether operations are left unsettled, and how many. An Err is want of memory.
+pub fn push_last_line(alloc: Global, text: &mut Text, left: u64) -> Result<(), Memory>
     ensures { OnOk result (text.new ≡ text.old ++ last_line left) }
 {
     if left == 0 {

@@ -29,7 +29,11 @@ impl Model for Fills {
 
     ghost Value = { TableFills };
 
-    ghost view = { λ f. record { marks = f.marks.items; sums = f.sums.items; peaks = f.peaks.items } };
+    ghost view = { λ f. record {
+      marks = f.marks.items;
+      sums = f.sums.items;
+      peaks = f.peaks.items;
+    } };
 }
 
 impl Fills {
@@ -42,7 +46,8 @@ impl Fills {
     ) -> Result<Fills, Memory>
         requires own { course.now.rollout ≡ plan.now }
         requires counts { AreCountsOf plan.now.problem (front history.now 0) course.now.counts }
-        ensures { IfOk result (λ fills. AreFillsAt plan.now.problem plan.now.plan history.now 0 fills) }
+        ensures { IfOk result
+            (λ fills. AreFillsAt plan.now.problem plan.now.plan history.now 0 fills) }
     {
         let switches = plan.problem().switches().len();
         let mut marks = vec![in alloc; false; course.len()]?;
@@ -70,9 +75,15 @@ impl Fills {
         requires tallies { AreTallies plan.now.problem self.old.marks self.old.sums }
         requires peaks { length self.old.peaks ≡ length plan.now.problem.switches }
         ensures tallies { AreTallies plan.now.problem self.new.marks self.new.sums }
-        ensures marks { self.new.marks ≡ slice_set self.old.marks number (either_at plan.now.plan here next tunnel) }
-        ensures sums { (w : ℕ) → (wan.switch_of plan.now.problem tunnel hop ≡ w → ⊥) → slice_index self.new.sums w ≡ slice_index self.old.sums w }
-        ensures peaks { self.new.peaks ≡ slice_set self.old.peaks (wan.switch_of plan.now.problem tunnel hop) (max (slice_index self.old.peaks (wan.switch_of plan.now.problem tunnel hop)) (slice_index self.new.sums (wan.switch_of plan.now.problem tunnel hop))) }
+        ensures marks { self.new.marks
+            ≡ slice_set self.old.marks number (either_at plan.now.plan here next tunnel) }
+        ensures sums { (w : ℕ)
+            → (wan.switch_of plan.now.problem tunnel hop ≡ w → ⊥)
+            → slice_index self.new.sums w ≡ slice_index self.old.sums w }
+        ensures peaks { self.new.peaks
+            ≡ slice_set self.old.peaks (wan.switch_of plan.now.problem tunnel hop)
+            (max (slice_index self.old.peaks (wan.switch_of plan.now.problem tunnel hop))
+            (slice_index self.new.sums (wan.switch_of plan.now.problem tunnel hop))) }
     {
         let mark = plan.mark(here, tunnel) || plan.mark(next, tunnel);
         set_mark(
@@ -110,7 +121,8 @@ fn start(
     requires marks { marks.old ≡ replicate (item_count plan.now.problem) false }
     requires sums { sums.old ≡ replicate (length plan.now.problem.switches) 0 }
     requires peaks { length peaks.old ≡ length plan.now.problem.switches }
-    ensures { AreFillsAt plan.now.problem plan.now.plan history.now 0 (record { marks = marks.new; sums = sums.new; peaks = peaks.new }) }
+    ensures { AreFillsAt plan.now.problem plan.now.plan history.now 0
+        (record { marks = marks.new; sums = sums.new; peaks = peaks.new }) }
 {
     first_marks(plan, history, course, marks, sums);
     peaks.copy_from_slice(sums);
@@ -128,7 +140,11 @@ fn first_marks(
     requires counts { AreCountsOf plan.now.problem (front history.now 0) course.now.counts }
     requires tallies { AreTallies plan.now.problem marks.old sums.old }
     ensures tallies { AreTallies plan.now.problem marks.new sums.new }
-    ensures marks { (t n : ℕ) → t < length plan.now.problem.tunnels → n < wan.hops plan.now.problem t → marked plan.now.problem marks.new t n ≡ either_there plan.now.problem plan.now.plan (front history.now 0) t n }
+    ensures marks { (t n : ℕ)
+        → t < length plan.now.problem.tunnels
+        → n < wan.hops plan.now.problem t
+        → marked plan.now.problem marks.new t n
+        ≡ either_there plan.now.problem plan.now.plan (front history.now 0) t n }
 {
     for number in 0..item_count(plan.problem()) {
         if let Item::Entry { tunnel, hop } = course.item(number) {
@@ -155,7 +171,9 @@ fn set_mark(
     requires tallies { AreTallies plan.now.problem marks.old sums.old }
     ensures marks { marks.new ≡ slice_set marks.old number mark }
     ensures tallies { AreTallies plan.now.problem marks.new sums.new }
-    ensures others { (w : ℕ) → (wan.switch_of plan.now.problem tunnel hop ≡ w → ⊥) → slice_index sums.new w ≡ slice_index sums.old w }
+    ensures others { (w : ℕ)
+        → (wan.switch_of plan.now.problem tunnel hop ≡ w → ⊥)
+        → slice_index sums.new w ≡ slice_index sums.old w }
 {
     checked_plan_is_valid(plan);
     let switch = plan.switch_of(tunnel, hop);

@@ -8,6 +8,18 @@ ghost use Rattle.rollout_peaks.specs.Peaks.{link_peak, table_peak};
 
 /// Over a legal history no peak of a link is above its capacity, and none of a table above its size.
 pub fn every_peak_fits()
-    ensures links { (p : Problem) (plan : Plan) (h : History) → IsNetwork p → IsTrue (is_valid_plan p plan) → IsTrue (is_legal p plan h) → (l : ℕ) → l < length p.links → link_peak p plan h l ≤ (link_at p l).capacity * plan.scale }
-    ensures tables { (p : Problem) (plan : Plan) (h : History) → IsNetwork p → IsTrue (is_valid_plan p plan) → IsTrue (is_legal p plan h) → (w : ℕ) → w < length p.switches → table_peak p plan h w ≤ (switch_at p w).table }
+    ensures links { (p : Problem) (plan : Plan) (h : History)
+        → IsNetwork p
+        → IsTrue (is_valid_plan p plan)
+        → IsTrue (is_legal p plan h)
+        → (l : ℕ)
+        → l < length p.links
+        → link_peak p plan h l ≤ (link_at p l).capacity * plan.scale }
+    ensures tables { (p : Problem) (plan : Plan) (h : History)
+        → IsNetwork p
+        → IsTrue (is_valid_plan p plan)
+        → IsTrue (is_legal p plan h)
+        → (w : ℕ)
+        → w < length p.switches
+        → table_peak p plan h w ≤ (switch_at p w).table }
 {}

@@ -19,7 +19,7 @@ mod peaks;
 pub mod worked;
 
 pub use counts::Counts;
-pub use ends::push_end;
+pub use ends::{push_end, push_last_line};
 pub use history::History;
 pub use laws::every_peak_fits;
 pub use peaks::Peaks;

@@ -26,7 +26,11 @@ impl Model for Loads {
 
     ghost Value = { LinkLoads };
 
-    ghost view = { λ l. record { rates = l.rates.items; sums = l.sums.items; peaks = l.peaks.items } };
+    ghost view = { λ l. record {
+      rates = l.rates.items;
+      sums = l.sums.items;
+      peaks = l.peaks.items;
+    } };
 }
 
 impl Loads {
@@ -39,7 +43,8 @@ impl Loads {
     ) -> Result<Loads, Memory>
         requires own { course.now.rollout ≡ plan.now }
         requires counts { AreCountsOf plan.now.problem (front history.now 0) course.now.counts }
-        ensures { IfOk result (λ loads. AreLoadsAt plan.now.problem plan.now.plan history.now 0 loads) }
+        ensures { IfOk result
+            (λ loads. AreLoadsAt plan.now.problem plan.now.plan history.now 0 loads) }
     {
         let problem = plan.problem();
         let mut rates = vec![in alloc; 0u64; problem.tunnels().len()]?;
@@ -58,8 +63,10 @@ impl Loads {
         requires sums { AreSums plan.now.problem self.old.rates self.old.sums }
         requires peaks { length self.old.peaks ≡ length plan.now.problem.links }
         ensures sums { AreSums plan.now.problem self.new.rates self.new.sums }
-        ensures rates { AreRefreshed plan.now.problem plan.now.plan flow here next self.old.rates self.new.rates }
-        ensures peaks { AreRaised plan.now.problem flow (wan.flow_at plan.now.problem flow).tunnels self.new.sums self.old.peaks self.new.peaks }
+        ensures rates { AreRefreshed plan.now.problem plan.now.plan flow here next self.old.rates
+            self.new.rates }
+        ensures peaks { AreRaised plan.now.problem flow (wan.flow_at plan.now.problem flow).tunnels
+            self.new.sums self.old.peaks self.new.peaks }
     {
         refresh(plan, flow, here, next, &mut self.rates, &mut self.sums);
         raise(plan, flow, &self.sums, &mut self.peaks);
@@ -87,7 +94,8 @@ fn start(
     requires rates { rates.old ≡ replicate (length plan.now.problem.tunnels) 0 }
     requires sums { sums.old ≡ replicate (length plan.now.problem.links) 0 }
     requires peaks { length peaks.old ≡ length plan.now.problem.links }
-    ensures { AreLoadsAt plan.now.problem plan.now.plan history.now 0 (record { rates = rates.new; sums = sums.new; peaks = peaks.new }) }
+    ensures { AreLoadsAt plan.now.problem plan.now.plan history.now 0
+        (record { rates = rates.new; sums = sums.new; peaks = peaks.new }) }
 {
     first_loads(plan, history, course, rates, sums);
     peaks.copy_from_slice(sums);
@@ -105,7 +113,10 @@ fn first_loads(
     requires counts { AreCountsOf plan.now.problem (front history.now 0) course.now.counts }
     requires sums { AreSums plan.now.problem rates.old sums.old }
     ensures sums { AreSums plan.now.problem rates.new sums.new }
-    ensures rates { (t : ℕ) → t < length plan.now.problem.tunnels → slice_index rates.new t ≡ larger_rate plan.now.problem plan.now.plan (front history.now 0) t }
+    ensures rates { (t : ℕ)
+        → t < length plan.now.problem.tunnels
+        → slice_index rates.new t
+        ≡ larger_rate plan.now.problem plan.now.plan (front history.now 0) t }
 {
     for flow in 0..plan.problem().flows().len() {
         let here = course.here(flow as u32);
@@ -158,7 +169,8 @@ fn raise(plan: &CheckedPlan, flow: usize, sums: &[u128], peaks: &mut [u128])
     requires flow { flow < length plan.now.problem.flows }
     requires sums { length sums.now ≡ length plan.now.problem.links }
     requires peaks { length peaks.old ≡ length plan.now.problem.links }
-    ensures { AreRaised plan.now.problem flow (wan.flow_at plan.now.problem flow).tunnels sums.now peaks.old peaks.new }
+    ensures { AreRaised plan.now.problem flow (wan.flow_at plan.now.problem flow).tunnels sums.now
+        peaks.old peaks.new }
 {
     for place in 0..plan.tunnel_count(flow) {
         raise_links(plan.links_of(plan.tunnel_of(flow, place)), sums, peaks);
@@ -170,8 +182,12 @@ fn raise_links(links: &[u32], sums: &[u128], peaks: &mut [u128])
     requires sums { (g : ℕ) → g < length links.now → slice_index links.now g < length sums.now }
     requires peaks { length peaks.old ≡ length sums.now }
     ensures least { (l : ℕ) → slice_index peaks.old l ≤ slice_index peaks.new l }
-    ensures most { (l : ℕ) → slice_index peaks.new l ≤ max (slice_index peaks.old l) (slice_index sums.now l) }
-    ensures crossed { (g : ℕ) → g < length links.now → slice_index sums.now (slice_index links.now g) ≤ slice_index peaks.new (slice_index links.now g) }
+    ensures most { (l : ℕ)
+        → slice_index peaks.new l ≤ max (slice_index peaks.old l) (slice_index sums.now l) }
+    ensures crossed { (g : ℕ)
+        → g < length links.now
+        → slice_index sums.now (slice_index links.now g)
+        ≤ slice_index peaks.new (slice_index links.now g) }
 {
     for link in links {
         let link = *link as usize;

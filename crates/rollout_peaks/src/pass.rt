@@ -40,7 +40,8 @@ impl Pass {
         plan: &CheckedPlan,
         history: &History<'_>,
     ) -> Result<Pass, Memory>
-        ensures { IfOk result (λ pass. IsPast plan.now history.now (length history.now.entries) pass) }
+        ensures { IfOk result
+            (λ pass. IsPast plan.now history.now (length history.now.entries) pass) }
     {
         let mut pass = Pass::start(alloc, plan, history)?;
         for place in 0..history.len() {
@@ -89,7 +90,9 @@ impl Pass {
     /// How many operations are not settled.
     pub(crate) fn left(&self, plan: &CheckedPlan) -> u64
         requires { plan.now ≡ self.now.course.rollout }
-        ensures { (h : rules.History) → IsPast plan.now h (length h.entries) self.now → result ≡ unsettled plan.now.problem plan.now.plan h }
+        ensures { (h : rules.History)
+            → IsPast plan.now h (length h.entries) self.now
+            → result ≡ unsettled plan.now.problem plan.now.plan h }
     {
         let counts = self.course.counts();
         let mut left = 0;

@@ -28,7 +28,8 @@ impl Peaks {
     /// has to hold: of a link the larger of each tunnel's settled and next rate, of a table the widths of
     /// the entries that are there as settled or as next. An Err is want of memory.
     pub fn over(alloc: Global, plan: &CheckedPlan, history: &History<'_>) -> Result<Peaks, Memory>
-        ensures { IfOk result (λ peaks. peaks ≡ peaks_of plan.now.problem plan.now.plan history.now) }
+        ensures { IfOk result
+            (λ peaks. peaks ≡ peaks_of plan.now.problem plan.now.plan history.now) }
     {
         let pass = Pass::over(alloc, plan, history)?;
         Ok(pass.into_peaks())

@@ -22,14 +22,22 @@ pub fn a_peak_stays_when_its_sum_falls()
 /// What was settled before the first entry was never begun here.
 pub fn peaks_begin_at_the_start()
     ensures link { link_peak one one_plan (started (1 ∷ [])) 0 ≡ 1 }
-    ensures on_the_way { link_peak late late_plan (record { start = 1 ∷ []; entries = begin_of 0 2 ∷ [] }) 0 ≡ 0 }
-    ensures left { unsettled late late_plan (record { start = 1 ∷ []; entries = begin_of 0 2 ∷ [] }) ≡ 3 }
+    ensures on_the_way { link_peak late late_plan
+        (record { start = 1 ∷ []; entries = begin_of 0 2 ∷ [] }) 0
+        ≡ 0 }
+    ensures left { unsettled late late_plan (record { start = 1 ∷ []; entries = begin_of 0 2 ∷ [] })
+        ≡ 3 }
 {}
 
 /// An entry that goes and one that comes: 2 and 1 are there at the start, and then 2 and 3.
 pub fn tables_are_filled_by_widths()
     ensures start { table_peak wide_network table_plan (fresh []) 0 ≡ 3 }
-    ensures left { table_sum wide_network table_plan (fresh (begin_of 4 1 ∷ done_of 4 1 ∷ [])) 0 ≡ 2 }
-    ensures full { table_peak wide_network table_plan (fresh (begin_of 4 1 ∷ done_of 4 1 ∷ begin_of 7 1 ∷ [])) 0 ≡ 5 }
-    ensures plain { table_peak table_network table_plan (fresh (begin_of 4 1 ∷ done_of 4 1 ∷ begin_of 7 1 ∷ [])) 0 ≡ 2 }
+    ensures left { table_sum wide_network table_plan (fresh (begin_of 4 1 ∷ done_of 4 1 ∷ [])) 0
+        ≡ 2 }
+    ensures full { table_peak wide_network table_plan
+        (fresh (begin_of 4 1 ∷ done_of 4 1 ∷ begin_of 7 1 ∷ [])) 0
+        ≡ 5 }
+    ensures plain { table_peak table_network table_plan
+        (fresh (begin_of 4 1 ∷ done_of 4 1 ∷ begin_of 7 1 ∷ [])) 0
+        ≡ 2 }
 {}

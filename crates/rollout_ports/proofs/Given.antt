@@ -4,6 +4,7 @@ use Rattle.std.specs.Cmp.{nat_eq_equiv}
 use Rattle.std.specs.Prelude.{IfSome}
 use Rattle.std.specs.List.{AllByRecursion, IsDistinct}
 use Rattle.wan_edge.specs.Fleets.{GivesPort, marked, with_one, without}
+use Rattle.wan_edge.specs.Ports.{PortTrace}
 use Rattle.port_session.specs.Sessions.{Talk}
 use Rattle.worker_ports.specs.Rows.{IsLast}
 use Rattle.worker_ports.specs.declared.ports.Berth.{Berth}
@@ -163,11 +164,11 @@ module _ {P : Type 0} where
   told_more (Some w) ns n = ap Some (sym (without_more w ns n))
 
   -- one port more is given
-  pub given_one : (faults : P → ℕ) (waiting : Option (ℕ → Option P)) (ns : List ℕ) (switch : ℕ) (port : P) (now : Option (ℕ → Option P))
-      → GivesPort faults (option_map (λ w. without_each w ns) waiting) switch port now
-      → IsGiven faults waiting (record { switch = switch; port = port }) × (now ≡ option_map (λ w. without_each w (ns ++ switch ∷ [])) waiting)
-  given_one faults None ns switch port now gives = (gives.1, gives.0)
-  given_one faults (Some w) ns switch port now gives = (without_some w ns switch port gives.0, gives.1 ∙ ap Some (sym (without_more w ns switch)))
+  pub given_one : (tell : P → PortTrace) (waiting : Option (ℕ → Option P)) (ns : List ℕ) (switch : ℕ) (port : P) (now : Option (ℕ → Option P))
+      → GivesPort tell (option_map (λ w. without_each w ns) waiting) switch port now
+      → IsGiven tell waiting (record { switch = switch; port = port }) × (now ≡ option_map (λ w. without_each w (ns ++ switch ∷ [])) waiting)
+  given_one tell None ns switch port now gives = (gives.1, gives.0)
+  given_one tell (Some w) ns switch port now gives = (without_some w ns switch port gives.0, gives.1 ∙ ap Some (sym (without_more w ns switch)))
 
   -- no port waits for one more
   pub none_waits : (waiting : Option (ℕ → Option P)) (ns : List ℕ) (switch : ℕ) → AllByRecursion (λ m. nat_eq switch m ≡ false) ns
@@ -175,23 +176,23 @@ module _ {P : Type 0} where
   none_waits None ns switch others none = tt
   none_waits (Some w) ns switch others none = sym (without_others w ns switch others) ∙ none
 
-  pub opened_one : (faults : P → ℕ) (homes : List ℕ) (before now after : FleetPorts P) (berths : List (Berth P)) (switch : ℕ) (port : P)
-      → Opens faults homes before berths now
-      → GivesPort faults now.waiting switch port after.waiting → after.kept ≡ without now.kept switch → after.lent ≡ marked now.lent switch true
-      → Opens faults (homes ++ switch ∷ []) before (berths ++ record { switch = switch; port = port } ∷ []) after
-  opened_one faults homes before now after berths switch port opens gives kept lent =
+  pub opened_one : (tell : P → PortTrace) (homes : List ℕ) (before now after : FleetPorts P) (berths : List (Berth P)) (switch : ℕ) (port : P)
+      → Opens tell homes before berths now
+      → GivesPort tell now.waiting switch port after.waiting → after.kept ≡ without now.kept switch → after.lent ≡ marked now.lent switch true
+      → Opens tell (homes ++ switch ∷ []) before (berths ++ record { switch = switch; port = port } ∷ []) after
+  opened_one tell homes before now after berths switch port opens gives kept lent =
       let is_now = opens.ports in
-      let one = given_one faults before.waiting homes switch port after.waiting (subst (λ w. GivesPort faults w switch port after.waiting) (ap (λ (p : FleetPorts P). p.waiting) is_now) gives) in
+      let one = given_one tell before.waiting homes switch port after.waiting (subst (λ w. GivesPort tell w switch port after.waiting) (ap (λ (p : FleetPorts P). p.waiting) is_now) gives) in
       record {
         switches = switches_append berths (record { switch = switch; port = port } ∷ []) ∙ ap (λ ns. ns ++ switch ∷ []) opens.switches;
-        given = all_both (IsGiven faults before.waiting) berths (record { switch = switch; port = port } ∷ []) opens.given (one.0, tt);
+        given = all_both (IsGiven tell before.waiting) berths (record { switch = switch; port = port } ∷ []) opens.given (one.0, tt);
         ports = ports_by after (after_opening before (homes ++ switch ∷ [])) one.1
             (kept ∙ ap (λ (p : FleetPorts P). without p.kept switch) is_now ∙ sym (without_more before.kept homes switch))
             (lent ∙ ap (λ (p : FleetPorts P). marked p.lent switch true) is_now ∙ sym (marked_more before.lent homes switch true));
       }
 
-  pub opened_none : (faults : P → ℕ) (before : FleetPorts P) → Opens faults [] before [] before
-  opened_none faults before = record {
+  pub opened_none : (tell : P → PortTrace) (before : FleetPorts P) → Opens tell [] before [] before
+  opened_none tell before = record {
     switches = refl;
     given = tt;
     ports = ports_by before (after_opening before []) (sym (none_taken before.waiting)) refl refl;
@@ -202,54 +203,54 @@ module _ {P : Type 0} where
       none_taken (Some w) = refl
 
   -- what was given and given back waits as before
-  waits_again : (faults : P → ℕ) (waiting : Option (ℕ → Option P)) (berths : List (Berth P)) → AreGiven faults waiting berths
+  waits_again : (tell : P → PortTrace) (waiting : Option (ℕ → Option P)) (berths : List (Berth P)) → AreGiven tell waiting berths
       → option_map (λ w. with_each w berths) (option_map (λ w. without_each w (switches_of berths)) waiting) ≡ waiting
-  waits_again faults None berths given = refl
-  waits_again faults (Some w) berths given = ap Some (back w berths ∙ put_again w berths given)
+  waits_again tell None berths given = refl
+  waits_again tell (Some w) berths given = ap Some (back w berths ∙ put_again w berths given)
 
-  pub given_back : (faults : P → ℕ) (homes : List ℕ) (before now after : FleetPorts P) (berths : List (Berth P)) → Opens faults homes before berths now → after ≡ after_keeping now berths → GivesBack faults homes before after
-  given_back faults homes before now after berths opens keeps =
+  pub given_back : (tell : P → PortTrace) (homes : List ℕ) (before now after : FleetPorts P) (berths : List (Berth P)) → Opens tell homes before berths now → after ≡ after_keeping now berths → GivesBack tell homes before after
+  given_back tell homes before now after berths opens keeps =
       let are : now ≡ after_opening before (switches_of berths) = opens.ports ∙ ap (after_opening before) (sym opens.switches) in
       let is : after ≡ after_keeping (after_opening before (switches_of berths)) berths = keeps ∙ ap (λ p. after_keeping p berths) are in
       record {
         berths = berths;
         switches = opens.switches;
         given = opens.given;
-        waiting = ap (λ (p : FleetPorts P). p.waiting) is ∙ waits_again faults before.waiting berths opens.given;
+        waiting = ap (λ (p : FleetPorts P). p.waiting) is ∙ waits_again tell before.waiting berths opens.given;
         kept = ap (λ (p : FleetPorts P). p.kept) is ∙ back before.kept berths;
         lent = ap (λ (p : FleetPorts P). p.lent) is ∙ remarked before.lent (switches_of berths) true false ∙ ap (λ ns. marked_each before.lent ns false) opens.switches;
       }
 
   -- the ports that were opened are lent
-  pub opened_lent : (faults : P → ℕ) (homes : List ℕ) (before now : FleetPorts P) (berths : List (Berth P)) → Opens faults homes before berths now → AreLent now.lent berths
-  opened_lent faults homes before now berths opens =
+  pub opened_lent : (tell : P → PortTrace) (homes : List ℕ) (before now : FleetPorts P) (berths : List (Berth P)) → Opens tell homes before berths now → AreLent now.lent berths
+  opened_lent tell homes before now berths opens =
       subst (λ (lent : ℕ → Bool). AreLent lent berths) (sym (ap (λ (p : FleetPorts P). p.lent) (opens.ports ∙ ap (after_opening before) (sym opens.switches)))) (all_lent before.lent berths)
 
-  opens_still : (faults : P → ℕ) (homes : List ℕ) (before now after : FleetPorts P) (berths : List (Berth P)) → Opens faults homes before berths now
-      → after.waiting ≡ now.waiting → after.kept ≡ now.kept → after.lent ≡ now.lent → Opens faults homes before berths after
-  opens_still faults homes before now after berths opens waiting kept lent = record {
+  opens_still : (tell : P → PortTrace) (homes : List ℕ) (before now after : FleetPorts P) (berths : List (Berth P)) → Opens tell homes before berths now
+      → after.waiting ≡ now.waiting → after.kept ≡ now.kept → after.lent ≡ now.lent → Opens tell homes before berths after
+  opens_still tell homes before now after berths opens waiting kept lent = record {
     switches = opens.switches;
     given = opens.given;
     ports = ports_by after now waiting kept lent ∙ opens.ports;
   }
 
   -- the fleet has no port for the next
-  pub opened_until : (faults : P → ℕ) (homes earlier later : List ℕ) (switch : ℕ) (before now after : FleetPorts P) (berths : List (Berth P)) → homes ≡ earlier ++ switch ∷ later → AllByRecursion (λ m. nat_eq switch m ≡ false) earlier
-      → Opens faults earlier before berths now → IfSome now.waiting (λ w. w switch ≡ None) → after.waiting ≡ now.waiting → after.kept ≡ now.kept → after.lent ≡ now.lent → OpensUntil faults homes switch before berths after
-  opened_until faults homes earlier later switch before now after berths among others opens none waiting kept lent = record {
+  pub opened_until : (tell : P → PortTrace) (homes earlier later : List ℕ) (switch : ℕ) (before now after : FleetPorts P) (berths : List (Berth P)) → homes ≡ earlier ++ switch ∷ later → AllByRecursion (λ m. nat_eq switch m ≡ false) earlier
+      → Opens tell earlier before berths now → IfSome now.waiting (λ w. w switch ≡ None) → after.waiting ≡ now.waiting → after.kept ≡ now.kept → after.lent ≡ now.lent → OpensUntil tell homes switch before berths after
+  opened_until tell homes earlier later switch before now after berths among others opens none waiting kept lent = record {
     earlier = earlier;
     later = later;
     among = among;
-    opens = opens_still faults earlier before now after berths opens waiting kept lent;
+    opens = opens_still tell earlier before now after berths opens waiting kept lent;
     none_waits = none_waits before.waiting earlier switch others (subst (λ (told : Option (ℕ → Option P)). IfSome told (λ w. w switch ≡ None)) (ap (λ (p : FleetPorts P). p.waiting) opens.ports) none);
   }
 
   -- those that were given before are given back
-  pub stops_at : (faults : P → ℕ) (homes all : List ℕ) (switch : ℕ) (before now after : FleetPorts P) (berths : List (Berth P)) → homes ≡ all → OpensUntil faults homes switch before berths now → after ≡ after_keeping now berths → StopsAt faults all switch before after
-  stops_at faults homes all switch before now after berths are until keeps = record {
+  pub stops_at : (tell : P → PortTrace) (homes all : List ℕ) (switch : ℕ) (before now after : FleetPorts P) (berths : List (Berth P)) → homes ≡ all → OpensUntil tell homes switch before berths now → after ≡ after_keeping now berths → StopsAt tell all switch before after
+  stops_at tell homes all switch before now after berths are until keeps = record {
     earlier = until.earlier;
     later = until.later;
     among = sym are ∙ until.among;
-    given_back = given_back faults until.earlier before now after berths until.opens keeps;
+    given_back = given_back tell until.earlier before now after berths until.opens keeps;
     none_waits = until.none_waits;
   }

@@ -23,7 +23,8 @@ pub fn deal<T: Port + Drop>(
     workers: u32,
 ) -> Result<Vec<WorkerPorts<T>>, Vec<Berth<T>>>
     requires { AreApart berths.items }
-    ensures ok { IfOk result (λ dealt. dealt.items ≡ hands (hand_count workers (length berths.items)) berths.items) }
+    ensures ok { IfOk result
+        (λ dealt. dealt.items ≡ hands (hand_count workers (length berths.items)) berths.items) }
     ensures err { IfErr result (λ back. back.items ≡ berths.items) }
 {
     let count = hand_count(workers, berths.len());
@@ -68,7 +69,8 @@ fn deal_each<T: Port + Drop>(
     requires some { 0 < length left.old.items → 0 < length workers.old.items }
     requires apart { AreApart (reverse left.old.items) }
     requires fresh { workers.old.items ≡ hands (length workers.old.items) [] }
-    ensures ok { OnOk result (workers.new.items ≡ hands (length workers.old.items) (reverse left.old.items)) }
+    ensures ok { OnOk result
+        (workers.new.items ≡ hands (length workers.old.items) (reverse left.old.items)) }
     ensures err { OnErr result (left.new.items ≡ left.old.items) }
 {
     let mut dealt = 0;
@@ -92,8 +94,15 @@ fn deal_one<T: Port + Drop>(
     berth: Berth<T>,
 ) -> Result<(), Berth<T>>
     requires some { 0 < length workers.old.items }
-    requires new { list_any (λ t. berth.switch == t.switch) (slice_index_or workers.old.items (place % length workers.old.items) []) ≡ false }
-    ensures ok { OnOk result (workers.new.items ≡ slice_set workers.old.items (place % length workers.old.items) (slice_index_or workers.old.items (place % length workers.old.items) [] ++ first_talk berth.switch berth.port ∷ [])) }
+    requires new { list_any (λ t. berth.switch == t.switch)
+        (slice_index_or workers.old.items (place % length workers.old.items) [])
+        ≡ false }
+    ensures ok { OnOk result
+        (workers.new.items
+        ≡ slice_set workers.old.items (place % length workers.old.items)
+        (slice_index_or workers.old.items (place % length workers.old.items) []
+        ++ first_talk berth.switch berth.port
+        ∷ [])) }
     ensures err { IfErr result (λ back. (back ≡ berth) × (workers.new.items ≡ workers.old.items)) }
 {
     let worker = place % workers.len();
@@ -111,9 +120,14 @@ fn take_back<T: Port + Drop>(
     dealt: usize,
 )
     requires some { 0 < dealt → 0 < length workers.old.items }
-    requires dealt { (berths : List (Berth T)) × (length berths ≡ dealt) × (workers.old.items ≡ hands (length workers.old.items) berths) }
+    requires dealt { (berths : List (Berth T))
+        × (length berths ≡ dealt)
+        × (workers.old.items ≡ hands (length workers.old.items) berths) }
     requires room { length left.old.items + dealt ≤ vec_capacity left.old }
-    ensures { (berths : List (Berth T)) → length berths ≡ dealt → workers.old.items ≡ hands (length workers.old.items) berths → left.new.items ≡ left.old.items ++ reverse berths }
+    ensures { (berths : List (Berth T))
+        → length berths ≡ dealt
+        → workers.old.items ≡ hands (length workers.old.items) berths
+        → left.new.items ≡ left.old.items ++ reverse berths }
 {
     let mut place = dealt;
     while 0 < place {
@@ -125,8 +139,10 @@ fn take_back<T: Port + Drop>(
 // Takes the last port of the worker whose turn it was at this place.
 fn take_one<T: Port + Drop>(workers: &mut Vec<WorkerPorts<T>>, place: usize) -> Berth<T>
     requires some { 0 < length workers.old.items }
-    requires there { 0 < length (slice_index_or workers.old.items (place % length workers.old.items) []) }
-    ensures { TakesLast workers.old.items (place % length workers.old.items) result workers.new.items }
+    requires there { 0
+        < length (slice_index_or workers.old.items (place % length workers.old.items) []) }
+    ensures { TakesLast workers.old.items (place % length workers.old.items) result
+        workers.new.items }
 {
     let turn = place % workers.len();
     let Some(berth) = workers[turn].take() else {

@@ -1,14 +1,13 @@
 //! The switches at which a rollout has work.
-ghost use Rattle.std.specs.Prelude.{◌≡◌, ℕ, ◌<◌, ◌^◌, ◌||◌, false, length, slice_index_or, IfOk, IfSome, IsTrue};
-ghost use Rattle.rollout_rules.specs.Items.{home_of, is_item};
-ghost use Rattle.rollout_rules.specs.declared.item.Item.TheVariants as variants;
+ghost use Rattle.std.specs.Prelude.{◌≡◌, ℕ, ◌<◌, ◌^◌, ◌||◌, false, length, slice_index_or, IfOk, IsTrue};
+ghost use Rattle.rollout_rules.specs.Items.{is_item};
 ghost use Rattle.rollout_ports.specs.Homes.{is_working_home, passing_below, working_homes, works_at};
 
 use dependency_graph::{items, operations};
 use lists::{Ids, Memory};
 use rollout_rules::Item;
 use std::alloc::Global;
-use wan_model::CheckedPlan;
+use wan_model::{CheckedPlan, home_of_item};
 
 /// The switches that are the home of an item with an operation, from number 0 up. Time: the switches, and
 /// the stages of each item.
@@ -22,7 +21,9 @@ pub(crate) fn working_homes(alloc: Global, plan: &CheckedPlan) -> Result<Ids, Me
 // The numbers of the marks that are set.
 fn marked_numbers(alloc: Global, marks: &[bool]) -> Result<Ids, Memory>
     requires few { length marks.now < 2 ^ 32 }
-    ensures { IfOk result (λ numbers. numbers ≡ passing_below (length marks.now) (λ n. slice_index_or marks.now n false)) }
+    ensures { IfOk result
+        (λ numbers. numbers
+        ≡ passing_below (length marks.now) (λ n. slice_index_or marks.now n false)) }
 {
     let mut numbers = Ids::new(alloc);
     for number in 0..marks.len() {
@@ -37,7 +38,10 @@ fn marked_numbers(alloc: Global, marks: &[bool]) -> Result<Ids, Memory>
 fn home_marks(alloc: Global, plan: &CheckedPlan) -> Result<Vec<bool>, Memory>
     ensures count { IfOk result (λ marks. length marks.items ≡ length plan.now.problem.switches) }
     ensures few { IfOk result (λ marks. length marks.items < 2 ^ 32) }
-    ensures each { IfOk result (λ marks. (w : ℕ) → w < length plan.now.problem.switches → slice_index_or marks.items w false ≡ is_working_home plan.now.problem plan.now.plan w) }
+    ensures each { IfOk result
+        (λ marks. (w : ℕ)
+        → w < length plan.now.problem.switches
+        → slice_index_or marks.items w false ≡ is_working_home plan.now.problem plan.now.plan w) }
 {
     let items = items(alloc, plan)?;
     let mut marks = vec![in alloc; false; plan.problem().switches().len()]?;
@@ -51,36 +55,15 @@ fn home_marks(alloc: Global, plan: &CheckedPlan) -> Result<Vec<bool>, Memory>
 fn mark_home(plan: &CheckedPlan, item: Item, marks: &mut [bool])
     requires item { IsTrue (is_item plan.now.problem item) }
     requires count { length marks.old ≡ length plan.now.problem.switches }
-    ensures { (w : ℕ) → w < length plan.now.problem.switches → slice_index_or marks.new w false ≡ (slice_index_or marks.old w false || works_at plan.now.problem plan.now.plan w item) }
+    ensures { (w : ℕ)
+        → w < length plan.now.problem.switches
+        → slice_index_or marks.new w false
+        ≡ (slice_index_or marks.old w false || works_at plan.now.problem plan.now.plan w item) }
 {
     if operations(plan, item) == 0 {
         return;
     }
-    if let Some(home) = home_of(plan, item) {
+    if let Some(home) = home_of_item(plan.problem(), item) {
         marks[home as usize] = true;
     }
-}
-
-// The switch that an item belongs to; a flow without tunnels has none.
-fn home_of(plan: &CheckedPlan, item: Item) -> Option<u32>
-    requires { IsTrue (is_item plan.now.problem item) }
-    ensures home { result ≡ home_of plan.now.problem item }
-    ensures inside { IfSome result (λ home. home < length plan.now.problem.switches) }
-{
-    match item {
-        Item::Flow(flow) => first_switch(plan, flow as usize),
-        Item::Entry { tunnel, hop } => Some(plan.path(tunnel as usize)[hop as usize]),
-    }
-}
-
-// The first switch on a flow's paths.
-fn first_switch(plan: &CheckedPlan, flow: usize) -> Option<u32>
-    requires { flow < length plan.now.problem.flows }
-    ensures home { result ≡ home_of plan.now.problem (variants.Flow flow) }
-    ensures inside { IfSome result (λ home. home < length plan.now.problem.switches) }
-{
-    if plan.tunnel_count(flow) == 0 {
-        return None;
-    }
-    Some(plan.path(plan.tunnel_of(flow, 0))[0])
 }

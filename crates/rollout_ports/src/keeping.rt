@@ -10,8 +10,11 @@ use worker_ports::{Berth, WorkerPorts};
 pub fn keep_ports<F: Fleet>(fleet: &mut F, mut berths: Vec<Berth<F::Port>>)
     requires apart { AreApart berths.items }
     requires lent { AreLent (F.lent fleet.old) berths.items }
-    ensures ports { ports_of F.waiting F.kept F.lent fleet.new ≡ after_keeping (ports_of F.waiting F.kept F.lent fleet.old) berths.items }
-    ensures guests { (F.coming fleet.new ≡ F.coming fleet.old) × (F.served fleet.new ≡ F.served fleet.old) × (F.visiting fleet.new ≡ F.visiting fleet.old) }
+    ensures ports { ports_of F.waiting F.kept F.lent fleet.new
+        ≡ after_keeping (ports_of F.waiting F.kept F.lent fleet.old) berths.items }
+    ensures guests { (F.coming fleet.new ≡ F.coming fleet.old)
+        × (F.served fleet.new ≡ F.served fleet.old)
+        × (F.visiting fleet.new ≡ F.visiting fleet.old) }
     ensures count { F.faults fleet.old ≤ F.faults fleet.new }
 {
     while let Some(berth) = berths.pop() {
@@ -27,8 +30,11 @@ where
     F::Port: Drop,
     requires apart { AreApart (berths_of ports) }
     requires lent { AreLent (F.lent fleet.old) (berths_of ports) }
-    ensures ports { ports_of F.waiting F.kept F.lent fleet.new ≡ after_keeping (ports_of F.waiting F.kept F.lent fleet.old) (berths_of ports) }
-    ensures guests { (F.coming fleet.new ≡ F.coming fleet.old) × (F.served fleet.new ≡ F.served fleet.old) × (F.visiting fleet.new ≡ F.visiting fleet.old) }
+    ensures ports { ports_of F.waiting F.kept F.lent fleet.new
+        ≡ after_keeping (ports_of F.waiting F.kept F.lent fleet.old) (berths_of ports) }
+    ensures guests { (F.coming fleet.new ≡ F.coming fleet.old)
+        × (F.served fleet.new ≡ F.served fleet.old)
+        × (F.visiting fleet.new ≡ F.visiting fleet.old) }
     ensures count { F.faults fleet.old ≤ F.faults fleet.new }
 {
     while let Some(berth) = ports.take() {
@@ -43,8 +49,11 @@ where
     F::Port: Drop,
     requires apart { AreApart (all_berths workers.items) }
     requires lent { AreLent (F.lent fleet.old) (all_berths workers.items) }
-    ensures ports { ports_of F.waiting F.kept F.lent fleet.new ≡ after_keeping (ports_of F.waiting F.kept F.lent fleet.old) (all_berths workers.items) }
-    ensures guests { (F.coming fleet.new ≡ F.coming fleet.old) × (F.served fleet.new ≡ F.served fleet.old) × (F.visiting fleet.new ≡ F.visiting fleet.old) }
+    ensures ports { ports_of F.waiting F.kept F.lent fleet.new
+        ≡ after_keeping (ports_of F.waiting F.kept F.lent fleet.old) (all_berths workers.items) }
+    ensures guests { (F.coming fleet.new ≡ F.coming fleet.old)
+        × (F.served fleet.new ≡ F.served fleet.old)
+        × (F.visiting fleet.new ≡ F.visiting fleet.old) }
     ensures count { F.faults fleet.old ≤ F.faults fleet.new }
 {
     while let Some(ports) = workers.pop() {

@@ -43,11 +43,20 @@ pub fn open_ports<F: Fleet>(
     fleet: &mut F,
     plan: &CheckedPlan,
 ) -> Result<Vec<Berth<F::Port>>, NotOpened>
-    ensures opened { IfOk result (λ berths. Opens F.Port.faults (working_homes plan.now.problem plan.now.plan) (ports_of F.waiting F.kept F.lent fleet.old) berths.items (ports_of F.waiting F.kept F.lent fleet.new)) }
+    ensures opened { IfOk result
+        (λ berths. Opens F.Port.told (working_homes plan.now.problem plan.now.plan)
+        (ports_of F.waiting F.kept F.lent fleet.old) berths.items
+        (ports_of F.waiting F.kept F.lent fleet.new)) }
     ensures apart { IfOk result (λ berths. AreApart berths.items) }
-    ensures refused { IfErr result (λ why. Refuses F.Port.faults (working_homes plan.now.problem plan.now.plan) why (ports_of F.waiting F.kept F.lent fleet.old) (ports_of F.waiting F.kept F.lent fleet.new)) }
-    ensures guests { (F.coming fleet.new ≡ F.coming fleet.old) × (F.served fleet.new ≡ F.served fleet.old) × (F.visiting fleet.new ≡ F.visiting fleet.old) }
-    ensures cause { (switch : ℕ) → IsErrOf result (NotOpened.NoPort switch) → Rose (F.faults fleet.old) (F.faults fleet.new) }
+    ensures refused { IfErr result
+        (λ why. Refuses F.Port.told (working_homes plan.now.problem plan.now.plan) why
+        (ports_of F.waiting F.kept F.lent fleet.old) (ports_of F.waiting F.kept F.lent fleet.new)) }
+    ensures guests { (F.coming fleet.new ≡ F.coming fleet.old)
+        × (F.served fleet.new ≡ F.served fleet.old)
+        × (F.visiting fleet.new ≡ F.visiting fleet.old) }
+    ensures cause { (switch : ℕ)
+        → IsErrOf result (NotOpened.NoPort switch)
+        → Rose (F.faults fleet.old) (F.faults fleet.new) }
     ensures count { F.faults fleet.old ≤ F.faults fleet.new }
 {
     let homes = working_homes(alloc, plan)?;
@@ -78,9 +87,16 @@ fn open_each<F: Fleet>(
     requires once { IsDistinct nat_eq homes.now }
     requires fresh { berths.old.items ≡ [] }
     requires room { length homes.now ≤ vec_capacity berths.old }
-    ensures opened { OnOk result (Opens F.Port.faults homes.now (ports_of F.waiting F.kept F.lent fleet.old) berths.new.items (ports_of F.waiting F.kept F.lent fleet.new)) }
-    ensures until { IfErr result (λ switch. OpensUntil F.Port.faults homes.now switch (ports_of F.waiting F.kept F.lent fleet.old) berths.new.items (ports_of F.waiting F.kept F.lent fleet.new)) }
-    ensures guests { (F.coming fleet.new ≡ F.coming fleet.old) × (F.served fleet.new ≡ F.served fleet.old) × (F.visiting fleet.new ≡ F.visiting fleet.old) }
+    ensures opened { OnOk result
+        (Opens F.Port.told homes.now (ports_of F.waiting F.kept F.lent fleet.old) berths.new.items
+        (ports_of F.waiting F.kept F.lent fleet.new)) }
+    ensures until { IfErr result
+        (λ switch. OpensUntil F.Port.told homes.now switch
+        (ports_of F.waiting F.kept F.lent fleet.old) berths.new.items
+        (ports_of F.waiting F.kept F.lent fleet.new)) }
+    ensures guests { (F.coming fleet.new ≡ F.coming fleet.old)
+        × (F.served fleet.new ≡ F.served fleet.old)
+        × (F.visiting fleet.new ≡ F.visiting fleet.old) }
     ensures cause { OnErr result (Rose (F.faults fleet.old) (F.faults fleet.new)) }
     ensures count { F.faults fleet.old ≤ F.faults fleet.new }
 {

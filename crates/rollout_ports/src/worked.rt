@@ -22,9 +22,15 @@ pub fn there_is_no_work_at_a_switch_that_is_no_home()
 
 /// Of seven in a row, dealt to three.
 pub fn each_third_goes_to_one_of_three()
-    ensures first { at_places {A = ℕ} (λ place. (place % 3) == 0) 0 (5 ∷ 6 ∷ 7 ∷ 8 ∷ 9 ∷ 10 ∷ 11 ∷ []) ≡ 5 ∷ 8 ∷ 11 ∷ [] }
-    ensures second { at_places {A = ℕ} (λ place. (place % 3) == 1) 0 (5 ∷ 6 ∷ 7 ∷ 8 ∷ 9 ∷ 10 ∷ 11 ∷ []) ≡ 6 ∷ 9 ∷ [] }
-    ensures last { at_places {A = ℕ} (λ place. (place % 3) == 2) 0 (5 ∷ 6 ∷ 7 ∷ 8 ∷ 9 ∷ 10 ∷ 11 ∷ []) ≡ 7 ∷ 10 ∷ [] }
+    ensures first { at_places {A = ℕ} (λ place. (place % 3) == 0) 0
+        (5 ∷ 6 ∷ 7 ∷ 8 ∷ 9 ∷ 10 ∷ 11 ∷ [])
+        ≡ 5 ∷ 8 ∷ 11 ∷ [] }
+    ensures second { at_places {A = ℕ} (λ place. (place % 3) == 1) 0
+        (5 ∷ 6 ∷ 7 ∷ 8 ∷ 9 ∷ 10 ∷ 11 ∷ [])
+        ≡ 6 ∷ 9 ∷ [] }
+    ensures last { at_places {A = ℕ} (λ place. (place % 3) == 2) 0
+        (5 ∷ 6 ∷ 7 ∷ 8 ∷ 9 ∷ 10 ∷ 11 ∷ [])
+        ≡ 7 ∷ 10 ∷ [] }
 {}
 
 /// No worker is without a port, and one has them all where none is asked for.

@@ -16,6 +16,7 @@ use Rattle.intent_journal.specs.declared.fault.JournalFault.{JournalFault}
 use Rattle.intent_journal.specs.declared.fault.JournalFault.TheVariants.{BadStart, Disk, Illegal, Memory, NotJournal, OtherPlan}
 use Rattle.intent_journal.specs.Images.{is_blank, open_journal, slot_at}
 use Rattle.intent_journal.specs.Numbers.{byte_at}
+use Rattle.intent_journal.specs.Openings.{found_by}
 use Rattle.intent_journal.specs.Parts.{Slot, digest_in, migration_in, part_rows}
 use Rattle.intent_journal.specs.Reading.{Listed, live_side, nothing_read, with_rows}
 use Rattle.intent_journal.specs.Recovered.{IsBroughtTo, IsCause, MayStand}
@@ -23,7 +24,9 @@ use Rattle.intent_journal.specs.Verdicts.{Fresh, NoJournal, NoStart, NotLegal, O
 use Rattle.rollout_report.specs.Report.{report_text}
 use Rattle.rollout_peaks.specs.Counts.{AreCountsOf, Counted}
 use Rattle.rollout_report.proofs.Tallying.{all_zero, zeros}
+use Rattle.disk_model.specs.Traces.{DiskTrace}
 use Rattle.disk_model.specs.Moments.{LeavesOnly}
+use Rattle.intent_journal.proofs.Openings.{found_brought}
 use Rattle.intent_journal.proofs.Recoveries.{still}
 use Rattle.rollout_report.specs.Journals.{AreDones, Tells, digest_for, journal_report, text_before, told_by}
 
@@ -110,7 +113,7 @@ only_dones p entries start n c none counts = record {
 
 -- ---- what was found is what is told
 
-pub brought_text : (r : Rollout) (digest : Digest) (v : Verdict) (h : History) (new : Followed) (list : List Entry)
+brought_text : (r : Rollout) (digest : Digest) (v : Verdict) (h : History) (new : Followed) (list : List Entry)
     → ((start : List ℕ) (entries : List Entry) → v ≡ Stands start entries → length start ≡ item_count r.problem) → h ≡ from_nothing r.problem []
     → IsBroughtTo v list (record { rollout = r; history = h }) new → told_by r digest v ≡ Ok (text_before new list)
 brought_text r digest Fresh h new list numbers empty brought =
@@ -123,7 +126,7 @@ brought_text r digest (OfAnother bytes migration) h new list numbers empty broug
 brought_text r digest NoStart h new list numbers empty brought = absurd brought
 brought_text r digest (NotLegal place) h new list numbers empty brought = absurd brought
 
-pub caused : (r : Rollout) (digest : Digest) (v : Verdict) (cause : JournalFault) → IsCause cause digest v → Tells (Err cause) (told_by r digest v)
+caused : (r : Rollout) (digest : Digest) (v : Verdict) (cause : JournalFault) → IsCause cause digest v → Tells (Err cause) (told_by r digest v)
 caused r digest v (NotJournal first) is = ap (told_by r digest) is
 caused r digest v (OtherPlan kept wanted) is = ap (told_by r digest) is.0 ∙ ap (λ w. Err (OtherPlan kept w)) (sym is.1)
 caused r digest v BadStart is = ap (told_by r digest) is
@@ -131,28 +134,46 @@ caused r digest v (Illegal place) is = ap (told_by r digest) is
 caused r digest v Disk is = tt
 caused r digest v Memory is = tt
 
-pub told_text : (digest : Digest) (told : Option (List ℕ)) (old new : Followed) (list entries : List Entry) (answer : Result (List ℕ) JournalFault) → old.history ≡ from_nothing old.rollout.problem []
-    → IfSome told (λ image. IsBroughtTo (verdict old.rollout digest image) list old new) → entries ≡ list
-    → IfOk answer (λ text. text ≡ text_before new entries) → IfErr answer (λ cause. cause ≡ Memory) → IfSome told (λ image. Tells answer (told_by old.rollout digest (verdict old.rollout digest image)))
-told_text digest None old new list entries answer empty brought same ok err = tt
-told_text digest (Some image) old new list entries (Ok text) empty brought same ok err =
-    brought_text old.rollout digest (verdict old.rollout digest image) old.history new list (stood_numbers old.rollout digest image) empty brought
-    ∙ ap (λ l. Ok (text_before new l)) (sym same) ∙ ap Ok (sym ok)
-told_text digest (Some image) old new list entries (Err cause) empty brought same ok err = subst (λ x. Tells (Err x) (told_by old.rollout digest (verdict old.rollout digest image))) (sym err) tt
+-- the graph of a rollout has the history that was found
+pub told_text : (r : Rollout) (digest : Digest) (told : Option (List ℕ)) (new : Followed) (list entries : List Entry) (answer : Result (List ℕ) JournalFault) → new.rollout ≡ r → list ≡ new.history.entries
+    → IfSome told (λ image. found_by r (verdict r digest image) ≡ Some new.history) → entries ≡ list
+    → IfOk answer (λ text. text ≡ text_before new entries) → IfErr answer (λ cause. cause ≡ Memory) → IfSome told (λ image. Tells answer (told_by r digest (verdict r digest image)))
+told_text r digest None new list entries answer same has found are ok err = tt
+told_text r digest (Some image) new list entries (Ok text) same has found are ok err =
+    brought_text r digest (verdict r digest image) (from_nothing r.problem []) new list (stood_numbers r digest image) refl (found_brought (verdict r digest image) r list new same has found)
+    ∙ ap (λ l. Ok (text_before new l)) (sym are) ∙ ap Ok (sym ok)
+told_text r digest (Some image) new list entries (Err cause) same has found are ok err = subst (λ x. Tells (Err x) (told_by r digest (verdict r digest image))) (sym err) tt
+
+-- a cause that was found is the one that is told
+pub told_cause : (r : Rollout) (digest : Digest) (told : Option (List ℕ)) (cause : JournalFault) → IfSome told (λ image. IsCause cause digest (verdict r digest image))
+    → IfSome told (λ image. Tells (Err cause) (told_by r digest (verdict r digest image)))
+told_cause r digest None cause is = tt
+told_cause r digest (Some image) cause is = caused r digest (verdict r digest image) cause is
+
+pub ok_each : {X : Type 0} (answer : Result X JournalFault) (P : Type 0) → P → IfOk answer (λ _. P)
+ok_each (Ok x) P holds = holds
+ok_each (Err cause) P holds = tt
+
+-- what is said of an answer and of a disk, where memory ran out behind the opening
+pub left_short : {X : Type 0} (answer : Result X JournalFault) (P : JournalFault → Type 0) → IfErr answer (λ cause. cause ≡ Memory) → P Memory → IfErr answer P
+left_short (Ok x) P is holds = tt
+left_short (Err cause) P is holds = subst P (sym is) holds
 
 -- ---- nothing was written
 
-pub still_each : {D : Type 0} (moment : D → ℕ) (left_since : D → ℕ → List ℕ → Type 0) (may_leave : D → List ℕ → Type 0) (r : Rollout) (digest : Digest) (told : Option (List ℕ)) (old new : D)
-    → ((c : List ℕ) → left_since old (moment old) c → may_leave old c) → new ≡ old
-    → IfSome told (λ image. LeavesOnly moment left_since old new (MayStand r digest image (verdict r digest image) (may_leave old)))
-still_each moment left_since may_leave r digest None old new now same = tt
-still_each moment left_since may_leave r digest (Some image) old new now same = still moment left_since may_leave r digest image (verdict r digest image) (Some image) old new now same
+pub still_each : {D : Type 0} (trace : D → DiskTrace) (r : Rollout) (digest : Digest) (told : Option (List ℕ)) (old new : D)
+    → ((c : List ℕ) → (trace old).left_since (trace old).moment c → (trace old).may_leave c) → new ≡ old
+    → IfSome told (λ image. LeavesOnly trace old new (MayStand r digest image (verdict r digest image) (trace old).may_leave))
+still_each trace r digest None old new now same = tt
+still_each trace r digest (Some image) old new now same = still trace r digest image (verdict r digest image) (Some image) old new now same
 
-pub told_for : (r : Rollout) (m : ℕ) (digest : Digest) (told : Option (List ℕ)) (answer : Result (List ℕ) JournalFault) → digest ≡ digest_for r m
-    → IfSome told (λ image. Tells answer (told_by r digest (verdict r digest image))) → IfSome told (λ image. Tells answer (journal_report r m image))
+-- what is told of a journal that is known as a plan's
+pub told_known : (r : Rollout) (m : ℕ) (of : Rollout) (digest : Digest) (told : Option (List ℕ)) (answer : Result (List ℕ) JournalFault) → of ≡ r → digest ≡ digest_for r m
+    → IfSome told (λ image. Tells answer (told_by of digest (verdict of digest image))) → IfSome told (λ image. Tells answer (journal_report r m image))
 unfolding journal_report
-told_for r m digest None answer same tells = tt
-told_for r m digest (Some image) answer same tells = subst (λ d. Tells answer (told_by r d (verdict r d image))) same tells
+told_known r m of digest None answer same known tells = tt
+told_known r m of digest (Some image) answer same known tells =
+    subst (λ d. Tells answer (told_by r d (verdict r d image))) known (subst (λ (o : Rollout). Tells answer (told_by o digest (verdict o digest image))) same tells)
 
 pub memory_tells : (told : Option (List ℕ)) (report : List ℕ → Result (List ℕ) JournalFault) (answer : Result (List ℕ) JournalFault) → answer ≡ Err Memory → IfSome told (λ image. Tells answer (report image))
 memory_tells None report answer is = tt

@@ -1,20 +1,17 @@
-ghost use Rattle.std.specs.Prelude.{◌≡◌, [], Err, IfErr, IfOk, IfSome, IsErrOf};
+ghost use Rattle.std.specs.Prelude.{◌≡◌, [], IfErr, IfOk, IfSome};
 ghost use Rattle.rollout_rules.specs.History.{from_nothing};
-ghost use Rattle.disk_model.specs.Crashes.{Within};
-ghost use Rattle.disk_model.specs.Moments.{LeavesOnly};
-ghost use Rattle.intent_journal.specs.Recovered.{KeepsNow, MayStand, OnRefusal, kept_for};
+ghost use Rattle.intent_journal.specs.Openings.{IsLeft, IsOpenedOn};
 ghost use Rattle.intent_journal.specs.Verdicts.{verdict};
 ghost use Rattle.intent_journal.specs.declared.fault.JournalFault.TheVariants as fault;
 ghost use Rattle.rollout_report.specs.Journals.{Tells, digest_for, journal_report, text_before, told_by};
-ghost use Rattle.wan_edge.specs.Streams.{Rose};
 
+use crate::known::{KnownPlan, known_plan};
 use crate::reporting::report;
 use crate::starts::start_before;
 use dependency_graph::Graph;
 use disk_model::Disk;
-use intent_journal::{Digest, JournalFault, digest_of, recover};
-use lists::{Memory, Text};
-use problem_json::{write_plan, write_problem};
+use intent_journal::{Digest, JournalFault, recover};
+use lists::Text;
 use rollout_peaks::History;
 use rollout_rules::Entry;
 use std::alloc::Global;
@@ -36,80 +33,49 @@ pub fn report_journal<D: Disk>(
     migration: u32,
     disk: D,
 ) -> Reported<D>
-    ensures tells { IfSome (D.bytes disk) (λ image. Tells result.answer (journal_report plan migration image)) }
-    ensures keeps { IfOk result.answer (λ _. IfSome (D.bytes disk) (λ image.
-        KeepsNow (kept_for plan (digest_for plan migration) (verdict plan (digest_for plan migration) image)) (D.bytes result.disk) (D.may_leave result.disk))) }
-    ensures any_moment { IfSome (D.bytes disk) (λ image. LeavesOnly D.moment D.left_since disk result.disk
-        (MayStand plan (digest_for plan migration) image (verdict plan (digest_for plan migration) image) (D.may_leave disk))) }
-    ensures unwritten { IfErr result.answer (λ cause. OnRefusal cause ((D.bytes result.disk ≡ D.bytes disk) × Within (D.may_leave result.disk) (D.may_leave disk))) }
-    ensures cause { IsErrOf result.answer fault.Disk → Rose (D.faults disk) (D.faults result.disk) }
+    ensures tells { IfSome (D.told disk).bytes
+        (λ image. Tells result.answer (journal_report plan migration image)) }
+    ensures opened { IfOk result.answer
+        (λ _. IsOpenedOn D.told plan (digest_for plan migration) disk result.disk) }
+    ensures left { IfErr result.answer
+        (λ cause. IsLeft D.told plan (digest_for plan migration) disk cause result.disk) }
 {
-    match digest_with(alloc, &plan, migration) {
-        Ok(digest) => report_with(alloc, plan, &digest, disk),
-        Err(_) => no_memory(disk),
+    match known_plan(alloc, plan, migration) {
+        Ok(known) => report_known(alloc, known, disk),
+        Err(_) => Reported {
+            disk,
+            answer: Err(JournalFault::Memory),
+        },
     }
 }
 
-/// The same, of a journal that knows its rollout by a digest.
-fn report_with<D: Disk>(alloc: Global, plan: CheckedPlan, digest: &Digest, disk: D) -> Reported<D>
-    ensures tells { IfSome (D.bytes disk) (λ image. Tells result.answer (told_by plan digest.now (verdict plan digest.now image))) }
-    ensures keeps { IfOk result.answer (λ _. IfSome (D.bytes disk) (λ image.
-        KeepsNow (kept_for plan digest.now (verdict plan digest.now image)) (D.bytes result.disk) (D.may_leave result.disk))) }
-    ensures any_moment { IfSome (D.bytes disk) (λ image. LeavesOnly D.moment D.left_since disk result.disk
-        (MayStand plan digest.now image (verdict plan digest.now image) (D.may_leave disk))) }
-    ensures unwritten { IfErr result.answer (λ cause. OnRefusal cause ((D.bytes result.disk ≡ D.bytes disk) × Within (D.may_leave result.disk) (D.may_leave disk))) }
-    ensures cause { IsErrOf result.answer fault.Disk → Rose (D.faults disk) (D.faults result.disk) }
+/// The report of the journal on a disk that is known as this.
+fn report_known<D: Disk>(alloc: Global, known: KnownPlan, disk: D) -> Reported<D>
+    requires empty { known.graph.history ≡ from_nothing known.graph.rollout.problem [] }
+    ensures tells { IfSome (D.told disk).bytes
+        (λ image. Tells result.answer
+        (told_by known.graph.rollout known.digest
+        (verdict known.graph.rollout known.digest image))) }
+    ensures opened { IfOk result.answer
+        (λ _. IsOpenedOn D.told known.graph.rollout known.digest disk result.disk) }
+    ensures left { IfErr result.answer
+        (λ cause. IsLeft D.told known.graph.rollout known.digest disk cause result.disk) }
 {
-    match Graph::new(alloc, plan) {
-        Ok(graph) => report_of(alloc, graph, digest, disk),
-        Err(_) => no_memory(disk),
-    }
-}
-
-fn no_memory<D>(disk: D) -> Reported<D>
-    ensures disk { result.disk ≡ disk }
-    ensures answer { result.answer ≡ Err fault.Memory }
-{
-    Reported {
-        disk,
-        answer: Err(JournalFault::Memory),
-    }
-}
-
-#[tactic(auto, unfolding(crate::specs::Journals::digest_for))]
-fn digest_with(alloc: Global, plan: &CheckedPlan, migration: u32) -> Result<Digest, Memory>
-    ensures { IfOk result (λ digest. digest ≡ digest_for plan.now migration) }
-{
-    let problem = write_problem(alloc, plan.problem())?;
-    let stages = write_plan(alloc, plan.plan())?;
-    Ok(digest_of(problem.as_str(), stages.as_str(), migration))
-}
-
-/// The report of the journal on a disk, from a graph without entries on.
-fn report_of<D: Disk>(alloc: Global, graph: Graph, digest: &Digest, disk: D) -> Reported<D>
-    requires empty { graph.history ≡ from_nothing graph.rollout.problem [] }
-    ensures tells { IfSome (D.bytes disk) (λ image. Tells result.answer (told_by graph.rollout digest.now (verdict graph.rollout digest.now image))) }
-    ensures keeps { IfOk result.answer (λ _. IfSome (D.bytes disk) (λ image.
-        KeepsNow (kept_for graph.rollout digest.now (verdict graph.rollout digest.now image)) (D.bytes result.disk) (D.may_leave result.disk))) }
-    ensures any_moment { IfSome (D.bytes disk) (λ image. LeavesOnly D.moment D.left_since disk result.disk
-        (MayStand graph.rollout digest.now image (verdict graph.rollout digest.now image) (D.may_leave disk))) }
-    ensures unwritten { IfErr result.answer (λ cause. OnRefusal cause ((D.bytes result.disk ≡ D.bytes disk) × Within (D.may_leave result.disk) (D.may_leave disk))) }
-    ensures cause { IsErrOf result.answer fault.Disk → Rose (D.faults disk) (D.faults result.disk) }
-{
+    let KnownPlan { graph, digest } = known;
     let mut graph = graph;
-    follow(alloc, &mut graph, digest, disk)
+    follow(alloc, &mut graph, &digest, disk)
 }
 
 /// Brings a graph without entries to the journal on a disk, and reports it.
 fn follow<D: Disk>(alloc: Global, graph: &mut Graph, digest: &Digest, disk: D) -> Reported<D>
     requires empty { graph.old.history ≡ from_nothing graph.old.rollout.problem [] }
-    ensures tells { IfSome (D.bytes disk) (λ image. Tells result.answer (told_by graph.old.rollout digest.now (verdict graph.old.rollout digest.now image))) }
-    ensures keeps { IfOk result.answer (λ _. IfSome (D.bytes disk) (λ image.
-        KeepsNow (kept_for graph.old.rollout digest.now (verdict graph.old.rollout digest.now image)) (D.bytes result.disk) (D.may_leave result.disk))) }
-    ensures any_moment { IfSome (D.bytes disk) (λ image. LeavesOnly D.moment D.left_since disk result.disk
-        (MayStand graph.old.rollout digest.now image (verdict graph.old.rollout digest.now image) (D.may_leave disk))) }
-    ensures unwritten { IfErr result.answer (λ cause. OnRefusal cause ((D.bytes result.disk ≡ D.bytes disk) × Within (D.may_leave result.disk) (D.may_leave disk))) }
-    ensures cause { IsErrOf result.answer fault.Disk → Rose (D.faults disk) (D.faults result.disk) }
+    ensures tells { IfSome (D.told disk).bytes
+        (λ image. Tells result.answer
+        (told_by graph.old.rollout digest.now (verdict graph.old.rollout digest.now image))) }
+    ensures opened { IfOk result.answer
+        (λ _. IsOpenedOn D.told graph.old.rollout digest.now disk result.disk) }
+    ensures left { IfErr result.answer
+        (λ cause. IsLeft D.told graph.old.rollout digest.now disk cause result.disk) }
 {
     match recover(alloc, disk, digest, graph) {
         Ok((journal, list)) => Reported {

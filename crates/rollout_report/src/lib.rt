@@ -4,10 +4,11 @@
 //! many of those to each stage are settled, the peak of each link and table, and whether the rollout is
 //! finished; its contract is the definition `report_text`. `rollout_peaks` has the law that over a legal
 //! history every peak fits. [`report_journal`] does so for the journal on a disk, which it opens as a
-//! rollout does.
+//! rollout does: [`known_plan`] makes of a plan what such an opening begins with.
 #![tactic(auto)]
 
 mod journaled;
+mod known;
 mod reporting;
 mod stages;
 mod starts;
@@ -15,4 +16,5 @@ mod totals;
 pub mod worked;
 
 pub use journaled::{Reported, report_journal};
+pub use known::{KnownPlan, known_plan};
 pub use reporting::report;

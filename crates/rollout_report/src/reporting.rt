@@ -42,7 +42,8 @@ fn push_sums(
 ) -> Result<(), Memory>
     requires items { AreItems plan.now.problem (rules.item_count plan.now.problem) items.now }
     requires counts { AreCountsOf plan.now.problem history.now counts.now }
-    ensures { OnOk result (text.new ≡ text.old ++ sum_line plan.now.problem plan.now.plan history.now) }
+    ensures { OnOk result
+        (text.new ≡ text.old ++ sum_line plan.now.problem plan.now.plan history.now) }
 {
     let entries = history.entries().len();
     let count = item_count(plan.problem());

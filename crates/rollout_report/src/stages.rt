@@ -37,7 +37,9 @@ impl Stages {
     ) -> Result<Stages, Memory>
         requires items { AreItems plan.now.problem (rules.item_count plan.now.problem) items.now }
         requires counts { length counts.now.settled ≡ rules.item_count plan.now.problem }
-        ensures { IfOk result (λ stages. AreStageCounts plan.now.problem plan.now.plan counts.now.settled (rules.item_count plan.now.problem) stages) }
+        ensures { IfOk result
+            (λ stages. AreStageCounts plan.now.problem plan.now.plan counts.now.settled
+            (rules.item_count plan.now.problem) stages) }
     {
         let last = plan.last_stage();
         let all = vec![in alloc; 0u64; last]?;
@@ -79,7 +81,8 @@ impl Stages {
         requires settled_stages { length self.old.settled ≡ wan.last_stage plan.now.plan }
         requires all { (s : ℕ) → slice_index self.old.all s < 18446744073709551615 }
         requires settled { (s : ℕ) → slice_index self.old.settled s < 18446744073709551615 }
-        ensures { IsCounted plan.now.problem plan.now.plan item settled (wan.last_stage plan.now.plan) self.old self.new }
+        ensures { IsCounted plan.now.problem plan.now.plan item settled
+            (wan.last_stage plan.now.plan) self.old self.new }
     {
         let mut changes = 0;
         for s in 0..plan.last_stage() {

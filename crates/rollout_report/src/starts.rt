@@ -27,7 +27,8 @@ pub(crate) fn start_before(
 
 /// How many operations of each item the entries settle.
 fn dones(alloc: Global, graph: &Graph, entries: &[Entry]) -> Result<Counts, Memory>
-    ensures { IfOk result (λ counts. AreDones (items.item_count graph.now.rollout.problem) entries.now counts) }
+    ensures { IfOk result
+        (λ counts. AreDones (items.item_count graph.now.rollout.problem) entries.now counts) }
 {
     let nothing = vec![in alloc; 0u32; item_count(graph.plan().problem()) as usize]?;
     Counts::over(alloc, graph.plan(), &History::new(&nothing, entries))

@@ -37,7 +37,9 @@ pub(crate) fn settled_of_all(items: u32, counts: &Counts) -> u128
 pub(crate) fn flying_of_all(items: u32, counts: &Counts) -> u32
     requires settled { items ≤ length counts.now.settled }
     requires begun { items ≤ length counts.now.begun }
-    ensures { result ≡ count_below items (λ n. slice_index counts.now.begun n == slice_index counts.now.settled n + 1) }
+    ensures { result
+        ≡ count_below items
+        (λ n. slice_index counts.now.begun n == slice_index counts.now.settled n + 1) }
 {
     let mut count = 0;
     for item in 0..items {

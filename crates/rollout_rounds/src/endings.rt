@@ -14,7 +14,8 @@ use rollout_rules::{Entry, Op};
 pub(crate) fn note(graph: &Graph, noted: &mut Noted, answer: Op)
     requires item { answer.item < item_count graph.now.rollout.problem }
     requires fits { noted.old.items ≡ item_count graph.now.rollout.problem }
-    ensures { noted.new ≡ record noted.old { row = with_told graph.now.history noted.old.row answer } }
+    ensures { noted.new
+        ≡ record noted.old { row = with_told graph.now.history noted.old.row answer } }
 {
     let Op { item, number } = answer;
     if graph.flying(item) && graph.settled(item) < number && !noted.has(item) {
@@ -41,7 +42,8 @@ fn settle(graph: &mut Graph, item: u32, batch: &mut Vec<Entry>)
     requires flying { IsTrue (flies graph.old.history item) }
     requires room { vec_len batch.old < vec_capacity batch.old }
     ensures graph { graph.new ≡ with_done graph.old item }
-    ensures batch { batch.new.items ≡ batch.old.items ++ Done (next_op graph.old.history item) ∷ [] }
+    ensures batch { batch.new.items
+        ≡ batch.old.items ++ Done (next_op graph.old.history item) ∷ [] }
     ensures capacity { vec_capacity batch.new ≡ vec_capacity batch.old }
 {
     graph.done(item);

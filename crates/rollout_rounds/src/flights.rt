@@ -38,8 +38,14 @@ impl Model for Flights {
 impl Flights {
     /// Those of a legal history.
     pub(crate) fn new(alloc: Global, graph: &Graph) -> Result<Flights, Memory>
-        requires legal { IsTrue (is_legal graph.now.rollout.problem graph.now.rollout.plan graph.now.history) }
-        ensures { IfOk result (λ f. f ≡ record { items = item_count graph.now.rollout.problem; ops = in_flight graph.now.rollout.problem graph.now.history }) }
+        requires legal { IsTrue (is_legal graph.now.rollout.problem graph.now.rollout.plan
+            graph.now.history) }
+        ensures { IfOk result
+            (λ f. f
+            ≡ record {
+              items = item_count graph.now.rollout.problem;
+              ops = in_flight graph.now.rollout.problem graph.now.history;
+            }) }
     {
         let items = item_count(graph.plan().problem());
         let mut ops = Vec::with_capacity(alloc, 3 * items as usize)?;
@@ -119,7 +125,8 @@ fn place_of(ops: &[Op], item: u32) -> usize
 
 /// Adds the operations in flight, by item.
 fn find(graph: &Graph, items: u32, ops: &mut Vec<Op>)
-    requires legal { IsTrue (is_legal graph.now.rollout.problem graph.now.rollout.plan graph.now.history) }
+    requires legal { IsTrue (is_legal graph.now.rollout.problem graph.now.rollout.plan
+        graph.now.history) }
     requires own { items ≡ item_count graph.now.rollout.problem }
     requires empty { ops.old.items ≡ [] }
     requires room { items ≤ vec_capacity ops.old }

@@ -53,7 +53,10 @@ impl Noted {
 
     /// Puts the items in order.
     pub(crate) fn put_in_order(&mut self)
-        ensures { (ns : List ℕ) → Rises ns → HasSame self.old.row ns → self.new ≡ record self.old { row = ns } }
+        ensures { (ns : List ℕ)
+            → Rises ns
+            → HasSame self.old.row ns
+            → self.new ≡ record self.old { row = ns } }
     {
         self.row.sort_unstable();
     }

@@ -36,9 +36,15 @@ impl Model for Rounds {
 
     ghost Value = { Turning };
 
-    ghost view = { λ r. record { rollout = r.graph.rollout; history = r.graph.history; heard = r.told.answers; batch = r.batch.items } };
+    ghost view = { λ r. record {
+      rollout = r.graph.rollout;
+      history = r.graph.history;
+      heard = r.told.answers;
+      batch = r.batch.items;
+    } };
 
-    ghost invariant = { λ r. IsTurning r.graph r.bench r.flights r.told r.batch.items (vec_capacity r.batch) };
+    ghost invariant = { λ r. IsTurning r.graph r.bench r.flights r.told r.batch.items
+        (vec_capacity r.batch) };
 }
 
 impl Rounds {
@@ -75,7 +81,8 @@ impl Rounds {
     /// item, and then the release by the policy. It takes no memory.
     pub fn round(&mut self, policy: &Policy)
         ensures next { self.new ≡ rounds.after_round self.old (rank_by policy.now.answers) }
-        ensures follows { IsTrue (may_follow self.old.rollout.problem self.old.rollout.plan self.old.history self.new.batch) }
+        ensures follows { IsTrue (may_follow self.old.rollout.problem self.old.rollout.plan
+            self.old.history self.new.batch) }
     {
         make_batch(
             &mut self.graph,
@@ -121,7 +128,8 @@ impl Rounds {
     /// The graph, whose history is legal.
     pub fn graph(&self) -> &Graph
         ensures value { result.now ≡ rounds.graph_of self.now }
-        ensures legal { IsTrue (is_legal self.now.rollout.problem self.now.rollout.plan self.now.history) }
+        ensures legal { IsTrue (is_legal self.now.rollout.problem self.now.rollout.plan
+            self.now.history) }
     {
         &self.graph
     }
@@ -144,7 +152,8 @@ struct Parts {
 }
 
 fn of_parts(graph: Graph, parts: Parts) -> Rounds
-    requires turning { IsTurning graph parts.bench parts.flights parts.told parts.batch.items (vec_capacity parts.batch) }
+    requires turning { IsTurning graph parts.bench parts.flights parts.told parts.batch.items
+        (vec_capacity parts.batch) }
     requires first { (parts.told.answers ≡ []) × (parts.batch.items ≡ []) }
     ensures { result ≡ rounds.first_turn graph }
 {
@@ -158,8 +167,11 @@ fn of_parts(graph: Graph, parts: Parts) -> Rounds
 }
 
 fn first_parts(alloc: Global, graph: &Graph) -> Result<Parts, Memory>
-    requires legal { IsTrue (is_legal graph.now.rollout.problem graph.now.rollout.plan graph.now.history) }
-    ensures turning { IfOk result (λ parts. IsTurning graph.now parts.bench parts.flights parts.told parts.batch.items (vec_capacity parts.batch)) }
+    requires legal { IsTrue (is_legal graph.now.rollout.problem graph.now.rollout.plan
+        graph.now.history) }
+    ensures turning { IfOk result
+        (λ parts. IsTurning graph.now parts.bench parts.flights parts.told parts.batch.items
+        (vec_capacity parts.batch)) }
     ensures first { IfOk result (λ parts. (parts.told.answers ≡ []) × (parts.batch.items ≡ [])) }
 {
     let items = item_count(graph.plan().problem());

@@ -26,7 +26,11 @@ impl Model for Told {
 
     ghost Value = { Tidings };
 
-    ghost view = { λ t. record { items = t.noted.items; row = t.noted.row; answers = answers_in t.heard } };
+    ghost view = { λ t. record {
+      items = t.noted.items;
+      row = t.noted.row;
+      answers = answers_in t.heard;
+    } };
 }
 
 impl Told {
@@ -44,7 +48,11 @@ impl Told {
     pub(crate) fn hear(&mut self, graph: &Graph, answer: Op)
         requires item { answer.item < item_count graph.now.rollout.problem }
         requires fits { self.old.items ≡ item_count graph.now.rollout.problem }
-        ensures { self.new ≡ record self.old { row = with_told graph.now.history self.old.row answer; answers = self.old.answers ++ answer ∷ [] } }
+        ensures { self.new
+            ≡ record self.old {
+              row = with_told graph.now.history self.old.row answer;
+              answers = self.old.answers ++ answer ∷ [];
+            } }
     {
         note(graph, &mut self.noted, answer);
         self.heard = also(&self.heard, answer);
@@ -52,7 +60,10 @@ impl Told {
 
     /// Puts the items in order.
     pub(crate) fn put_in_order(&mut self)
-        ensures { (ns : List ℕ) → Rises ns → HasSame self.old.row ns → self.new ≡ record self.old { row = ns } }
+        ensures { (ns : List ℕ)
+            → Rises ns
+            → HasSame self.old.row ns
+            → self.new ≡ record self.old { row = ns } }
     {
         self.noted.put_in_order();
     }

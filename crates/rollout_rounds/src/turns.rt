@@ -27,8 +27,12 @@ pub(crate) fn make_batch(
     requires told { IsTold graph.old told.old }
     requires room { 2 * item_count graph.old.rollout.problem ≤ vec_capacity batch.old }
     ensures graph { graph.new ≡ with_batch graph.old (rank_by policy.now.answers) told.old.answers }
-    ensures batch { batch.new.items ≡ rule.batch graph.old.rollout.problem graph.old.rollout.plan (rank_by policy.now.answers) graph.old.history told.old.answers }
-    ensures bench { bench.new ≡ record bench.old { begun = begun_in graph.old (rank_by policy.now.answers) told.old.answers } }
+    ensures batch { batch.new.items
+        ≡ rule.batch graph.old.rollout.problem graph.old.rollout.plan (rank_by policy.now.answers)
+        graph.old.history told.old.answers }
+    ensures bench { bench.new
+        ≡ record bench.old
+        { begun = begun_in graph.old (rank_by policy.now.answers) told.old.answers } }
     ensures told { told.new ≡ record told.old { row = []; answers = [] } }
     ensures capacity { vec_capacity batch.new ≡ vec_capacity batch.old }
 {
@@ -43,7 +47,8 @@ fn end_told(graph: &mut Graph, told: &mut Told, batch: &mut Vec<Entry>)
     requires empty { batch.old.items ≡ [] }
     requires room { item_count graph.old.rollout.problem ≤ vec_capacity batch.old }
     ensures graph { graph.new ≡ with_dones graph.old told.old.answers }
-    ensures batch { batch.new.items ≡ rule.dones graph.old.rollout.problem graph.old.history told.old.answers }
+    ensures batch { batch.new.items
+        ≡ rule.dones graph.old.rollout.problem graph.old.history told.old.answers }
     ensures told { told.new ≡ record told.old { row = []; answers = [] } }
     ensures capacity { vec_capacity batch.new ≡ vec_capacity batch.old }
 {
@@ -55,10 +60,13 @@ fn end_told(graph: &mut Graph, told: &mut Told, batch: &mut Vec<Entry>)
 /// Begins what the release gives.
 fn begin_released(graph: &mut Graph, policy: &Policy, bench: &mut Bench, batch: &mut Vec<Entry>)
     requires bench { bench.old.items ≡ item_count graph.old.rollout.problem }
-    requires room { vec_len batch.old + item_count graph.old.rollout.problem ≤ vec_capacity batch.old }
+    requires room { vec_len batch.old + item_count graph.old.rollout.problem
+        ≤ vec_capacity batch.old }
     ensures graph { graph.new ≡ with_release graph.old (rank_by policy.now.answers) }
-    ensures batch { batch.new.items ≡ batch.old.items ++ released_by graph.old (rank_by policy.now.answers) }
-    ensures bench { bench.new ≡ record bench.old { begun = ops_of (released_by graph.old (rank_by policy.now.answers)) } }
+    ensures batch { batch.new.items
+        ≡ batch.old.items ++ released_by graph.old (rank_by policy.now.answers) }
+    ensures bench { bench.new
+        ≡ record bench.old { begun = ops_of (released_by graph.old (rank_by policy.now.answers)) } }
     ensures capacity { vec_capacity batch.new ≡ vec_capacity batch.old }
 {
     release(graph, policy, bench);

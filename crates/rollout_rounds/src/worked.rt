@@ -17,6 +17,8 @@ pub fn an_answer_tells_once_of_what_is_in_flight()
 
 /// What is done goes from what is in flight, and what begins comes in at the place of its item.
 pub fn what_is_in_flight_follows_entries()
-    ensures stays { with_each (op 0 1 ∷ op 2 1 ∷ []) (Done (op 2 1) ∷ Begin (op 1 1) ∷ Begin (op 3 1) ∷ []) ≡ op 0 1 ∷ op 1 1 ∷ op 3 1 ∷ [] }
+    ensures stays { with_each (op 0 1 ∷ op 2 1 ∷ [])
+        (Done (op 2 1) ∷ Begin (op 1 1) ∷ Begin (op 3 1) ∷ [])
+        ≡ op 0 1 ∷ op 1 1 ∷ op 3 1 ∷ [] }
     ensures next { with_each (op 2 1 ∷ []) (Done (op 2 1) ∷ Begin (op 2 2) ∷ []) ≡ op 2 2 ∷ [] }
 {}

@@ -3,7 +3,7 @@ use Rattle.std.proofs.Common.{◌≡◌, ℕ, true, false, Bool, List, [], ◌�
 use Rattle.std.proofs.lemmas.List.Elements.{All-append, All-nil, All-push}
 use Rattle.std.proofs.lemmas.List.Sorted.{IsPermutation-refl}
 use Rattle.port_session.specs.Sessions.{Talk}
-use Rattle.worker_ports.specs.Views.{Telling}
+use Rattle.wan_edge.specs.Ports.{PortTrace}
 use Rattle.shared_book.specs.Calls.{IsRoundCall, IsStopCall, seat_of}
 use Rattle.shared_book.specs.declared.reply.RoundReply.{RoundReply}
 use Rattle.rollout_book.specs.declared.fault.BookFault.TheVariants as fault
@@ -85,7 +85,7 @@ module _ (o : Opening) (seat : ℕ) where
   quiet_after seats asked seen after why halt same is quiet call =
       quiet_stop seen after why halt quiet (subst (λ (ns : List ℕ). IsStopCall o ns seat seen why halt after) same (subst (λ (n : ℕ). IsStopCall o seats n seen why halt after) is call))
 
-module _ {P : Type 0} (tell : P → Telling) (o : Opening) (migration : ℕ) (homes : List (Option ℕ)) (rounds : ℕ) where
+module _ {P : Type 0} (tell : P → PortTrace) (o : Opening) (migration : ℕ) (homes : List (Option ℕ)) (rounds : ℕ) where
   -- served by seat 0, as it is told of the pass
   pub served : (seats : List ℕ) (seat : ℕ) (before now : Standing P) (end : Wake) → seats ≡ 0 ∷ [] → seat ≡ 0 → Served tell o seats seat migration homes rounds before end now → Served tell o (0 ∷ []) 0 migration homes rounds before end now
   served seats seat before now end same is did =

@@ -8,9 +8,9 @@ use Rattle.std.proofs.lemmas.List.Sorted.{Contains-permutation, IsPermutation-sy
 use Rattle.rollout_rules.specs.declared.op.Op.{Op}
 use Rattle.rollout_rules.specs.declared.op.Entry.TheVariants as entry
 use Rattle.wan_edge.specs.Frames.{Command}
+use Rattle.wan_edge.specs.Ports.{PortTrace}
 use Rattle.port_session.specs.Sessions.{Talk}
 use Rattle.worker_ports.specs.Stories.{LastStoryEach}
-use Rattle.worker_ports.specs.Views.{Telling}
 use Rattle.shared_history.specs.declared.note.Cause.{Cause}
 use Rattle.shared_history.specs.declared.note.Cause.TheVariants as cause
 use Rattle.shared_history.specs.declared.note.What.TheVariants as what
@@ -91,7 +91,7 @@ noted [] halt first = none_halt None halt refl first
 noted (w ∷ log) halt first = noted_here w log halt (cause_of w.note.what) first (λ later. noted log halt later)
 
 -- ---- the cause of a worker's stop
-module _ {P : Type 0} (tell : P → Telling) (o : Opening) (migration : ℕ) (homes : List (Option ℕ)) (rounds : ℕ) (log : List Written) (legal : is_legal_shared o log ≡ true) (s : Shift P) (shift : IsShift tell o migration homes rounds log s) where
+module _ {P : Type 0} (tell : P → PortTrace) (o : Opening) (migration : ℕ) (homes : List (Option ℕ)) (rounds : ℕ) (log : List Written) (legal : is_legal_shared o log ≡ true) (s : Shift P) (shift : IsShift tell o migration homes rounds log s) where
   abbrev Causes : Cause → Type 0
   Causes why = IsCause tell o migration homes rounds (HasDisk log) log s.given.before.ports why s.now.ports
 
@@ -192,7 +192,7 @@ module _ {P : Type 0} (tell : P → Telling) (o : Opening) (migration : ℕ) (ho
       (first_in s.given.seat s.now.seen shift.follows.past halt shift.follows.none (sym (ap first_stop shift.follows.is) ∙ first) mine) mine
 
 -- ---- the cause of a run's first stop
-module _ {P : Type 0} (tell : P → Telling) (o : Opening) (migration : ℕ) (homes : List (Option ℕ)) (rounds : ℕ) (log : List Written) (first : List (Talk P)) (now : List (Talk P)) where
+module _ {P : Type 0} (tell : P → PortTrace) (o : Opening) (migration : ℕ) (homes : List (Option ℕ)) (rounds : ℕ) (log : List Written) (first : List (Talk P)) (now : List (Talk P)) where
   -- a note that the disk failed, by what it says of the disk
   by_disk : (failed : Type 0) → (HasDisk log → failed) → (why : Cause) → IsCause tell o migration homes rounds (HasDisk log) log first why now → IsCause tell o migration homes rounds failed log first why now
   by_disk failed says (cause.Spent given item number) holds = holds
@@ -203,7 +203,7 @@ module _ {P : Type 0} (tell : P → Telling) (o : Opening) (migration : ℕ) (ho
   by_disk failed says cause.Disk holds = says holds
   by_disk failed says cause.Memory holds = tt
 
-module _ {P : Type 0} (tell : P → Telling) (migration : ℕ) (homes : List (Option ℕ)) (sent : List Command) (kept : ℕ → Option P) where
+module _ {P : Type 0} (tell : P → PortTrace) (migration : ℕ) (homes : List (Option ℕ)) (sent : List Command) (kept : ℕ → Option P) where
   -- ports that are back
   kept_each : (ps ns : List (Talk P)) → LastStoryEach tell migration homes sent ps ns → ((t : Talk P) → Contains ns t → kept t.switch ≡ Some t.port) → AllZip (λ before after. kept before.switch ≡ Some after.port) ps ns
   kept_each [] [] story back = tt
@@ -212,7 +212,7 @@ module _ {P : Type 0} (tell : P → Telling) (migration : ℕ) (homes : List (Op
   kept_each (p ∷ ps) (n ∷ ns) story back =
       (subst (λ (w : ℕ). kept w ≡ Some n.port) story.0.switch (back n (contains_head n ns)), kept_each ps ns story.1 (λ t at. back t (contains_later n ns t at)))
 
-module _ {P : Type 0} (tell : P → Telling) (o : Opening) (migration : ℕ) (homes : List (Option ℕ)) (rounds : ℕ) (log : List Written) (legal : is_legal_shared o log ≡ true) (shifts : List (Shift P)) (spare opened : List (Talk P)) (seats : ℕ) (kept : ℕ → Option P) (failed : Type 0)
+module _ {P : Type 0} (tell : P → PortTrace) (o : Opening) (migration : ℕ) (homes : List (Option ℕ)) (rounds : ℕ) (log : List Written) (legal : is_legal_shared o log ≡ true) (shifts : List (Shift P)) (spare opened : List (Talk P)) (seats : ℕ) (kept : ℕ → Option P) (failed : Type 0)
     (whole : All (IsShift tell o migration homes rounds log) shifts) (keeps : All (Keeps tell o migration homes log) shifts) (seated : (seat : ℕ) → seat < seats → IsOfOne shifts seat) (made : All (λ w. seat_of w < seats) log)
     (same : IsPermutation opened (given_ports shifts ++ spare)) (back : (s : Shift P) (t : Talk P) → Contains shifts s → Contains s.now.ports t → kept t.switch ≡ Some t.port) (says : HasDisk log → failed) where
   has_cause : (halt : Halt) → first_stop log ≡ Some halt → HasCause tell o migration homes rounds failed log opened kept halt.cause

@@ -5,7 +5,7 @@ use Rattle.turn_lock.specs.declared.pass.Pass.{Pass}
 use Rattle.turn_lock.specs.Histories.{Follows}
 use Rattle.turn_lock.specs.Passes.{IsSamePass, joined_of, seat_of_pass, seats_of, seen_of}
 use Rattle.port_session.specs.Sessions.{Talk}
-use Rattle.worker_ports.specs.Views.{Telling}
+use Rattle.wan_edge.specs.Ports.{PortTrace}
 use Rattle.shared_history.specs.declared.note.Cause.TheVariants as cause
 use Rattle.shared_history.specs.declared.note.Written.{Written}
 use Rattle.shared_history.specs.declared.reply.Halt.{Halt}
@@ -36,14 +36,14 @@ pub stops_late : (seat : ℕ) (ws : List Written) → StopsNothing seat ws → S
 stops_late seat ws nothing halt first mine = absurd (quiet-first seat ws halt nothing first mine)
 
 -- a worker of this seat that was given these ports, and what it has come to
-pub record IsComing {P : Type 0} (tell : P → Telling) (o : Opening) (migration : ℕ) (homes : List (Option ℕ)) (rounds : ℕ) (later : List Written) (seat : ℕ) (ports back : List (Talk P)) : Type 0 where
+pub record IsComing {P : Type 0} (tell : P → PortTrace) (o : Opening) (migration : ℕ) (homes : List (Option ℕ)) (rounds : ℕ) (later : List Written) (seat : ℕ) (ports back : List (Talk P)) : Type 0 where
   pub shift : Shift P
   pub seat_is : shift.given.seat ≡ seat
   pub whole : IsShift tell o migration homes rounds later shift
   pub began : shift.given.before.ports ≡ ports
   pub left : shift.now.ports ≡ back
 
-module _ {V P : Type 0} {C : Ghosts V Written} (tell : P → Telling) (o : Opening) (migration : ℕ) (homes : List (Option ℕ)) (rounds : ℕ) (given theirs : Pass V Written C) (ports back : List (Talk P)) (calls : ℕ) (later : List Written)
+module _ {V P : Type 0} {C : Ghosts V Written} (tell : P → PortTrace) (o : Opening) (migration : ℕ) (homes : List (Option ℕ)) (rounds : ℕ) (given theirs : Pass V Written C) (ports back : List (Talk P)) (calls : ℕ) (later : List Written)
     (alone : joined_of given ≡ []) (none : calls_by (seat_of_pass given) (seen_of given) ≡ 0) (some : 0 < seat_of_pass given) (turned : HasTurned (seen_of given)) (fresh : AreFresh ports) where
   abbrev seat : ℕ
   seat = seat_of_pass given

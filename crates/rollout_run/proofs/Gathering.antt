@@ -6,7 +6,7 @@ use Rattle.std.proofs.lemmas.List.Elements.{All-nil, All-push, Contains-append_l
 use Rattle.std.proofs.lemmas.List.Sorted.{IsPermutation-append_left, IsPermutation-trans}
 use Rattle.turn_lock.specs.Histories.{Follows}
 use Rattle.port_session.specs.Sessions.{Talk}
-use Rattle.worker_ports.specs.Views.{Telling}
+use Rattle.wan_edge.specs.Ports.{PortTrace}
 use Rattle.shared_book.specs.Calls.{seat_of}
 use Rattle.shared_history.specs.declared.note.Written.{Written}
 use Rattle.shared_history.specs.Histories.{Opening}
@@ -27,7 +27,7 @@ spared_on : {P : Type 0} (seats : List ℕ) (log later : List Written) (spare : 
 spared_on seats log later spare past (inl none) = inl none
 spared_on seats log later spare past (inr halted) = inr (halted_on seats log later past halted)
 
-module _ {P : Type 0} (tell : P → Telling) (o : Opening) (migration : ℕ) (homes : List (Option ℕ)) (rounds : ℕ) where
+module _ {P : Type 0} (tell : P → PortTrace) (o : Opening) (migration : ℕ) (homes : List (Option ℕ)) (rounds : ℕ) where
   -- a shift goes on in a longer history, while its seat is one of those that know it
   goes_on : (seats : List ℕ) (log later : List Written) → Follows seat_of seats log later → (s : Shift P) → Contains seats s.given.seat → IsShift tell o migration homes rounds log s → IsShift tell o migration homes rounds later s
   goes_on seats log later past s among shift = record {

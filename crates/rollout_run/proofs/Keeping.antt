@@ -5,12 +5,13 @@ use Rattle.std.specs.List.{Contains}
 use Rattle.std.proofs.lemmas.List.Elements.{All-append, All-nil, Contains-get_or}
 use Rattle.rollout_rules.specs.declared.op.Entry.TheVariants as entry
 use Rattle.wan_edge.specs.Frames.{Command}
+use Rattle.wan_edge.specs.Ports.{PortTrace}
+use Rattle.wan_edge.proofs.Chains.{stays}
 use Rattle.port_session.specs.Offers.{frames_of}
 use Rattle.port_session.specs.Sessions.{Talk}
 use Rattle.worker_ports.specs.Lots.{own}
 use Rattle.worker_ports.specs.Stories.{LastStoryEach}
-use Rattle.worker_ports.specs.Views.{Telling}
-use Rattle.worker_ports.proofs.Told.{none_sent, stays}
+use Rattle.worker_ports.proofs.Told.{none_sent}
 use Rattle.shared_history.specs.declared.note.Written.{Written}
 use Rattle.shared_history.specs.declared.reply.Wake.{Wake}
 use Rattle.shared_history.specs.Histories.{Opening, history_of}
@@ -23,14 +24,14 @@ use Rattle.rollout_run.specs.Keeping.{IsBegun, Keeps}
 use Rattle.rollout_run.specs.Shifts.{IsShift, Returns, Shift}
 
 -- the same row twice, each element as one that stayed
-pub each_stays : {P : Type 0} (tell : P → Telling) (migration : ℕ) (homes : List (Option ℕ)) (ports : List (Talk P)) → LastStoryEach tell migration homes [] ports ports
+pub each_stays : {P : Type 0} (tell : P → PortTrace) (migration : ℕ) (homes : List (Option ℕ)) (ports : List (Talk P)) → LastStoryEach tell migration homes [] ports ports
 each_stays tell migration homes [] = tt
 each_stays tell migration homes (t ∷ ports) = (
   record { switch = refl; goes_on = stays (tell t.port); part = none_sent (tell t.port).offered (tell t.port).offered (frames_of migration (own homes t.switch [])) refl },
   each_stays tell migration homes ports,
 )
 
-module _ {P : Type 0} (tell : P → Telling) (o : Opening) (migration : ℕ) (homes : List (Option ℕ)) (rounds : ℕ) (log : List Written) (s : Shift P) (shift : IsShift tell o migration homes rounds log s) where
+module _ {P : Type 0} (tell : P → PortTrace) (o : Opening) (migration : ℕ) (homes : List (Option ℕ)) (rounds : ℕ) (log : List Written) (s : Shift P) (shift : IsShift tell o migration homes rounds log s) where
   abbrev Answered : Written → Type 0
   Answered w = w.note.seat ≡ s.given.seat → AreAnswered tell migration homes s.given.before.ports w.entries s.now.ports
 
@@ -75,7 +76,7 @@ module _ {P : Type 0} (tell : P → Telling) (o : Opening) (migration : ℕ) (ho
           }
 
 -- either way
-pub keeps : {P : Type 0} (tell : P → Telling) (o : Opening) (migration : ℕ) (homes : List (Option ℕ)) (rounds : ℕ) (log : List Written) (s : Shift P) → IsShift tell o migration homes rounds log s → Keeps tell o migration homes log s
+pub keeps : {P : Type 0} (tell : P → PortTrace) (o : Opening) (migration : ℕ) (homes : List (Option ℕ)) (rounds : ℕ) (log : List Written) (s : Shift P) → IsShift tell o migration homes rounds log s → Keeps tell o migration homes log s
 keeps {P} tell o migration homes rounds log s shift = by_end s.end refl
   where
     live : All (λ (t : Talk P). IsTrue t.stream.live) s.given.before.ports

@@ -7,7 +7,7 @@ use Rattle.turn_lock.specs.declared.pass.Pass.{Pass}
 use Rattle.turn_lock.specs.Histories.{Follows}
 use Rattle.turn_lock.specs.Passes.{HasGiven, HasJoined, IsNewPass, IsPassOf, IsSamePass, given_of, seat_of_pass, seats_of, seen_of}
 use Rattle.port_session.specs.Sessions.{Talk}
-use Rattle.worker_ports.specs.Views.{Telling}
+use Rattle.wan_edge.specs.Ports.{PortTrace}
 use Rattle.worker_ports.specs.declared.ports.Berth.{Berth}
 use Rattle.rollout_ports.specs.Hands.{first_talks}
 use Rattle.shared_history.specs.declared.note.Cause.TheVariants as cause
@@ -27,7 +27,7 @@ use Rattle.rollout_run.proofs.Early.{memory_stop}
 use Rattle.rollout_run.proofs.Gathering.{caller_alone, one_more}
 use Rattle.rollout_run.proofs.Shuffles.{handed_in, same}
 
-module _ {V P : Type 0} {C : Ghosts V Written} (tell : P → Telling) (o : Opening) (migration : ℕ) (homes : List (Option ℕ)) (rounds : ℕ) (lock : TurnLock V Written) where
+module _ {V P : Type 0} {C : Ghosts V Written} (tell : P → PortTrace) (o : Opening) (migration : ℕ) (homes : List (Option ℕ)) (rounds : ℕ) (lock : TurnLock V Written) where
   -- nobody else is sent out
   module _ (seats crews : ℕ) (given pass : Pass V Written C) (calls calls' : ℕ) (leads : IsLeader lock seats crews given calls) (of_lock : IsPassOf lock pass) (passed : IsSamePass given pass) (counted : IsCounted calls' pass) where
     before : seats_of given ≡ 0 ∷ []

@@ -4,11 +4,12 @@ use Rattle.std.proofs.lemmas.List.Sorted.{Contains-permutation, IsPermutation-ma
 use Rattle.std.proofs.Common.{◌≡◌, ℕ, Bool, false, suc, zero, ◌<◌, List, [], ◌∷◌, ◌++◌, IsPermutation, Option, Some, length, map, slice_index_or, refl, sym, ap, ap₂, ◌∙◌, subst, arith, inr}
 use Rattle.std.specs.Prelude.{All, nat_eq}
 use Rattle.std.specs.List.{AllByRecursion, Contains, IsDistinct}
+use Rattle.disk_model.specs.Traces.{DiskTrace}
 use Rattle.wan_edge.specs.Streams.{Rose}
 use Rattle.port_session.specs.Sessions.{Talk, first_talk}
 use Rattle.wan_edge.specs.Frames.{Command}
+use Rattle.wan_edge.specs.Ports.{PortTrace}
 use Rattle.worker_ports.specs.Stories.{LastStoryEach}
-use Rattle.worker_ports.specs.Views.{Telling}
 use Rattle.worker_ports.specs.declared.ports.Berth.{Berth}
 use Rattle.rollout_book.specs.Chronicles.{Chronicled}
 use Rattle.rollout_ports.specs.Berths.{AreApart, AreLent, FleetPorts, after_keeping, switches_of, with_each, without_each}
@@ -71,10 +72,10 @@ berth_among [] t at = absurd (omega (arith, at.1))
 berth_among (u ∷ talks) t (zero, inside, is) = (0, omega arith, ap (λ (v : Talk _). record { switch = v.switch; port = v.port }) is)
 berth_among (u ∷ talks) t (suc k, inside, is) = contains_later (record { switch = u.switch; port = u.port }) (berths_of talks) (record { switch = t.switch; port = t.port }) (berth_among talks t (k, omega (arith, inside), is))
 
-module _ {D P : Type 0} (bytes : D → Option (List ℕ)) (may_leave : D → List ℕ → Type 0) (moment : D → ℕ) (left_since : D → ℕ → List ℕ → Type 0) (faults : D → ℕ) (port_faults : P → ℕ) (tell : P → Telling) (o : Opening) (from count migration rounds : ℕ) (homes : List ℕ) (before opened now : FleetPorts P) (end : RunEnd) (book : Chronicled D) (berths : List (Berth P)) where
-  pub to_ran : Opens port_faults homes before berths opened → AreApart berths
-      → IsBegunOver opened now berths (λ ports. Runs bytes may_leave moment left_since faults tell o from count migration rounds (first_talks berths) end book ports)
-      → Ran bytes may_leave moment left_since faults port_faults tell o from count migration rounds homes before end book now
+module _ {D P : Type 0} (trace : D → DiskTrace) (tell : P → PortTrace) (o : Opening) (from count migration rounds : ℕ) (homes : List ℕ) (before opened now : FleetPorts P) (end : RunEnd) (book : Chronicled D) (berths : List (Berth P)) where
+  pub to_ran : Opens tell homes before berths opened → AreApart berths
+      → IsBegunOver opened now berths (λ ports. Runs trace tell o from count migration rounds (first_talks berths) end book ports)
+      → Ran trace tell o from count migration rounds homes before end book now
   to_ran opens apart over =
       let runs = over.runs in
       let worked = runs.worked in
@@ -98,7 +99,7 @@ module _ {D P : Type 0} (bytes : D → Option (List ℕ)) (may_leave : D → Lis
         given = opens.given;
         ports = λ k d inside. is_back tell o migration (homes_of o.rollout.problem) runs.log worked.shifts worked.spare (first_talks berths) runs.seats now.kept all_keep worked.seated runs.made worked.same distinct back left (slice_index_or (first_talks berths) k d) (Contains-get_or (first_talks berths) k d inside);
         at_home = subst (λ (l : List ℕ). AreAtHome (homes_of o.rollout.problem) runs.log l) (talks_switches berths ∙ opens.switches) (at_home tell o migration (homes_of o.rollout.problem) runs.log worked.shifts worked.spare (first_talks berths) runs.seats now.kept all_keep worked.seated runs.made worked.same distinct back left);
-        reason = has_reason tell o migration (homes_of o.rollout.problem) rounds runs.log runs.legal worked.shifts worked.spare (first_talks berths) runs.seats now.kept (Rose count (faults book.disk)) worked.whole_shifts all_keep worked.seated runs.made worked.same back runs.images.failed end runs.ends;
+        reason = has_reason tell o migration (homes_of o.rollout.problem) rounds runs.log runs.legal worked.shifts worked.spare (first_talks berths) runs.seats now.kept (Rose count (trace book.disk).faults) worked.whole_shifts all_keep worked.seated runs.made worked.same back runs.images.failed end runs.ends;
         apart = apart;
         seats = runs.seats;
         made = runs.made;
@@ -108,7 +109,7 @@ module _ {D P : Type 0} (bytes : D → Option (List ℕ)) (may_leave : D → Lis
       }
 
 -- ---- a run over the same ports in another order
-module _ {P : Type 0} (tell : P → Telling) (o : Opening) (migration : ℕ) (homes : List (Option ℕ)) (rounds : ℕ) where
+module _ {P : Type 0} (tell : P → PortTrace) (o : Opening) (migration : ℕ) (homes : List (Option ℕ)) (rounds : ℕ) where
   pub worked_over : (whole dealt : List (Talk P)) (seats : ℕ) (log : List Written) (now : List (Talk P)) → IsPermutation whole dealt → HasWorked tell o migration homes rounds dealt seats log now → HasWorked tell o migration homes rounds whole seats log now
   worked_over whole dealt seats log now deals worked = record {
     shifts = worked.shifts;
@@ -143,8 +144,8 @@ module _ {P : Type 0} (tell : P → Telling) (o : Opening) (migration : ℕ) (ho
       (map_both (λ (t : Talk P). t.switch) (left_ports worked.shifts) worked.spare ∙ ap (λ (l : List ℕ). l ++ switches worked.spare) (shifts_stay log worked.shifts worked.whole_shifts) ∙ sym (map_both (λ (t : Talk P). t.switch) (given_ports worked.shifts) worked.spare))
       (IsPermutation-map (λ (t : Talk P). t.switch) _ _ worked.back))
 
-module _ {D P : Type 0} (bytes : D → Option (List ℕ)) (may_leave : D → List ℕ → Type 0) (moment : D → ℕ) (left_since : D → ℕ → List ℕ → Type 0) (faults : D → ℕ) (tell : P → Telling) (o : Opening) (from count migration rounds : ℕ) (end : RunEnd) (book : Chronicled D) (ports : List (Talk P)) where
-  pub runs_over : (whole dealt : List (Talk P)) → IsPermutation whole dealt → Runs bytes may_leave moment left_since faults tell o from count migration rounds dealt end book ports → Runs bytes may_leave moment left_since faults tell o from count migration rounds whole end book ports
+module _ {D P : Type 0} (trace : D → DiskTrace) (tell : P → PortTrace) (o : Opening) (from count migration rounds : ℕ) (end : RunEnd) (book : Chronicled D) (ports : List (Talk P)) where
+  pub runs_over : (whole dealt : List (Talk P)) → IsPermutation whole dealt → Runs trace tell o from count migration rounds dealt end book ports → Runs trace tell o from count migration rounds whole end book ports
   runs_over whole dealt deals runs = record {
     log = runs.log;
     seats = runs.seats;
@@ -173,10 +174,10 @@ module _ {P : Type 0} (before now : FleetPorts P) (berths : List (Berth P)) (run
   is_over run.Memory holds = (holds.0, all_back holds.1)
 
 -- and over the fleet as it was before the ports were opened
-module _ {D P : Type 0} (port_faults : P → ℕ) (homes : List ℕ) (book_before book : Chronicled D) (before opened now : FleetPorts P) (berths : List (Berth P)) (runs : List (Talk P) → Type 0) (ran : Type 0) (to : IsBegunOver opened now berths runs → ran) (opens : Opens port_faults homes before berths opened) where
-  pub ends_run : (end : RunEnd) → IsOver opened now berths end runs (book ≡ book_before) → EndsRun port_faults homes book_before book before now ran end
+module _ {D P : Type 0} (tell : P → PortTrace) (homes : List ℕ) (book_before book : Chronicled D) (before opened now : FleetPorts P) (berths : List (Berth P)) (runs : List (Talk P) → Type 0) (ran : Type 0) (to : IsBegunOver opened now berths runs → ran) (opens : Opens tell homes before berths opened) where
+  pub ends_run : (end : RunEnd) → IsOver opened now berths end runs (book ≡ book_before) → EndsRun tell homes book_before book before now ran end
   ends_run run.Finished over = to over
   ends_run run.Held over = to over
   ends_run (run.Stopped halt) over = to over
   ends_run (run.NoPort switch) over = absurd over
-  ends_run run.Memory over = record { same = over.0; ports = inr (given_back port_faults homes before opened now berths opens over.1) }
+  ends_run run.Memory over = record { same = over.0; ports = inr (given_back tell homes before opened now berths opens over.1) }

@@ -13,7 +13,8 @@ use Rattle.port_session.specs.Sessions.{Talk}
 use Rattle.worker_ports.specs.Lots.{home_at}
 use Rattle.worker_ports.specs.Rows.{AtOne}
 use Rattle.worker_ports.specs.Stories.{LastStory}
-use Rattle.worker_ports.specs.Views.{GoesOn, Telling, view}
+use Rattle.wan_edge.specs.Ports.{GoesOn, PortTrace}
+use Rattle.worker_ports.specs.Views.{view}
 use Rattle.shared_book.specs.Calls.{seat_of}
 use Rattle.shared_history.specs.declared.note.Written.{Written}
 use Rattle.shared_history.specs.Histories.{Opening, all_entries}
@@ -100,7 +101,7 @@ some_same {A} {x} is = ap (λ (o : Option A). or_else x o) is
     or_else x None = x
     or_else x (Some y) = y
 
-module _ {P : Type 0} (tell : P → Telling) (o : Opening) (migration : ℕ) (homes : List (Option ℕ)) (log : List Written) (shifts : List (Shift P)) (spare whole : List (Talk P)) (seats : ℕ) (kept : ℕ → Option P)
+module _ {P : Type 0} (tell : P → PortTrace) (o : Opening) (migration : ℕ) (homes : List (Option ℕ)) (log : List Written) (shifts : List (Shift P)) (spare whole : List (Talk P)) (seats : ℕ) (kept : ℕ → Option P)
     (keeps : All (Keeps tell o migration homes log) shifts) (seated : (seat : ℕ) → seat < seats → IsOfOne shifts seat) (made : All (λ w. seat_of w < seats) log)
     (same : IsPermutation whole (given_ports shifts ++ spare)) (apart : IsDistinct nat_eq (map (λ t. t.switch) whole))
     (back : (s : Shift P) (t : Talk P) → Contains shifts s → Contains s.now.ports t → kept t.switch ≡ Some t.port) (left : (t : Talk P) → Contains spare t → kept t.switch ≡ Some t.port) where

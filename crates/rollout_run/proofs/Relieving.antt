@@ -3,7 +3,7 @@ use Rattle.std.proofs.Common.{◌≡◌, ℕ, List, [], ◌++◌, IsPermutation,
 use Rattle.turn_lock.specs.declared.counted.Counted.{Ghosts}
 use Rattle.turn_lock.specs.declared.pass.Pass.{Pass}
 use Rattle.port_session.specs.Sessions.{Talk}
-use Rattle.worker_ports.specs.Views.{Telling}
+use Rattle.wan_edge.specs.Ports.{PortTrace}
 use Rattle.shared_history.specs.declared.note.Written.{Written}
 use Rattle.shared_history.specs.declared.reply.Wake.{Wake}
 use Rattle.shared_history.specs.Histories.{Opening}
@@ -11,7 +11,7 @@ use Rattle.controller_run.specs.Working.{Standing}
 use Rattle.rollout_run.specs.Teams.{HasReturned, Relieves}
 use Rattle.rollout_run.proofs.Shuffles.{same}
 
-module _ {V P : Type 0} {C : Ghosts V Written} (tell : P → Telling) (o : Opening) (migration : ℕ) (homes : List (Option ℕ)) (rounds : ℕ) (given pass : Pass V Written C) (ports back : List (Talk P)) (calls : ℕ) where
+module _ {V P : Type 0} {C : Ghosts V Written} (tell : P → PortTrace) (o : Opening) (migration : ℕ) (homes : List (Option ℕ)) (rounds : ℕ) (given pass : Pass V Written C) (ports back : List (Talk P)) (calls : ℕ) where
   no_end : {A : Type 0} (end : Wake) → Some end ≡ None → A
   no_end end is = absurd (cc is)
 

@@ -3,9 +3,9 @@ use Rattle.std.specs.Prelude.{◌≡◌, ◌≤◌, ⊤, ℕ, true, List, ◌++�
 use Rattle.std.specs.List.{AllZip, Contains}
 use Rattle.rollout_rules.specs.declared.op.Op.{Op}
 use Rattle.wan_edge.specs.Frames.{Command}
+use Rattle.wan_edge.specs.Ports.{PortTrace}
 use Rattle.port_session.specs.Sessions.{Talk}
 use Rattle.worker_ports.specs.Stories.{StoryEach}
-use Rattle.worker_ports.specs.Views.{Telling}
 use Rattle.shared_history.specs.declared.note.Cause.{Cause}
 use Rattle.shared_history.specs.declared.note.Cause.TheVariants as cause
 use Rattle.shared_history.specs.declared.note.Written.{Written}
@@ -20,7 +20,7 @@ use Rattle.rollout_run.specs.declared.end.RunEnd.TheVariants as run
 
 -- All rounds that were given were spent. At least as many commands went out whole, each at the port of its home: commands of operations that the history
 -- begins, with homes among the switches of these ports. And at a beginning of the history the operation of such a home is in flight.
-pub record IsSpent {P : Type 0} (tell : P → Telling) (o : Opening) (migration : ℕ) (homes : List (Option ℕ)) (rounds : ℕ) (log : List Written) (first : List (Talk P)) (given : ℕ) (op : Op) (now : List (Talk P)) : Type 0 where
+pub record IsSpent {P : Type 0} (tell : P → PortTrace) (o : Opening) (migration : ℕ) (homes : List (Option ℕ)) (rounds : ℕ) (log : List Written) (first : List (Talk P)) (given : ℕ) (op : Op) (now : List (Talk P)) : Type 0 where
   pub given_is : given ≡ rounds
   pub commands : List Command
   pub begun : All (IsOfBegun o (switches_of first) (history_of o log)) commands
@@ -33,7 +33,7 @@ pub record IsSpent {P : Type 0} (tell : P → Telling) (o : Opening) (migration 
 
 -- The port of an item's home told that the item is at a number which, at a beginning of the history, is above what was begun of it, or of an item
 -- that doesn't exist.
-pub record IsAbove {P : Type 0} (tell : P → Telling) (o : Opening) (migration : ℕ) (homes : List (Option ℕ)) (log : List Written) (first : List (Talk P)) (item held begun : ℕ) (now : List (Talk P)) : Type 0 where
+pub record IsAbove {P : Type 0} (tell : P → PortTrace) (o : Opening) (migration : ℕ) (homes : List (Option ℕ)) (log : List Written) (first : List (Talk P)) (item held begun : ℕ) (now : List (Talk P)) : Type 0 where
   pub front : List Written
   pub later : List Written
   pub is : log ≡ front ++ later
@@ -42,7 +42,7 @@ pub record IsAbove {P : Type 0} (tell : P → Telling) (o : Opening) (migration 
   pub told : IsToldAtHome tell migration homes first (record { item = item; held = held }) now
 
 -- What a cause says of ports, from where they were opened to where they are now, where this says that the disk failed. Of want of memory it says nothing.
-abbrev pub IsCause : {P : Type 0} → (P → Telling) → Opening → ℕ → List (Option ℕ) → ℕ → Type 0 → List Written → List (Talk P) → Cause → List (Talk P) → Type 0
+abbrev pub IsCause : {P : Type 0} → (P → PortTrace) → Opening → ℕ → List (Option ℕ) → ℕ → Type 0 → List Written → List (Talk P) → Cause → List (Talk P) → Type 0
 IsCause tell o migration homes rounds failed log first (cause.Spent given item number) now = IsSpent tell o migration homes rounds log first given (record { item = item; number = number }) now
 IsCause tell o migration homes rounds failed log first (cause.Port switch) now = HasFailed tell switch first now
 IsCause tell o migration homes rounds failed log first (cause.Above item held begun) now = IsAbove tell o migration homes log first item held begun now
@@ -52,7 +52,7 @@ IsCause tell o migration homes rounds failed log first cause.Disk now = failed
 IsCause tell o migration homes rounds failed log first cause.Memory now = ⊤
 
 -- Some of the ports that were opened, as they are kept now, and the cause holds of these.
-pub record HasCause {P : Type 0} (tell : P → Telling) (o : Opening) (migration : ℕ) (homes : List (Option ℕ)) (rounds : ℕ) (failed : Type 0) (log : List Written) (opened : List (Talk P)) (kept : ℕ → Option P) (why : Cause) : Type 0 where
+pub record HasCause {P : Type 0} (tell : P → PortTrace) (o : Opening) (migration : ℕ) (homes : List (Option ℕ)) (rounds : ℕ) (failed : Type 0) (log : List Written) (opened : List (Talk P)) (kept : ℕ → Option P) (why : Cause) : Type 0 where
   pub first : List (Talk P)
   pub now : List (Talk P)
   pub among : (t : Talk P) → Contains first t → Contains opened t

@@ -5,8 +5,8 @@ use Rattle.rollout_rules.specs.History.{History}
 use Rattle.rollout_rules.specs.declared.op.Op.{Op}
 use Rattle.rollout_rules.specs.declared.op.Entry.TheVariants as entry
 use Rattle.wan_edge.specs.Frames.{Command}
+use Rattle.wan_edge.specs.Ports.{PortTrace}
 use Rattle.worker_ports.specs.Stories.{LastStoryEach}
-use Rattle.worker_ports.specs.Views.{Telling}
 use Rattle.rollout_book.specs.Commands.{command_of}
 use Rattle.shared_history.specs.declared.note.Written.{Written}
 use Rattle.shared_history.specs.Histories.{Opening, history_of}
@@ -21,7 +21,7 @@ pub record IsBegun (o : Opening) (h : History) (c : Command) : Type 0 where
 
 -- At each port a front of the frames of its own commands went out, and each command is of an operation that the history begins. Each
 -- operation that a note of the worker says is done was answered by the port of its item's home.
-pub record Keeps {P : Type 0} (tell : P → Telling) (o : Opening) (migration : ℕ) (homes : List (Option ℕ)) (log : List Written) (s : Shift P) : Type 0 where
+pub record Keeps {P : Type 0} (tell : P → PortTrace) (o : Opening) (migration : ℕ) (homes : List (Option ℕ)) (log : List Written) (s : Shift P) : Type 0 where
   pub sent : List Command
   pub begun : All (IsBegun o (history_of o log)) sent
   pub story : LastStoryEach tell migration homes sent s.given.before.ports s.now.ports

@@ -4,10 +4,11 @@ use Rattle.std.specs.List.{Contains}
 use Rattle.rollout_rules.specs.declared.op.Op.{Op}
 use Rattle.rollout_rules.specs.declared.op.Entry.TheVariants as entry
 use Rattle.wan_edge.specs.Frames.{Answer, Command}
+use Rattle.wan_edge.specs.Ports.{PortTrace}
 use Rattle.port_session.specs.Sessions.{Talk}
 use Rattle.worker_ports.specs.Lots.{home_at}
 use Rattle.worker_ports.specs.Stories.{LastStory}
-use Rattle.worker_ports.specs.Views.{PortView, Telling, view}
+use Rattle.worker_ports.specs.Views.{PortView, view}
 use Rattle.shared_history.specs.declared.note.Written.{Written}
 use Rattle.shared_history.specs.Histories.{Opening, all_entries, history_of}
 use Rattle.controller_run.specs.Promises.{WasTold}
@@ -29,7 +30,7 @@ pub record IsPortRun (o : Opening) (migration : ℕ) (homes : List (Option ℕ))
   pub answered : (op : Op) → Contains (all_entries log) (entry.Done op) → home_at homes op.item ≡ Some first.switch → Covers migration op first now
 
 -- the port of a switch is back, and a run has made this of it
-pub record IsBack {P : Type 0} (tell : P → Telling) (o : Opening) (migration : ℕ) (homes : List (Option ℕ)) (log : List Written) (kept : ℕ → Option P) (first : Talk P) : Type 0 where
+pub record IsBack {P : Type 0} (tell : P → PortTrace) (o : Opening) (migration : ℕ) (homes : List (Option ℕ)) (log : List Written) (kept : ℕ → Option P) (first : Talk P) : Type 0 where
   pub now : Talk P
   pub run : IsPortRun o migration homes log (view tell first) (view tell now)
   pub is_kept : kept first.switch ≡ Some now.port

@@ -1,9 +1,10 @@
 -- What a run over a fleet leaves: of its book and disk, of its ports, and of the switches behind them.
 use Rattle.std.specs.Prelude.{◌≡◌, ◌⊎◌, ℕ, true, false, nat_eq, ◌<◌, List, All, IsPermutation, Option, map}
 use Rattle.std.specs.List.{AllByRecursion}
+use Rattle.disk_model.specs.Traces.{DiskTrace}
+use Rattle.wan_edge.specs.Ports.{PortTrace}
 use Rattle.wan_edge.specs.Streams.{Rose}
 use Rattle.port_session.specs.Sessions.{Talk}
-use Rattle.worker_ports.specs.Views.{Telling}
 use Rattle.worker_ports.specs.declared.ports.Berth.{Berth}
 use Rattle.rollout_book.specs.Chronicles.{Chronicled}
 use Rattle.rollout_ports.specs.Berths.{AreApart, FleetPorts, after_keeping, switches_of}
@@ -26,19 +27,19 @@ use Rattle.rollout_run.specs.declared.end.RunEnd.TheVariants as run
 -- A run that has begun. The book is closed behind a legal history of its workers, which says how the run ended; the disk is what that history
 -- leaves. A port was opened to each of these switches, and is back as the run has left it; what is kept at any other switch is as it was. Where the run
 -- was stopped the cause of the first stop holds. Its workers have worked as the history tells, each over ports of its own.
-pub record Ran {D P : Type 0} (bytes : D → Option (List ℕ)) (may_leave : D → List ℕ → Type 0) (moment : D → ℕ) (left_since : D → ℕ → List ℕ → Type 0) (faults : D → ℕ) (port_faults : P → ℕ) (tell : P → Telling) (o : Opening) (from count migration rounds : ℕ) (homes : List ℕ) (before : FleetPorts P) (end : RunEnd) (book : Chronicled D) (now : FleetPorts P) : Type 0 where
+pub record Ran {D P : Type 0} (trace : D → DiskTrace) (tell : P → PortTrace) (o : Opening) (from count migration rounds : ℕ) (homes : List ℕ) (before : FleetPorts P) (end : RunEnd) (book : Chronicled D) (now : FleetPorts P) : Type 0 where
   pub log : List Written
   pub legal : is_legal_shared o log ≡ true
   pub closed : IsClosed o log book
-  pub images : HasImages bytes may_leave moment left_since faults o from count book.disk log
+  pub images : HasImages trace o from count book.disk log
   pub ends : IsRunEnd o log end
   pub berths : List (Berth P)
   pub switches : switches_of berths ≡ homes
   pub apart : AreApart berths
-  pub given : AreGiven port_faults before.waiting berths
+  pub given : AreGiven tell before.waiting berths
   pub ports : All (IsBack tell o migration (homes_of o.rollout.problem) log now.kept) (first_talks berths)
   pub at_home : AreAtHome (homes_of o.rollout.problem) log homes
-  pub reason : IfStopped end (λ halt. HasCause tell o migration (homes_of o.rollout.problem) rounds (Rose count (faults book.disk)) log (first_talks berths) now.kept halt.cause)
+  pub reason : IfStopped end (λ halt. HasCause tell o migration (homes_of o.rollout.problem) rounds (Rose count (trace book.disk).faults) log (first_talks berths) now.kept halt.cause)
   pub seats : ℕ
   pub made : All (λ w. seat_of w < seats) log
   pub left : List (Talk P)
@@ -46,9 +47,9 @@ pub record Ran {D P : Type 0} (bytes : D → Option (List ℕ)) (may_leave : D �
   pub others : (switch : ℕ) → AllByRecursion (λ home. nat_eq switch home ≡ false) homes → now.kept switch ≡ before.kept switch
 
 -- A run that hasn't: the book is as it was. Of no home a port was opened, or all were opened and given back as they were.
-pub record NeverRan {D P : Type 0} (port_faults : P → ℕ) (homes : List ℕ) (book_before book : Chronicled D) (before now : FleetPorts P) : Type 0 where
+pub record NeverRan {D P : Type 0} (tell : P → PortTrace) (homes : List ℕ) (book_before book : Chronicled D) (before now : FleetPorts P) : Type 0 where
   pub same : book ≡ book_before
-  pub ports : (now ≡ before) ⊎ GivesBack port_faults homes before now
+  pub ports : (now ≡ before) ⊎ GivesBack tell homes before now
 
 -- the ports that a run has left are those of the same switches, in some order, and were given back
 pub record IsBegunOver {P : Type 0} (before now : FleetPorts P) (berths : List (Berth P)) (begun : List (Talk P) → Type 0) : Type 0 where
@@ -58,12 +59,12 @@ pub record IsBegunOver {P : Type 0} (before now : FleetPorts P) (berths : List (
   pub kept : now ≡ after_keeping before (berths_of ports)
 
 -- what holds of a run by its end
-abbrev pub EndsRun : {D P : Type 0} → (P → ℕ) → List ℕ → Chronicled D → Chronicled D → FleetPorts P → FleetPorts P → Type 0 → RunEnd → Type 0
-EndsRun port_faults homes book_before book before now ran run.Finished = ran
-EndsRun port_faults homes book_before book before now ran run.Held = ran
-EndsRun port_faults homes book_before book before now ran (run.Stopped halt) = ran
-EndsRun port_faults homes book_before book before now ran (run.NoPort switch) = (book ≡ book_before) × StopsAt port_faults homes switch before now
-EndsRun port_faults homes book_before book before now ran run.Memory = NeverRan port_faults homes book_before book before now
+abbrev pub EndsRun : {D P : Type 0} → (P → PortTrace) → List ℕ → Chronicled D → Chronicled D → FleetPorts P → FleetPorts P → Type 0 → RunEnd → Type 0
+EndsRun tell homes book_before book before now ran run.Finished = ran
+EndsRun tell homes book_before book before now ran run.Held = ran
+EndsRun tell homes book_before book before now ran (run.Stopped halt) = ran
+EndsRun tell homes book_before book before now ran (run.NoPort switch) = (book ≡ book_before) × StopsAt tell homes switch before now
+EndsRun tell homes book_before book before now ran run.Memory = NeverRan tell homes book_before book before now
 
 -- A run over ports that were opened. They are back as it has left them; where nothing was begun, as they were.
 abbrev pub IsOver : {P : Type 0} → FleetPorts P → FleetPorts P → List (Berth P) → RunEnd → (List (Talk P) → Type 0) → Type 0 → Type 0

@@ -1,8 +1,9 @@
 -- What a run comes to.
 use Rattle.std.specs.Prelude.{◌≡◌, ℕ, ◌<◌, Bool, true, false, List, All, Option, Some, None, if◌then◌else◌}
 use Rattle.rollout_rules.specs.Legal.{is_finished}
+use Rattle.disk_model.specs.Traces.{DiskTrace}
 use Rattle.port_session.specs.Sessions.{Talk}
-use Rattle.worker_ports.specs.Views.{Telling}
+use Rattle.wan_edge.specs.Ports.{PortTrace}
 use Rattle.rollout_book.specs.Chronicles.{Chronicled}
 use Rattle.rollout_book.specs.declared.fault.BookFault.TheVariants as fault
 use Rattle.shared_history.specs.declared.note.Cause.{Cause}
@@ -32,12 +33,12 @@ IsRunEnd o log run.Memory = ⊥
 
 -- A book was shared by workers, and closed behind a legal history of theirs; the disk is what that history leaves. Each note is of a worker that
 -- has worked as the history tells.
-pub record Runs {D P : Type 0} (bytes : D → Option (List ℕ)) (may_leave : D → List ℕ → Type 0) (moment : D → ℕ) (left_since : D → ℕ → List ℕ → Type 0) (faults : D → ℕ) (tell : P → Telling) (o : Opening) (from count migration rounds : ℕ) (whole : List (Talk P)) (end : RunEnd) (book : Chronicled D) (ports : List (Talk P)) : Type 0 where
+pub record Runs {D P : Type 0} (trace : D → DiskTrace) (tell : P → PortTrace) (o : Opening) (from count migration rounds : ℕ) (whole : List (Talk P)) (end : RunEnd) (book : Chronicled D) (ports : List (Talk P)) : Type 0 where
   pub log : List Written
   pub seats : ℕ
   pub legal : is_legal_shared o log ≡ true
   pub closed : IsClosed o log book
-  pub images : HasImages bytes may_leave moment left_since faults o from count book.disk log
+  pub images : HasImages trace o from count book.disk log
   pub made : All (λ w. seat_of w < seats) log
   pub worked : HasWorked tell o migration (homes_of o.rollout.problem) rounds whole seats log ports
   pub ends : IsRunEnd o log end

@@ -2,7 +2,7 @@
 use Rattle.std.specs.Prelude.{◌≡◌, ◌⊎◌, ⊤, ℕ, ◌<◌, List, [], ◌∷◌, ◌++◌, All, Option, Some, None}
 use Rattle.turn_lock.specs.Histories.{Follows}
 use Rattle.port_session.specs.Sessions.{Talk, first_talk}
-use Rattle.worker_ports.specs.Views.{Telling}
+use Rattle.wan_edge.specs.Ports.{PortTrace}
 use Rattle.shared_history.specs.declared.note.Cause.{Cause}
 use Rattle.shared_history.specs.declared.note.Cause.TheVariants as cause
 use Rattle.shared_history.specs.declared.note.What.TheVariants as what
@@ -50,7 +50,7 @@ abbrev pub IsRelieved : {P : Type 0} → ℕ → List (Talk P) → Type 0
 IsRelieved seat ports = (0 < seat) × (ports ≡ [])
 
 -- A worker that had stopped nothing, and has seen a round turn, has served; or it never began, is as it was, and has seen a stop, or was relieved.
-abbrev pub Returns : {P : Type 0} → (P → Telling) → Opening → ℕ → ℕ → List (Option ℕ) → ℕ → Standing P → Option Wake → Standing P → Type 0
+abbrev pub Returns : {P : Type 0} → (P → PortTrace) → Opening → ℕ → ℕ → List (Option ℕ) → ℕ → Standing P → Option Wake → Standing P → Type 0
 Returns tell o seat migration homes rounds before None now = (now ≡ before) × StopsEarly seat now.seen × (IsHalted now.seen ⊎ IsRelieved seat now.ports)
 Returns tell o seat migration homes rounds before (Some end) now = StopsNothing seat before.seen × Served tell o (seat ∷ []) seat migration homes rounds before end now × HasTurned before.seen
 
@@ -74,7 +74,7 @@ pub record Shift (P : Type 0) : Type 0 where
   pub now : Standing P
 
 -- The history begins with what it has seen, and past that has no note of its seat.
-pub record IsShift {P : Type 0} (tell : P → Telling) (o : Opening) (migration : ℕ) (homes : List (Option ℕ)) (rounds : ℕ) (log : List Written) (s : Shift P) : Type 0 where
+pub record IsShift {P : Type 0} (tell : P → PortTrace) (o : Opening) (migration : ℕ) (homes : List (Option ℕ)) (rounds : ℕ) (log : List Written) (s : Shift P) : Type 0 where
   pub quiet : IsQuiet s.given.seat s.given.before.seen
   pub fresh : AreFresh s.given.before.ports
   pub returns : Returns tell o s.given.seat migration homes rounds s.given.before s.end s.now

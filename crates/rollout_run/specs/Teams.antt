@@ -6,7 +6,7 @@ use Rattle.turn_lock.specs.declared.lock.TurnLock.{TurnLock}
 use Rattle.turn_lock.specs.declared.pass.Pass.{Pass}
 use Rattle.turn_lock.specs.Passes.{IsPassOf, IsSamePass, given_of, joined_of, out_of, seat_of_pass, seats_of, seen_of}
 use Rattle.port_session.specs.Sessions.{Talk}
-use Rattle.worker_ports.specs.Views.{Telling}
+use Rattle.wan_edge.specs.Ports.{PortTrace}
 use Rattle.worker_ports.specs.declared.ports.Berth.{Berth}
 use Rattle.rollout_ports.specs.Hands.{first_talks}
 use Rattle.shared_history.specs.declared.note.Cause.TheVariants as cause
@@ -42,12 +42,12 @@ Relieves None ports now own spare own' spare' = (now ≡ []) × IsPermutation (o
 Relieves (Some end) ports now own spare own' spare' = (now ≡ ports) × (own' ≡ own) × (spare' ≡ spare)
 
 -- a worker that came back has served, or is as it was given
-abbrev pub DidServe : {P : Type 0} → (P → Telling) → Opening → List ℕ → ℕ → ℕ → List (Option ℕ) → ℕ → Standing P → Option Wake → Standing P → Type 0
+abbrev pub DidServe : {P : Type 0} → (P → PortTrace) → Opening → List ℕ → ℕ → ℕ → List (Option ℕ) → ℕ → Standing P → Option Wake → Standing P → Type 0
 DidServe tell o seats seat migration homes rounds before None now = now ≡ before
 DidServe tell o seats seat migration homes rounds before (Some end) now = Served tell o seats seat migration homes rounds before end now
 
 -- the same with its pass, which is one of the same lock and the same seat, and knows how many calls its seat has made
-pub record HasReturned {V P : Type 0} {C : Ghosts V Written} (tell : P → Telling) (o : Opening) (migration : ℕ) (homes : List (Option ℕ)) (rounds : ℕ) (given : Pass V Written C) (ports : List (Talk P)) (pass : Pass V Written C) (calls : ℕ) (end : Option Wake) (now : List (Talk P)) : Type 0 where
+pub record HasReturned {V P : Type 0} {C : Ghosts V Written} (tell : P → PortTrace) (o : Opening) (migration : ℕ) (homes : List (Option ℕ)) (rounds : ℕ) (given : Pass V Written C) (ports : List (Talk P)) (pass : Pass V Written C) (calls : ℕ) (end : Option Wake) (now : List (Talk P)) : Type 0 where
   pub of_lock : pass.place.table_id ≡ given.place.table_id
   pub same : IsSamePass given pass
   pub counted : IsCounted calls pass
@@ -72,7 +72,7 @@ pub record IsLeader {V : Type 0} {C : Ghosts V Written} (lock : TurnLock V Writt
   pub turned : HasTurned (seen_of p)
 
 -- The worker of seat 0 and so many others, of the seats from a number on, have worked, and their passes were joined: their seats are among these.
-pub record Gathers {P : Type 0} (tell : P → Telling) (o : Opening) (migration : ℕ) (homes : List (Option ℕ)) (rounds : ℕ) (first count : ℕ) (whole : List (Talk P)) (seats : List ℕ) (log : List Written) (now : List (Talk P)) : Type 0 where
+pub record Gathers {P : Type 0} (tell : P → PortTrace) (o : Opening) (migration : ℕ) (homes : List (Option ℕ)) (rounds : ℕ) (first count : ℕ) (whole : List (Talk P)) (seats : List ℕ) (log : List Written) (now : List (Talk P)) : Type 0 where
   pub shifts : List (Shift P)
   pub whole_shifts : All (IsShift tell o migration homes rounds log) shifts
   pub among : All (λ s. Contains seats s.given.seat) shifts
@@ -84,7 +84,7 @@ pub record Gathers {P : Type 0} (tell : P → Telling) (o : Opening) (migration 
   pub spared : (spare ≡ []) ⊎ IsHalted log
 
 -- the pass of seat 0 once these have worked
-pub record HasLed {V P : Type 0} {C : Ghosts V Written} (tell : P → Telling) (o : Opening) (migration : ℕ) (homes : List (Option ℕ)) (rounds : ℕ) (lock : TurnLock V Written) (count : ℕ) (before : Pass V Written C) (whole : List (Talk P)) (now : Pass V Written C) (calls : ℕ) (ports : List (Talk P)) : Type 0 where
+pub record HasLed {V P : Type 0} {C : Ghosts V Written} (tell : P → PortTrace) (o : Opening) (migration : ℕ) (homes : List (Option ℕ)) (rounds : ℕ) (lock : TurnLock V Written) (count : ℕ) (before : Pass V Written C) (whole : List (Talk P)) (now : Pass V Written C) (calls : ℕ) (ports : List (Talk P)) : Type 0 where
   pub of_lock : IsPassOf lock now
   pub counted : IsCounted calls now
   pub first : seat_of_pass now ≡ 0

@@ -2,7 +2,7 @@
 use Rattle.std.specs.Prelude.{◌≡◌, ◌⊎◌, ℕ, ◌<◌, List, [], ◌++◌, All, IsPermutation, Option}
 use Rattle.std.specs.List.{flat_map}
 use Rattle.port_session.specs.Sessions.{Talk}
-use Rattle.worker_ports.specs.Views.{Telling}
+use Rattle.wan_edge.specs.Ports.{PortTrace}
 use Rattle.shared_history.specs.declared.note.Written.{Written}
 use Rattle.shared_history.specs.Histories.{Opening}
 use Rattle.rollout_run.specs.Shifts.{IsHalted, IsOfOne, IsShift, Shift}
@@ -17,7 +17,7 @@ left_ports shifts = flat_map (λ s. s.now.ports) shifts
 
 -- Each seat below a number, of which there is one at least, is that of one of these workers. Their ports, with those that nobody served, are those of
 -- before; and as they were left, with those that nobody served, they are those of now. Some were served by nobody only where a stop stands.
-pub record HasWorked {P : Type 0} (tell : P → Telling) (o : Opening) (migration : ℕ) (homes : List (Option ℕ)) (rounds : ℕ) (whole : List (Talk P)) (seats : ℕ) (log : List Written) (now : List (Talk P)) : Type 0 where
+pub record HasWorked {P : Type 0} (tell : P → PortTrace) (o : Opening) (migration : ℕ) (homes : List (Option ℕ)) (rounds : ℕ) (whole : List (Talk P)) (seats : ℕ) (log : List Written) (now : List (Talk P)) : Type 0 where
   pub shifts : List (Shift P)
   pub whole_shifts : All (IsShift tell o migration homes rounds log) shifts
   pub some_seat : 0 < seats

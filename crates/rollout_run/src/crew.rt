@@ -4,7 +4,6 @@ ghost use Rattle.order_policy.specs.Answers.{rank_by};
 ghost use Rattle.turn_lock.specs.Passes.{IsPassOf, seat_of_pass};
 ghost use Rattle.shared_book.specs.Calls.{IsCounted};
 ghost use Rattle.shared_book.specs.Homes.{homes_of};
-ghost use Rattle.worker_ports.specs.Views.{telling};
 ghost use Rattle.rollout_run.specs.Teams.{HasReturned};
 
 use crate::job::Job;
@@ -57,7 +56,9 @@ pub(crate) struct Serving<'t, V: Counted, T: Port> {
 
 impl<'t, D: Disk, M: Marker, T: Port> Promise<Returned<Kept<D, M>, T>>
     for Serving<'t, Kept<D, M>, T> {
-    ghost kept_by = { λ p back. HasReturned (telling T.offered T.heard T.held T.quiet T.faults T.honest T.prompt T.start) M.opening p.terms.migration p.terms.homes.now p.terms.rounds p.given.value.pass.pass p.given.value.ports back.pass.pass back.pass.calls back.end back.ports };
+    ghost kept_by = { λ p back. HasReturned T.told M.opening p.terms.migration p.terms.homes.now
+        p.terms.rounds p.given.value.pass.pass p.given.value.ports back.pass.pass back.pass.calls
+        back.end back.ports };
 }
 
 /// A worker serves its ports, unless its thread was refused: then it hands all back at once.
@@ -65,10 +66,16 @@ impl<'s, 't, 'd, R: Wait, D: Disk, M: Marker, T: Port> Job
     for Duty<'s, 't, R, SharedBook<'d, D, M>, Kept<D, M>, T> {
     type Output = Returned<Kept<D, M>, T>;
 
-    ghost may_begin = { λ d. IsPassOf d.book.now.lock d.crew.pass.pass × (d.book.now.homes ≡ homes_of M.opening.rollout.problem) × (M.opening.policy ≡ rank_by d.book.now.policy.now.answers)
-        × IsCounted d.crew.pass.calls d.crew.pass.pass × (seat_of_pass d.crew.pass.pass < M.seats) × All (λ s. IsTrue s.stream.live) d.crew.ports };
+    ghost may_begin = { λ d. IsPassOf d.book.now.lock d.crew.pass.pass
+        × (d.book.now.homes ≡ homes_of M.opening.rollout.problem)
+        × (M.opening.policy ≡ rank_by d.book.now.policy.now.answers)
+        × IsCounted d.crew.pass.calls d.crew.pass.pass
+        × (seat_of_pass d.crew.pass.pass < M.seats)
+        × All (λ s. IsTrue s.stream.live) d.crew.ports };
 
-    ghost may_leave = { λ d back. HasReturned (telling T.offered T.heard T.held T.quiet T.faults T.honest T.prompt T.start) M.opening d.terms.migration d.terms.homes.now d.terms.rounds d.crew.pass.pass d.crew.ports back.pass.pass back.pass.calls back.end back.ports };
+    ghost may_leave = { λ d back. HasReturned T.told M.opening d.terms.migration d.terms.homes.now
+        d.terms.rounds d.crew.pass.pass d.crew.ports back.pass.pass back.pass.calls back.end
+        back.ports };
 
     fn run(self) -> Returned<Kept<D, M>, T> {
         let Duty {

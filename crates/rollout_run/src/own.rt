@@ -26,7 +26,8 @@ impl<T: Port + Drop> Own<T> {
         requires apart { IsDistinct nat_eq (map (λ t. t.switch) (self.old.ports ++ ports)) }
         requires room { vec_len self.old.spare + length ports ≤ vec_capacity self.old.spare }
         ensures fresh { AreFresh self.new.ports }
-        ensures same { IsPermutation (self.old.ports ++ (first_talks self.old.spare.items ++ ports)) (self.new.ports ++ first_talks self.new.spare.items) }
+        ensures same { IsPermutation (self.old.ports ++ (first_talks self.old.spare.items ++ ports))
+            (self.new.ports ++ first_talks self.new.spare.items) }
         ensures room { vec_capacity self.new.spare ≡ vec_capacity self.old.spare }
     {
         while let Some(berth) = ports.take() {
@@ -44,12 +45,16 @@ impl<T: Port + Drop> Own<T> {
         back: Returned<V, T>,
     ) -> Returned<V, T>
         requires fresh { AreFresh self.old.ports }
-        requires back { back.end ≡ None → AreFresh back.ports × IsDistinct nat_eq (map (λ t. t.switch) (self.old.ports ++ back.ports)) × (vec_len self.old.spare + length back.ports ≤ vec_capacity self.old.spare) }
+        requires back { back.end ≡ None
+            → AreFresh back.ports
+            × IsDistinct nat_eq (map (λ t. t.switch) (self.old.ports ++ back.ports))
+            × (vec_len self.old.spare + length back.ports ≤ vec_capacity self.old.spare) }
         ensures fresh { AreFresh self.new.ports }
         ensures room { vec_capacity self.new.spare ≡ vec_capacity self.old.spare }
         ensures pass { result.pass ≡ back.pass }
         ensures end { result.end ≡ back.end }
-        ensures ports { Relieves result.end back.ports result.ports self.old.ports (first_talks self.old.spare.items) self.new.ports (first_talks self.new.spare.items) }
+        ensures ports { Relieves result.end back.ports result.ports self.old.ports
+            (first_talks self.old.spare.items) self.new.ports (first_talks self.new.spare.items) }
     {
         let Returned { pass, ports, end } = back;
         match end {

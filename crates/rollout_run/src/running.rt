@@ -4,7 +4,6 @@ ghost use Rattle.wan_edge.specs.Streams.{Rose};
 ghost use Rattle.order_policy.specs.Answers.{rank_by};
 ghost use Rattle.rollout_book.specs.Lists.{IsKeptList};
 ghost use Rattle.shared_book.specs.Opened.{IsOpened, opening_of};
-ghost use Rattle.worker_ports.specs.Views.{telling};
 ghost use Rattle.rollout_ports.specs.Berths.{AreApart, AreLent, ports_of};
 ghost use Rattle.rollout_ports.specs.Hands.{first_talks};
 ghost use Rattle.rollout_ports.specs.Homes.{working_homes};
@@ -51,13 +50,28 @@ where
     D: Disk + Drop + Send,
     F: Fleet,
     F::Port: Drop + Send,
-    requires opened { IsOpened (opening_of book.chronicle (rank_by book.policy.now.answers)) book.chronicle }
-    requires has { IfSome (D.bytes book.chronicle.disk) (IsKeptList book.chronicle.history.start book.chronicle.entries (D.may_leave book.chronicle.disk)) }
-    ensures ran { EndsRun F.Port.faults (working_homes book.entry.chronicle.rollout.problem book.entry.chronicle.rollout.plan) book.entry.chronicle result.0.chronicle (ports_of F.waiting F.kept F.lent fleet.old) (ports_of F.waiting F.kept F.lent fleet.new)
-        (Ran D.bytes D.may_leave D.moment D.left_since D.faults F.Port.faults (telling F.Port.offered F.Port.heard F.Port.held F.Port.quiet F.Port.faults F.Port.honest F.Port.prompt F.Port.start) (opening_of book.entry.chronicle (rank_by book.entry.policy.now.answers)) (D.moment book.entry.chronicle.disk) (D.faults book.entry.chronicle.disk) limits.migration limits.rounds
-        (working_homes book.entry.chronicle.rollout.problem book.entry.chronicle.rollout.plan) (ports_of F.waiting F.kept F.lent fleet.old) result.1 result.0.chronicle (ports_of F.waiting F.kept F.lent fleet.new)) result.1 }
-    ensures guests { (F.coming fleet.new ≡ F.coming fleet.old) × (F.served fleet.new ≡ F.served fleet.old) × (F.visiting fleet.new ≡ F.visiting fleet.old) }
-    ensures cause { (switch : ℕ) → result.1 ≡ RunEnd.NoPort switch → Rose (F.faults fleet.old) (F.faults fleet.new) }
+    requires opened { IsOpened (opening_of book.chronicle (rank_by book.policy.now.answers))
+        book.chronicle }
+    requires has { IfSome (D.told book.chronicle.disk).bytes
+        (IsKeptList book.chronicle.history.start book.chronicle.entries
+        (D.told book.chronicle.disk).may_leave) }
+    ensures ran { EndsRun F.Port.told
+        (working_homes book.entry.chronicle.rollout.problem book.entry.chronicle.rollout.plan)
+        book.entry.chronicle result.0.chronicle (ports_of F.waiting F.kept F.lent fleet.old)
+        (ports_of F.waiting F.kept F.lent fleet.new)
+        (Ran D.told F.Port.told
+        (opening_of book.entry.chronicle (rank_by book.entry.policy.now.answers))
+        (D.told book.entry.chronicle.disk).moment (D.told book.entry.chronicle.disk).faults
+        limits.migration limits.rounds
+        (working_homes book.entry.chronicle.rollout.problem book.entry.chronicle.rollout.plan)
+        (ports_of F.waiting F.kept F.lent fleet.old) result.1 result.0.chronicle
+        (ports_of F.waiting F.kept F.lent fleet.new)) result.1 }
+    ensures guests { (F.coming fleet.new ≡ F.coming fleet.old)
+        × (F.served fleet.new ≡ F.served fleet.old)
+        × (F.visiting fleet.new ≡ F.visiting fleet.old) }
+    ensures cause { (switch : ℕ)
+        → result.1 ≡ RunEnd.NoPort switch
+        → Rose (F.faults fleet.old) (F.faults fleet.new) }
     ensures count { F.faults fleet.old ≤ F.faults fleet.new }
 {
     match open_ports(alloc, fleet, book.graph().plan()) {
@@ -81,14 +95,23 @@ where
     D: Disk + Drop + Send,
     F: Fleet,
     F::Port: Drop + Send,
-    requires opened { IsOpened (opening_of book.chronicle (rank_by book.policy.now.answers)) book.chronicle }
-    requires has { IfSome (D.bytes book.chronicle.disk) (IsKeptList book.chronicle.history.start book.chronicle.entries (D.may_leave book.chronicle.disk)) }
+    requires opened { IsOpened (opening_of book.chronicle (rank_by book.policy.now.answers))
+        book.chronicle }
+    requires has { IfSome (D.told book.chronicle.disk).bytes
+        (IsKeptList book.chronicle.history.start book.chronicle.entries
+        (D.told book.chronicle.disk).may_leave) }
     requires apart { AreApart berths.items }
     requires lent { AreLent (F.lent fleet.old) berths.items }
-    ensures ran { IsOver (ports_of F.waiting F.kept F.lent fleet.old) (ports_of F.waiting F.kept F.lent fleet.new) berths.items result.1
-        (λ ports. Runs D.bytes D.may_leave D.moment D.left_since D.faults (telling F.Port.offered F.Port.heard F.Port.held F.Port.quiet F.Port.faults F.Port.honest F.Port.prompt F.Port.start) (opening_of book.entry.chronicle (rank_by book.entry.policy.now.answers)) (D.moment book.entry.chronicle.disk) (D.faults book.entry.chronicle.disk) limits.migration limits.rounds (first_talks berths.items) result.1 result.0.chronicle ports)
+    ensures ran { IsOver (ports_of F.waiting F.kept F.lent fleet.old)
+        (ports_of F.waiting F.kept F.lent fleet.new) berths.items result.1
+        (λ ports. Runs D.told F.Port.told
+        (opening_of book.entry.chronicle (rank_by book.entry.policy.now.answers))
+        (D.told book.entry.chronicle.disk).moment (D.told book.entry.chronicle.disk).faults
+        limits.migration limits.rounds (first_talks berths.items) result.1 result.0.chronicle ports)
         (result.0.chronicle ≡ book.entry.chronicle) }
-    ensures guests { (F.coming fleet.new ≡ F.coming fleet.old) × (F.served fleet.new ≡ F.served fleet.old) × (F.visiting fleet.new ≡ F.visiting fleet.old) }
+    ensures guests { (F.coming fleet.new ≡ F.coming fleet.old)
+        × (F.served fleet.new ≡ F.served fleet.old)
+        × (F.visiting fleet.new ≡ F.visiting fleet.old) }
     ensures count { F.faults fleet.old ≤ F.faults fleet.new }
 {
     match Team::of(alloc, berths, limits.workers) {
@@ -116,14 +139,29 @@ where
     R: Wait + Threads + Sync,
     D: Disk + Drop + Send,
     T: Port + Drop + Send,
-    requires opened { IsOpened (opening_of book.chronicle (rank_by book.policy.now.answers)) book.chronicle }
-    requires has { IfSome (D.bytes book.chronicle.disk) (IsKeptList book.chronicle.history.start book.chronicle.entries (D.may_leave book.chronicle.disk)) }
+    requires opened { IsOpened (opening_of book.chronicle (rank_by book.policy.now.answers))
+        book.chronicle }
+    requires has { IfSome (D.told book.chronicle.disk).bytes
+        (IsKeptList book.chronicle.history.start book.chronicle.entries
+        (D.told book.chronicle.disk).may_leave) }
     requires few { length team.crews.items < max 1 limits.workers }
-    requires team { IsTeam team.own.ports team.own.spare.items (vec_capacity team.own.spare) team.crews.items }
-    ensures switches { IsPermutation (map (λ t. t.switch) (team_ports team.own.ports team.own.spare.items team.crews.items)) (map (λ t. t.switch) (team_ports result.team.own.ports result.team.own.spare.items result.team.crews.items)) }
+    requires team { IsTeam team.own.ports team.own.spare.items (vec_capacity team.own.spare)
+        team.crews.items }
+    ensures switches { IsPermutation (map (λ t. t.switch)
+        (team_ports team.own.ports team.own.spare.items team.crews.items))
+        (map (λ t. t.switch)
+        (team_ports result.team.own.ports result.team.own.spare.items result.team.crews.items)) }
     ensures ran { IsRun result.end
-        (Runs D.bytes D.may_leave D.moment D.left_since D.faults (telling T.offered T.heard T.held T.quiet T.faults T.honest T.prompt T.start) (opening_of book.entry.chronicle (rank_by book.entry.policy.now.answers)) (D.moment book.entry.chronicle.disk) (D.faults book.entry.chronicle.disk) limits.migration limits.rounds (team_ports team.own.ports team.own.spare.items team.crews.items) result.end result.book.chronicle (team_ports result.team.own.ports result.team.own.spare.items result.team.crews.items))
-        ((result.book.chronicle ≡ book.entry.chronicle) × (team_ports result.team.own.ports result.team.own.spare.items result.team.crews.items ≡ team_ports team.own.ports team.own.spare.items team.crews.items)) }
+        (Runs D.told T.told
+        (opening_of book.entry.chronicle (rank_by book.entry.policy.now.answers))
+        (D.told book.entry.chronicle.disk).moment (D.told book.entry.chronicle.disk).faults
+        limits.migration limits.rounds
+        (team_ports team.own.ports team.own.spare.items team.crews.items) result.end
+        result.book.chronicle
+        (team_ports result.team.own.ports result.team.own.spare.items result.team.crews.items))
+        ((result.book.chronicle ≡ book.entry.chronicle)
+        × (team_ports result.team.own.ports result.team.own.spare.items result.team.crews.items
+        ≡ team_ports team.own.ports team.own.spare.items team.crews.items)) }
 {
     run_named::<R, D, Brand, T>(rt, alloc, book, team, limits)
 }

@@ -27,8 +27,12 @@ impl<T: Port + Drop> Team<T> {
         workers: u32,
     ) -> Result<Team<T>, Vec<Berth<T>>>
         requires { AreApart berths.items }
-        ensures same { IfOk result (λ team. IsPermutation (first_talks berths.items) (team_ports team.own.ports team.own.spare.items team.crews.items)) }
-        ensures team { IfOk result (λ team. IsTeam team.own.ports team.own.spare.items (vec_capacity team.own.spare) team.crews.items) }
+        ensures same { IfOk result
+            (λ team. IsPermutation (first_talks berths.items)
+            (team_ports team.own.ports team.own.spare.items team.crews.items)) }
+        ensures team { IfOk result
+            (λ team. IsTeam team.own.ports team.own.spare.items (vec_capacity team.own.spare)
+            team.crews.items) }
         ensures few { IfOk result (λ team. length team.crews.items < max 1 workers) }
         ensures err { IfErr result (λ back. back.items ≡ berths.items) }
     {
@@ -53,7 +57,8 @@ fn room_for<T: Port + Drop>(alloc: Global, count: usize) -> Result<Vec<Berth<T>>
 
 // Takes the ports of the last worker out; where there is no worker there are no ports.
 fn take_last<T: Port + Drop>(alloc: Global, crews: &mut Vec<WorkerPorts<T>>) -> WorkerPorts<T>
-    ensures { (crews.old.items ≡ crews.new.items ++ result ∷ []) ⊎ ((crews.old.items ≡ []) × (crews.new.items ≡ []) × (result ≡ [])) }
+    ensures { (crews.old.items ≡ crews.new.items ++ result ∷ [])
+        ⊎ ((crews.old.items ≡ []) × (crews.new.items ≡ []) × (result ≡ [])) }
 {
     match crews.pop() {
         Some(ports) => ports,
@@ -65,10 +70,16 @@ fn take_last<T: Port + Drop>(alloc: Global, crews: &mut Vec<WorkerPorts<T>>) -> 
 pub(crate) fn keep_team<F: Fleet>(fleet: &mut F, team: Team<F::Port>)
 where
     F::Port: Drop,
-    requires apart { AreApart (berths_of (team_ports team.own.ports team.own.spare.items team.crews.items)) }
-    requires lent { AreLent (F.lent fleet.old) (berths_of (team_ports team.own.ports team.own.spare.items team.crews.items)) }
-    ensures ports { ports_of F.waiting F.kept F.lent fleet.new ≡ after_keeping (ports_of F.waiting F.kept F.lent fleet.old) (berths_of (team_ports team.own.ports team.own.spare.items team.crews.items)) }
-    ensures guests { (F.coming fleet.new ≡ F.coming fleet.old) × (F.served fleet.new ≡ F.served fleet.old) × (F.visiting fleet.new ≡ F.visiting fleet.old) }
+    requires apart { AreApart (berths_of (team_ports team.own.ports team.own.spare.items
+        team.crews.items)) }
+    requires lent { AreLent (F.lent fleet.old)
+        (berths_of (team_ports team.own.ports team.own.spare.items team.crews.items)) }
+    ensures ports { ports_of F.waiting F.kept F.lent fleet.new
+        ≡ after_keeping (ports_of F.waiting F.kept F.lent fleet.old)
+        (berths_of (team_ports team.own.ports team.own.spare.items team.crews.items)) }
+    ensures guests { (F.coming fleet.new ≡ F.coming fleet.old)
+        × (F.served fleet.new ≡ F.served fleet.old)
+        × (F.visiting fleet.new ≡ F.visiting fleet.old) }
     ensures count { F.faults fleet.old ≤ F.faults fleet.new }
 {
     let Team { own, crews } = team;

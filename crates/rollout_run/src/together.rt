@@ -5,7 +5,6 @@ ghost use Rattle.turn_lock.specs.Histories.{Follows};
 ghost use Rattle.turn_lock.specs.Passes.{HasJoined, IsPassOf, IsSamePass, seat_of_pass, seats_of, seen_of};
 ghost use Rattle.shared_book.specs.Calls.{IsCounted, seat_of};
 ghost use Rattle.shared_book.specs.Homes.{homes_of};
-ghost use Rattle.worker_ports.specs.Views.{telling};
 ghost use Rattle.rollout_run.specs.Shifts.{AreFresh};
 ghost use Rattle.rollout_run.specs.Teams.{Answers, HasLed, HasReturned, IsLeader, IsTeam, team_ports};
 
@@ -51,11 +50,17 @@ where
     T: Port + Drop + Send + 's,
     requires homes { book.now.homes ≡ homes_of M.opening.rollout.problem }
     requires policy { M.opening.policy ≡ rank_by book.now.policy.now.answers }
-    requires leader { IsLeader book.now.lock M.seats (length team.crews.items) pass.pass pass.calls }
-    requires team { IsTeam team.own.ports team.own.spare.items (vec_capacity team.own.spare) team.crews.items }
-    ensures led { HasLed (telling T.offered T.heard T.held T.quiet T.faults T.honest T.prompt T.start) M.opening terms.entry.migration terms.entry.homes.now terms.entry.rounds book.now.lock (length team.crews.items) pass.pass
-        (team_ports team.own.ports team.own.spare.items team.crews.items) result.0.pass result.0.calls (team_ports result.1.own.ports result.1.own.spare.items result.1.crews.items) }
-    ensures places { (length result.1.crews.items ≡ length team.crews.items) × (vec_capacity result.1.crews ≡ vec_capacity team.crews) }
+    requires leader { IsLeader book.now.lock M.seats (length team.crews.items) pass.pass
+        pass.calls }
+    requires team { IsTeam team.own.ports team.own.spare.items (vec_capacity team.own.spare)
+        team.crews.items }
+    ensures led { HasLed T.told M.opening terms.entry.migration terms.entry.homes.now
+        terms.entry.rounds book.now.lock (length team.crews.items) pass.pass
+        (team_ports team.own.ports team.own.spare.items team.crews.items) result.0.pass
+        result.0.calls
+        (team_ports result.1.own.ports result.1.own.spare.items result.1.crews.items) }
+    ensures places { (length result.1.crews.items ≡ length team.crews.items)
+        × (vec_capacity result.1.crews ≡ vec_capacity team.crews) }
 {
     match next_crew(&mut team.crews) {
         None => work_alone(rt, alloc, book, pass, team, terms),
@@ -83,7 +88,9 @@ where
 
 // Takes the ports of the last worker out, whose place stays free.
 fn next_crew<T: Port + Drop>(crews: &mut Vec<WorkerPorts<T>>) -> Option<WorkerPorts<T>>
-    ensures next { MatchOption result ((crews.old.items ≡ []) × (crews.new.items ≡ [])) (λ ports. (crews.old.items ≡ crews.new.items ++ ports ∷ []) × (length crews.new.items < vec_capacity crews.new)) }
+    ensures next { MatchOption result ((crews.old.items ≡ []) × (crews.new.items ≡ []))
+        (λ ports. (crews.old.items ≡ crews.new.items ++ ports ∷ [])
+        × (length crews.new.items < vec_capacity crews.new)) }
     ensures places { vec_capacity crews.new ≡ vec_capacity crews.old }
 {
     crews.pop()
@@ -112,8 +119,13 @@ where
     requires calls { IsCounted pass.calls pass.pass }
     requires seat { seat_of_pass pass.pass < M.seats }
     requires fresh { AreFresh ports }
-    ensures ok { IfOk result (λ thread. (thread.promise.given.value.pass.pass ≡ pass.pass) × (thread.promise.given.value.ports ≡ ports) × (thread.promise.terms ≡ terms.entry)) }
-    ensures err { IfErr result (λ back. HasReturned (telling T.offered T.heard T.held T.quiet T.faults T.honest T.prompt T.start) M.opening terms.entry.migration terms.entry.homes.now terms.entry.rounds pass.pass ports back.pass.pass back.pass.calls back.end back.ports) }
+    ensures ok { IfOk result
+        (λ thread. (thread.promise.given.value.pass.pass ≡ pass.pass)
+        × (thread.promise.given.value.ports ≡ ports)
+        × (thread.promise.terms ≡ terms.entry)) }
+    ensures err { IfErr result
+        (λ back. HasReturned T.told M.opening terms.entry.migration terms.entry.homes.now
+        terms.entry.rounds pass.pass ports back.pass.pass back.pass.calls back.end back.ports) }
 {
     let seat = pass.seat();
     let crew = Crew { pass, ports };
@@ -146,9 +158,13 @@ fn work_alone<'d, R: Wait, D: Disk, M: Marker, T: Port>(
     requires leader { IsLeader book.now.lock M.seats 0 pass.pass pass.calls }
     requires fresh { AreFresh team.own.ports }
     requires alone { team.crews.items ≡ [] }
-    ensures led { HasLed (telling T.offered T.heard T.held T.quiet T.faults T.honest T.prompt T.start) M.opening terms.entry.migration terms.entry.homes.now terms.entry.rounds book.now.lock 0 pass.pass
-        (team_ports team.own.ports team.own.spare.items team.crews.items) result.0.pass result.0.calls (team_ports result.1.own.ports result.1.own.spare.items result.1.crews.items) }
-    ensures places { (length result.1.crews.items ≡ length team.crews.items) × (vec_capacity result.1.crews ≡ vec_capacity team.crews) }
+    ensures led { HasLed T.told M.opening terms.entry.migration terms.entry.homes.now
+        terms.entry.rounds book.now.lock 0 pass.pass
+        (team_ports team.own.ports team.own.spare.items team.crews.items) result.0.pass
+        result.0.calls
+        (team_ports result.1.own.ports result.1.own.spare.items result.1.crews.items) }
+    ensures places { (length result.1.crews.items ≡ length team.crews.items)
+        × (vec_capacity result.1.crews ≡ vec_capacity team.crews) }
 {
     if !team.own.spare.is_empty() {
         return (book.stop(rt, pass, Cause::Memory).0, team);
@@ -203,9 +219,11 @@ fn take_in<'d, D: Disk, M: Marker, T: Port + Drop>(
     ensures lock { IsPassOf book.now.lock result.0.pass }
     ensures pass { HasJoined pass.pass back.pass.pass result.0.pass }
     ensures one { Follows seat_of (seats_of pass.pass) (seen_of pass.pass) (seen_of result.0.pass) }
-    ensures other { Follows seat_of (seats_of back.pass.pass) (seen_of back.pass.pass) (seen_of result.0.pass) }
+    ensures other { Follows seat_of (seats_of back.pass.pass) (seen_of back.pass.pass)
+        (seen_of result.0.pass) }
     ensures calls { IsCounted result.0.calls result.0.pass }
-    ensures own { (result.1.own.ports ≡ team.own.ports) × (result.1.own.spare.items ≡ team.own.spare.items) }
+    ensures own { (result.1.own.ports ≡ team.own.ports)
+        × (result.1.own.spare.items ≡ team.own.spare.items) }
     ensures crews { result.1.crews.items ≡ team.crews.items ++ back.ports ∷ [] }
     ensures places { vec_capacity result.1.crews ≡ vec_capacity team.crews }
 {

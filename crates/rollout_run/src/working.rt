@@ -6,7 +6,6 @@ ghost use Rattle.turn_lock.specs.Passes.{IsFirstPass, IsPassOf, given_of, out_of
 ghost use Rattle.shared_book.specs.Calls.{IsCounted};
 ghost use Rattle.shared_book.specs.Homes.{homes_of};
 ghost use Rattle.shared_book.specs.Opened.{IsOpenedOn};
-ghost use Rattle.worker_ports.specs.Views.{telling};
 ghost use Rattle.rollout_run.specs.Runs.{IsRun, Runs, cause_behind, end_with};
 ghost use Rattle.rollout_run.specs.Teams.{HasLed, IsLeader, IsTeam, team_ports};
 ghost use Rattle.rollout_run.specs.Together.{HasWorked};
@@ -48,15 +47,24 @@ where
     D: Disk + Drop + Send,
     M: Marker + Send,
     T: Port + Drop + Send,
-    requires opened { IsOpenedOn D.bytes D.may_leave D.moment D.faults M.opening M.moment M.faults book.chronicle }
+    requires opened { IsOpenedOn D.told M.opening M.moment M.faults book.chronicle }
     requires policy { M.opening.policy ≡ rank_by book.policy.now.answers }
     requires seats { M.seats ≡ max 1 limits.workers }
     requires few { length team.crews.items < M.seats }
-    requires team { IsTeam team.own.ports team.own.spare.items (vec_capacity team.own.spare) team.crews.items }
-    ensures switches { IsPermutation (map (λ t. t.switch) (team_ports team.own.ports team.own.spare.items team.crews.items)) (map (λ t. t.switch) (team_ports result.team.own.ports result.team.own.spare.items result.team.crews.items)) }
+    requires team { IsTeam team.own.ports team.own.spare.items (vec_capacity team.own.spare)
+        team.crews.items }
+    ensures switches { IsPermutation (map (λ t. t.switch)
+        (team_ports team.own.ports team.own.spare.items team.crews.items))
+        (map (λ t. t.switch)
+        (team_ports result.team.own.ports result.team.own.spare.items result.team.crews.items)) }
     ensures ran { IsRun result.end
-        (Runs D.bytes D.may_leave D.moment D.left_since D.faults (telling T.offered T.heard T.held T.quiet T.faults T.honest T.prompt T.start) M.opening M.moment M.faults limits.migration limits.rounds (team_ports team.own.ports team.own.spare.items team.crews.items) result.end result.book.chronicle (team_ports result.team.own.ports result.team.own.spare.items result.team.crews.items))
-        ((result.book.chronicle ≡ book.entry.chronicle) × (team_ports result.team.own.ports result.team.own.spare.items result.team.crews.items ≡ team_ports team.own.ports team.own.spare.items team.crews.items)) }
+        (Runs D.told T.told M.opening M.moment M.faults limits.migration limits.rounds
+        (team_ports team.own.ports team.own.spare.items team.crews.items) result.end
+        result.book.chronicle
+        (team_ports result.team.own.ports result.team.own.spare.items result.team.crews.items))
+        ((result.book.chronicle ≡ book.entry.chronicle)
+        × (team_ports result.team.own.ports result.team.own.spare.items result.team.crews.items
+        ≡ team_ports team.own.ports team.own.spare.items team.crews.items)) }
 {
     match SharedBook::<D, M>::new(alloc, book, limits.workers.max(1)) {
         Ok((shared, pass)) => {
@@ -75,7 +83,10 @@ where
 
 // How a run has ended that left this book, with this first stop.
 fn end_of<D: Disk>(book: &Book<'_, D>, halt: Option<Halt>) -> RunEnd
-    ensures { result ≡ end_with halt (is_finished book.now.chronicle.rollout.problem book.now.chronicle.rollout.plan book.now.chronicle.history) }
+    ensures { result
+        ≡ end_with halt
+        (is_finished book.now.chronicle.rollout.problem book.now.chronicle.rollout.plan
+        book.now.chronicle.history) }
 {
     match halt {
         Some(halt) => RunEnd::Stopped(halt),
@@ -104,12 +115,16 @@ where
     requires calls { IsCounted pass.calls pass.pass }
     requires first { IsFirstPass pass.pass }
     requires seats { (length team.crews.items < M.seats) × (M.seats ≤ 4294967295) }
-    requires team { IsTeam team.own.ports team.own.spare.items (vec_capacity team.own.spare) team.crews.items }
+    requires team { IsTeam team.own.ports team.own.spare.items (vec_capacity team.own.spare)
+        team.crews.items }
     ensures lock { IsPassOf book.now.lock result.0.pass }
     ensures first { seat_of_pass result.0.pass ≡ 0 }
     ensures all_in { out_of result.0.pass ≡ 0 }
-    ensures worked { HasWorked (telling T.offered T.heard T.held T.quiet T.faults T.honest T.prompt T.start) M.opening limits.migration (homes_of M.opening.rollout.problem) limits.rounds
-        (team_ports team.own.ports team.own.spare.items team.crews.items) (given_of result.0.pass) (seen_of result.0.pass) (team_ports result.1.own.ports result.1.own.spare.items result.1.crews.items) }
+    ensures worked { HasWorked T.told M.opening limits.migration
+        (homes_of M.opening.rollout.problem) limits.rounds
+        (team_ports team.own.ports team.own.spare.items team.crews.items) (given_of result.0.pass)
+        (seen_of result.0.pass)
+        (team_ports result.1.own.ports result.1.own.spare.items result.1.crews.items) }
 {
     let (pass, reply) = book.round(rt, pass, &[]);
     if let Some(cause) = cause_of(reply) {
@@ -139,10 +154,15 @@ where
     T: Port + Drop + Send,
     requires homes { book.now.homes ≡ homes_of M.opening.rollout.problem }
     requires policy { M.opening.policy ≡ rank_by book.now.policy.now.answers }
-    requires leader { IsLeader book.now.lock M.seats (length team.crews.items) pass.pass pass.calls }
-    requires team { IsTeam team.own.ports team.own.spare.items (vec_capacity team.own.spare) team.crews.items }
-    ensures led { HasLed (telling T.offered T.heard T.held T.quiet T.faults T.honest T.prompt T.start) M.opening terms.entry.migration terms.entry.homes.now terms.entry.rounds book.now.lock (length team.crews.items) pass.pass
-        (team_ports team.own.ports team.own.spare.items team.crews.items) result.0.pass result.0.calls (team_ports result.1.own.ports result.1.own.spare.items result.1.crews.items) }
+    requires leader { IsLeader book.now.lock M.seats (length team.crews.items) pass.pass
+        pass.calls }
+    requires team { IsTeam team.own.ports team.own.spare.items (vec_capacity team.own.spare)
+        team.crews.items }
+    ensures led { HasLed T.told M.opening terms.entry.migration terms.entry.homes.now
+        terms.entry.rounds book.now.lock (length team.crews.items) pass.pass
+        (team_ports team.own.ports team.own.spare.items team.crews.items) result.0.pass
+        result.0.calls
+        (team_ports result.1.own.ports result.1.own.spare.items result.1.crews.items) }
 {
     let flag = AtomicU32::new(0);
     let refused = &flag;
@@ -152,10 +172,15 @@ where
         |scope| -> (BookPass<D, M>, Team<T>)
             requires homes { book.now.homes ≡ homes_of M.opening.rollout.problem }
             requires policy { M.opening.policy ≡ rank_by book.now.policy.now.answers }
-            requires leader { IsLeader book.now.lock M.seats (length team.crews.items) pass.pass pass.calls }
-            requires team { IsTeam team.own.ports team.own.spare.items (vec_capacity team.own.spare) team.crews.items }
-            ensures led { HasLed (telling T.offered T.heard T.held T.quiet T.faults T.honest T.prompt T.start) M.opening terms.entry.migration terms.entry.homes.now terms.entry.rounds book.entry.now.lock (length team.crews.items) pass.pass
-                (team_ports team.own.ports team.own.spare.items team.crews.items) result.0.pass result.0.calls (team_ports result.1.own.ports result.1.own.spare.items result.1.crews.items) }
+            requires leader { IsLeader book.now.lock M.seats (length team.crews.items) pass.pass
+                pass.calls }
+            requires team { IsTeam team.own.ports team.own.spare.items (vec_capacity team.own.spare)
+                team.crews.items }
+            ensures led { HasLed T.told M.opening terms.entry.migration terms.entry.homes.now
+                terms.entry.rounds book.entry.now.lock (length team.crews.items) pass.pass
+                (team_ports team.own.ports team.own.spare.items team.crews.items) result.0.pass
+                result.0.calls
+                (team_ports result.1.own.ports result.1.own.spare.items result.1.crews.items) }
         { work_together(rt, scope, alloc, book, pass, team, terms, refused) },
     )
 }

@@ -4,30 +4,31 @@ use Rattle.rollout_rules.specs.Wan.{Rollout}
 use Rattle.rollout_rules.specs.History.{History}
 use Rattle.rollout_rules.specs.declared.op.OpView.{OpView}
 use Rattle.rollout_rules.specs.Legal.{unsettled}
+use Rattle.disk_model.specs.Traces.{DiskTrace}
 use Rattle.dependency_graph.specs.Graph.{op_total}
+use Rattle.intent_journal.specs.Openings.{IsOpenedFrom}
 use Rattle.intent_journal.specs.declared.digest.Digest.{Digest}
 use Rattle.intent_journal.specs.declared.fault.JournalFault.{JournalFault}
-use Rattle.worker_ports.specs.Views.{Telling}
-use Rattle.rollout_book.specs.Chronicles.{Chronicled}
+use Rattle.wan_edge.specs.Ports.{PortTrace}
+use Rattle.rollout_book.specs.Chronicles.{Chronicled, IsNewBook, graph_of}
 use Rattle.rollout_ports.specs.Berths.{FleetPorts}
 use Rattle.rollout_report.specs.Journals.{digest_for}
 use Rattle.rollout_run.specs.Ran.{EndsRun}
 use Rattle.rollout_run.specs.declared.end.RunEnd.{RunEnd}
 use Rattle.rollout_run.specs.declared.end.RunEnd.TheVariants as run
-use Rattle.rollout_service.specs.Openings.{IsOpenedFrom}
 use Rattle.rollout_service.specs.Outcomes.{HasRolled, HasRun, IfRolled, OnUnopened, answer_behind, answer_for}
 use Rattle.rollout_service.specs.declared.answer.RunAnswer.{RunAnswer}
 use Rattle.rollout_service.specs.declared.answer.RunAnswer.TheVariants as answer
 
 -- what is answered of the book that a run has left is what is answered of the rollout that was opened
-pub told-behind : {D P : Type 0} (port_faults : P → ℕ) (homes : List ℕ) (opened closed : Chronicled D) (before now : FleetPorts P) (ran : Type 0) (end : RunEnd)
+pub told-behind : {D P : Type 0} (tell : P → PortTrace) (homes : List ℕ) (opened closed : Chronicled D) (before now : FleetPorts P) (ran : Type 0) (end : RunEnd)
     → (ran → (closed.rollout ≡ opened.rollout) × (closed.found ≡ length opened.history.entries))
-    → EndsRun port_faults homes opened closed before now ran end → answer_behind closed end ≡ answer_for opened.rollout (length opened.history.entries) closed.history end
-told-behind port_faults homes opened closed before now ran run.Finished same ends = ap₂ answer.Finished (ap op_total (same ends).0) (same ends).1
-told-behind port_faults homes opened closed before now ran run.Held same ends = ap (λ (r : Rollout). answer.Held (unsettled r.problem r.plan closed.history)) (same ends).0
-told-behind port_faults homes opened closed before now ran (run.Stopped halt) same ends = ap (λ (r : Rollout). answer.Stopped r halt) (same ends).0
-told-behind port_faults homes opened closed before now ran (run.NoPort switch) same ends = ap (λ (b : Chronicled _). answer.NoPort b.rollout switch) ends.0
-told-behind port_faults homes opened closed before now ran run.Memory same ends = refl
+    → EndsRun tell homes opened closed before now ran end → answer_behind closed end ≡ answer_for opened.rollout (length opened.history.entries) closed.history end
+told-behind tell homes opened closed before now ran run.Finished same ends = ap₂ answer.Finished (ap op_total (same ends).0) (same ends).1
+told-behind tell homes opened closed before now ran run.Held same ends = ap (λ (r : Rollout). answer.Held (unsettled r.problem r.plan closed.history)) (same ends).0
+told-behind tell homes opened closed before now ran (run.Stopped halt) same ends = ap (λ (r : Rollout). answer.Stopped r halt) (same ends).0
+told-behind tell homes opened closed before now ran (run.NoPort switch) same ends = ap (λ (b : Chronicled _). answer.NoPort b.rollout switch) ends.0
+told-behind tell homes opened closed before now ran run.Memory same ends = refl
 
 -- a run that ended is one of a journal that was opened
 rolled-for : (r : Rollout) (found : ℕ) (h : History) (end : RunEnd) (holds : Type 0) → holds → IfRolled (answer_for r found h end) holds
@@ -64,14 +65,15 @@ unfolding digest_for
 migration-is r migration = refl
 
 -- an opening and a run of what was opened are a rollout
-pub rolled-from : {D P : Type 0} (bytes : D → Option (List ℕ)) (may_leave : D → List ℕ → Type 0) (moment : D → ℕ) (left_since : D → ℕ → List ℕ → Type 0) (faults : D → ℕ) (port_faults : P → ℕ) (tell : P → Telling) (r : Rollout) (digest : Digest) (policy own : OpView → ℕ) (migration rounds : ℕ) (disk : D) (book : Chronicled D) (before now : FleetPorts P) (disk_now : D) (a : RunAnswer)
-    → own ≡ policy → digest.migration ≡ migration → IsOpenedFrom bytes may_leave moment left_since faults r digest policy disk book
-    → HasRun bytes may_leave moment left_since faults port_faults tell own migration rounds book before now disk_now a
-    → IfRolled a (HasRolled bytes may_leave moment left_since faults port_faults tell r digest policy rounds disk before now disk_now a)
-rolled-from bytes may_leave moment left_since faults port_faults tell r digest policy own migration rounds disk book before now disk_now a same number opened ran =
-    if-rolled book.rollout (length book.history.entries) ran.closed.history ran.end a (HasRolled bytes may_leave moment left_since faults port_faults tell r digest policy rounds disk before now disk_now a) ran.tells (record {
+pub rolled-from : {D P : Type 0} (trace : D → DiskTrace) (tell : P → PortTrace) (r : Rollout) (digest : Digest) (policy own : OpView → ℕ) (migration rounds : ℕ) (disk : D) (book : Chronicled D) (before now : FleetPorts P) (disk_now : D) (a : RunAnswer)
+    → own ≡ policy → digest.migration ≡ migration → IsOpenedFrom trace r digest disk (graph_of book) book.entries book.disk → IsNewBook trace book
+    → HasRun trace tell own migration rounds book before now disk_now a
+    → IfRolled a (HasRolled trace tell r digest policy rounds disk before now disk_now a)
+rolled-from trace tell r digest policy own migration rounds disk book before now disk_now a same number opened new ran =
+    if-rolled book.rollout (length book.history.entries) ran.closed.history ran.end a (HasRolled trace tell r digest policy rounds disk before now disk_now a) ran.tells (record {
       book = book;
       opened = opened;
-      run = subst (λ m. HasRun bytes may_leave moment left_since faults port_faults tell policy m rounds book before now disk_now a) (sym number)
-          (subst (λ p. HasRun bytes may_leave moment left_since faults port_faults tell p migration rounds book before now disk_now a) same ran);
+      new = new;
+      run = subst (λ m. HasRun trace tell policy m rounds book before now disk_now a) (sym number)
+          (subst (λ p. HasRun trace tell p migration rounds book before now disk_now a) same ran);
     })

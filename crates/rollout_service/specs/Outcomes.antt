@@ -4,18 +4,19 @@ use Rattle.rollout_rules.specs.Wan.{Rollout}
 use Rattle.rollout_rules.specs.History.{History}
 use Rattle.rollout_rules.specs.declared.op.OpView.{OpView}
 use Rattle.rollout_rules.specs.Legal.{unsettled}
+use Rattle.disk_model.specs.Traces.{DiskTrace}
 use Rattle.dependency_graph.specs.Graph.{op_total}
+use Rattle.intent_journal.specs.Openings.{IsOpenedFrom}
 use Rattle.intent_journal.specs.declared.digest.Digest.{Digest}
 use Rattle.intent_journal.specs.declared.fault.JournalFault.{JournalFault}
-use Rattle.worker_ports.specs.Views.{Telling}
-use Rattle.rollout_book.specs.Chronicles.{Chronicled}
+use Rattle.wan_edge.specs.Ports.{PortTrace}
+use Rattle.rollout_book.specs.Chronicles.{Chronicled, IsNewBook, graph_of}
 use Rattle.rollout_ports.specs.Berths.{FleetPorts}
 use Rattle.rollout_ports.specs.Homes.{working_homes}
 use Rattle.shared_book.specs.Opened.{opening_of}
 use Rattle.rollout_run.specs.Ran.{EndsRun, Ran}
 use Rattle.rollout_run.specs.declared.end.RunEnd.{RunEnd}
 use Rattle.rollout_run.specs.declared.end.RunEnd.TheVariants as run
-use Rattle.rollout_service.specs.Openings.{IsOpenedFrom}
 use Rattle.rollout_service.specs.declared.answer.RunAnswer.{RunAnswer}
 use Rattle.rollout_service.specs.declared.answer.RunAnswer.TheVariants as answer
 
@@ -31,19 +32,20 @@ abbrev pub answer_behind : {D : Type 0} → Chronicled D → RunEnd → RunAnswe
 answer_behind book end = answer_for book.rollout book.found book.history end
 
 -- A book was run from its opening on, and closed; the disk is what it left.
-pub record HasRun {D P : Type 0} (bytes : D → Option (List ℕ)) (may_leave : D → List ℕ → Type 0) (moment : D → ℕ) (left_since : D → ℕ → List ℕ → Type 0) (faults : D → ℕ) (port_faults : P → ℕ) (tell : P → Telling) (policy : OpView → ℕ) (migration rounds : ℕ) (opened : Chronicled D) (before now : FleetPorts P) (disk : D) (answer : RunAnswer) : Type 0 where
+pub record HasRun {D P : Type 0} (trace : D → DiskTrace) (tell : P → PortTrace) (policy : OpView → ℕ) (migration rounds : ℕ) (opened : Chronicled D) (before now : FleetPorts P) (disk : D) (answer : RunAnswer) : Type 0 where
   pub end : RunEnd
   pub closed : Chronicled D
-  pub ran : EndsRun port_faults (working_homes opened.rollout.problem opened.rollout.plan) opened closed before now
-      (Ran bytes may_leave moment left_since faults port_faults tell (opening_of opened policy) (moment opened.disk) (faults opened.disk) migration rounds (working_homes opened.rollout.problem opened.rollout.plan) before end closed now) end
+  pub ran : EndsRun tell (working_homes opened.rollout.problem opened.rollout.plan) opened closed before now
+      (Ran trace tell (opening_of opened policy) (trace opened.disk).moment (trace opened.disk).faults migration rounds (working_homes opened.rollout.problem opened.rollout.plan) before end closed now) end
   pub tells : answer ≡ answer_for opened.rollout (length opened.history.entries) closed.history end
   pub back : disk ≡ closed.disk
 
 -- The book of a rollout was opened on this disk, and run.
-pub record HasRolled {D P : Type 0} (bytes : D → Option (List ℕ)) (may_leave : D → List ℕ → Type 0) (moment : D → ℕ) (left_since : D → ℕ → List ℕ → Type 0) (faults : D → ℕ) (port_faults : P → ℕ) (tell : P → Telling) (r : Rollout) (digest : Digest) (policy : OpView → ℕ) (rounds : ℕ) (disk : D) (before now : FleetPorts P) (disk_now : D) (answer : RunAnswer) : Type 0 where
+pub record HasRolled {D P : Type 0} (trace : D → DiskTrace) (tell : P → PortTrace) (r : Rollout) (digest : Digest) (policy : OpView → ℕ) (rounds : ℕ) (disk : D) (before now : FleetPorts P) (disk_now : D) (answer : RunAnswer) : Type 0 where
   pub book : Chronicled D
-  pub opened : IsOpenedFrom bytes may_leave moment left_since faults r digest policy disk book
-  pub run : HasRun bytes may_leave moment left_since faults port_faults tell policy digest.migration rounds book before now disk_now answer
+  pub opened : IsOpenedFrom trace r digest disk (graph_of book) book.entries book.disk
+  pub new : IsNewBook trace book
+  pub run : HasRun trace tell policy digest.migration rounds book before now disk_now answer
 
 -- what holds where a journal was opened, and where none was, for its cause
 abbrev pub IfRolled : RunAnswer → Type 0 → Type 0

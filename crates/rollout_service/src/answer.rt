@@ -1,12 +1,11 @@
 ghost use Rattle.std.specs.Prelude.{◌≡◌};
-ghost use Rattle.rollout_rules.specs.Legal.{unsettled};
 ghost use Rattle.rollout_service.specs.Outcomes.{answer_for};
 
 use dependency_graph::Graph;
 use intent_journal::JournalFault;
 use rollout_run::RunEnd;
 use shared_history::Halt;
-use wan_model::{CheckedPlan, item_count};
+use wan_model::CheckedPlan;
 
 /// How a rollout has gone. The plan comes back where the answer names a switch of its problem.
 #[derive(Debug, Drop)]
@@ -36,22 +35,10 @@ pub(crate) fn answer_behind(graph: Graph, found: u32, end: RunEnd) -> RunAnswer
             found,
         },
         RunEnd::Held => RunAnswer::Held {
-            left: unsettled(&graph),
+            left: graph.unsettled(),
         },
         RunEnd::Stopped(halt) => RunAnswer::Stopped(graph.into_plan(), halt),
         RunEnd::NoPort(switch) => RunAnswer::NoPort(graph.into_plan(), switch),
         RunEnd::Memory => RunAnswer::Memory,
     }
-}
-
-// How many operations are not settled.
-fn unsettled(graph: &Graph) -> u64
-    ensures { result ≡ unsettled graph.now.rollout.problem graph.now.rollout.plan graph.now.history }
-{
-    let mut left = 0;
-    for item in 0..item_count(graph.plan().problem()) {
-        let operations = u64::from(graph.op_count(item));
-        left += operations.saturating_sub(u64::from(graph.settled(item)));
-    }
-    left
 }

@@ -2,8 +2,8 @@
 //! its words, what it reads, and what it prints.
 //!
 //! [`run_rollout`] opens the journal, goes on from the list found, and gives the disk back with the answer
-//! of how it went. `specs/` has the words: `Openings` what is found on a disk, `Outcomes` what the answers
-//! say.
+//! of how it went. `Outcomes` of `specs/` has what the answers say; what is found on a disk is `Openings`
+//! of `intent_journal`.
 #![tactic(auto)]
 
 mod answer;

@@ -1,18 +1,18 @@
 //! A rollout's book is opened on its disk.
-ghost use Rattle.std.specs.Prelude.{◌≡◌, [], IfErr, IfOk};
+ghost use Rattle.std.specs.Prelude.{◌≡◌, [], IfErr, IfOk, IfSome};
 ghost use Rattle.rollout_rules.specs.History.{from_nothing};
+ghost use Rattle.intent_journal.specs.Openings.{IsLeft, IsOpenedFrom};
 ghost use Rattle.order_policy.specs.Answers.{rank_by};
-ghost use Rattle.intent_journal.specs.declared.fault.JournalFault.TheVariants as fault;
+ghost use Rattle.rollout_book.specs.Chronicles.{graph_of, IsNewBook};
+ghost use Rattle.rollout_book.specs.Lists.{IsKeptList};
+ghost use Rattle.shared_book.specs.Opened.{IsOpened, opening_of};
 ghost use Rattle.rollout_report.specs.Journals.{digest_for};
-ghost use Rattle.rollout_service.specs.Openings.{IsLeft, IsOpenedFrom};
 
-use dependency_graph::Graph;
 use disk_model::Disk;
-use intent_journal::{Digest, JournalFault, Unopened, digest_of};
-use lists::Memory;
+use intent_journal::{JournalFault, Unopened};
 use order_policy::Policy;
-use problem_json::{write_plan, write_problem};
 use rollout_book::Book;
+use rollout_report::{KnownPlan, known_plan};
 use std::alloc::Global;
 use wan_model::CheckedPlan;
 
@@ -25,64 +25,54 @@ pub(crate) fn open_book<'d, D: Disk>(
     disk: D,
 ) -> Result<Book<'d, D>, Unopened<D>>
     ensures policy { IfOk result (λ book. book.policy.now ≡ policy.now) }
-    ensures ok { IfOk result (λ book. IsOpenedFrom D.bytes D.may_leave D.moment D.left_since D.faults plan (digest_for plan migration) (rank_by policy.now.answers) disk book.chronicle) }
-    ensures err { IfErr result (λ unopened. IsLeft D.bytes D.may_leave D.moment D.left_since D.faults plan (digest_for plan migration) disk unopened.cause unopened.disk) }
+    ensures opened { IfOk result
+        (λ book. IsOpenedFrom D.told plan (digest_for plan migration) disk (graph_of book.chronicle)
+        book.chronicle.entries book.chronicle.disk) }
+    ensures book { IfOk result (λ book. IsNewBook D.told book.chronicle) }
+    ensures opening { IfOk result
+        (λ book. IsOpened (opening_of book.chronicle (rank_by book.policy.now.answers))
+        book.chronicle) }
+    ensures has { IfOk result
+        (λ book. IfSome (D.told book.chronicle.disk).bytes
+        (IsKeptList book.chronicle.history.start book.chronicle.entries
+        (D.told book.chronicle.disk).may_leave)) }
+    ensures left { IfErr result
+        (λ unopened. IsLeft D.told plan (digest_for plan migration) disk unopened.cause
+        unopened.disk) }
 {
-    match digest_with(alloc, &plan, migration) {
-        Ok(digest) => open_with(alloc, plan, &digest, policy, disk),
-        Err(_) => Err(no_memory(disk)),
+    match known_plan(alloc, plan, migration) {
+        Ok(known) => open_known(alloc, known, policy, disk),
+        Err(_) => Err(Unopened {
+            disk,
+            cause: JournalFault::Memory,
+        }),
     }
 }
 
-// The same, of a journal that knows its rollout by a digest.
-fn open_with<'d, D: Disk>(
+// The same, of a journal that is known as this.
+fn open_known<'d, D: Disk>(
     alloc: Global,
-    plan: CheckedPlan,
-    digest: &Digest,
+    known: KnownPlan,
     policy: &'d Policy,
     disk: D,
 ) -> Result<Book<'d, D>, Unopened<D>>
+    requires empty { known.graph.history ≡ from_nothing known.graph.rollout.problem [] }
     ensures policy { IfOk result (λ book. book.policy.now ≡ policy.now) }
-    ensures ok { IfOk result (λ book. IsOpenedFrom D.bytes D.may_leave D.moment D.left_since D.faults plan digest.now (rank_by policy.now.answers) disk book.chronicle) }
-    ensures err { IfErr result (λ unopened. IsLeft D.bytes D.may_leave D.moment D.left_since D.faults plan digest.now disk unopened.cause unopened.disk) }
+    ensures opened { IfOk result
+        (λ book. IsOpenedFrom D.told known.graph.rollout known.digest disk
+        (graph_of book.chronicle) book.chronicle.entries book.chronicle.disk) }
+    ensures book { IfOk result (λ book. IsNewBook D.told book.chronicle) }
+    ensures opening { IfOk result
+        (λ book. IsOpened (opening_of book.chronicle (rank_by book.policy.now.answers))
+        book.chronicle) }
+    ensures has { IfOk result
+        (λ book. IfSome (D.told book.chronicle.disk).bytes
+        (IsKeptList book.chronicle.history.start book.chronicle.entries
+        (D.told book.chronicle.disk).may_leave)) }
+    ensures left { IfErr result
+        (λ unopened. IsLeft D.told known.graph.rollout known.digest disk unopened.cause
+        unopened.disk) }
 {
-    match Graph::new(alloc, plan) {
-        Ok(graph) => open_graph(alloc, graph, digest, policy, disk),
-        Err(_) => Err(no_memory(disk)),
-    }
-}
-
-// The same, from a graph without entries on.
-fn open_graph<'d, D: Disk>(
-    alloc: Global,
-    graph: Graph,
-    digest: &Digest,
-    policy: &'d Policy,
-    disk: D,
-) -> Result<Book<'d, D>, Unopened<D>>
-    requires empty { graph.history ≡ from_nothing graph.rollout.problem [] }
-    ensures policy { IfOk result (λ book. book.policy.now ≡ policy.now) }
-    ensures ok { IfOk result (λ book. IsOpenedFrom D.bytes D.may_leave D.moment D.left_since D.faults graph.rollout digest.now (rank_by policy.now.answers) disk book.chronicle) }
-    ensures err { IfErr result (λ unopened. IsLeft D.bytes D.may_leave D.moment D.left_since D.faults graph.rollout digest.now disk unopened.cause unopened.disk) }
-{
-    Book::open(alloc, graph, digest, policy, disk)
-}
-
-fn no_memory<D>(disk: D) -> Unopened<D>
-    ensures disk { result.disk ≡ disk }
-    ensures cause { result.cause ≡ fault.Memory }
-{
-    Unopened {
-        disk,
-        cause: JournalFault::Memory,
-    }
-}
-
-// What the journal of a plan is known by: a digest of the canonical texts of problem and plan.
-fn digest_with(alloc: Global, plan: &CheckedPlan, migration: u32) -> Result<Digest, Memory>
-    ensures { IfOk result (λ digest. digest ≡ digest_for plan.now migration) }
-{
-    let problem = write_problem(alloc, plan.problem())?;
-    let stages = write_plan(alloc, plan.plan())?;
-    Ok(digest_of(problem.as_str(), stages.as_str(), migration))
+    let KnownPlan { graph, digest } = known;
+    Book::open(alloc, graph, &digest, policy, disk)
 }

@@ -1,14 +1,13 @@
 //! A rollout from its disk to its ports.
 ghost use Rattle.std.specs.Prelude.{◌≡◌, ◌≤◌, ℕ, IfSome};
 ghost use Rattle.rollout_rules.specs.Wan.{Rollout};
+ghost use Rattle.intent_journal.specs.Openings.{IsLeft};
 ghost use Rattle.order_policy.specs.Answers.{rank_by};
 ghost use Rattle.wan_edge.specs.Streams.{Rose};
 ghost use Rattle.rollout_book.specs.Lists.{IsKeptList};
 ghost use Rattle.shared_book.specs.Opened.{IsOpened, opening_of};
-ghost use Rattle.worker_ports.specs.Views.{telling};
 ghost use Rattle.rollout_ports.specs.Berths.{ports_of};
 ghost use Rattle.rollout_report.specs.Journals.{digest_for};
-ghost use Rattle.rollout_service.specs.Openings.{IsLeft};
 ghost use Rattle.rollout_service.specs.Outcomes.{HasRolled, HasRun, IfRolled, OnUnopened, answer_behind};
 
 use crate::answer::{RunAnswer, answer_behind};
@@ -45,11 +44,19 @@ pub fn run_rollout<R: Wait + Threads + Sync, D: Disk + Drop + Send, F: Fleet>(
 ) -> Outcome<D>
 where
     F::Port: Drop + Send,
-    ensures rolled { IfRolled result.answer (HasRolled D.bytes D.may_leave D.moment D.left_since D.faults F.Port.faults (telling F.Port.offered F.Port.heard F.Port.held F.Port.quiet F.Port.faults F.Port.honest F.Port.prompt F.Port.start) plan (digest_for plan limits.migration) (rank_by policy.now.answers) limits.rounds disk (ports_of F.waiting F.kept F.lent fleet.old) (ports_of F.waiting F.kept F.lent fleet.new) result.disk result.answer) }
-    ensures unopened { OnUnopened result.answer (λ cause. IsLeft D.bytes D.may_leave D.moment D.left_since D.faults plan (digest_for plan limits.migration) disk cause result.disk) }
+    ensures rolled { IfRolled result.answer
+        (HasRolled D.told F.Port.told plan (digest_for plan limits.migration)
+        (rank_by policy.now.answers) limits.rounds disk (ports_of F.waiting F.kept F.lent fleet.old)
+        (ports_of F.waiting F.kept F.lent fleet.new) result.disk result.answer) }
+    ensures unopened { OnUnopened result.answer
+        (λ cause. IsLeft D.told plan (digest_for plan limits.migration) disk cause result.disk) }
     ensures untouched { OnUnopened result.answer (λ _. fleet.new ≡ fleet.old) }
-    ensures guests { (F.coming fleet.new ≡ F.coming fleet.old) × (F.served fleet.new ≡ F.served fleet.old) × (F.visiting fleet.new ≡ F.visiting fleet.old) }
-    ensures no_port { (r : Rollout) (switch : ℕ) → result.answer ≡ RunAnswer.NoPort r switch → Rose (F.faults fleet.old) (F.faults fleet.new) }
+    ensures guests { (F.coming fleet.new ≡ F.coming fleet.old)
+        × (F.served fleet.new ≡ F.served fleet.old)
+        × (F.visiting fleet.new ≡ F.visiting fleet.old) }
+    ensures no_port { (r : Rollout) (switch : ℕ)
+        → result.answer ≡ RunAnswer.NoPort r switch
+        → Rose (F.faults fleet.old) (F.faults fleet.new) }
     ensures count { F.faults fleet.old ≤ F.faults fleet.new }
 {
     match open_book(alloc, plan, limits.migration, policy, disk) {
@@ -71,11 +78,20 @@ fn run_book<R: Wait + Threads + Sync, D: Disk + Drop + Send, F: Fleet>(
 ) -> Outcome<D>
 where
     F::Port: Drop + Send,
-    requires opened { IsOpened (opening_of book.chronicle (rank_by book.policy.now.answers)) book.chronicle }
-    requires has { IfSome (D.bytes book.chronicle.disk) (IsKeptList book.chronicle.history.start book.chronicle.entries (D.may_leave book.chronicle.disk)) }
-    ensures run { HasRun D.bytes D.may_leave D.moment D.left_since D.faults F.Port.faults (telling F.Port.offered F.Port.heard F.Port.held F.Port.quiet F.Port.faults F.Port.honest F.Port.prompt F.Port.start) (rank_by book.entry.policy.now.answers) limits.migration limits.rounds book.entry.chronicle (ports_of F.waiting F.kept F.lent fleet.old) (ports_of F.waiting F.kept F.lent fleet.new) result.disk result.answer }
-    ensures guests { (F.coming fleet.new ≡ F.coming fleet.old) × (F.served fleet.new ≡ F.served fleet.old) × (F.visiting fleet.new ≡ F.visiting fleet.old) }
-    ensures no_port { (r : Rollout) (switch : ℕ) → result.answer ≡ RunAnswer.NoPort r switch → Rose (F.faults fleet.old) (F.faults fleet.new) }
+    requires opened { IsOpened (opening_of book.chronicle (rank_by book.policy.now.answers))
+        book.chronicle }
+    requires has { IfSome (D.told book.chronicle.disk).bytes
+        (IsKeptList book.chronicle.history.start book.chronicle.entries
+        (D.told book.chronicle.disk).may_leave) }
+    ensures run { HasRun D.told F.Port.told (rank_by book.entry.policy.now.answers) limits.migration
+        limits.rounds book.entry.chronicle (ports_of F.waiting F.kept F.lent fleet.old)
+        (ports_of F.waiting F.kept F.lent fleet.new) result.disk result.answer }
+    ensures guests { (F.coming fleet.new ≡ F.coming fleet.old)
+        × (F.served fleet.new ≡ F.served fleet.old)
+        × (F.visiting fleet.new ≡ F.visiting fleet.old) }
+    ensures no_port { (r : Rollout) (switch : ℕ)
+        → result.answer ≡ RunAnswer.NoPort r switch
+        → Rose (F.faults fleet.old) (F.faults fleet.new) }
     ensures count { F.faults fleet.old ≤ F.faults fleet.new }
 {
     let (book, end) = run(rt, alloc, book, fleet, limits);

@@ -66,7 +66,9 @@ pub(crate) fn split_row(
 }
 
 fn add_rates(alloc: Global, plan: &mut Plan, problem: &Problem, rows: &[Nums]) -> Result<(), Memory>
-    ensures { OnOk result (plan.new ≡ with_stages plan.old (map (λ row. spec.stage_of problem.now row is_used) rows.now)) }
+    ensures { OnOk result
+        (plan.new
+        ≡ with_stages plan.old (map (λ row. spec.stage_of problem.now row is_used) rows.now)) }
 {
     for row in rows {
         add_stage(alloc, plan, problem, row.as_slice(), Group::Used)?;
@@ -82,7 +84,11 @@ fn add_where(
     row: &[u64],
     installed: Group,
 ) -> Result<(), Memory>
-    ensures { OnOk result (plan.new ≡ with_stages plan.old (spec.where_any (is_in test) problem.now (spec.stage_of problem.now row.now (is_in installed)))) }
+    ensures { OnOk result
+        (plan.new
+        ≡ with_stages plan.old
+        (spec.where_any (is_in test) problem.now
+        (spec.stage_of problem.now row.now (is_in installed)))) }
 {
     if test.is_empty(problem) {
         return Ok(());
@@ -97,7 +103,9 @@ fn add_stage(
     row: &[u64],
     installed: Group,
 ) -> Result<(), Memory>
-    ensures { OnOk result (plan.new ≡ with_stages plan.old (spec.stage_of problem.now row.now (is_in installed) ∷ [])) }
+    ensures { OnOk result
+        (plan.new
+        ≡ with_stages plan.old (spec.stage_of problem.now row.now (is_in installed) ∷ [])) }
 {
     let mut rates = Nums::new(alloc);
     rates.extend_from_slice(row)?;

@@ -36,7 +36,9 @@ fn entries(alloc: Global, problem: &Problem, group: Group) -> Result<Vec<u64>, M
 fn add_entries(sums: &mut [u64], problem: &Problem, group: Group, t: usize)
     requires tunnel { t < length problem.now.tunnels }
     requires count { length sums.old ≡ length problem.now.switches }
-    requires room { (w : ℕ) → w < length sums.old → slice_index sums.old w + largest_group_share < 2 ^ 64 }
+    requires room { (w : ℕ)
+        → w < length sums.old
+        → slice_index sums.old w + largest_group_share < 2 ^ 64 }
     ensures { GrownBy sums.old sums.new (group_share problem.now group t) largest_group_share }
 {
     if group.has(problem, t) {
@@ -46,7 +48,9 @@ fn add_entries(sums: &mut [u64], problem: &Problem, group: Group, t: usize)
 
 fn add_along(sums: &mut [u64], row: &[u32], amount: u64)
     requires known { (h : ℕ) → h < length row.now → slice_index row.now h < length sums.old }
-    requires room { (w : ℕ) → w < length sums.old → slice_index sums.old w + length row.now * amount < 2 ^ 64 }
+    requires room { (w : ℕ)
+        → w < length sums.old
+        → slice_index sums.old w + length row.now * amount < 2 ^ 64 }
     ensures { GrownBy sums.old sums.new (added row.now amount) (length row.now * amount) }
 {
     for number in row {
@@ -69,7 +73,8 @@ fn first_full(problem: &Problem, first: &[u64], moving: &[u64]) -> Option<NoPlan
 
 fn full_at(problem: &Problem, w: u32, first: u64, moving: u64) -> Option<NoPlan>
     requires { w < length problem.now.switches }
-    ensures { result ≡ first_of (spec.overfull problem.now w first) (spec.overfull problem.now w moving) }
+    ensures { result
+        ≡ first_of (spec.overfull problem.now w first) (spec.overfull problem.now w moving) }
 {
     if let Some(cause) = overfull(problem, w, first) {
         return Some(cause);

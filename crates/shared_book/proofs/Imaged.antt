@@ -5,6 +5,7 @@ use Rattle.rollout_rules.specs.History.{History, with_entries}
 use Rattle.rollout_rules.specs.Legal.{is_legal}
 use Rattle.rollout_rules.specs.declared.op.Entry.{Entry}
 use Rattle.rollout_laws.proofs.Histories.{with_both}
+use Rattle.disk_model.specs.Traces.{DiskTrace}
 use Rattle.disk_model.specs.Moments.{LeavesOnly}
 use Rattle.wan_edge.specs.Streams.{KeepsTelling, Rose}
 use Rattle.rollout_book.specs.Lists.{HasBeforeOrAfter, HasList, IsKeptList}
@@ -150,116 +151,116 @@ rose-from count old new le (inl less) = inl (omega arith)
 rose-from count old new le (inr most) = inr (omega arith)
 
 -- ---- what is known of the disk
-module _ {D : Type 0} (bytes : D → Option (List ℕ)) (may_leave : D → List ℕ → Type 0) (moment : D → ℕ) (left_since : D → ℕ → List ℕ → Type 0) (faults : D → ℕ) (o : Opening) (from count : ℕ) where
+module _ {D : Type 0} (trace : D → DiskTrace) (o : Opening) (from count : ℕ) where
   abbrev Since : List Written → D → Type 0
-  Since log disk = (c : List ℕ) → left_since disk from c → HasLegalList o log c
+  Since log disk = (c : List ℕ) → (trace disk).left_since from c → HasLegalList o log c
 
   abbrev Now : List Written → D → Type 0
-  Now log disk = (c : List ℕ) → may_leave disk c → HasListBehind o log c
+  Now log disk = (c : List ℕ) → (trace disk).may_leave c → HasListBehind o log c
 
   if-told : (told : Option (List ℕ)) (P Q : Type 0) → (P → Q) → IfSome told (λ _. P) → IfSome told (λ _. Q)
   if-told None P Q f holds = tt
   if-told (Some image) P Q f holds = f holds
 
   -- at first
-  pub images-first : (disk : D) → from ≡ moment disk → count ≡ faults disk → is_legal o.rollout.problem o.rollout.plan o.found ≡ true → is_legal_shared o [] ≡ true
-      → ((c : List ℕ) → left_since disk (moment disk) c → may_leave disk c) → IfSome (bytes disk) (IsKeptList o.found.start o.found.entries (may_leave disk))
-      → HasImages bytes may_leave moment left_since faults o from count disk []
+  pub images-first : (disk : D) → from ≡ (trace disk).moment → count ≡ (trace disk).faults → is_legal o.rollout.problem o.rollout.plan o.found ≡ true → is_legal_shared o [] ≡ true
+      → ((c : List ℕ) → (trace disk).left_since (trace disk).moment c → (trace disk).may_leave c) → IfSome (trace disk).bytes (IsKeptList o.found.start o.found.entries (trace disk).may_leave)
+      → HasImages trace o from count disk []
   images-first disk at many legal legal' only kept = record {
     more = omega (arith, many);
-    later = at-first (bytes disk);
-    since = first-since (bytes disk) kept;
-    now = first-now (bytes disk) kept;
+    later = at-first (trace disk).bytes;
+    since = first-since (trace disk).bytes kept;
+    now = first-now (trace disk).bytes kept;
     failed = λ none. absurd none;
   }
     where
-      at-first : (told : Option (List ℕ)) → IfSome told (λ _. from ≤ moment disk)
+      at-first : (told : Option (List ℕ)) → IfSome told (λ _. from ≤ (trace disk).moment)
       at-first None = tt
       at-first (Some image) = omega (arith, at)
 
-      has-found : (image c : List ℕ) → IsKeptList o.found.start o.found.entries (may_leave disk) image → may_leave disk c → HasList o.found.start (history_of o []).entries c
+      has-found : (image c : List ℕ) → IsKeptList o.found.start o.found.entries (trace disk).may_leave image → (trace disk).may_leave c → HasList o.found.start (history_of o []).entries c
       has-found image c kept left = subst (λ es. HasList o.found.start es c) (sym (append-nil o.found.entries)) (subst (HasList o.found.start o.found.entries) (sym (kept.only c left)) kept.has)
 
-      first-since : (told : Option (List ℕ)) → IfSome told (IsKeptList o.found.start o.found.entries (may_leave disk)) → IfSome told (λ _. Since [] disk)
+      first-since : (told : Option (List ℕ)) → IfSome told (IsKeptList o.found.start o.found.entries (trace disk).may_leave) → IfSome told (λ _. Since [] disk)
       first-since None kept = tt
-      first-since (Some image) kept = λ c left. has-all o [] c legal' (has-found image c kept (only c (subst (λ t. left_since disk t c) at left)))
+      first-since (Some image) kept = λ c left. has-all o [] c legal' (has-found image c kept (only c (subst (λ t. (trace disk).left_since t c) at left)))
 
-      first-now : (told : Option (List ℕ)) → IfSome told (IsKeptList o.found.start o.found.entries (may_leave disk)) → IfSome told (λ _. Now [] disk)
+      first-now : (told : Option (List ℕ)) → IfSome told (IsKeptList o.found.start o.found.entries (trace disk).may_leave) → IfSome told (λ _. Now [] disk)
       first-now None kept = tt
       first-now (Some image) kept = λ c left. inl (has-found image c kept left)
 
-  module _ (log : List Written) (old : D) (was : HasImages bytes may_leave moment left_since faults o from count old log) where
+  module _ (log : List Written) (old : D) (was : HasImages trace o from count old log) where
     -- a note without entries, and the disk is as it was
-    pub images-same : (seat : ℕ) (said : What) (new : D) → new ≡ old → (IsDisk said → ⊥) → HasImages bytes may_leave moment left_since faults o from count new (log ++ next_note seat log said [] ∷ [])
+    pub images-same : (seat : ℕ) (said : What) (new : D) → new ≡ old → (IsDisk said → ⊥) → HasImages trace o from count new (log ++ next_note seat log said [] ∷ [])
     images-same seat said new same other =
         let w = next_note seat log said [] in
-        subst (λ d. HasImages bytes may_leave moment left_since faults o from count d (log ++ w ∷ [])) (sym same) (record {
+        subst (λ d. HasImages trace o from count d (log ++ w ∷ [])) (sym same) (record {
           more = was.more;
           later = was.later;
-          since = if-told (bytes old) (Since log old) (Since (log ++ w ∷ []) old) (λ f c left. has-longer o log (w ∷ []) c (f c left)) was.since;
-          now = if-told (bytes old) (Now log old) (Now (log ++ w ∷ []) old) (λ f c left. behind-same o log w c (adds-none said) (loses-none said) (f c left)) was.now;
+          since = if-told (trace old).bytes (Since log old) (Since (log ++ w ∷ []) old) (λ f c left. has-longer o log (w ∷ []) c (f c left)) was.since;
+          now = if-told (trace old).bytes (Now log old) (Now (log ++ w ∷ []) old) (λ f c left. behind-same o log w c (adds-none said) (loses-none said) (f c left)) was.now;
           failed = λ has. ⊎_elim was.failed (λ (here : IsDisk said). absurd (other here)) (disk-next log w has);
         })
 
     module _ (new : D) (seat : ℕ) (es : List Entry) (none : first_stop log ≡ None) (legal : is_legal_shared o log ≡ true)
-        (run : IfSome (bytes old) (λ _. LeavesOnly moment left_since old new (HasBeforeOrAfter o.found.start (history_of o log).entries es)))
-        (keeps : KeepsTelling (bytes old) (bytes new)) (grows : faults old ≤ faults new) where
-      later-by : (told told' : Option (List ℕ)) → KeepsTelling told told' → IfSome told (λ _. from ≤ moment old)
-          → IfSome told (λ _. LeavesOnly moment left_since old new (HasBeforeOrAfter o.found.start (history_of o log).entries es)) → IfSome told' (λ _. from ≤ moment new)
+        (run : IfSome (trace old).bytes (λ _. LeavesOnly trace old new (HasBeforeOrAfter o.found.start (history_of o log).entries es)))
+        (keeps : KeepsTelling (trace old).bytes (trace new).bytes) (grows : (trace old).faults ≤ (trace new).faults) where
+      later-by : (told told' : Option (List ℕ)) → KeepsTelling told told' → IfSome told (λ _. from ≤ (trace old).moment)
+          → IfSome told (λ _. LeavesOnly trace old new (HasBeforeOrAfter o.found.start (history_of o log).entries es)) → IfSome told' (λ _. from ≤ (trace new).moment)
       later-by told None kept at ran = tt
       later-by None (Some image) kept at ran = absurd (cc kept)
       later-by (Some before) (Some image) kept at ran = omega (arith, at, ran.later)
 
       -- what was left since, where it is known of each new image
       since-by : (log' : List Written) → ((c : List ℕ) → HasLegalList o log c → HasLegalList o log' c) → ((c : List ℕ) → HasBeforeOrAfter o.found.start (history_of o log).entries es c → HasLegalList o log' c)
-          → (told told' : Option (List ℕ)) → KeepsTelling told told' → IfSome told (λ _. from ≤ moment old) → IfSome told (λ _. Since log old)
-          → IfSome told (λ _. LeavesOnly moment left_since old new (HasBeforeOrAfter o.found.start (history_of o log).entries es)) → IfSome told' (λ _. Since log' new)
+          → (told told' : Option (List ℕ)) → KeepsTelling told told' → IfSome told (λ _. from ≤ (trace old).moment) → IfSome told (λ _. Since log old)
+          → IfSome told (λ _. LeavesOnly trace old new (HasBeforeOrAfter o.found.start (history_of o log).entries es)) → IfSome told' (λ _. Since log' new)
       since-by log' longer here told None kept at known ran = tt
       since-by log' longer here None (Some image) kept at known ran = absurd (cc kept)
       since-by log' longer here (Some before) (Some image) kept at known ran =
-          λ c left. ⊎_elim (λ (earlier : left_since old from c). longer c (known c earlier)) (here c) (ran.before from c at left)
+          λ c left. ⊎_elim (λ (earlier : (trace old).left_since from c). longer c (known c earlier)) (here c) (ran.before from c at left)
 
       now-by : (log' : List Written) → ((c : List ℕ) → HasBeforeOrAfter o.found.start (history_of o log).entries es c → HasListBehind o log' c)
-          → ((t : ℕ) (c : List ℕ) → t ≤ moment new → may_leave new c → left_since new t c) → (told told' : Option (List ℕ)) → KeepsTelling told told'
-          → IfSome told (λ _. LeavesOnly moment left_since old new (HasBeforeOrAfter o.found.start (history_of o log).entries es)) → IfSome told' (λ _. Now log' new)
+          → ((t : ℕ) (c : List ℕ) → t ≤ (trace new).moment → (trace new).may_leave c → (trace new).left_since t c) → (told told' : Option (List ℕ)) → KeepsTelling told told'
+          → IfSome told (λ _. LeavesOnly trace old new (HasBeforeOrAfter o.found.start (history_of o log).entries es)) → IfSome told' (λ _. Now log' new)
       now-by log' here counts told None kept ran = tt
       now-by log' here counts None (Some image) kept ran = absurd (cc kept)
-      now-by log' here counts (Some before) (Some image) kept ran = λ c left. here c (ran.each c (counts (moment old) c ran.later left))
+      now-by log' here counts (Some before) (Some image) kept ran = λ c left. here c (ran.each c (counts (trace old).moment c ran.later left))
 
       -- a round that was made
       pub images-turned : (dones begins : ℕ) → is_legal_shared o (log ++ next_note seat log (what.Turned dones begins) es ∷ []) ≡ true
-          → IfSome (bytes new) (IsKeptList o.found.start ((history_of o log).entries ++ es) (may_leave new))
-          → HasImages bytes may_leave moment left_since faults o from count new (log ++ next_note seat log (what.Turned dones begins) es ∷ [])
+          → IfSome (trace new).bytes (IsKeptList o.found.start ((history_of o log).entries ++ es) (trace new).may_leave)
+          → HasImages trace o from count new (log ++ next_note seat log (what.Turned dones begins) es ∷ [])
       images-turned dones begins legal' kept =
           let w = next_note seat log (what.Turned dones begins) es in
           let has-new : (c : List ℕ) → HasList o.found.start ((history_of o log).entries ++ es) c → HasLegalList o (log ++ w ∷ []) c =
           λ c has. has-all o (log ++ w ∷ []) c legal' (subst (λ xs. HasList o.found.start xs c) (sym (ap (λ (h : History). h.entries) (history-next o log w))) has) in
           record {
             more = omega (arith, was.more, grows);
-            later = later-by (bytes old) (bytes new) keeps was.later run;
+            later = later-by (trace old).bytes (trace new).bytes keeps was.later run;
             since = since-by (log ++ w ∷ []) (has-longer o log (w ∷ []))
                 (λ c has. ⊎_elim (λ (before : HasList o.found.start (history_of o log).entries c). has-longer o log (w ∷ []) c (has-all o log c legal before)) (has-new c) has)
-                (bytes old) (bytes new) keeps was.later was.since run;
-            now = turned-now (bytes new) kept;
-            failed = λ has. rose-on count (faults old) (faults new) (⊎_elim was.failed (λ (here : ⊥). absurd here) (disk-next log w has)) grows;
+                (trace old).bytes (trace new).bytes keeps was.later was.since run;
+            now = turned-now (trace new).bytes kept;
+            failed = λ has. rose-on count (trace old).faults (trace new).faults (⊎_elim was.failed (λ (here : ⊥). absurd here) (disk-next log w has)) grows;
           }
         where
-          turned-now : (told : Option (List ℕ)) → IfSome told (IsKeptList o.found.start ((history_of o log).entries ++ es) (may_leave new)) → IfSome told (λ _. Now (log ++ next_note seat log (what.Turned dones begins) es ∷ []) new)
+          turned-now : (told : Option (List ℕ)) → IfSome told (IsKeptList o.found.start ((history_of o log).entries ++ es) (trace new).may_leave) → IfSome told (λ _. Now (log ++ next_note seat log (what.Turned dones begins) es ∷ []) new)
           turned-now None kept = tt
           turned-now (Some image) kept =
               λ c left. behind-turned o log (next_note seat log (what.Turned dones begins) es) c (subst (HasList o.found.start ((history_of o log).entries ++ es)) (sym (kept.only c left)) kept.has)
 
       -- one whose append failed
-      pub images-lost : is_legal_shared o (log ++ next_note seat log what.Disk es ∷ []) ≡ true → ((t : ℕ) (c : List ℕ) → t ≤ moment new → may_leave new c → left_since new t c) → Rose (faults old) (faults new)
-          → HasImages bytes may_leave moment left_since faults o from count new (log ++ next_note seat log what.Disk es ∷ [])
+      pub images-lost : is_legal_shared o (log ++ next_note seat log what.Disk es ∷ []) ≡ true → ((t : ℕ) (c : List ℕ) → t ≤ (trace new).moment → (trace new).may_leave c → (trace new).left_since t c) → Rose (trace old).faults (trace new).faults
+          → HasImages trace o from count new (log ++ next_note seat log what.Disk es ∷ [])
       images-lost legal' counts rose =
           let w = next_note seat log what.Disk es in
           record {
             more = omega (arith, was.more, grows);
-            later = later-by (bytes old) (bytes new) keeps was.later run;
+            later = later-by (trace old).bytes (trace new).bytes keeps was.later run;
             since = since-by (log ++ w ∷ []) (has-longer o log (w ∷ []))
                 (λ c has. ⊎_elim (λ (before : HasList o.found.start (history_of o log).entries c). has-longer o log (w ∷ []) c (has-all o log c legal before)) (has-lost o log w c legal' refl none) has)
-                (bytes old) (bytes new) keeps was.later was.since run;
-            now = now-by (log ++ w ∷ []) (λ c has. behind-lost o log w c refl none has) counts (bytes old) (bytes new) keeps run;
-            failed = λ has. rose-from count (faults old) (faults new) was.more rose;
+                (trace old).bytes (trace new).bytes keeps was.later was.since run;
+            now = now-by (log ++ w ∷ []) (λ c has. behind-lost o log w c refl none has) counts (trace old).bytes (trace new).bytes keeps run;
+            failed = λ has. rose-from count (trace old).faults (trace new).faults was.more rose;
           }

@@ -7,12 +7,13 @@ use Rattle.rollout_rules.specs.Release.{batch}
 use Rattle.rollout_rules.specs.declared.op.Op.{Op}
 use Rattle.rollout_rules.specs.declared.op.OpView.{OpView}
 use Rattle.rollout_rules.specs.declared.op.Entry.{Entry}
+use Rattle.disk_model.specs.Traces.{DiskTrace}
 use Rattle.wan_edge.specs.Frames.{Answer}
 use Rattle.rollout_book.specs.declared.fault.BookFault.{BookFault}
 use Rattle.rollout_book.specs.declared.fault.BookFault.TheVariants as fault
 use Rattle.rollout_book.specs.Aliens as aliens
 use Rattle.rollout_book.specs.Aliens.{told_by}
-use Rattle.rollout_book.specs.Chronicles.{Chronicled, batch_of, graph_of, with_batch, with_lost}
+use Rattle.rollout_book.specs.Chronicles.{Chronicled, batch_of, graph_of, turn_of, with_batch, with_lost}
 use Rattle.shared_history.specs.declared.note.What.{What}
 use Rattle.shared_history.specs.declared.note.What.TheVariants as what
 use Rattle.shared_history.specs.declared.note.Note.{Note}
@@ -27,12 +28,32 @@ use Rattle.shared_history.proofs.Batched.{batch-is}
 use Rattle.shared_history.proofs.Saying.{alien-may, stopped-may, turned-may, disk-may}
 use Rattle.shared_book.specs.declared.reply.RoundReply.{RoundReply}
 use Rattle.shared_book.specs.declared.reply.RoundReply.TheVariants as round
-use Rattle.shared_book.specs.Rounds.{IsRoundOf, IsRefused}
+use Rattle.shared_book.specs.Rounds.{IsRoundOf}
 use Rattle.shared_book.specs.Sharing.{IsNoted, IsShared, log_of}
 use Rattle.shared_book.specs.Told.{fault_notes, round_notes, with_noted, IsRoundAt}
 use Rattle.shared_book.proofs.Counting.{alien-same, turned-is}
 use Rattle.shared_book.proofs.Sharing.{GoesOnBy, still, first_stop-next, goes-on, log-is, at-log}
 use Rattle.shared_book.proofs.Unstopped.{or-neither, unstopped}
+
+-- What a round makes of a book, whatever its disk: nothing has changed, the batch is there, or its append failed.
+abbrev IsRefused : {D : Type 0} → Chronicled D → (OpView → ℕ) → List Answer → BookFault → Chronicled D → Type 0
+IsRefused b policy answers (fault.Alien item held begun) new = (aliens.first_alien (graph_of b) answers ≡ Some (fault.Alien item held begun)) × (new ≡ b)
+IsRefused b policy answers fault.Disk new = (aliens.first_alien (graph_of b) answers ≡ None) × (new ≡ with_lost b (batch_of b policy answers) new.disk)
+
+abbrev pub IsMade : {D : Type 0} → Chronicled D → Option Halt → (OpView → ℕ) → List Answer → RoundReply → Chronicled D → Type 0
+IsMade b halted policy answers (round.Turned turn) new =
+    (halted ≡ None) × (aliens.first_alien (graph_of b) answers ≡ None) × (turn ≡ turn_of (batch_of b policy answers)) × (new ≡ with_batch b (batch_of b policy answers) new.disk)
+IsMade b halted policy answers (round.Refused why) new = (halted ≡ None) × IsRefused b policy answers why new
+IsMade b halted policy answers (round.Stopped halt) new = (halted ≡ Some halt) × (new ≡ b)
+IsMade b halted policy answers round.Memory new = ⊥
+
+pub made-plain : {D : Type 0} (trace : D → DiskTrace) (b new : Chronicled D) (halted : Option Halt) (policy : OpView → ℕ) (answers : List Answer) (reply : RoundReply)
+    → IsRoundOf trace halted policy answers b reply new → IsMade b halted policy answers reply new
+made-plain trace b new halted policy answers (round.Turned turn) made = (made.0, made.1.known, made.1.turn, made.1.written)
+made-plain trace b new halted policy answers (round.Refused (fault.Alien item held begun)) made = (made.0, (made.1.alien, made.1.unchanged))
+made-plain trace b new halted policy answers (round.Refused fault.Disk) made = (made.0, (made.1.alien, made.1.lost))
+made-plain trace b new halted policy answers (round.Stopped first) made = made
+made-plain trace b new halted policy answers round.Memory made = made
 
 module _ {D : Type 0} (o : Opening) (seats : ℕ) (b : Chronicled D) (ns : List Note) (halt : Option Halt) (left most : ℕ) (log : List Written) (s : IsShared o seats b ns halt left most log) (answers : List Answer) where
   -- what the book is before the first stop
@@ -56,7 +77,7 @@ module _ {D : Type 0} (o : Opening) (seats : ℕ) (b : Chronicled D) (ns : List 
       ap₂ (λ st a. or_stopped st (or_turned a (batch_at o (history_of o log) (told_by answers)))) none alien
 
   -- what is told is what the history says
-  pub round-told : (reply : RoundReply) (b' : Chronicled D) → IsRoundOf b halt o.policy answers reply b' → IsRoundAt o log (told_by answers) reply
+  pub round-told : (reply : RoundReply) (b' : Chronicled D) → IsMade b halt o.policy answers reply b' → IsRoundAt o log (told_by answers) reply
   round-told (round.Turned turn) b' made =
       let none = sym s.halted ∙ made.0 in
       let es = batch_of b o.policy answers in (
@@ -79,7 +100,7 @@ module _ {D : Type 0} (o : Opening) (seats : ℕ) (b : Chronicled D) (ns : List 
         → first_stop (log ++ next_note seat log said es ∷ []) ≡ None → b'.live ≡ true
     lives-not said es first some none = absurd (cc (sym some ∙ sym (first_stop-next log (next_note seat log said es)) ∙ none))
 
-    pub round-shared : (reply : RoundReply) → IsRoundOf b halt o.policy answers reply b' → IsNoted seat (calls_by seat log) (round_notes reply) ns halt ns' halt'
+    pub round-shared : (reply : RoundReply) → IsMade b halt o.policy answers reply b' → IsNoted seat (calls_by seat log) (round_notes reply) ns halt ns' halt'
         → IsShared o seats b' ns' halt' left most' (with_noted seat log (round_notes reply) (batch_at o (history_of o log) (told_by answers)))
     round-shared (round.Turned turn) made noted =
         let none = sym s.halted ∙ made.0 in
@@ -130,10 +151,10 @@ pub record RoundLeaves {D : Type 0} (o : Opening) (seats : ℕ) (book : Chronicl
   pub told : IsRoundAt o log (told_by answers) reply
 
 pub round-leaves : {D : Type 0} (o : Opening) (seats : ℕ) (b b' : Chronicled D) (ns mid ns' : List Note) (halt halt' : Option Halt) (left most most' : ℕ) (log : List Written) (answers : List Answer) (policy : OpView → ℕ) (seat call : ℕ)
-    (reply : RoundReply) (said : Option What) → IsShared o seats b ns halt left most log → o.policy ≡ policy → call ≡ calls_by seat log → IsRoundOf b halt policy answers reply b' → said ≡ round_notes reply
+    (reply : RoundReply) (said : Option What) → IsShared o seats b ns halt left most log → o.policy ≡ policy → call ≡ calls_by seat log → IsMade b halt policy answers reply b' → said ≡ round_notes reply
     → mid ≡ ns → IsNoted seat call said mid halt ns' halt' → length ns + 1 + left ≤ most' → RoundLeaves o seats b' ns' halt' left most' log seat answers reply
 round-leaves o seats b b' ns mid ns' halt halt' left most most' log answers policy seat call reply said s same numbered made is mid-is noted room =
-    let made' : IsRoundOf b halt o.policy answers reply b' = subst (λ (f : OpView → ℕ). IsRoundOf b halt f answers reply b') (sym same) made in
+    let made' : IsMade b halt o.policy answers reply b' = subst (λ (f : OpView → ℕ). IsMade b halt f answers reply b') (sym same) made in
     let by-call : IsNoted seat (calls_by seat log) said mid halt ns' halt' = subst (λ (k : ℕ). IsNoted seat k said mid halt ns' halt') numbered noted in
     let by-reply : IsNoted seat (calls_by seat log) (round_notes reply) mid halt ns' halt' = subst (λ (w : Option What). IsNoted seat (calls_by seat log) w mid halt ns' halt') is by-call in
     let noted' : IsNoted seat (calls_by seat log) (round_notes reply) ns halt ns' halt' = subst (λ (xs : List Note). IsNoted seat (calls_by seat log) (round_notes reply) xs halt ns' halt') mid-is by-reply in

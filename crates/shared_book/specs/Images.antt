@@ -3,6 +3,7 @@ use Rattle.std.specs.Prelude.{◌≡◌, ◌⊎◌, ℕ, ◌≤◌, true, List, 
 use Rattle.rollout_rules.specs.History.{with_entries}
 use Rattle.rollout_rules.specs.Legal.{is_legal}
 use Rattle.rollout_rules.specs.declared.op.Entry.{Entry}
+use Rattle.disk_model.specs.Traces.{DiskTrace}
 use Rattle.wan_edge.specs.Streams.{Rose}
 use Rattle.rollout_book.specs.Lists.{HasList, HasBeforeOrAfter}
 use Rattle.shared_history.specs.declared.note.What.{What}
@@ -59,9 +60,9 @@ pub record HasLegalList (o : Opening) (log : List Written) (image : List ℕ) : 
 -- What is known of the disk behind a shared history, which began at a moment with so many failures. Of a disk that tells its
 -- content: every image that a crash may have left since that moment has a legal list that begins with the one found; and each
 -- that a crash now may leave has the list behind all notes. Of every disk: it has failed since then where a note says so.
-pub record HasImages {D : Type 0} (bytes : D → Option (List ℕ)) (may_leave : D → List ℕ → Type 0) (moment : D → ℕ) (left_since : D → ℕ → List ℕ → Type 0) (faults : D → ℕ) (o : Opening) (from count : ℕ) (disk : D) (log : List Written) : Type 0 where
-  pub more : count ≤ faults disk
-  pub later : IfSome (bytes disk) (λ _. from ≤ moment disk)
-  pub since : IfSome (bytes disk) (λ _. (image : List ℕ) → left_since disk from image → HasLegalList o log image)
-  pub now : IfSome (bytes disk) (λ _. (image : List ℕ) → may_leave disk image → HasListBehind o log image)
-  pub failed : HasDisk log → Rose count (faults disk)
+pub record HasImages {D : Type 0} (trace : D → DiskTrace) (o : Opening) (from count : ℕ) (disk : D) (log : List Written) : Type 0 where
+  pub more : count ≤ (trace disk).faults
+  pub later : IfSome (trace disk).bytes (λ _. from ≤ (trace disk).moment)
+  pub since : IfSome (trace disk).bytes (λ _. (image : List ℕ) → (trace disk).left_since from image → HasLegalList o log image)
+  pub now : IfSome (trace disk).bytes (λ _. (image : List ℕ) → (trace disk).may_leave image → HasListBehind o log image)
+  pub failed : HasDisk log → Rose count (trace disk).faults

@@ -3,6 +3,7 @@ use Rattle.std.specs.Prelude.{◌≡◌, ℕ, true, List, length, Option, None, 
 use Rattle.rollout_rules.specs.History.{with_entries}
 use Rattle.rollout_rules.specs.Legal.{is_legal}
 use Rattle.rollout_rules.specs.declared.op.OpView.{OpView}
+use Rattle.disk_model.specs.Traces.{DiskTrace}
 use Rattle.rollout_book.specs.Chronicles.{Chronicled}
 use Rattle.rollout_book.specs.Lists.{IsKeptList}
 use Rattle.shared_history.specs.declared.note.Written.{Written}
@@ -23,11 +24,11 @@ abbrev pub opening_of : {D : Type 0} → Chronicled D → (OpView → ℕ) → O
 opening_of b policy = record { rollout = b.rollout; policy = policy; found = b.history }
 
 -- It was opened at this moment of its disk, with so many failures; where the disk tells its content, a crash leaves the list found.
-pub record IsOpenedOn {D : Type 0} (bytes : D → Option (List ℕ)) (may_leave : D → List ℕ → Type 0) (moment faults : D → ℕ) (o : Opening) (from count : ℕ) (b : Chronicled D) : Type 0 where
+pub record IsOpenedOn {D : Type 0} (trace : D → DiskTrace) (o : Opening) (from count : ℕ) (b : Chronicled D) : Type 0 where
   pub opened : IsOpened o b
-  pub moment_is : from ≡ moment b.disk
-  pub count_is : count ≡ faults b.disk
-  pub has : IfSome (bytes b.disk) (IsKeptList o.found.start o.found.entries (may_leave b.disk))
+  pub moment_is : from ≡ (trace b.disk).moment
+  pub count_is : count ≡ (trace b.disk).faults
+  pub has : IfSome (trace b.disk).bytes (IsKeptList o.found.start o.found.entries (trace b.disk).may_leave)
 
 -- A book as it is behind a shared history: of the opening, with all segments in its list. Before the first stop it lives.
 pub record IsClosed {D : Type 0} (o : Opening) (log : List Written) (b : Chronicled D) : Type 0 where

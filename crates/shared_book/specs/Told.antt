@@ -81,20 +81,6 @@ if_listed list.Listed commands = commands
 if_listed (list.Stopped halt) commands = []
 if_listed list.Memory commands = []
 
--- what holds of a round whose batch was to be added, and of one whose batch was
-abbrev pub OnBatch : RoundReply → Type 0 → Type 0
-OnBatch (round.Turned turn) holds = holds
-OnBatch (round.Refused (fault.Alien item held begun)) holds = ⊤
-OnBatch (round.Refused fault.Disk) holds = holds
-OnBatch (round.Stopped halt) holds = ⊤
-OnBatch round.Memory holds = ⊤
-
-abbrev pub OnTurned : RoundReply → Type 0 → Type 0
-OnTurned (round.Turned turn) holds = holds
-OnTurned (round.Refused why) holds = ⊤
-OnTurned (round.Stopped halt) holds = ⊤
-OnTurned round.Memory holds = ⊤
-
 -- whether the disk failed in a round
 abbrev pub OnFailed : RoundReply → Type 0 → Type 0
 OnFailed (round.Turned turn) holds = ⊤

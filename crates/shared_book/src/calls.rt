@@ -33,7 +33,8 @@ impl<'d, D: Disk, M: Marker> Shared<Kept<D, M>, &'d Policy> {
         ensures lock { IsPassOf self.now.lock result.0.pass }
         ensures pass { IsSamePass pass.pass result.0.pass }
         ensures calls { IsCounted result.0.calls result.0.pass }
-        ensures call { IsRoundCall M.opening (seats_of pass.pass) (seat_of_pass pass.pass) (seen_of pass.pass) (told_by answers.now) result.1 (seen_of result.0.pass) }
+        ensures call { IsRoundCall M.opening (seats_of pass.pass) (seat_of_pass pass.pass)
+            (seen_of pass.pass) (told_by answers.now) result.1 (seen_of result.0.pass) }
     {
         let CallPass { pass, calls } = pass;
         let seat = pass.seat();
@@ -58,7 +59,8 @@ impl<'d, D: Disk, M: Marker> Shared<Kept<D, M>, &'d Policy> {
         ensures lock { IsPassOf self.now.lock result.0.pass }
         ensures pass { IsSamePass pass.pass result.0.pass }
         ensures calls { IsCounted result.0.calls result.0.pass }
-        ensures call { IsListCall M.opening (seats_of pass.pass) (seat_of_pass pass.pass) (seen_of pass.pass) switches.now out.old out.new result.1 (seen_of result.0.pass) }
+        ensures call { IsListCall M.opening (seats_of pass.pass) (seat_of_pass pass.pass)
+            (seen_of pass.pass) switches.now out.old out.new result.1 (seen_of result.0.pass) }
     {
         let CallPass { pass, calls } = pass;
         let seat = pass.seat();
@@ -82,7 +84,8 @@ impl<'d, D: Disk, M: Marker> Shared<Kept<D, M>, &'d Policy> {
         ensures lock { IsPassOf self.now.lock result.0.pass }
         ensures pass { IsSamePass pass.pass result.0.pass }
         ensures calls { IsCounted result.0.calls result.0.pass }
-        ensures call { IsStopCall M.opening (seats_of pass.pass) (seat_of_pass pass.pass) (seen_of pass.pass) cause result.1 (seen_of result.0.pass) }
+        ensures call { IsStopCall M.opening (seats_of pass.pass) (seat_of_pass pass.pass)
+            (seen_of pass.pass) cause result.1 (seen_of result.0.pass) }
     {
         let CallPass { pass, calls } = pass;
         let seat = pass.seat();

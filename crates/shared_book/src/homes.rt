@@ -1,17 +1,19 @@
 ghost use Rattle.std.specs.Prelude.{◌≡◌, slice_index_or, None, IfOk};
 ghost use Rattle.shared_book.specs.Homes.{homes_of};
 
+use dependency_graph::items;
 use lists::{Many, Memory};
 use std::alloc::Global;
-use wan_model::{Problem, home_of, item_count};
+use wan_model::{CheckedPlan, home_of_item};
 
-/// The homes of all items, by number. Time: for each item, the tunnels.
-pub(crate) fn homes(alloc: Global, problem: &Problem) -> Result<Many<Option<u32>>, Memory>
-    ensures { IfOk result (λ homes. homes ≡ homes_of problem.now) }
+/// The homes of all items, by number. Time: the items.
+pub(crate) fn homes(alloc: Global, plan: &CheckedPlan) -> Result<Many<Option<u32>>, Memory>
+    ensures { IfOk result (λ homes. homes ≡ homes_of plan.now.problem) }
 {
+    let items = items(alloc, plan)?;
     let mut homes = Many::new(alloc);
-    for item in 0..item_count(problem) {
-        homes.push(home_of(problem, item))?;
+    for item in items.as_slice() {
+        homes.push(home_of_item(plan.problem(), *item))?;
     }
     Ok(homes)
 }

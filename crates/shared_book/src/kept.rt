@@ -25,10 +25,15 @@ impl<D: Disk, M: Marker> Model for Kept<D, M> {
 
     ghost Value = { Sharing D };
 
-    ghost view = { λ k. record { book = k.chronicle.value; log = log_of k.chronicle.value k.notes.items } };
+    ghost view = { λ k. record {
+      book = k.chronicle.value;
+      log = log_of k.chronicle.value k.notes.items;
+    } };
 
-    ghost invariant = { λ k. IsShared M.opening M.seats k.chronicle.value k.notes.items k.halted k.spare (vec_capacity k.notes) (log_of k.chronicle.value k.notes.items)
-        × HasImages D.bytes D.may_leave D.moment D.left_since D.faults M.opening M.moment M.faults k.chronicle.value.disk (log_of k.chronicle.value k.notes.items) };
+    ghost invariant = { λ k. IsShared M.opening M.seats k.chronicle.value k.notes.items k.halted
+        k.spare (vec_capacity k.notes) (log_of k.chronicle.value k.notes.items)
+        × HasImages D.told M.opening M.moment M.faults k.chronicle.value.disk
+        (log_of k.chronicle.value k.notes.items) };
 }
 
 impl<D: Disk, M: Marker> Counted for Kept<D, M> {

@@ -29,7 +29,8 @@ impl<D: Disk, M: Marker> Kept<D, M> {
         ensures log { self.new.log ≡ with_noted seat self.old.log (list_notes result) [] }
         ensures told { OnListTold result (result ≡ list_reply (first_stop self.old.log)) }
         ensures want { OnListWant result (self.new ≡ self.old) }
-        ensures out { out.new ≡ out.old ++ if_listed result (commands_at M.opening self.old.log switches.now) }
+        ensures out { out.new
+            ≡ out.old ++ if_listed result (commands_at M.opening self.old.log switches.now) }
         ensures book { self.new.book ≡ self.old.book }
     {
         if make_room(&mut self.notes, self.spare).is_err() {

@@ -21,7 +21,7 @@ impl<D: Disk, M: Marker> Kept<D, M> {
         chronicle: Chronicle<D>,
         seats: u32,
     ) -> Result<Kept<D, M>, Chronicle<D>>
-        requires opened { IsOpenedOn D.bytes D.may_leave D.moment D.faults M.opening M.moment M.faults chronicle }
+        requires opened { IsOpenedOn D.told M.opening M.moment M.faults chronicle }
         requires seats { M.seats ≡ seats }
         ensures ok { IfOk result (λ kept. (kept.book ≡ chronicle) × (kept.log ≡ [])) }
         ensures err { IfErr result (λ back. back ≡ chronicle) }
@@ -50,7 +50,7 @@ impl<D: Disk, M: Marker> Kept<D, M> {
         ensures halt { result.2 ≡ first_stop self.log }
         ensures legal { IsTrue (is_legal_shared M.opening self.log) }
         ensures is { IsClosed M.opening self.log self.book }
-        ensures images { HasImages D.bytes D.may_leave D.moment D.left_since D.faults M.opening M.moment M.faults self.book.disk self.log }
+        ensures images { HasImages D.told M.opening M.moment M.faults self.book.disk self.log }
     {
         let Kept {
             chronicle,

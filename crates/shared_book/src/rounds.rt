@@ -1,16 +1,13 @@
-ghost use Rattle.std.specs.Prelude.{◌≡◌, ◌≤◌, true, IfSome, IsTrue, None};
+ghost use Rattle.std.specs.Prelude.{◌≡◌, ◌≤◌, true, IsTrue, None};
 ghost use Rattle.order_policy.specs.Answers.{rank_by};
-ghost use Rattle.disk_model.specs.Moments.{LeavesOnly};
 ghost use Rattle.rollout_book.specs.Aliens.{told_by};
-ghost use Rattle.rollout_book.specs.Chronicles.{batch_of};
-ghost use Rattle.rollout_book.specs.Lists.{HasBeforeOrAfter, IsKeptList};
 ghost use Rattle.shared_history.specs.Histories.{history_of};
 ghost use Rattle.shared_history.specs.Legal.{is_legal_shared};
 ghost use Rattle.shared_history.specs.Notes.{calls_by};
 ghost use Rattle.shared_history.specs.Replies.{batch_at};
 ghost use Rattle.shared_book.specs.Rounds.{IsRoundOf};
-ghost use Rattle.shared_book.specs.Told.{with_noted, round_notes, IsRoundAt, OnBatch, OnFailed, OnTurned, OnWant};
-ghost use Rattle.wan_edge.specs.Streams.{KeepsTelling, Rose};
+ghost use Rattle.shared_book.specs.Told.{with_noted, round_notes, IsRoundAt, OnFailed, OnWant};
+ghost use Rattle.wan_edge.specs.Streams.{Rose};
 
 use crate::kept::Kept;
 use crate::marker::Marker;
@@ -30,11 +27,14 @@ impl<D: Disk, M: Marker> Kept<D, M> {
         requires policy { M.opening.policy ≡ rank_by policy.now.answers }
         requires call { call ≡ calls_by seat self.old.log }
         ensures legal { IsTrue (is_legal_shared M.opening self.new.log) }
-        ensures log { self.new.log ≡ with_noted seat self.old.log (round_notes result) (batch_at M.opening (history_of M.opening self.old.log) (told_by answers.now)) }
+        ensures log { self.new.log
+            ≡ with_noted seat self.old.log (round_notes result)
+            (batch_at M.opening (history_of M.opening self.old.log) (told_by answers.now)) }
         ensures told { IsRoundAt M.opening self.old.log (told_by answers.now) result }
         ensures want { OnWant result (self.new ≡ self.old) }
-        ensures cause { OnFailed result (Rose (D.faults self.old.book.disk) (D.faults self.new.book.disk)) }
-        ensures count { D.faults self.old.book.disk ≤ D.faults self.new.book.disk }
+        ensures cause { OnFailed result
+            (Rose (D.told self.old.book.disk).faults (D.told self.new.book.disk).faults) }
+        ensures count { (D.told self.old.book.disk).faults ≤ (D.told self.new.book.disk).faults }
     {
         if make_room(&mut self.notes, self.spare).is_err() {
             return RoundReply::Memory;
@@ -53,13 +53,8 @@ fn made<D: Disk>(
     answers: &[Answer],
 ) -> RoundReply
     requires { halted ≡ None → chronicle.old.live ≡ true }
-    ensures made { IsRoundOf chronicle.old halted (rank_by policy.now.answers) answers.now result chronicle.new }
-    ensures any_moment { OnBatch result (IfSome (D.bytes chronicle.old.disk) (λ _. LeavesOnly D.moment D.left_since chronicle.old.disk chronicle.new.disk
-        (HasBeforeOrAfter chronicle.old.history.start chronicle.old.entries (batch_of chronicle.old (rank_by policy.now.answers) answers.now)))) }
-    ensures has { OnTurned result (IfSome (D.bytes chronicle.new.disk) (IsKeptList chronicle.new.history.start chronicle.new.entries (D.may_leave chronicle.new.disk))) }
-    ensures told { KeepsTelling (D.bytes chronicle.old.disk) (D.bytes chronicle.new.disk) }
-    ensures cause { OnFailed result (Rose (D.faults chronicle.old.disk) (D.faults chronicle.new.disk)) }
-    ensures count { D.faults chronicle.old.disk ≤ D.faults chronicle.new.disk }
+    ensures { IsRoundOf D.told halted (rank_by policy.now.answers) answers.now chronicle.old result
+        chronicle.new }
 {
     if let Some(halt) = halted {
         return RoundReply::Stopped(halt);

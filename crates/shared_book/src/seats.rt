@@ -58,16 +58,18 @@ impl<'d, D: Disk, M: Marker> Shared<Kept<D, M>, &'d Policy> {
         book: Book<'d, D>,
         seats: u32,
     ) -> Result<(Shared<Kept<D, M>, &'d Policy>, CallPass<Kept<D, M>>), Book<'d, D>>
-        requires opened { IsOpenedOn D.bytes D.may_leave D.moment D.faults M.opening M.moment M.faults book.chronicle }
+        requires opened { IsOpenedOn D.told M.opening M.moment M.faults book.chronicle }
         requires policy { M.opening.policy ≡ rank_by book.policy.now.answers }
         requires seats { M.seats ≡ seats }
         ensures lock { IfOk result (λ r. IsPassOf r.0.lock r.1.pass × IsFirstPass r.1.pass) }
         ensures calls { IfOk result (λ r. IsCounted r.1.calls r.1.pass) }
         ensures policy { IfOk result (λ r. M.opening.policy ≡ rank_by r.0.policy.now.answers) }
         ensures homes { IfOk result (λ r. r.0.homes ≡ homes_of M.opening.rollout.problem) }
-        ensures err { IfErr result (λ back. (back.chronicle ≡ book.entry.chronicle) × (back.policy.now ≡ book.entry.policy.now)) }
+        ensures err { IfErr result
+            (λ back. (back.chronicle ≡ book.entry.chronicle)
+            × (back.policy.now ≡ book.entry.policy.now)) }
     {
-        let Ok(homes) = homes(alloc, book.chronicle.graph().plan().problem()) else {
+        let Ok(homes) = homes(alloc, book.chronicle.graph().plan()) else {
             return Err(book);
         };
         let Book { chronicle, policy } = book;
@@ -118,7 +120,8 @@ impl<'d, D: Disk, M: Marker> Shared<Kept<D, M>, &'d Policy> {
         ensures first { HasGiven pass.pass result.0.pass }
         ensures second { IsNewPass pass.pass result.1.pass }
         ensures no_call { result.1.calls ≡ 0 }
-        ensures calls { IsCounted result.0.calls result.0.pass × IsCounted result.1.calls result.1.pass }
+        ensures calls { IsCounted result.0.calls result.0.pass
+            × IsCounted result.1.calls result.1.pass }
         ensures below { seat_of_pass result.1.pass < M.seats }
     {
         let CallPass { pass, calls } = pass;
@@ -144,7 +147,8 @@ impl<'d, D: Disk, M: Marker> Shared<Kept<D, M>, &'d Policy> {
         ensures lock { IsPassOf self.now.lock result.pass }
         ensures pass { HasJoined one.pass other.pass result.pass }
         ensures one { Follows seat_of (seats_of one.pass) (seen_of one.pass) (seen_of result.pass) }
-        ensures other { Follows seat_of (seats_of other.pass) (seen_of other.pass) (seen_of result.pass) }
+        ensures other { Follows seat_of (seats_of other.pass) (seen_of other.pass)
+            (seen_of result.pass) }
         ensures calls { IsCounted result.calls result.pass }
     {
         let CallPass { pass, calls } = one;
@@ -168,7 +172,8 @@ impl<'d, D: Disk, M: Marker> Shared<Kept<D, M>, &'d Policy> {
         ensures notes { result.1.items ≡ notes_of (seen_of pass.pass) }
         ensures halt { result.2 ≡ first_stop (seen_of pass.pass) }
         ensures book { IsClosed M.opening (seen_of pass.pass) result.0.chronicle }
-        ensures images { HasImages D.bytes D.may_leave D.moment D.left_since D.faults M.opening M.moment M.faults result.0.chronicle.disk (seen_of pass.pass) }
+        ensures images { HasImages D.told M.opening M.moment M.faults result.0.chronicle.disk
+            (seen_of pass.pass) }
         ensures policy { result.0.policy.now ≡ self.entry.policy.now }
         ensures made { All (λ w. seat_of w < given_of pass.pass) (seen_of pass.pass) }
     {

@@ -19,7 +19,10 @@ impl<D: Disk, M: Marker> Kept<D, M> {
         requires seat { seat < M.seats }
         requires call { call ≡ stops.calls_by seat self.old.log }
         ensures legal { IsTrue (is_legal_shared M.opening self.new.log) }
-        ensures log { self.new.log ≡ (if stops.has_asked seat self.old.log then self.old.log else self.old.log ++ next_note seat self.old.log (said.Stop cause) [] ∷ []) }
+        ensures log { self.new.log
+            ≡ (if stops.has_asked seat self.old.log then self.old.log else self.old.log
+            ++ next_note seat self.old.log (said.Stop cause) []
+            ∷ []) }
         ensures told { result ≡ stop_reply self.old.log seat cause }
         ensures book { self.new.book ≡ self.old.book }
     {

@@ -30,7 +30,8 @@ impl<'d, D: Disk, M: Marker> Shared<Kept<D, M>, &'d Policy> {
         ensures lock { IsPassOf self.now.lock result.0.pass }
         ensures pass { IsSamePass pass.pass result.0.pass }
         ensures calls { IsCounted result.0.calls result.0.pass }
-        ensures call { IsLookCall M.opening (seats_of pass.pass) (seat_of_pass pass.pass) (seen_of pass.pass) switches.now (Some result.1) (seen_of result.0.pass) }
+        ensures call { IsLookCall M.opening (seats_of pass.pass) (seat_of_pass pass.pass)
+            (seen_of pass.pass) switches.now (Some result.1) (seen_of result.0.pass) }
     {
         for _ in rt.forever() {
             let (looked, woken) = self.look(rt, pass, switches);
@@ -56,7 +57,8 @@ impl<'d, D: Disk, M: Marker> Shared<Kept<D, M>, &'d Policy> {
         ensures lock { IsPassOf self.now.lock result.0.pass }
         ensures pass { IsSamePass pass.pass result.0.pass }
         ensures calls { IsCounted result.0.calls result.0.pass }
-        ensures call { IsLookCall M.opening (seats_of pass.pass) (seat_of_pass pass.pass) (seen_of pass.pass) switches.now result.1 (seen_of result.0.pass) }
+        ensures call { IsLookCall M.opening (seats_of pass.pass) (seat_of_pass pass.pass)
+            (seen_of pass.pass) switches.now result.1 (seen_of result.0.pass) }
     {
         let CallPass { pass, calls } = pass;
         let seat = pass.seat();

@@ -74,7 +74,9 @@ fn woken<D: Disk>(
 
 // The first of some operations whose home is among these switches.
 fn first_asked(ops: &[Op], homes: &[Option<u32>], switches: &[u32]) -> Option<Op>
-    ensures { result ≡ first_of (filter (λ op. is_among switches.now (slice_index_or homes.now op.item None)) ops.now) }
+    ensures { result
+        ≡ first_of (filter (λ op. is_among switches.now (slice_index_or homes.now op.item None))
+        ops.now) }
 {
     for op in ops {
         if is_asked(homes, op.item, switches) {

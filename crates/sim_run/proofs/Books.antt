@@ -1,5 +1,5 @@
 -- The book of a controller: its journal stays its own, and a start finds its history again.
-use Rattle.std.proofs.Common.{◌≡◌, ℕ, Bool, true, false, if◌then◌else◌, nat_le, nat_lt, List, [], ◌∷◌, ◌++◌, length, All, Option, Some, None, IfSome, inl, refl, sym, ap, ap₂, ◌∙◌, subst, lt-ltb, le-leb}
+use Rattle.std.proofs.Common.{◌≡◌, ℕ, Bool, true, false, if◌then◌else◌, nat_le, nat_lt, List, [], ◌∷◌, ◌++◌, length, All, Option, Some, None, IfSome, Result, Ok, Err, IfErr, IfOk, OnOk, inl, refl, sym, ap, ap₂, ◌∙◌, subst, lt-ltb, le-leb}
 use Rattle.std.proofs.lemmas.List.Elements.{All-head, All-tail}
 use Rattle.rollout_rules.specs.Wan.{Rollout}
 use Rattle.rollout_rules.specs.Items.{item_count}
@@ -10,7 +10,7 @@ use Rattle.rollout_rules.specs.declared.op.OpView.{OpView}
 use Rattle.wan_edge.specs.Frames.{Answer}
 use Rattle.rollout_laws.proofs.Contents.{list_below-length}
 use Rattle.dependency_graph.specs.Graph.{Followed}
-use Rattle.disk_model.specs.Memory.{LeftSince, MayLeave, Storing}
+use Rattle.disk_model.specs.Memory.{MayLeave, Storing, trace_of}
 use Rattle.disk_model.specs.Moments.{LeavesOnly}
 use Rattle.intent_journal.specs.Images.{journal_in}
 use Rattle.intent_journal.specs.Parts.{Kept}
@@ -28,8 +28,19 @@ use Rattle.rollout_book.specs.Aliens.{IsFault, OnAlien, OnDisk, fault_of, first_
 use Rattle.rollout_book.specs.declared.fault.BookFault.{BookFault}
 use Rattle.rollout_book.specs.declared.fault.BookFault.TheVariants.{Alien, Disk}
 use Rattle.rollout_book.specs.Lists.{HasOwner, IsKeptList, KeepsOwner}
+use Rattle.intent_journal.specs.Openings.{unbegun}
 use Rattle.sim_run.specs.declared.keeper.Keeper.{Keeper}
-use Rattle.sim_run.specs.Controlling.{IsAgain, IsOpened, IsOpenedOver, IsOwn, IsOwnBook, IsSeat, IsWant, MayTell, Opens, after_round, batch_over, controlling_of, graph_kept, graph_with, keeper_lives, lives, own_digest, unbegun}
+use Rattle.sim_run.specs.Controlling.{IsAgain, IsOpened, IsOpenedOver, IsOwn, IsOwnBook, IsSeat, IsWant, MayTell, Opens, after_round, batch_over, controlling_of, graph_kept, graph_with, keeper_lives, lives, own_digest}
+
+-- what holds of a result that is this one
+pub ok-fact : {A E : Type 0} (result : Result A E) (a : A) (P : Type 0) → result ≡ Ok a → OnOk result P → P
+ok-fact result a P is holds = subst (λ r. OnOk r P) is holds
+
+pub ok-value : {A E : Type 0} (result : Result A E) (a : A) (P : A → Type 0) → result ≡ Ok a → IfOk result P → P a
+ok-value result a P is holds = subst (λ r. IfOk r P) is holds
+
+pub err-value : {A E : Type 0} (result : Result A E) (e : E) (P : E → Type 0) → result ≡ Err e → IfErr result P → P e
+err-value result e P is holds = subst (λ r. IfErr r P) is holds
 
 some-is : {A : Type 0} (a b : A) → Some a ≡ Some b → a ≡ b
 some-is a b e = cc e
@@ -70,7 +81,7 @@ own-of (Some k) kept image is digest migration has =
     }
 
 -- behind a round the journal is still its own
-pub own-still : (old new : Storing) → LeavesOnly (λ (d : Storing). length d.timeline.past) (λ (d : Storing). LeftSince d.timeline) old new (KeepsOwner old.timeline.medium.bytes)
+pub own-still : (old new : Storing) → LeavesOnly trace_of old new (KeepsOwner old.timeline.medium.bytes)
     → IsOwn old.timeline.medium.bytes → IsOwn new.timeline.medium.bytes
 own-still old new run own =
     own-of (journal_in old.timeline.medium.bytes) own.kept new.timeline.medium.bytes own.is own.digest own.migration
@@ -151,7 +162,7 @@ opened-again b g d again own is disk found over =
 
 -- a book behind a round is still a controller's
 pub own-behind : (old new : Chronicled Storing) (es : List Entry) → IsOwnBook old → new ≡ with_batch old es new.disk
-    → LeavesOnly (λ (d : Storing). length d.timeline.past) (λ (d : Storing). LeftSince d.timeline) old.disk new.disk (KeepsOwner old.disk.timeline.medium.bytes) → IsOwnBook new
+    → LeavesOnly trace_of old.disk new.disk (KeepsOwner old.disk.timeline.medium.bytes) → IsOwnBook new
 own-behind old new es own is run = record {
   live = ap (λ (b : Chronicled Storing). b.live) is ∙ own.live;
   start = ap (λ (b : Chronicled Storing). b.history.start) is ∙ own.start ∙ ap (λ (b : Chronicled Storing). no_start b.rollout.problem) (sym is);

@@ -16,7 +16,8 @@ use Rattle.rollout_book.specs.Aliens.{op_of, told_by}
 use Rattle.rollout_book.specs.Chronicles.{turn_of}
 use Rattle.rollout_rounds.specs.Counts.{count_begun, count_done}
 use Rattle.rollout_rounds.specs.Rounds.{Turning, after_round, first_turn, graph_of}
-use Rattle.sim_run.specs.Controlling.{MayTell, batch_over, graph_with, unbegun}
+use Rattle.intent_journal.specs.Openings.{unbegun}
+use Rattle.sim_run.specs.Controlling.{MayTell, batch_over, graph_with}
 use Rattle.sim_run.specs.Plain.{IsPlain, Plainly}
 
 -- a graph at the start at which nothing is settled has a legal history

@@ -13,6 +13,7 @@ use Rattle.disk_model.specs.Memory.{MayLeave, Medium, Storing}
 use Rattle.intent_journal.specs.declared.digest.Digest.{Digest}
 use Rattle.intent_journal.specs.Images.{journal_in}
 use Rattle.intent_journal.specs.Parts.{Kept}
+use Rattle.intent_journal.specs.Openings.{unbegun}
 use Rattle.intent_journal.specs.Recovered.{IsBroughtTo}
 use Rattle.intent_journal.specs.Verdicts.{Fresh, NoJournal, NoStart, NotLegal, OfAnother, Stands, Verdict, verdict}
 use Rattle.intent_journal.specs.declared.fault.JournalFault.{JournalFault}
@@ -140,10 +141,6 @@ IsWant (NotJournal first) = ⊥
 IsWant (OtherPlan kept wanted) = ⊥
 IsWant BadStart = ⊥
 IsWant (Illegal place) = ⊥
-
--- a rollout of which nothing is settled
-abbrev pub unbegun : Rollout → Followed
-unbegun r = record { rollout = r; history = from_nothing r.problem [] }
 
 -- What an opening over this image makes: a book with the history for which the image stands, whose journal is its own.
 pub record IsOpened (r : Rollout) (image : List ℕ) (b : Chronicled Storing) : Type 0 where

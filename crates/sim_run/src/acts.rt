@@ -45,13 +45,20 @@ impl Model for Rehearsal {
 
     ghost view = { λ r. rehearsing_of r.controller r.network };
 
-    ghost invariant = { λ r. r.controller.live ≡ true → Keeps (rehearsing_of r.controller r.network) };
+    ghost invariant = { λ r. r.controller.live ≡ true
+        → Keeps (rehearsing_of r.controller r.network) };
 }
 
 impl Rehearsal {
     /// Its controller has a book.
     pub(crate) fn new(alloc: Global, plan: CheckedPlan) -> Result<Rehearsal, Memory>
-        ensures { IfOk result (λ r. r ≡ record { rollout = plan; state = first_rehearsal plan.problem plan.plan; live = true }) }
+        ensures { IfOk result
+            (λ r. r
+            ≡ record {
+              rollout = plan;
+              state = first_rehearsal plan.problem plan.plan;
+              live = true;
+            }) }
     {
         checked_plan_is_valid(&plan);
         let items = item_count(plan.problem());
@@ -65,7 +72,13 @@ impl Rehearsal {
 
     /// Its controller has no book, so that its starts cost nothing.
     pub(crate) fn without_book(alloc: Global, plan: CheckedPlan) -> Result<Rehearsal, Memory>
-        ensures { IfOk result (λ r. r ≡ record { rollout = plan; state = first_rehearsal plan.problem plan.plan; live = true }) }
+        ensures { IfOk result
+            (λ r. r
+            ≡ record {
+              rollout = plan;
+              state = first_rehearsal plan.problem plan.plan;
+              live = true;
+            }) }
     {
         checked_plan_is_valid(&plan);
         let items = item_count(plan.problem());
@@ -103,8 +116,10 @@ impl Rehearsal {
     /// The graph of the rollout, which has followed its durable history.
     pub(crate) fn graph(&self) -> &Graph
         requires { IsTrue self.now.live }
-        ensures value { result.now ≡ record { rollout = self.now.rollout; history = self.now.state.world.durable } }
-        ensures legal { IsTrue (is_legal self.now.rollout.problem self.now.rollout.plan self.now.state.world.durable) }
+        ensures value { result.now
+            ≡ record { rollout = self.now.rollout; history = self.now.state.world.durable } }
+        ensures legal { IsTrue (is_legal self.now.rollout.problem self.now.rollout.plan
+            self.now.state.world.durable) }
     {
         self.controller.graph()
     }
@@ -119,7 +134,8 @@ impl Rehearsal {
     /// How many operations are in flight.
     pub(crate) fn flying_count(&self) -> usize
         requires { IsTrue self.now.live }
-        ensures count { result ≡ length (in_flight self.now.rollout.problem self.now.state.world.durable) }
+        ensures count { result
+            ≡ length (in_flight self.now.rollout.problem self.now.state.world.durable) }
         ensures few { result < 4294967296 }
     {
         checked_plan_is_valid(self.graph().plan());
@@ -129,8 +145,11 @@ impl Rehearsal {
     /// One of them, by its place.
     fn flying(&self, place: usize) -> Op
         requires live { IsTrue self.now.live }
-        requires place { place < length (in_flight self.now.rollout.problem self.now.state.world.durable) }
-        ensures op { result ≡ slice_index_or (in_flight self.now.rollout.problem self.now.state.world.durable) place no_op }
+        requires place { place
+            < length (in_flight self.now.rollout.problem self.now.state.world.durable) }
+        ensures op { result
+            ≡ slice_index_or (in_flight self.now.rollout.problem self.now.state.world.durable) place
+            no_op }
         ensures item { result.item < item_count self.now.rollout.problem }
     {
         let flying = self.controller.flying();
@@ -154,8 +173,16 @@ impl Rehearsal {
     /// over. After want of memory the rehearsal is given up.
     pub(crate) fn act(&mut self, policy: &Policy, act: Act) -> Result<ActLine, Memory>
         requires { IsTrue self.old.live }
-        ensures state { OnOk result (self.new ≡ record self.old { state = after_act self.old.rollout.problem self.old.rollout.plan (rank_by policy.now.answers) self.old.state act }) }
-        ensures line { IfOk result (λ line. line ≡ line_of self.old.rollout.problem self.old.rollout.plan (rank_by policy.now.answers) self.old.state act) }
+        ensures state { OnOk result
+            (self.new
+            ≡ record self.old {
+              state = after_act self.old.rollout.problem self.old.rollout.plan
+                  (rank_by policy.now.answers) self.old.state act;
+            }) }
+        ensures line { IfOk result
+            (λ line. line
+            ≡ line_of self.old.rollout.problem self.old.rollout.plan (rank_by policy.now.answers)
+            self.old.state act) }
     {
         if self.can_happen(act) {
             self.act_out(policy, act)
@@ -167,8 +194,16 @@ impl Rehearsal {
     fn act_out(&mut self, policy: &Policy, act: Act) -> Result<ActLine, Memory>
         requires live { IsTrue self.old.live }
         requires happens { IsTrue (can_happen self.old.rollout.problem self.old.state act) }
-        ensures state { OnOk result (self.new ≡ record self.old { state = acted self.old.rollout.problem self.old.rollout.plan (rank_by policy.now.answers) self.old.state act }) }
-        ensures line { IfOk result (λ line. line ≡ line_acting self.old.rollout.problem self.old.rollout.plan (rank_by policy.now.answers) self.old.state act) }
+        ensures state { OnOk result
+            (self.new
+            ≡ record self.old {
+              state = acted self.old.rollout.problem self.old.rollout.plan
+                  (rank_by policy.now.answers) self.old.state act;
+            }) }
+        ensures line { IfOk result
+            (λ line. line
+            ≡ line_acting self.old.rollout.problem self.old.rollout.plan
+            (rank_by policy.now.answers) self.old.state act) }
     {
         match act {
             Act::Round => {
@@ -215,8 +250,16 @@ impl Rehearsal {
     fn round(&mut self, policy: &Policy) -> Result<Turn, Memory>
         requires live { IsTrue self.old.live }
         requires up { IsTrue self.old.state.world.up }
-        ensures state { OnOk result (self.new ≡ record self.old { state = acted self.old.rollout.problem self.old.rollout.plan (rank_by policy.now.answers) self.old.state act.Round }) }
-        ensures turn { IfOk result (λ turn. turn ≡ turn_of (round_batch self.old.rollout.problem self.old.rollout.plan (rank_by policy.now.answers) self.old.state)) }
+        ensures state { OnOk result
+            (self.new
+            ≡ record self.old {
+              state = acted self.old.rollout.problem self.old.rollout.plan
+                  (rank_by policy.now.answers) self.old.state act.Round;
+            }) }
+        ensures turn { IfOk result
+            (λ turn. turn
+            ≡ turn_of (round_batch self.old.rollout.problem self.old.rollout.plan
+            (rank_by policy.now.answers) self.old.state)) }
     {
         let turn = self.controller.round(policy)?;
         Ok(turn)
@@ -226,9 +269,13 @@ impl Rehearsal {
     fn send(&mut self, place: usize) -> Result<Op, Memory>
         requires live { IsTrue self.old.live }
         requires up { IsTrue self.old.state.world.up }
-        requires flying { place < length (in_flight self.old.rollout.problem self.old.state.world.durable) }
+        requires flying { place
+            < length (in_flight self.old.rollout.problem self.old.state.world.durable) }
         ensures state { OnOk result (self.new ≡ moved self.old (event.Send place ∷ [])) }
-        ensures op { IfOk result (λ op. op ≡ slice_index_or (in_flight self.old.rollout.problem self.old.state.world.durable) place no_op) }
+        ensures op { IfOk result
+            (λ op. op
+            ≡ slice_index_or (in_flight self.old.rollout.problem self.old.state.world.durable) place
+            no_op) }
     {
         let op = self.flying(place);
         self.network.send(op)?;
@@ -250,7 +297,8 @@ impl Rehearsal {
         requires up { IsTrue self.old.state.world.up }
         requires given { place < length self.old.state.world.given }
         ensures state { OnOk result (self.new ≡ moved self.old (event.Hand place ∷ [])) }
-        ensures answer { IfOk result (λ answer. answer ≡ slice_index_or self.old.state.world.given place no_answer) }
+        ensures answer { IfOk result
+            (λ answer. answer ≡ slice_index_or self.old.state.world.given place no_answer) }
     {
         let answer = self.network.answer(place);
         self.controller.hear(answer)?;
@@ -261,8 +309,14 @@ impl Rehearsal {
     fn exchange_all(&mut self) -> Result<usize, Memory>
         requires live { IsTrue self.old.live }
         requires up { IsTrue self.old.state.world.up }
-        ensures state { OnOk result (self.new ≡ moved self.old (exchanges self.old.state.world (length (in_flight self.old.rollout.problem self.old.state.world.durable)))) }
-        ensures count { IfOk result (λ count. count ≡ length (in_flight self.old.rollout.problem self.old.state.world.durable)) }
+        ensures state { OnOk result
+            (self.new
+            ≡ moved self.old
+            (exchanges self.old.state.world
+            (length (in_flight self.old.rollout.problem self.old.state.world.durable)))) }
+        ensures count { IfOk result
+            (λ count. count
+            ≡ length (in_flight self.old.rollout.problem self.old.state.world.durable)) }
     {
         let count = self.controller.flying().len();
         for place in 0..count {
@@ -274,8 +328,15 @@ impl Rehearsal {
     fn exchange(&mut self, place: usize) -> Result<(), Memory>
         requires live { IsTrue self.old.live }
         requires up { IsTrue self.old.state.world.up }
-        requires flying { place < length (in_flight self.old.rollout.problem self.old.state.world.durable) }
-        ensures { OnOk result (self.new ≡ moved self.old (event.Send place ∷ event.Deliver (length self.old.state.world.sent) ∷ event.Hand (length self.old.state.world.given) ∷ [])) }
+        requires flying { place
+            < length (in_flight self.old.rollout.problem self.old.state.world.durable) }
+        ensures { OnOk result
+            (self.new
+            ≡ moved self.old
+            (event.Send place
+            ∷ event.Deliver (length self.old.state.world.sent)
+            ∷ event.Hand (length self.old.state.world.given)
+            ∷ [])) }
     {
         let op = self.flying(place);
         let command = self.network.sent_count();
@@ -287,8 +348,18 @@ impl Rehearsal {
     /// The controller stops, maybe inside a round whose batch is lost.
     fn stop(&mut self)
         requires { IsTrue self.old.state.world.up }
-        ensures stop { (policy : OpView → ℕ) → self.new ≡ record self.old { state = acted self.old.rollout.problem self.old.rollout.plan policy self.old.state act.Stop } }
-        ensures lost { (policy : OpView → ℕ) → self.new ≡ record self.old { state = acted self.old.rollout.problem self.old.rollout.plan policy self.old.state act.CrashLost } }
+        ensures stop { (policy : OpView → ℕ)
+            → self.new
+            ≡ record self.old {
+              state = acted self.old.rollout.problem self.old.rollout.plan policy self.old.state
+                  act.Stop;
+            } }
+        ensures lost { (policy : OpView → ℕ)
+            → self.new
+            ≡ record self.old {
+              state = acted self.old.rollout.problem self.old.rollout.plan policy self.old.state
+                  act.CrashLost;
+            } }
     {
         self.controller.stop();
     }
@@ -297,7 +368,12 @@ impl Rehearsal {
     fn crash_kept(&mut self, policy: &Policy) -> Result<(), Memory>
         requires live { IsTrue self.old.live }
         requires up { IsTrue self.old.state.world.up }
-        ensures { OnOk result (self.new ≡ record self.old { state = acted self.old.rollout.problem self.old.rollout.plan (rank_by policy.now.answers) self.old.state act.CrashKept }) }
+        ensures { OnOk result
+            (self.new
+            ≡ record self.old {
+              state = acted self.old.rollout.problem self.old.rollout.plan
+                  (rank_by policy.now.answers) self.old.state act.CrashKept;
+            }) }
     {
         let _ = self.controller.round(policy)?;
         self.controller.stop();
@@ -309,7 +385,8 @@ impl Rehearsal {
         requires live { IsTrue self.old.live }
         requires down { IsFalse self.old.state.world.up }
         ensures state { OnOk result (self.new ≡ moved self.old (event.Restart ∷ [])) }
-        ensures entries { IfOk result (λ entries. entries ≡ length self.old.state.world.durable.entries) }
+        ensures entries { IfOk result
+            (λ entries. entries ≡ length self.old.state.world.durable.entries) }
     {
         let entries = self.controller.start()?;
         Ok(entries)
@@ -318,7 +395,11 @@ impl Rehearsal {
     /// Adds the lines behind those of the acts.
     pub(crate) fn push_end(&self, alloc: Global, text: &mut Text) -> Result<(), Memory>
         requires { IsTrue self.now.live }
-        ensures { OnOk result (text.new ≡ text.old ++ end_lines self.now.rollout.problem self.now.rollout.plan self.now.state.world.durable) }
+        ensures { OnOk result
+            (text.new
+            ≡ text.old
+            ++ end_lines self.now.rollout.problem self.now.rollout.plan
+            self.now.state.world.durable) }
     {
         let plan = self.graph().plan();
         push_lines(alloc, plan, self.controller.entries(), text)
@@ -327,7 +408,11 @@ impl Rehearsal {
     /// Adds what is told behind a trial.
     pub(crate) fn push_outcome(&self, alloc: Global, text: &mut Text) -> Result<(), Memory>
         requires { IsTrue self.now.live }
-        ensures { OnOk result (text.new ≡ text.old ++ outcome_lines self.now.rollout.problem self.now.rollout.plan self.now.state.world.durable) }
+        ensures { OnOk result
+            (text.new
+            ≡ text.old
+            ++ outcome_lines self.now.rollout.problem self.now.rollout.plan
+            self.now.state.world.durable) }
     {
         push_outcome_of(alloc, self.graph(), self.controller.entries(), text)
     }
@@ -345,9 +430,13 @@ fn push_outcome_of(
     entries: &[Entry],
     text: &mut Text,
 ) -> Result<(), Memory>
-    requires legal { IsTrue (is_legal graph.now.rollout.problem graph.now.rollout.plan graph.now.history) }
+    requires legal { IsTrue (is_legal graph.now.rollout.problem graph.now.rollout.plan
+        graph.now.history) }
     requires entries { from_nothing graph.now.rollout.problem entries.now ≡ graph.now.history }
-    ensures { OnOk result (text.new ≡ text.old ++ outcome_lines graph.now.rollout.problem graph.now.rollout.plan graph.now.history) }
+    ensures { OnOk result
+        (text.new
+        ≡ text.old
+        ++ outcome_lines graph.now.rollout.problem graph.now.rollout.plan graph.now.history) }
 {
     let start = no_start(alloc, graph.plan())?;
     let history = History::new(start.as_slice(), entries);
@@ -361,7 +450,10 @@ fn push_lines(
     entries: &[Entry],
     text: &mut Text,
 ) -> Result<(), Memory>
-    ensures { OnOk result (text.new ≡ text.old ++ end_lines plan.now.problem plan.now.plan (from_nothing plan.now.problem entries.now)) }
+    ensures { OnOk result
+        (text.new
+        ≡ text.old
+        ++ end_lines plan.now.problem plan.now.plan (from_nothing plan.now.problem entries.now)) }
 {
     let start = no_start(alloc, plan)?;
     let history = History::new(start.as_slice(), entries);

@@ -78,8 +78,10 @@ impl Controller {
     /// The graph of the rollout, which has followed its durable history.
     pub(crate) fn graph(&self) -> &Graph
         requires { IsTrue self.now.live }
-        ensures value { result.now ≡ record { rollout = self.now.rollout; history = self.now.history } }
-        ensures legal { IsTrue (is_legal self.now.rollout.problem self.now.rollout.plan self.now.history) }
+        ensures value { result.now
+            ≡ record { rollout = self.now.rollout; history = self.now.history } }
+        ensures legal { IsTrue (is_legal self.now.rollout.problem self.now.rollout.plan
+            self.now.history) }
     {
         match &self.keeper {
             Keeper::Book(seat) => book_on(seat).graph(),
@@ -124,9 +126,13 @@ impl Controller {
     /// memory it is given up.
     pub(crate) fn round(&mut self, policy: &Policy) -> Result<Turn, Memory>
         requires live { IsTrue self.old.live }
-        requires told { All (MayTell (record { rollout = self.old.rollout; history = self.old.history })) self.old.heard }
+        requires told { All (MayTell (record {
+          rollout = self.old.rollout;
+          history = self.old.history;
+        })) self.old.heard }
         ensures state { OnOk result (self.new ≡ after_round self.old (rank_by policy.now.answers)) }
-        ensures turn { IfOk result (λ turn. turn ≡ turn_of (batch_of self.old (rank_by policy.now.answers))) }
+        ensures turn { IfOk result
+            (λ turn. turn ≡ turn_of (batch_of self.old (rank_by policy.now.answers))) }
         ensures given_up { OnErr result (self.new.live ≡ false) }
     {
         let turn = round_of(&mut self.keeper, policy, self.answers.as_slice())?;
@@ -183,8 +189,13 @@ fn round_of(keeper: &mut Keeper, policy: &Policy, answers: &[Answer]) -> Result<
     requires told { All (MayTell (graph_kept keeper.old)) (told_by answers.now) }
     ensures own { IsKeeper keeper.new }
     ensures live { OnOk result (keeper_lives keeper.new ≡ true) }
-    ensures graph { OnOk result (graph_kept keeper.new ≡ graph_with (graph_kept keeper.old) (batch_over (graph_kept keeper.old) (rank_by policy.now.answers) answers.now)) }
-    ensures turn { IfOk result (λ turn. turn ≡ turn_of (batch_over (graph_kept keeper.old) (rank_by policy.now.answers) answers.now)) }
+    ensures graph { OnOk result
+        (graph_kept keeper.new
+        ≡ graph_with (graph_kept keeper.old)
+        (batch_over (graph_kept keeper.old) (rank_by policy.now.answers) answers.now)) }
+    ensures turn { IfOk result
+        (λ turn. turn
+        ≡ turn_of (batch_over (graph_kept keeper.old) (rank_by policy.now.answers) answers.now)) }
     ensures given_up { OnErr result (keeper_lives keeper.new ≡ false) }
 {
     match keeper {
@@ -245,7 +256,9 @@ fn left_of(alloc: Global, disk: &MemoryDisk) -> Result<MemoryDisk, Memory>
 /// The book of a controller that starts for the first time.
 fn first_book(alloc: Global, plan: CheckedPlan) -> Result<Chronicle<MemoryDisk>, Memory>
     ensures own { IfOk result (λ book. IsOwnBook book) }
-    ensures graph { IfOk result (λ book. graph_of book ≡ record { rollout = plan; history = from_nothing plan.problem [] }) }
+    ensures graph { IfOk result
+        (λ book. graph_of book
+        ≡ record { rollout = plan; history = from_nothing plan.problem [] }) }
 {
     match first_disk(alloc) {
         Ok(disk) => opened_for(alloc, plan, disk),
@@ -341,7 +354,9 @@ fn opened_over(
     graph: Graph,
     disk: &MemoryDisk,
 ) -> Result<Chronicle<MemoryDisk>, Memory>
-    requires { (image : List ℕ) → MayLeave disk.now.timeline.medium image → Opens (verdict graph.rollout own_digest image) }
+    requires { (image : List ℕ)
+        → MayLeave disk.now.timeline.medium image
+        → Opens (verdict graph.rollout own_digest image) }
     ensures { IfOk result (IsOpenedOver graph.rollout disk.now.timeline.medium) }
 {
     match left_of(alloc, disk) {
@@ -353,7 +368,10 @@ fn opened_over(
 /// Whatever a crash leaves of a book's disk, an opening finds the book's history there.
 fn is_found_again(book: &Chronicle<MemoryDisk>)
     requires { IsOwnBook book.now }
-    ensures { (image : List ℕ) → MayLeave book.now.disk.timeline.medium image → verdict book.now.rollout own_digest image ≡ Stands book.now.history.start book.now.history.entries }
+    ensures { (image : List ℕ)
+        → MayLeave book.now.disk.timeline.medium image
+        → verdict book.now.rollout own_digest image
+        ≡ Stands book.now.history.start book.now.history.entries }
 {
     a_legal_list_is_found_again(book.entries());
     let _ = book.graph();
@@ -370,8 +388,13 @@ fn round_in(
     requires told { All (MayTell (graph_in seat.old)) (told_by answers.now) }
     ensures own { IsSeat seat.new }
     ensures live { OnOk result (lives seat.new ≡ true) }
-    ensures graph { OnOk result (graph_in seat.new ≡ graph_with (graph_in seat.old) (batch_over (graph_in seat.old) (rank_by policy.now.answers) answers.now)) }
-    ensures turn { IfOk result (λ turn. turn ≡ turn_of (batch_over (graph_in seat.old) (rank_by policy.now.answers) answers.now)) }
+    ensures graph { OnOk result
+        (graph_in seat.new
+        ≡ graph_with (graph_in seat.old)
+        (batch_over (graph_in seat.old) (rank_by policy.now.answers) answers.now)) }
+    ensures turn { IfOk result
+        (λ turn. turn
+        ≡ turn_of (batch_over (graph_in seat.old) (rank_by policy.now.answers) answers.now)) }
     ensures given_up { OnErr result (lives seat.new ≡ false) }
 {
     match seat {
@@ -390,8 +413,13 @@ fn round_over(
     requires told { All (MayTell (graph_of book.old)) (told_by answers.now) }
     ensures own { book.new.live ≡ true → IsOwnBook book.new }
     ensures live { OnOk result (book.new.live ≡ true) }
-    ensures graph { OnOk result (graph_of book.new ≡ graph_with (graph_of book.old) (batch_over (graph_of book.old) (rank_by policy.now.answers) answers.now)) }
-    ensures turn { IfOk result (λ turn. turn ≡ turn_of (batch_over (graph_of book.old) (rank_by policy.now.answers) answers.now)) }
+    ensures graph { OnOk result
+        (graph_of book.new
+        ≡ graph_with (graph_of book.old)
+        (batch_over (graph_of book.old) (rank_by policy.now.answers) answers.now)) }
+    ensures turn { IfOk result
+        (λ turn. turn
+        ≡ turn_of (batch_over (graph_of book.old) (rank_by policy.now.answers) answers.now)) }
     ensures given_up { OnErr result (book.new.live ≡ false) }
 {
     match book.round(policy, answers) {

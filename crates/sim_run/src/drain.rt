@@ -12,8 +12,22 @@ use rollout_rules::Act;
 /// there are operations and one. Answers how many.
 pub(crate) fn drain(rehearsal: &mut Rehearsal, policy: &Policy) -> Result<u64, Memory>
     requires { IsTrue rehearsal.old.live }
-    ensures state { OnOk result (rehearsal.new ≡ record rehearsal.old { state = drained rehearsal.old.rollout.problem rehearsal.old.rollout.plan (rank_by policy.now.answers) (all_operations rehearsal.old.rollout.problem rehearsal.old.rollout.plan + 1) (raised rehearsal.old.rollout.problem rehearsal.old.rollout.plan (rank_by policy.now.answers) rehearsal.old.state) }) }
-    ensures turns { IfOk result (λ made. made ≡ turns rehearsal.old.rollout.problem rehearsal.old.rollout.plan (rank_by policy.now.answers) (all_operations rehearsal.old.rollout.problem rehearsal.old.rollout.plan + 1) (raised rehearsal.old.rollout.problem rehearsal.old.rollout.plan (rank_by policy.now.answers) rehearsal.old.state)) }
+    ensures state { OnOk result
+        (rehearsal.new
+        ≡ record rehearsal.old {
+          state = drained rehearsal.old.rollout.problem rehearsal.old.rollout.plan
+              (rank_by policy.now.answers)
+              (all_operations rehearsal.old.rollout.problem rehearsal.old.rollout.plan + 1)
+              (raised rehearsal.old.rollout.problem rehearsal.old.rollout.plan
+              (rank_by policy.now.answers) rehearsal.old.state);
+        }) }
+    ensures turns { IfOk result
+        (λ made. made
+        ≡ turns rehearsal.old.rollout.problem rehearsal.old.rollout.plan
+        (rank_by policy.now.answers)
+        (all_operations rehearsal.old.rollout.problem rehearsal.old.rollout.plan + 1)
+        (raised rehearsal.old.rollout.problem rehearsal.old.rollout.plan
+        (rank_by policy.now.answers) rehearsal.old.state)) }
 {
     raise(rehearsal, policy)?;
     let operations = rehearsal.graph().op_total();
@@ -22,7 +36,12 @@ pub(crate) fn drain(rehearsal: &mut Rehearsal, policy: &Policy) -> Result<u64, M
 
 fn raise(rehearsal: &mut Rehearsal, policy: &Policy) -> Result<(), Memory>
     requires { IsTrue rehearsal.old.live }
-    ensures { OnOk result (rehearsal.new ≡ record rehearsal.old { state = raised rehearsal.old.rollout.problem rehearsal.old.rollout.plan (rank_by policy.now.answers) rehearsal.old.state }) }
+    ensures { OnOk result
+        (rehearsal.new
+        ≡ record rehearsal.old {
+          state = raised rehearsal.old.rollout.problem rehearsal.old.rollout.plan
+              (rank_by policy.now.answers) rehearsal.old.state;
+        }) }
 {
     if !rehearsal.is_up() {
         rehearsal.act(policy, Act::Start)?;
@@ -33,8 +52,16 @@ fn raise(rehearsal: &mut Rehearsal, policy: &Policy) -> Result<(), Memory>
 /// Makes turns until every operation is settled, and at most so many. Answers how many.
 fn make_turns(rehearsal: &mut Rehearsal, policy: &Policy, most: u64) -> Result<u64, Memory>
     requires { IsTrue rehearsal.old.live }
-    ensures state { OnOk result (rehearsal.new ≡ record rehearsal.old { state = drained rehearsal.old.rollout.problem rehearsal.old.rollout.plan (rank_by policy.now.answers) most rehearsal.old.state }) }
-    ensures turns { IfOk result (λ made. made ≡ turns rehearsal.old.rollout.problem rehearsal.old.rollout.plan (rank_by policy.now.answers) most rehearsal.old.state) }
+    ensures state { OnOk result
+        (rehearsal.new
+        ≡ record rehearsal.old {
+          state = drained rehearsal.old.rollout.problem rehearsal.old.rollout.plan
+              (rank_by policy.now.answers) most rehearsal.old.state;
+        }) }
+    ensures turns { IfOk result
+        (λ made. made
+        ≡ turns rehearsal.old.rollout.problem rehearsal.old.rollout.plan
+        (rank_by policy.now.answers) most rehearsal.old.state) }
 {
     for made in 0..most {
         if is_finished(rehearsal) {
@@ -48,7 +75,12 @@ fn make_turns(rehearsal: &mut Rehearsal, policy: &Policy, most: u64) -> Result<u
 /// What is in flight is exchanged, and then a round is made.
 fn turn(rehearsal: &mut Rehearsal, policy: &Policy) -> Result<(), Memory>
     requires { IsTrue rehearsal.old.live }
-    ensures { OnOk result (rehearsal.new ≡ record rehearsal.old { state = after_turn rehearsal.old.rollout.problem rehearsal.old.rollout.plan (rank_by policy.now.answers) rehearsal.old.state }) }
+    ensures { OnOk result
+        (rehearsal.new
+        ≡ record rehearsal.old {
+          state = after_turn rehearsal.old.rollout.problem rehearsal.old.rollout.plan
+              (rank_by policy.now.answers) rehearsal.old.state;
+        }) }
 {
     rehearsal.act(policy, Act::All)?;
     rehearsal.act(policy, Act::Round)?;
@@ -58,7 +90,8 @@ fn turn(rehearsal: &mut Rehearsal, policy: &Policy) -> Result<(), Memory>
 /// Whether every operation is settled. Time: the items.
 fn is_finished(rehearsal: &Rehearsal) -> bool
     requires { IsTrue rehearsal.now.live }
-    ensures { result ≡ is_finished rehearsal.now.rollout.problem rehearsal.now.rollout.plan rehearsal.now.state }
+    ensures { result
+        ≡ is_finished rehearsal.now.rollout.problem rehearsal.now.rollout.plan rehearsal.now.state }
 {
     rehearsal.graph().finished()
 }

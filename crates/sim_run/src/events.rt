@@ -12,8 +12,10 @@ pub(crate) fn next_act(rehearsal: &Rehearsal, draws: &mut Draws) -> Option<Act>
     requires live { IsTrue rehearsal.now.live }
     requires sent { length rehearsal.now.state.world.sent < 4294967296 }
     requires given { length rehearsal.now.state.world.given < 4294967296 }
-    ensures chosen { result ≡ (next_act rehearsal.now.rollout.problem rehearsal.now.state.world draws.old).chosen }
-    ensures left { draws.new ≡ (next_act rehearsal.now.rollout.problem rehearsal.now.state.world draws.old).left }
+    ensures chosen { result
+        ≡ (next_act rehearsal.now.rollout.problem rehearsal.now.state.world draws.old).chosen }
+    ensures left { draws.new
+        ≡ (next_act rehearsal.now.rollout.problem rehearsal.now.state.world draws.old).left }
 {
     if !rehearsal.is_up() {
         return Some(Act::Start);
@@ -27,8 +29,11 @@ fn act_for(rehearsal: &Rehearsal, number: u32, draws: &mut Draws) -> Option<Act>
     requires live { IsTrue rehearsal.now.live }
     requires sent { length rehearsal.now.state.world.sent < 4294967296 }
     requires given { length rehearsal.now.state.world.given < 4294967296 }
-    ensures chosen { result ≡ (act_for rehearsal.now.rollout.problem rehearsal.now.state.world draws.old number).chosen }
-    ensures left { draws.new ≡ (act_for rehearsal.now.rollout.problem rehearsal.now.state.world draws.old number).left }
+    ensures chosen { result
+        ≡ (act_for rehearsal.now.rollout.problem rehearsal.now.state.world draws.old
+        number).chosen }
+    ensures left { draws.new
+        ≡ (act_for rehearsal.now.rollout.problem rehearsal.now.state.world draws.old number).left }
 {
     if number < 25 {
         Some(Act::Round)

@@ -14,23 +14,36 @@ ghost use Rattle.sim_run.specs.Trials.{after_trial, all_operations, end_of_trial
 /// Every script is a schedule, whatever the policy, so over a valid plan each world on its way is safe, no
 /// peak is above its capacity, and a script that ends finished leaves the switches at the new split.
 pub fn every_rehearsal_is_safe()
-    ensures { (p : Problem) (plan : Plan) (policy : OpView → ℕ) (script : List Act) → IsNetwork p → IsTrue (is_valid_plan p plan) → IsSafeRehearsal p plan policy script }
+    ensures { (p : Problem) (plan : Plan) (policy : OpView → ℕ) (script : List Act)
+        → IsNetwork p
+        → IsTrue (is_valid_plan p plan)
+        → IsSafeRehearsal p plan policy script }
 {}
 
 /// The events of a trial are the script of the acts that were drawn, and so are its worlds; and with its
 /// drain it is a script, too. So over a valid plan each of its worlds is safe.
 pub fn a_trial_is_a_script()
-    ensures events { (p : Problem) (plan : Plan) (policy : OpView → ℕ) (draws : Lcg) (events : ℕ) →
-        (after_trial p plan policy draws events).rehearsal ≡ after_acts p plan policy (first_rehearsal p plan) (after_trial p plan policy draws events).acts }
-    ensures whole { (p : Problem) (plan : Plan) (policy : OpView → ℕ) (draws : Lcg) (events : ℕ) →
-        end_of_trial p plan policy draws events ≡ after_acts p plan policy (first_rehearsal p plan) (trial_script p plan policy draws events) }
-    ensures safe { (p : Problem) (plan : Plan) (policy : OpView → ℕ) (draws : Lcg) (events : ℕ) → IsNetwork p → IsTrue (is_valid_plan p plan) →
-        IsSafeRehearsal p plan policy (trial_script p plan policy draws events) }
+    ensures events { (p : Problem) (plan : Plan) (policy : OpView → ℕ) (draws : Lcg) (events : ℕ)
+        → (after_trial p plan policy draws events).rehearsal
+        ≡ after_acts p plan policy (first_rehearsal p plan)
+        (after_trial p plan policy draws events).acts }
+    ensures whole { (p : Problem) (plan : Plan) (policy : OpView → ℕ) (draws : Lcg) (events : ℕ)
+        → end_of_trial p plan policy draws events
+        ≡ after_acts p plan policy (first_rehearsal p plan)
+        (trial_script p plan policy draws events) }
+    ensures safe { (p : Problem) (plan : Plan) (policy : OpView → ℕ) (draws : Lcg) (events : ℕ)
+        → IsNetwork p
+        → IsTrue (is_valid_plan p plan)
+        → IsSafeRehearsal p plan policy (trial_script p plan policy draws events) }
 {}
 
 /// A trial ends finished, within the turns of its drain, where the policy holds nothing back and there is room
 /// for a command for each event and each operation.
 pub fn a_trial_ends_finished()
-    ensures { (p : Problem) (plan : Plan) (policy : OpView → ℕ) (draws : Lcg) (events : ℕ) → IsNetwork p → IsTrue (is_valid_plan p plan) → HoldsNothing policy → events + all_operations p plan ≤ MOST_SENT →
-        IsTrue (is_finished p plan (end_of_trial p plan policy draws events)) }
+    ensures { (p : Problem) (plan : Plan) (policy : OpView → ℕ) (draws : Lcg) (events : ℕ)
+        → IsNetwork p
+        → IsTrue (is_valid_plan p plan)
+        → HoldsNothing policy
+        → events + all_operations p plan ≤ MOST_SENT
+        → IsTrue (is_finished p plan (end_of_trial p plan policy draws events)) }
 {}

@@ -8,7 +8,8 @@ use rollout_rules::{Given, Op};
 
 /// Adds the line of the act with a number.
 pub(crate) fn push_act_line(text: &mut Text, number: usize, line: &ActLine) -> Result<(), Memory>
-    ensures { OnOk result (text.new ≡ text.old ++ (decimal number ++ codes " " ++ line_text line.now ++ codes "\n")) }
+    ensures { OnOk result
+        (text.new ≡ text.old ++ (decimal number ++ codes " " ++ line_text line.now ++ codes "\n")) }
 {
     push_number(text, number)?;
     text.push_str(" ")?;
@@ -44,7 +45,8 @@ fn push_line(text: &mut Text, line: &ActLine) -> Result<(), Memory>
 
 /// Adds how many entries of a round's batch are Done, and how many are Begin.
 fn push_counts(text: &mut Text, dones: u32, begins: u32) -> Result<(), Memory>
-    ensures { OnOk result (text.new ≡ text.old ++ (codes "round: dones " ++ decimal dones ++ codes ", begins " ++ decimal begins)) }
+    ensures { OnOk result
+        (text.new ≡ text.old ++ (codes "round: dones " ++ decimal dones ++ codes ", begins " ++ decimal begins)) }
 {
     push_count(text, "round: dones ", dones as usize)?;
     push_count(text, ", begins ", begins as usize)

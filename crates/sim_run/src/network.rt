@@ -25,13 +25,18 @@ impl Model for Network {
 
     ghost view = { λ n. record { sent = n.sent; given = n.given; applied = n.applied.items } };
 
-    ghost invariant = { λ n. IsPassing (record { sent = n.sent; given = n.given; applied = n.applied.items }) };
+    ghost invariant = { λ n. IsPassing (record {
+      sent = n.sent;
+      given = n.given;
+      applied = n.applied.items;
+    }) };
 }
 
 impl Network {
     /// Nothing was sent, and the switches have applied nothing of so many items.
     pub(crate) fn new(alloc: Global, items: u32) -> Result<Network, Memory>
-        ensures { IfOk result (λ n. n ≡ record { sent = []; given = []; applied = replicate items 0 }) }
+        ensures { IfOk result
+            (λ n. n ≡ record { sent = []; given = []; applied = replicate items 0 }) }
     {
         Ok(Network {
             sent: OpList::new(alloc),
@@ -66,8 +71,10 @@ impl Network {
     /// its operations it has applied. Want of memory changes nothing.
     pub(crate) fn deliver(&mut self, place: usize) -> Result<Op, Memory>
         requires { place < length self.old.sent }
-        ensures ok { OnOk result (self.new ≡ with_delivered self.old (slice_index_or self.old.sent place no_op)) }
-        ensures answer { IfOk result (λ answer. answer ≡ answer_to self.old (slice_index_or self.old.sent place no_op)) }
+        ensures ok { OnOk result
+            (self.new ≡ with_delivered self.old (slice_index_or self.old.sent place no_op)) }
+        ensures answer { IfOk result
+            (λ answer. answer ≡ answer_to self.old (slice_index_or self.old.sent place no_op)) }
         ensures item { IfOk result (λ answer. answer.item < length self.old.applied) }
         ensures err { OnErr result (self.new ≡ self.old) }
     {

@@ -1,18 +1,17 @@
 //! What is told behind a trial's rollout.
 ghost use Rattle.std.specs.Prelude.{◌≡◌, ◌++◌, ◌<◌, ◌^◌, ℕ, codes, length, slice_index, IfSome, IsTrue, OnOk};
 ghost use Rattle.rollout_rules.specs.History as rules;
-ghost use Rattle.rollout_rules.specs.Legal.{is_legal, unsettled};
+ghost use Rattle.rollout_rules.specs.Legal.{is_legal};
 ghost use Rattle.rollout_rules.specs.Sums.{list_below};
 ghost use Rattle.dependency_graph.specs.Graph.{op_total};
-ghost use Rattle.rollout_peaks.specs.Ends as ends;
 ghost use Rattle.rollout_peaks.specs.Peaks.{link_peak};
 ghost use Rattle.sim_run.specs.TrialText as telling;
 
 use dependency_graph::{Graph, checked_plan_is_valid};
 use lists::{Memory, Text};
-use rollout_peaks::{History, Peaks};
+use rollout_peaks::{History, Peaks, push_last_line};
 use std::alloc::Global;
-use wan_model::{CheckedPlan, item_count};
+use wan_model::CheckedPlan;
 use wan_text::push_link;
 
 /// Adds what is told behind a rollout: how many operations and entries there are, which link came to be
@@ -23,14 +22,19 @@ pub(crate) fn push_outcome(
     history: &History<'_>,
     text: &mut Text,
 ) -> Result<(), Memory>
-    requires legal { IsTrue (is_legal graph.now.rollout.problem graph.now.rollout.plan graph.now.history) }
+    requires legal { IsTrue (is_legal graph.now.rollout.problem graph.now.rollout.plan
+        graph.now.history) }
     requires history { history.now ≡ graph.now.history }
-    ensures { OnOk result (text.new ≡ text.old ++ telling.outcome_lines graph.now.rollout.problem graph.now.rollout.plan graph.now.history) }
+    ensures { OnOk result
+        (text.new
+        ≡ text.old
+        ++ telling.outcome_lines graph.now.rollout.problem graph.now.rollout.plan
+        graph.now.history) }
 {
     push_counts(alloc, text, graph.op_total(), history.entries().len())?;
     text.push_str("fullest link: ")?;
     push_fullest(alloc, graph.plan(), history, text)?;
-    push_last_line(alloc, text, unsettled(graph))
+    push_last_line(alloc, text, graph.unsettled())
 }
 
 fn push_counts(
@@ -53,7 +57,8 @@ fn push_fullest(
     text: &mut Text,
 ) -> Result<(), Memory>
     requires { IsTrue (is_legal plan.now.problem plan.now.plan history.now) }
-    ensures { OnOk result (text.new ≡ text.old ++ (telling.fullest_text plan.now.problem plan.now.plan history.now (telling.fullest plan.now.problem plan.now.plan history.now (length plan.now.problem.links)) ++ codes "\n")) }
+    ensures { OnOk result
+        (text.new ≡ text.old ++ (telling.fullest_text plan.now.problem plan.now.plan history.now (telling.fullest plan.now.problem plan.now.plan history.now (length plan.now.problem.links)) ++ codes "\n")) }
 {
     let peaks = Peaks::over(alloc, plan, history)?;
     let peaks = peaks.links();
@@ -72,7 +77,8 @@ fn push_fullness(
     peak: u128,
 ) -> Result<(), Memory>
     requires { link < length plan.now.problem.links }
-    ensures { OnOk result (text.new ≡ text.old ++ (telling.fullness_text plan.now.problem plan.now.plan link peak ++ codes "\n")) }
+    ensures { OnOk result
+        (text.new ≡ text.old ++ (telling.fullness_text plan.now.problem plan.now.plan link peak ++ codes "\n")) }
 {
     let room = room_of(plan, link);
     push_link(alloc, text, plan.problem(), link)?;
@@ -83,7 +89,9 @@ fn push_fullness(
 /// A peak isn't large, since it is at most what its link has.
 fn peaks_fit(plan: &CheckedPlan, history: &History<'_>)
     requires { IsTrue (is_legal plan.now.problem plan.now.plan history.now) }
-    ensures { (l : ℕ) → l < length plan.now.problem.links → link_peak plan.now.problem plan.now.plan history.now l < 2 ^ 60 }
+    ensures { (l : ℕ)
+        → l < length plan.now.problem.links
+        → link_peak plan.now.problem plan.now.plan history.now l < 2 ^ 60 }
 {
     checked_plan_is_valid(plan);
 }
@@ -93,7 +101,11 @@ fn peaks_fit(plan: &CheckedPlan, history: &History<'_>)
 fn fullest(plan: &CheckedPlan, peaks: &[u128]) -> Option<usize>
     requires all { length peaks.now ≡ length plan.now.problem.links }
     requires small { (l : ℕ) → l < length peaks.now → slice_index peaks.now l < 2 ^ 60 }
-    ensures is { (h : rules.History) → peaks.now ≡ list_below (length plan.now.problem.links) (link_peak plan.now.problem plan.now.plan h) → result ≡ telling.fullest plan.now.problem plan.now.plan h (length plan.now.problem.links) }
+    ensures is { (h : rules.History)
+        → peaks.now
+        ≡ list_below (length plan.now.problem.links) (link_peak plan.now.problem plan.now.plan h)
+        → result
+        ≡ telling.fullest plan.now.problem plan.now.plan h (length plan.now.problem.links) }
     ensures inside { IfSome result (λ link. link < length peaks.now) }
 {
     let mut found = None;
@@ -109,7 +121,10 @@ fn fuller(plan: &CheckedPlan, peaks: &[u128], found: Option<usize>, link: usize)
     requires small { (l : ℕ) → l < length peaks.now → slice_index peaks.now l < 2 ^ 60 }
     requires link { link < length peaks.now }
     requires found { IfSome found (λ best. best < length peaks.now) }
-    ensures is { (h : rules.History) → peaks.now ≡ list_below (length plan.now.problem.links) (link_peak plan.now.problem plan.now.plan h) → result ≡ telling.fuller plan.now.problem plan.now.plan h found link }
+    ensures is { (h : rules.History)
+        → peaks.now
+        ≡ list_below (length plan.now.problem.links) (link_peak plan.now.problem plan.now.plan h)
+        → result ≡ telling.fuller plan.now.problem plan.now.plan h found link }
     ensures inside { IfSome result (λ best. best < length peaks.now) }
 {
     if room_of(plan, link) == 0 {
@@ -126,7 +141,9 @@ fn fuller_of(plan: &CheckedPlan, peaks: &[u128], best: usize, link: usize) -> us
     requires small { (l : ℕ) → l < length peaks.now → slice_index peaks.now l < 2 ^ 60 }
     requires best { best < length peaks.now }
     requires link { link < length peaks.now }
-    ensures is { result ≡ telling.fuller_of (telling.room_of plan.now.problem plan.now.plan) (slice_index peaks.now) best link }
+    ensures is { result
+        ≡ telling.fuller_of (telling.room_of plan.now.problem plan.now.plan) (slice_index peaks.now)
+        best link }
     ensures inside { result < length peaks.now }
 {
     let room = room_of(plan, link);
@@ -146,26 +163,4 @@ fn room_of(plan: &CheckedPlan, link: usize) -> u128
 {
     checked_plan_is_valid(plan);
     u128::from(plan.problem().capacity(link)) * u128::from(plan.plan().scale)
-}
-
-/// How many operations are not settled. Time: the items.
-fn unsettled(graph: &Graph) -> u64
-    ensures { result ≡ unsettled graph.now.rollout.problem graph.now.rollout.plan graph.now.history }
-{
-    let mut left = 0;
-    for item in 0..item_count(graph.plan().problem()) {
-        left += u64::from(graph.op_count(item).saturating_sub(graph.settled(item)));
-    }
-    left
-}
-
-/// Adds the last line: whether operations are left unsettled, and how many.
-fn push_last_line(alloc: Global, text: &mut Text, left: u64) -> Result<(), Memory>
-    ensures { OnOk result (text.new ≡ text.old ++ ends.last_line left) }
-{
-    if left == 0 {
-        return text.push_str("finished\n");
-    }
-    let line = format!(in alloc; "unfinished: {left}\n")?;
-    text.push_str(&line)
 }

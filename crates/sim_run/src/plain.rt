@@ -7,7 +7,8 @@ ghost use Rattle.order_policy.specs.Answers.{rank_by};
 ghost use Rattle.rollout_book.specs.Aliens.{told_by};
 ghost use Rattle.rollout_book.specs.Chronicles.{turn_of};
 ghost use Rattle.rollout_rounds.specs.Rounds.{first_turn};
-ghost use Rattle.sim_run.specs.Controlling.{MayTell, batch_over, graph_with, unbegun};
+ghost use Rattle.intent_journal.specs.Openings.{unbegun};
+ghost use Rattle.sim_run.specs.Controlling.{MayTell, batch_over, graph_with};
 
 use crate::keeper::end_graph;
 use dependency_graph::{Graph, checked_plan_is_valid};
@@ -57,14 +58,16 @@ impl Plain {
     /// The graph of the rollout, which has followed its history.
     pub(crate) fn graph(&self) -> &Graph
         ensures value { result.now ≡ self.now.graph }
-        ensures legal { IsTrue (is_legal self.now.graph.rollout.problem self.now.graph.rollout.plan self.now.graph.history) }
+        ensures legal { IsTrue (is_legal self.now.graph.rollout.problem self.now.graph.rollout.plan
+            self.now.graph.history) }
     {
         self.rounds.graph()
     }
 
     /// The operations in flight, by item.
     pub(crate) fn flying(&self) -> &[Op]
-        ensures value { result.now ≡ in_flight self.now.graph.rollout.problem self.now.graph.history }
+        ensures value { result.now
+            ≡ in_flight self.now.graph.rollout.problem self.now.graph.history }
         ensures items { All (λ op. op.item < item_count self.now.graph.rollout.problem) result.now }
     {
         self.rounds.flying()
@@ -82,8 +85,15 @@ impl Plain {
     pub(crate) fn round(&mut self, policy: &Policy, answers: &[Answer]) -> Result<Turn, Memory>
         requires live { IsTrue self.old.live }
         requires told { All (MayTell self.old.graph) (told_by answers.now) }
-        ensures state { OnOk result (self.new ≡ record self.old { graph = graph_with self.old.graph (batch_over self.old.graph (rank_by policy.now.answers) answers.now) }) }
-        ensures turn { IfOk result (λ turn. turn ≡ turn_of (batch_over self.old.graph (rank_by policy.now.answers) answers.now)) }
+        ensures state { OnOk result
+            (self.new
+            ≡ record self.old {
+              graph = graph_with self.old.graph
+                  (batch_over self.old.graph (rank_by policy.now.answers) answers.now);
+            }) }
+        ensures turn { IfOk result
+            (λ turn. turn
+            ≡ turn_of (batch_over self.old.graph (rank_by policy.now.answers) answers.now)) }
         ensures given_up { OnErr result (self.new.live ≡ false) }
     {
         hear_each(&mut self.rounds, answers);

@@ -22,8 +22,11 @@ pub fn run_script(
     policy: &Policy,
     script: &Script,
 ) -> Result<Text, Memory>
-    ensures text { IfOk result (λ text. text ≡ script_text plan.problem plan.plan (rank_by policy.now.answers) script.now) }
-    ensures safe { IfOk result (λ text. IsSafeRehearsal plan.problem plan.plan (rank_by policy.now.answers) script.now) }
+    ensures text { IfOk result
+        (λ text. text
+        ≡ script_text plan.problem plan.plan (rank_by policy.now.answers) script.now) }
+    ensures safe { IfOk result
+        (λ text. IsSafeRehearsal plan.problem plan.plan (rank_by policy.now.answers) script.now) }
 {
     rehearsal_is_safe(&plan, policy, script);
     let text = rehearse(alloc, plan, policy, script.as_slice())?;
@@ -37,7 +40,8 @@ fn rehearse(
     policy: &Policy,
     script: &[Act],
 ) -> Result<Text, Memory>
-    ensures { IfOk result (λ text. text ≡ text_from (first_of plan) (rank_by policy.now.answers) script.now) }
+    ensures { IfOk result
+        (λ text. text ≡ text_from (first_of plan) (rank_by policy.now.answers) script.now) }
 {
     match Rehearsal::new(alloc, plan) {
         Ok(rehearsal) => of_rehearsal(alloc, rehearsal, policy, script),
@@ -53,7 +57,8 @@ fn of_rehearsal(
     script: &[Act],
 ) -> Result<Text, Memory>
     requires { IsTrue rehearsal.live }
-    ensures { IfOk result (λ text. text ≡ text_from rehearsal (rank_by policy.now.answers) script.now) }
+    ensures { IfOk result
+        (λ text. text ≡ text_from rehearsal (rank_by policy.now.answers) script.now) }
 {
     let text = text_of(alloc, &mut rehearsal, policy, script);
     rehearsal.end();
@@ -71,7 +76,8 @@ fn text_of(
     script: &[Act],
 ) -> Result<Text, Memory>
     requires { IsTrue rehearsal.old.live }
-    ensures { IfOk result (λ text. text ≡ text_from rehearsal.old (rank_by policy.now.answers) script.now) }
+    ensures { IfOk result
+        (λ text. text ≡ text_from rehearsal.old (rank_by policy.now.answers) script.now) }
 {
     let mut text = Text::with_capacity(alloc, script.len().saturating_mul(LINE))?;
     push_acts(rehearsal, policy, script, &mut text)?;
@@ -81,7 +87,8 @@ fn text_of(
 
 /// What the plan's type keeps makes each of its rehearsals safe.
 fn rehearsal_is_safe(plan: &CheckedPlan, policy: &Policy, script: &Script)
-    ensures { IsSafeRehearsal plan.now.problem plan.now.plan (rank_by policy.now.answers) script.now }
+    ensures { IsSafeRehearsal plan.now.problem plan.now.plan (rank_by policy.now.answers)
+        script.now }
 {
     let _ = plan.problem().links();
     let _ = plan.plan();
@@ -94,8 +101,17 @@ fn push_acts(
     text: &mut Text,
 ) -> Result<(), Memory>
     requires { IsTrue rehearsal.old.live }
-    ensures state { OnOk result (rehearsal.new ≡ record rehearsal.old { state = after_acts rehearsal.old.rollout.problem rehearsal.old.rollout.plan (rank_by policy.now.answers) rehearsal.old.state script.now }) }
-    ensures text { OnOk result (text.new ≡ text.old ++ act_lines rehearsal.old.rollout.problem rehearsal.old.rollout.plan (rank_by policy.now.answers) 0 rehearsal.old.state script.now) }
+    ensures state { OnOk result
+        (rehearsal.new
+        ≡ record rehearsal.old {
+          state = after_acts rehearsal.old.rollout.problem rehearsal.old.rollout.plan
+              (rank_by policy.now.answers) rehearsal.old.state script.now;
+        }) }
+    ensures text { OnOk result
+        (text.new
+        ≡ text.old
+        ++ act_lines rehearsal.old.rollout.problem rehearsal.old.rollout.plan
+        (rank_by policy.now.answers) 0 rehearsal.old.state script.now) }
 {
     for (number, act) in script.iter().enumerate() {
         let line = rehearsal.act(policy, *act)?;

@@ -29,7 +29,10 @@ pub fn run_trial(
     shape: &Shape,
     draws: &mut Draws,
 ) -> Result<Text, Memory>
-    ensures { IfOk result (λ text. text ≡ trial_text plan.problem plan.plan rate_steps (rank_by policy.now.answers) shape.now draws.old) }
+    ensures { IfOk result
+        (λ text. text
+        ≡ trial_text plan.problem plan.plan rate_steps (rank_by policy.now.answers) shape.now
+        draws.old) }
 {
     match Rehearsal::without_book(alloc, plan) {
         Ok(rehearsal) => of_rehearsal(alloc, rehearsal, rate_steps, policy, shape, draws),
@@ -47,8 +50,12 @@ fn of_rehearsal(
     draws: &mut Draws,
 ) -> Result<Text, Memory>
     requires live { IsTrue rehearsal.live }
-    requires first { rehearsal.state ≡ first_rehearsal rehearsal.rollout.problem rehearsal.rollout.plan }
-    ensures { IfOk result (λ text. text ≡ trial_text rehearsal.rollout.problem rehearsal.rollout.plan rate_steps (rank_by policy.now.answers) shape.now draws.old) }
+    requires first { rehearsal.state
+        ≡ first_rehearsal rehearsal.rollout.problem rehearsal.rollout.plan }
+    ensures { IfOk result
+        (λ text. text
+        ≡ trial_text rehearsal.rollout.problem rehearsal.rollout.plan rate_steps
+        (rank_by policy.now.answers) shape.now draws.old) }
 {
     let text = text_of(alloc, &mut rehearsal, rate_steps, policy, shape, draws);
     rehearsal.end();
@@ -64,8 +71,12 @@ fn text_of(
     draws: &mut Draws,
 ) -> Result<Text, Memory>
     requires live { IsTrue rehearsal.old.live }
-    requires first { rehearsal.old.state ≡ first_rehearsal rehearsal.old.rollout.problem rehearsal.old.rollout.plan }
-    ensures { IfOk result (λ text. text ≡ trial_text rehearsal.old.rollout.problem rehearsal.old.rollout.plan rate_steps (rank_by policy.now.answers) shape.now draws.old) }
+    requires first { rehearsal.old.state
+        ≡ first_rehearsal rehearsal.old.rollout.problem rehearsal.old.rollout.plan }
+    ensures { IfOk result
+        (λ text. text
+        ≡ trial_text rehearsal.old.rollout.problem rehearsal.old.rollout.plan rate_steps
+        (rank_by policy.now.answers) shape.now draws.old) }
 {
     let mut text = Text::new(alloc);
     push_shape(alloc, &mut text, shape)?;
@@ -86,9 +97,19 @@ fn do_events(
     events: u32,
 ) -> Result<u32, Memory>
     requires live { IsTrue rehearsal.old.live }
-    requires first { rehearsal.old.state ≡ first_rehearsal rehearsal.old.rollout.problem rehearsal.old.rollout.plan }
-    ensures state { OnOk result (rehearsal.new ≡ record rehearsal.old { state = (after_trial rehearsal.old.rollout.problem rehearsal.old.rollout.plan (rank_by policy.now.answers) draws.old events).rehearsal }) }
-    ensures skipped { IfOk result (λ skipped. skipped ≡ (after_trial rehearsal.old.rollout.problem rehearsal.old.rollout.plan (rank_by policy.now.answers) draws.old events).skipped) }
+    requires first { rehearsal.old.state
+        ≡ first_rehearsal rehearsal.old.rollout.problem rehearsal.old.rollout.plan }
+    ensures state { OnOk result
+        (rehearsal.new
+        ≡ record rehearsal.old {
+          state =
+              (after_trial rehearsal.old.rollout.problem rehearsal.old.rollout.plan
+              (rank_by policy.now.answers) draws.old events).rehearsal;
+        }) }
+    ensures skipped { IfOk result
+        (λ skipped. skipped
+        ≡ (after_trial rehearsal.old.rollout.problem rehearsal.old.rollout.plan
+        (rank_by policy.now.answers) draws.old events).skipped) }
 {
     let mut skipped = 0;
     for _event in 0..events {
@@ -103,7 +124,9 @@ fn do_next(rehearsal: &mut Rehearsal, policy: &Policy, draws: &mut Draws) -> Res
     requires live { IsTrue rehearsal.old.live }
     requires sent { length rehearsal.old.state.world.sent < 4294967296 }
     requires given { length rehearsal.old.state.world.given < 4294967296 }
-    ensures { IfOk result (λ skipped. HasTried (rank_by policy.now.answers) rehearsal.old draws.old rehearsal.new draws.new skipped) }
+    ensures { IfOk result
+        (λ skipped. HasTried (rank_by policy.now.answers) rehearsal.old draws.old rehearsal.new
+        draws.new skipped) }
 {
     match next_act(rehearsal, draws) {
         Some(act) => do_act(rehearsal, policy, act),
@@ -113,7 +136,13 @@ fn do_next(rehearsal: &mut Rehearsal, policy: &Policy, draws: &mut Draws) -> Res
 
 fn do_act(rehearsal: &mut Rehearsal, policy: &Policy, act: Act) -> Result<u32, Memory>
     requires { IsTrue rehearsal.old.live }
-    ensures { IfOk result (λ skipped. (rehearsal.new ≡ record rehearsal.old { state = after_act rehearsal.old.rollout.problem rehearsal.old.rollout.plan (rank_by policy.now.answers) rehearsal.old.state act }) × (skipped ≡ 0)) }
+    ensures { IfOk result
+        (λ skipped. (rehearsal.new
+        ≡ record rehearsal.old {
+          state = after_act rehearsal.old.rollout.problem rehearsal.old.rollout.plan
+              (rank_by policy.now.answers) rehearsal.old.state act;
+        })
+        × (skipped ≡ 0)) }
 {
     rehearsal.act(policy, act)?;
     Ok(0)

@@ -41,7 +41,9 @@ fn add_row(
     requires unknowns { rows.old.unknowns ≡ program.unknowns problem.now q }
     requires used { used.now ≡ program.used_tunnels problem.now }
     requires limit { program.IsLimit problem.now q limit }
-    ensures { OnOk result (rows.new ≡ record rows.old { rows = rows.old.rows ++ program.row_of problem.now q limit ∷ [] }) }
+    ensures { OnOk result
+        (rows.new
+        ≡ record rows.old { rows = rows.old.rows ++ program.row_of problem.now q limit ∷ [] }) }
 {
     let row = coefficients(alloc, problem, q, used, limit)?;
     rows.add(row.as_slice(), bound(problem, q, limit))

@@ -55,7 +55,10 @@ fn add_totals(limits: &mut LimitList, problem: &Problem, q: u32) -> Result<(), M
 
 fn add_tops_in(limits: &mut LimitList, problem: &Problem, step: u32) -> Result<(), Memory>
     requires { step < 8 }
-    ensures { OnOk result (limits.new ≡ limits.old ++ program.joined_below (length problem.now.tunnels) (program.tops_at problem.now step)) }
+    ensures { OnOk result
+        (limits.new
+        ≡ limits.old
+        ++ program.joined_below (length problem.now.tunnels) (program.tops_at problem.now step)) }
 {
     for tunnel in 0..problem.tunnels().len() as u32 {
         add_tops_of(limits, problem, step, tunnel)?;
@@ -91,7 +94,8 @@ fn add_top(limits: &mut LimitList, step: u32, stage: u32, tunnel: u32) -> Result
 }
 
 fn add_links_in(limits: &mut LimitList, problem: &Problem, step: u32) -> Result<(), Memory>
-    ensures { OnOk result (limits.new ≡ limits.old ++ list_below (length problem.now.links) (limit.Link step)) }
+    ensures { OnOk result
+        (limits.new ≡ limits.old ++ list_below (length problem.now.links) (limit.Link step)) }
 {
     for link in 0..problem.links().len() as u32 {
         limits.push(Limit::Link { step, link })?;
@@ -100,7 +104,9 @@ fn add_links_in(limits: &mut LimitList, problem: &Problem, step: u32) -> Result<
 }
 
 fn add_totals_at(limits: &mut LimitList, problem: &Problem, stage: u32) -> Result<(), Memory>
-    ensures { OnOk result (limits.new ≡ limits.old ++ program.joined_below (length problem.now.flows) (program.totals_of stage)) }
+    ensures { OnOk result
+        (limits.new
+        ≡ limits.old ++ program.joined_below (length problem.now.flows) (program.totals_of stage)) }
 {
     for flow in 0..problem.flows().len() as u32 {
         add_totals_of(limits, stage, flow)?;

@@ -80,8 +80,11 @@ fn rate_row(
 fn units_at(problem: &Problem, scale: u32, point: &[Fraction], place: u32, tunnel: u32) -> u64
     requires tunnel { tunnel < length problem.now.tunnels }
     requires inside { program.used_at problem.now tunnel ≡ true → place < length point.now }
-    requires small { program.used_at problem.now tunnel ≡ true → points.units_of scale (slice_index_or point.now place zero_ratio) < 2 ^ 64 }
-    ensures { result ≡ (if program.used_at problem.now tunnel then points.units_of scale (slice_index_or point.now place zero_ratio) else 0) }
+    requires small { program.used_at problem.now tunnel ≡ true
+        → points.units_of scale (slice_index_or point.now place zero_ratio) < 2 ^ 64 }
+    ensures { result
+        ≡ (if program.used_at problem.now tunnel then points.units_of scale
+        (slice_index_or point.now place zero_ratio) else 0) }
 {
     if is_used(problem, tunnel) {
         units(scale, point[place as usize])

@@ -21,7 +21,9 @@ pub(crate) fn coefficients(
     requires most { q ≤ 8 }
     requires used { used.now ≡ program.used_tunnels problem.now }
     requires limit { program.IsLimit problem.now q limit }
-    ensures row { IfOk result (λ row. row ≡ program.joined_below (program.blocks q) (program.coefficients_in problem.now q limit)) }
+    ensures row { IfOk result
+        (λ row. row
+        ≡ program.joined_below (program.blocks q) (program.coefficients_in problem.now q limit)) }
     ensures count { IfOk result (λ row. length row ≡ program.unknowns problem.now q) }
 {
     let mut row = FractionList::new(alloc);
@@ -43,7 +45,8 @@ fn add_block(
     requires most { q ≤ 8 }
     requires used { All (λ t. t < length problem.now.tunnels) used.now }
     requires limit { program.IsLimit problem.now q limit }
-    ensures { OnOk result (row.new ≡ row.old ++ map (program.coefficient problem.now q limit block) used.now) }
+    ensures { OnOk result
+        (row.new ≡ row.old ++ map (program.coefficient problem.now q limit block) used.now) }
 {
     for tunnel in used {
         row.push(coefficient(problem, q, limit, block, *tunnel))?;

@@ -42,7 +42,8 @@ pub(crate) fn used_tunnels(alloc: Global, problem: &Problem) -> Result<Ids, Memo
 
 fn push_used(used: &mut Ids, problem: &Problem, tunnel: u32) -> Result<(), Memory>
     requires { tunnel < length problem.now.tunnels }
-    ensures { OnOk result (used.new ≡ used.old ++ (if program.used_at problem.now tunnel then tunnel ∷ [] else [])) }
+    ensures { OnOk result
+        (used.new ≡ used.old ++ (if program.used_at problem.now tunnel then tunnel ∷ [] else [])) }
 {
     if is_used(problem, tunnel) {
         used.push(tunnel)?;

@@ -52,7 +52,9 @@ pub fn policies_of(
     requires chain { RanksBy (rank_by by_chain.answers) critical }
     requires item { RanksBy (rank_by by_item.answers) order }
     requires frozen { Freezes (rank_by frozen.answers) }
-    ensures { IfOk result (λ policies. answers_in policies ≡ named (rank_by by_chain.answers) (rank_by by_item.answers) (rank_by frozen.answers)) }
+    ensures { IfOk result
+        (λ policies. answers_in policies
+        ≡ named (rank_by by_chain.answers) (rank_by by_item.answers) (rank_by frozen.answers)) }
 {
     let mut policies = Policies::new(alloc);
     policies.add("critical", by_chain)?;

@@ -1,10 +1,9 @@
 -- How a run of an agent follows from the service.
-use Rattle.std.proofs.Common.{◌≡◌, ℕ, List, false, Option, Some, Ok, subst, sym, ap, ◌∙◌, inl, inr}
+use Rattle.std.proofs.Common.{◌≡◌, ℕ, List, false, Option, Ok, subst, sym, ap, ◌∙◌, inl, inr}
 use Rattle.agent_service.specs.Services.{Guests, Tells}
-use Rattle.swanroll_top.specs.Agents.{EndsOwn, ServesAsked, ServesBy}
+use Rattle.swanroll_top.specs.Agents.{EndsOwn, RunsAgent, ServesAs}
 use Rattle.swanroll_top.specs.Endings.{status_of, tells_place}
 use Rattle.swanroll_top.specs.Runs.{EndsWith, Follows, IsTold}
-use Rattle.swanroll_top.specs.Words.{Asked, a_report, a_run, a_text, a_trial, an_agent}
 use Rattle.swanroll_top.specs.declared.ending.Ending.{Ending}
 use Rattle.swanroll_top.specs.declared.ending.Ending.TheVariants.{Done, Usage, AboveLimit, Input, NotValid, NoPlan, ReadFault, WriteFault, DiskFault, GuestFault, Refused, NotFinished, OutOfMemory}
 use Rattle.swanroll_top.proofs.Programs.{known-told}
@@ -24,13 +23,9 @@ own-not e other (inr (inl is)) done cut memory h = cut (sym is ∙ h)
 own-not e other (inr (inr is)) done cut memory h = memory (sym is ∙ h)
 
 -- the status tells the ending, since its line takes no memory
-pub serves-by : {G : Type 0} (tells : Tells G) (c : Asked) (before now : Guests G) (e : Ending) (status : ℕ) (out out_now noted noted_now : Option (List ℕ)) (faults faults_now : ℕ)
-    → ServesAsked tells c before now e out out_now → IsTold e status noted noted_now faults faults_now → ServesBy tells (Some c) before now status out out_now
-serves-by tells (a_text what) before now e status out out_now noted noted_now faults faults_now runs told = tt
-serves-by tells (a_report migration) before now e status out out_now noted noted_now faults faults_now runs told = tt
-serves-by tells (a_run limits policy) before now e status out out_now noted noted_now faults faults_now runs told = runs
-serves-by tells (a_trial shape policy) before now e status out out_now noted noted_now faults faults_now runs told = tt
-serves-by tells (an_agent guests) before now e status out out_now noted noted_now faults faults_now runs told = record {
+pub serves-as : {G : Type 0} (tells : Tells G) (guests : ℕ) (before now : Guests G) (e : Ending) (status : ℕ) (out out_now noted noted_now : Option (List ℕ)) (faults faults_now : ℕ)
+    → RunsAgent tells guests before now e out out_now → IsTold e status noted noted_now faults faults_now → ServesAs tells guests before now status out out_now
+serves-as tells guests before now e status out out_now noted noted_now faults faults_now runs told = record {
   ending = e;
   is_status = told.is_status ∙ ap status_of (known-told e told.told runs.known told.is);
   runs = runs;

@@ -7,6 +7,8 @@ use Rattle.rollout_rules.specs.History.{History}
 use Rattle.rollout_rules.specs.Network.{IsNetwork}
 use Rattle.rollout_rules.specs.Valid.{is_valid_plan}
 use Rattle.rollout_rules.specs.declared.op.OpView.{OpView}
+use Rattle.disk_model.specs.Traces.{DiskTrace}
+use Rattle.wan_edge.specs.Ports.{PortTrace}
 use Rattle.wan_edge.specs.Streams.{Rose}
 use Rattle.intent_journal.specs.Recovered.{IsCause}
 use Rattle.intent_journal.specs.Verdicts.{NoJournal, NoStart, NotLegal, OfAnother, Verdict, verdict}
@@ -18,7 +20,7 @@ use Rattle.shared_history.specs.declared.reply.Halt.{Halt}
 use Rattle.shared_book.specs.Homes.{homes_of}
 use Rattle.shared_book.specs.Opened.{opening_of}
 use Rattle.port_session.specs.Sessions.{Talk, first_talk}
-use Rattle.worker_ports.specs.Views.{Telling, view}
+use Rattle.worker_ports.specs.Views.{view}
 use Rattle.worker_ports.specs.declared.ports.Berth.{Berth}
 use Rattle.rollout_ports.specs.Berths.{switches_of}
 use Rattle.rollout_ports.specs.Hands.{first_talks}
@@ -29,7 +31,7 @@ use Rattle.rollout_run.specs.Ran.{EndsRun, Ran}
 use Rattle.rollout_run.specs.declared.end.RunEnd.{RunEnd}
 use Rattle.rollout_run.specs.declared.end.RunEnd.TheVariants as run
 use Rattle.rollout_run.specs.declared.running.Limits.{Limits}
-use Rattle.rollout_service.specs.Openings.{IsLeft, found_by}
+use Rattle.intent_journal.specs.Openings.{IsLeft, found_by}
 use Rattle.rollout_service.specs.Outcomes.{HasRolled, IfRolled, OnUnopened, answer_for}
 use Rattle.rollout_service.specs.declared.answer.RunAnswer.{RunAnswer}
 use Rattle.rollout_service.specs.declared.answer.RunAnswer.TheVariants as outcome
@@ -41,9 +43,8 @@ use Rattle.completion_laws.proofs.Finished.{wants}
 use Rattle.swanroll_top.specs.Endings.{ending_of_journal, status_of}
 use Rattle.swanroll_top.specs.Ready.{CountsNoFault, GoesOnFrom, IsReadyFor, WaitsReady}
 use Rattle.swanroll_top.specs.Reports.{rollout_to}
-use Rattle.swanroll_top.specs.Rollouts.{FleetSeen, IsUnbegun, RefusesAs, Rolls, RollsBy, RollsOut, ending_of_stop, line_or_ending}
+use Rattle.swanroll_top.specs.Rollouts.{FleetSeen, IsUnbegun, RefusesAs, Rolls, RollsAs, RollsOut, ending_of_stop, line_or_ending}
 use Rattle.swanroll_top.specs.Runs.{EndsWith}
-use Rattle.swanroll_top.specs.Words.{a_run}
 use Rattle.swanroll_top.specs.declared.ending.Ending.{Ending}
 use Rattle.swanroll_top.specs.declared.ending.Ending.TheVariants.{Done, Usage, AboveLimit, Input, NotValid, NoPlan, ReadFault, WriteFault, DiskFault, GuestFault, Refused, NotFinished, OutOfMemory}
 use Rattle.swanroll_top.proofs.Outcomes.{rose-later}
@@ -58,8 +59,8 @@ some-same x y e = cc e
 
 -- ---- the ports that were opened
 
-module _ {P : Type 0} (port_faults : P → ℕ) (tell : P → Telling) (r : Rollout) (migration : ℕ) (found : History) (ports : ℕ → Option P) where
-  opened-ready : (bs : List (Berth P)) → AllByRecursion (IsGiven port_faults (Some ports)) bs → AllByRecursion (WaitsReady tell r migration found ports) (switches_of bs)
+module _ {P : Type 0} (tell : P → PortTrace) (r : Rollout) (migration : ℕ) (found : History) (ports : ℕ → Option P) where
+  opened-ready : (bs : List (Berth P)) → AllByRecursion (IsGiven tell (Some ports)) bs → AllByRecursion (WaitsReady tell r migration found ports) (switches_of bs)
       → All (λ t. IsReady r migration (homes_of r.problem) found (view tell t)) (first_talks bs)
   opened-ready [] given each = All-nil (λ t. IsReady r migration (homes_of r.problem) found (view tell t))
   opened-ready (b ∷ bs) given each =
@@ -68,26 +69,26 @@ module _ {P : Type 0} (port_faults : P → ℕ) (tell : P → Telling) (r : Roll
       (subst (λ (p : P). IsReady r migration (homes_of r.problem) found (view tell (first_talk b.switch p))) same each.0.ready)
       (opened-ready bs given.1 each.1)
 
-  opened-waited : (bs : List (Berth P)) → AllByRecursion (IsGiven port_faults (Some ports)) bs → All (λ (t : Talk P). ports t.switch ≡ Some t.port) (first_talks bs)
+  opened-waited : (bs : List (Berth P)) → AllByRecursion (IsGiven tell (Some ports)) bs → All (λ (t : Talk P). ports t.switch ≡ Some t.port) (first_talks bs)
   opened-waited [] given = All-nil (λ (t : Talk P). ports t.switch ≡ Some t.port)
   opened-waited (b ∷ bs) given = All-cons (λ (t : Talk P). ports t.switch ≡ Some t.port) (first_talk b.switch b.port) (first_talks bs) given.0 (opened-waited bs given.1)
 
 -- ---- a rollout that was run
 
-module _ {D P : Type 0} (bytes : D → Option (List ℕ)) (may_leave : D → List ℕ → Type 0) (moment : D → ℕ) (left_since : D → ℕ → List ℕ → Type 0) (faults : D → ℕ) (port_faults : P → ℕ) (tell : P → Telling)
+module _ {D P : Type 0} (trace : D → DiskTrace) (tell : P → PortTrace)
     (limits : Limits) (policy : OpView → ℕ) (left : Option (List ℕ)) (disk disk_now : D) (before now : FleetSeen P) (out out_now : Option (List ℕ)) (r : Rollout) (found : History)
-    (goes : GoesOnFrom limits.migration left (bytes disk) r found) (ready : IsReadyFor tell limits policy before.ports.waiting r found) where
+    (goes : GoesOnFrom limits.migration left (trace disk).bytes r found) (ready : IsReadyFor tell limits policy before.ports.waiting r found) where
   module _ (network : IsNetwork r.problem) (valid : is_valid_plan r.problem r.plan ≡ true) (small : limits.migration < 2 ^ 32) (a : RunAnswer)
-      (has : HasRolled bytes may_leave moment left_since faults port_faults tell r (digest_for r limits.migration) policy limits.rounds disk before.ports now.ports disk_now a) where
+      (has : HasRolled trace tell r (digest_for r limits.migration) policy limits.rounds disk before.ports now.ports disk_now a) where
     abbrev Begun : RunEnd → Type 0
-    Begun end = Ran bytes may_leave moment left_since faults port_faults tell (opening_of has.book policy) (moment has.book.disk) (faults has.book.disk) limits.migration limits.rounds
+    Begun end = Ran trace tell (opening_of has.book policy) (trace has.book.disk).moment (trace has.book.disk).faults limits.migration limits.rounds
         (working_homes has.book.rollout.problem has.book.rollout.plan) before.ports end has.run.closed now.ports
 
     -- the book has what was found
     found-is : found ≡ has.book.history
     found-is =
         some-same found has.book.history
-        (sym goes.begins ∙ of-some (λ image. found_by r (verdict r (digest_for r limits.migration) image) ≡ Some has.book.history) goes.image (bytes disk) goes.told has.opened.found)
+        (sym goes.begins ∙ of-some (λ image. found_by r (verdict r (digest_for r limits.migration) image) ≡ Some has.book.history) goes.image (trace disk).bytes goes.told has.opened.found)
 
     ready-book : IsReadyFor tell limits policy before.ports.waiting has.book.rollout has.book.history
     ready-book =
@@ -99,8 +100,8 @@ module _ {D P : Type 0} (bytes : D → Option (List ℕ)) (may_leave : D → Lis
       network = subst (λ (x : Rollout). IsNetwork x.problem) (sym has.opened.rollout) network;
       plan = subst (λ (x : Rollout). is_valid_plan x.problem x.plan ≡ true) (sym has.opened.rollout) valid;
       small = small;
-      ready = opened-ready port_faults tell has.book.rollout limits.migration has.book.history ready-book.ports ran.berths
-          (subst (λ (w : Option (ℕ → Option P)). AreGiven port_faults w ran.berths) ready-book.told ran.given)
+      ready = opened-ready tell has.book.rollout limits.migration has.book.history ready-book.ports ran.berths
+          (subst (λ (w : Option (ℕ → Option P)). AreGiven tell w ran.berths) ready-book.told ran.given)
           (subst (λ (switches : List ℕ). AllByRecursion (WaitsReady tell has.book.rollout limits.migration has.book.history ready-book.ports) switches) (sym ran.switches) ready-book.each);
       enough = ready-book.enough;
       free = ready-book.free;
@@ -108,11 +109,11 @@ module _ {D P : Type 0} (bytes : D → Option (List ℕ)) (may_leave : D → Lis
 
     excused : (end : RunEnd) → Begun end → FinishesOrIsExcused end
     excused end ran =
-        ran-excused bytes may_leave moment left_since faults port_faults tell (opening_of has.book policy) (moment has.book.disk) (faults has.book.disk) limits.migration limits.rounds
+        ran-excused trace tell (opening_of has.book policy) (trace has.book.disk).moment (trace has.book.disk).faults limits.migration limits.rounds
         (working_homes has.book.rollout.problem has.book.rollout.plan) before.ports end has.run.closed now.ports ran (sure end ran)
 
     abbrev Ended : RunEnd → Type 0
-    Ended end = EndsRun port_faults (working_homes has.book.rollout.problem has.book.rollout.plan) has.book has.run.closed before.ports now.ports (Begun end) end
+    Ended end = EndsRun tell (working_homes has.book.rollout.problem has.book.rollout.plan) has.book has.run.closed before.ports now.ports (Begun end) end
 
     abbrev answer_of : RunEnd → RunAnswer
     answer_of end = answer_for has.book.rollout (length has.book.history.entries) has.run.closed.history end
@@ -134,20 +135,20 @@ module _ {D P : Type 0} (bytes : D → Option (List ℕ)) (may_leave : D → Lis
     stop-excused other halt run.Memory is ended = absurd cc
 
     -- where no count has risen, only want of memory did
-    module _ (counts : CountsNoFault tell (faults disk) (faults disk_now) before now) where
-      unfailing : (end : RunEnd) (ran : Begun end) → IsWithoutFault tell (Rose (faults has.book.disk) (faults has.run.closed.disk)) (first_talks ran.berths) now.ports.kept
+    module _ (counts : CountsNoFault tell (trace disk).faults (trace disk_now).faults before now) where
+      unfailing : (end : RunEnd) (ran : Begun end) → IsWithoutFault tell (Rose (trace has.book.disk).faults (trace has.run.closed.disk).faults) (first_talks ran.berths) now.ports.kept
       unfailing end ran = record {
-        disk = λ rose. counts.disk (rose-later (faults disk) (faults has.book.disk) (faults disk_now) has.opened.count (subst (λ (d : D). Rose (faults has.book.disk) (faults d)) (sym has.run.back) rose));
+        disk = λ rose. counts.disk (rose-later (trace disk).faults (trace has.book.disk).faults (trace disk_now).faults has.opened.on.count (subst (λ (d : D). Rose (trace has.book.disk).faults (trace d).faults) (sym has.run.back) rose));
         ports = λ t at back kept. of-some (λ (waiting : ℕ → Option P). (switch : ℕ) (first back : P) → waiting switch ≡ Some first → now.ports.kept switch ≡ Some back → Rose (tell first).faults (tell back).faults → ⊥)
             ready.ports before.ports.waiting ready.told counts.ports t.switch t.port back
             (All-contains (λ (u : Talk P). ready.ports u.switch ≡ Some u.port) (first_talks ran.berths) t
-            (opened-waited port_faults tell r limits.migration found ready.ports ran.berths (subst (λ (w : Option (ℕ → Option P)). AreGiven port_faults w ran.berths) ready.told ran.given)) at)
+            (opened-waited tell r limits.migration found ready.ports ran.berths (subst (λ (w : Option (ℕ → Option P)). AreGiven tell w ran.berths) ready.told ran.given)) at)
             kept;
       }
 
       wanting : (end : RunEnd) → Begun end → FinishesOrWants end
       wanting end ran =
-          wants tell (opening_of has.book policy) limits.migration limits.rounds (Rose (faults has.book.disk) (faults has.run.closed.disk)) (first_talks ran.berths) now.ports.kept ran.log (unfailing end ran) end (excused end ran) ran.reason
+          wants tell (opening_of has.book policy) limits.migration limits.rounds (Rose (trace has.book.disk).faults (trace has.run.closed.disk).faults) (first_talks ran.berths) now.ports.kept ran.log (unfailing end ran) end (excused end ran) ran.reason
 
       stop-wants : (other : Rollout) (halt : Halt) (end : RunEnd) → outcome.Stopped other halt ≡ answer_of end → Ended end → IsWant halt.cause
       stop-wants other halt run.Finished is ended = absurd cc
@@ -199,18 +200,18 @@ module _ {D P : Type 0} (bytes : D → Option (List ℕ)) (may_leave : D → Lis
   -- ---- how it ends
 
   abbrev HasRolledTo : RunAnswer → Type 0
-  HasRolledTo a = HasRolled bytes may_leave moment left_since faults port_faults tell r (digest_for r limits.migration) policy limits.rounds disk before.ports now.ports disk_now a
+  HasRolledTo a = HasRolled trace tell r (digest_for r limits.migration) policy limits.rounds disk before.ports now.ports disk_now a
 
   abbrev RollsTo : Ending → Type 0
-  RollsTo e = Rolls bytes may_leave moment left_since faults port_faults tell left limits policy disk disk_now before now e out out_now
+  RollsTo e = Rolls trace tell left limits policy disk disk_now before now e out out_now
 
   -- by what is known of the cause of a stop
   module _ (Stops : Cause → Type 0)
       (stops : IsNetwork r.problem → is_valid_plan r.problem r.plan ≡ true → limits.migration < 2 ^ 32 → (a : RunAnswer) → HasRolledTo a → (other : Rollout) (halt : Halt) → outcome.Stopped other halt ≡ a → Stops halt.cause)
-      (e : Ending) (read : status_of e ≡ 6 → ⊥) (sink : status_of e ≡ 7 → ⊥) (memory : status_of e ≡ 12 → ⊥) (device : Rose (faults disk) (faults disk_now) → status_of e ≡ 8 → ⊥) (fleet : Rose before.faults now.faults → status_of e ≡ 9 → ⊥)
+      (e : Ending) (read : status_of e ≡ 6 → ⊥) (sink : status_of e ≡ 7 → ⊥) (memory : status_of e ≡ 12 → ⊥) (device : Rose (trace disk).faults (trace disk_now).faults → status_of e ≡ 8 → ⊥) (fleet : Rose before.faults now.faults → status_of e ≡ 9 → ⊥)
       (stopped : (other : Rollout) (why : Cause) → e ≡ ending_of_stop other why → Stops why → status_of e ≡ 0) where
     answered-well : IsNetwork r.problem → is_valid_plan r.problem r.plan ≡ true → limits.migration < 2 ^ 32 → (a : RunAnswer) → IfRolled a (HasRolledTo a)
-        → OnUnopened a (λ why. IsLeft bytes may_leave moment left_since faults r (digest_for r limits.migration) disk why disk_now × (now ≡ before))
+        → OnUnopened a (λ why. IsLeft trace r (digest_for r limits.migration) disk why disk_now × (now ≡ before))
         → ((other : Rollout) (switch : ℕ) → a ≡ outcome.NoPort other switch → Rose before.faults now.faults) → EndsWith (line_or_ending a) e out out_now → status_of e ≡ 0
     answered-well network valid small (outcome.Finished operations count) has unopened missing (inl done) = ap status_of done.0
     answered-well network valid small (outcome.Finished operations count) has unopened missing (inr cut) = absurd (sink (ap status_of cut.0))
@@ -220,7 +221,7 @@ module _ {D P : Type 0} (bytes : D → Option (List ℕ)) (may_leave : D → Lis
     answered-well network valid small (outcome.NoPort other switch) has unopened missing ends = absurd (fleet (missing other switch refl) (ap status_of ends.0))
     answered-well network valid small outcome.Memory has unopened missing ends = absurd (memory (ap status_of ends.0))
     answered-well network valid small (outcome.Unopened why) has unopened missing ends =
-        let told = of-some (λ image. IsCause why (digest_for r limits.migration) (verdict r (digest_for r limits.migration) image)) goes.image (bytes disk) goes.told unopened.0.refusal in
+        let told = of-some (λ image. IsCause why (digest_for r limits.migration) (verdict r (digest_for r limits.migration) image)) goes.image (trace disk).bytes goes.told unopened.0.refusal in
         absurd (unopened-ends why e told ends.0 (λ is. device (unopened.0.failed is)) memory)
 
     rolled-well : RollsTo e → status_of e ≡ 0
@@ -229,12 +230,12 @@ module _ {D P : Type 0} (bytes : D → Option (List ℕ)) (may_leave : D → Lis
         let told : goes.input ≡ rolled.input = of-some (λ all. all ≡ rolled.input) goes.input left goes.read rolled.whole in
         let both : Ok r ≡ Ok rolled.r = sym goes.is ∙ (ap rollout_to told ∙ rolled.is) in
         let same : rolled.r ≡ r = sym (cc both) in
-        let rolls : RollsOut bytes may_leave moment left_since faults port_faults tell r limits policy disk disk_now before now e out out_now =
-        subst (λ (x : Rollout). RollsOut bytes may_leave moment left_since faults port_faults tell x limits policy disk disk_now before now e out out_now) same rolled.rolls in
+        let rolls : RollsOut trace tell r limits policy disk disk_now before now e out out_now =
+        subst (λ (x : Rollout). RollsOut trace tell x limits policy disk disk_now before now e out out_now) same rolled.rolls in
         answered-well rolls.network rolls.valid rolls.small rolls.answer rolls.rolled rolls.unopened rolls.no_port (follows-ends (line_or_ending rolls.answer) e out out_now rolls.follows memory)
 
   -- by the status of an ending that is told by itself
-  by-ending : (status : ℕ) → RollsBy bytes may_leave moment left_since faults port_faults tell (Some (a_run limits policy)) left disk disk_now before now status out out_now → status ≢ 12
+  by-ending : (status : ℕ) → RollsAs trace tell left limits policy disk disk_now before now status out out_now → status ≢ 12
       → ((e : Ending) → RollsTo e → ((n : ℕ) → status ≢ n → status_of e ≡ n → ⊥) → status_of e ≡ 0) → status ≡ 0
   by-ending status rolls memory well =
       let told : (n : ℕ) → status ≢ n → status_of rolls.told ≡ n → ⊥ = λ n other is. other (rolls.is_status ∙ is) in
@@ -259,7 +260,7 @@ module _ {D P : Type 0} (bytes : D → Option (List ℕ)) (may_leave : D → Lis
   wanting-well e memory other cause.Disk is want = absurd want
   wanting-well e memory other cause.Memory is want = absurd (memory (ap status_of is))
 
-  pub ready-ends-well : (status : ℕ) → RollsBy bytes may_leave moment left_since faults port_faults tell (Some (a_run limits policy)) left disk disk_now before now status out out_now
+  pub ready-ends-well : (status : ℕ) → RollsAs trace tell left limits policy disk disk_now before now status out out_now
       → status ≢ 6 → status ≢ 7 → status ≢ 8 → status ≢ 9 → status ≢ 12 → status ≡ 0
   ready-ends-well status rolls read sink device fleet memory =
       by-ending status rolls memory
@@ -267,8 +268,8 @@ module _ {D P : Type 0} (bytes : D → Option (List ℕ)) (may_leave : D → Lis
       (λ network valid small a has other halt is. stop-excused network valid small a has other halt has.run.end (is ∙ has.run.tells) (ended-is network valid small a has))
       e (over 6 read) (over 7 sink) (over 12 memory) (λ rose. over 8 device) (λ rose. over 9 fleet) (excused-well e (over 8 device) (over 9 fleet) (over 12 memory)) to)
 
-  pub unfailing-ends-well : CountsNoFault tell (faults disk) (faults disk_now) before now
-      → (status : ℕ) → RollsBy bytes may_leave moment left_since faults port_faults tell (Some (a_run limits policy)) left disk disk_now before now status out out_now
+  pub unfailing-ends-well : CountsNoFault tell (trace disk).faults (trace disk_now).faults before now
+      → (status : ℕ) → RollsAs trace tell left limits policy disk disk_now before now status out out_now
       → status ≢ 6 → status ≢ 7 → status ≢ 12 → status ≡ 0
   unfailing-ends-well counts status rolls read sink memory =
       by-ending status rolls memory

@@ -18,17 +18,20 @@ use Rattle.agent_service.specs.Services.{Guests, Tells}
 use Rattle.agent_service.specs.declared.service.Service.{Service}
 use Rattle.agent_service.specs.declared.service.ServiceFault.{ServiceFault}
 use Rattle.agent_service.specs.declared.service.ServiceFault.TheVariants as service
-use Rattle.swanroll_top.specs.Agents.{ServesBy, service_answer}
+use Rattle.swanroll_top.specs.Agents.{ServesAs, service_answer}
 use Rattle.swanroll_top.specs.Answers.{◌>>=◌, with_choice, planned, checked, valid_line, judged, rehearsed, answer_to}
 use Rattle.swanroll_top.specs.Endings.{status_of}
-use Rattle.swanroll_top.specs.Program.{Streams, IsRun, ReportsAndNotes, RunsAndNotes, TriesAndNotes}
+use Rattle.swanroll_top.specs.Program.{Streams}
+use Rattle.swanroll_top.specs.ReportPromise.{ReportsAndNotes, ReportsBy}
+use Rattle.swanroll_top.specs.TextPromise.{RunsAndNotes, TextPromise}
+use Rattle.swanroll_top.specs.TrialPromise.{TrialPromise, TriesAndNotes}
 use Rattle.swanroll_top.specs.Reports.{EndsReport, or_journal, rollout_to}
 use Rattle.swanroll_top.specs.Runs.{EndsWith}
 use Rattle.swanroll_top.specs.Safety.{IsValid}
 use Rattle.swanroll_top.specs.Tries.{IsShape, tried}
 use Rattle.swanroll_top.specs.Taken.{IsValidDocument, IsValidScript}
 use Rattle.swanroll_top.specs.declared.ending.Ending.{Ending}
-use Rattle.swanroll_top.specs.Words.{TextAsked, a_plan, a_check, a_rehearsal, a_report, a_text, a_trial, an_agent}
+use Rattle.swanroll_top.specs.Words.{TextAsked, a_plan, a_check, a_rehearsal}
 use Rattle.swanroll_top.proofs.Commands.{plan-answers, check-answers, sim-answers}
 use Rattle.swanroll_top.proofs.Documents.{checked-by}
 use Rattle.swanroll_top.proofs.Inputs.{short-answered}
@@ -83,9 +86,8 @@ module _ (asked : TextAsked) (before after : Streams) (status : ℕ) (input : Li
       (subst (λ i. IsOk (answer_to asked i)) (told-whole before.left input r.follows.input told r.follows.read.whole) ok)
       r.follows.answer (λ e. cut (r.is_status ∙ e))
 
-  pub answer-written : IsRun (Some (a_text asked)) before after status → before.left ≡ Some input → IsOk (answer_to asked input) → status ≢ 6 → status ≢ 7 → status ≢ 12 → status ≡ 0
-  answer-written run told ok source sink memory =
-      well (run.does (λ e. absurd (let none = run.usage.0 e in cc)) source (λ e. let no : false ≡ true = (run.disk_fault e).0 in cc) memory) told ok sink
+  pub answer-written : TextPromise asked before after status → before.left ≡ Some input → IsOk (answer_to asked input) → status ≢ 6 → status ≢ 7 → status ≢ 12 → status ≡ 0
+  answer-written promise told ok source sink memory = well (promise.does source memory) told ok sink
 
 -- ---- a report with a text
 
@@ -110,9 +112,9 @@ module _ (m : ℕ) (before after : Streams) (status : ℕ) (input image : List �
       r.is_status ∙ reported (rollout_to r.follows.input) r.ending (subst (λ i. rollout_to i ≡ Ok o) (told-whole before.left input r.follows.input told r.follows.read.whole) is) stored ok r.follows.ends
       (λ e. cut (r.is_status ∙ e))
 
-  pub report-written : IsRun (Some (a_report m)) before after status → before.left ≡ Some input → before.stored ≡ Some image → rollout_to input ≡ Ok o → IsOk (journal_report o m image)
+  pub report-written : ReportsBy m before after status → before.left ≡ Some input → before.stored ≡ Some image → rollout_to input ≡ Ok o → IsOk (journal_report o m image)
       → status ≢ 6 → status ≢ 7 → status ≢ 8 → status ≢ 12 → status ≡ 0
-  report-written run told stored is ok source sink disk memory = report-well (run.does (λ e. absurd (let none = run.usage.0 e in cc)) source disk memory) told stored is ok sink
+  report-written does told stored is ok source sink disk memory = report-well (does source disk memory) told stored is ok sink
 
 -- ---- a trial
 
@@ -124,9 +126,8 @@ module _ (policy : OpView → ℕ) (shape : Shape) where
   trial-well before after status r cut =
       r.is_status ∙ ends-well (tried policy shape) r.ending before.written after.written (trial-answers r.follows.shape) r.follows.answer (λ e. cut (r.is_status ∙ e))
 
-  pub trial-written : (before after : Streams) (status : ℕ) → IsRun (Some (a_trial shape policy)) before after status → status ≢ 6 → status ≢ 7 → status ≢ 12 → status ≡ 0
-  trial-written before after status run source sink memory =
-      trial-well before after status (run.does (λ e. absurd (let none = run.usage.0 e in cc)) source (λ e. let no : false ≡ true = (run.disk_fault e).0 in cc) memory) sink
+  pub trial-written : (before after : Streams) (status : ℕ) → TrialPromise policy shape before after status → status ≢ 6 → status ≢ 7 → status ≢ 12 → status ≡ 0
+  trial-written before after status promise source sink memory = trial-well before after status (promise.does memory) sink
 
 -- ---- an agent
 
@@ -137,7 +138,7 @@ module _ {G : Type 0} (tells : Tells G) (guests : ℕ) (before now : Guests G) (
   service-well (Err service.Fleet) e ends sink fleet memory = absurd (fleet (ap status_of ends.0))
   service-well (Err service.Memory) e ends sink fleet memory = absurd (memory (ap status_of ends.0))
 
-  pub service-written : (status : ℕ) → ServesBy tells (Some (an_agent guests)) before now status out out_now → status ≢ 7 → status ≢ 9 → status ≢ 12 → status ≡ 0
+  pub service-written : (status : ℕ) → ServesAs tells guests before now status out out_now → status ≢ 7 → status ≢ 9 → status ≢ 12 → status ≡ 0
   service-written status serves sink fleet memory =
       let over : (n : ℕ) → (status ≡ n → ⊥) → status_of serves.ending ≡ n → ⊥ = λ n other is. other (serves.is_status ∙ is) in
       serves.is_status ∙ service-well serves.runs.came serves.ending (follows-ends (service_answer serves.runs.came) serves.ending out out_now serves.runs.follows (over 12 memory)) (over 7 sink) (over 9 fleet) (over 12 memory)

@@ -1,21 +1,24 @@
 -- What a report leaves on its disk.
 use Rattle.std.proofs.Common.{◌≡◌, ◌⊎◌, ℕ, List, Option, Some, None, IfOk, IfErr, IfSome, Result, Ok, Err, sym, ap, ◌∙◌, subst, inl, inr, arith}
+use Rattle.std.specs.Prelude.{IsErrOf}
 use Rattle.rollout_rules.specs.Wan.{Rollout}
+use Rattle.disk_model.specs.Traces.{DiskTrace}
 use Rattle.disk_model.specs.Crashes.{Within}
 use Rattle.disk_model.specs.Moments.{LeavesOnly}
+use Rattle.wan_edge.specs.Streams.{Rose}
 use Rattle.intent_journal.specs.declared.digest.Digest.{Digest}
 use Rattle.intent_journal.specs.declared.fault.JournalFault.{JournalFault}
 use Rattle.intent_journal.specs.declared.fault.JournalFault.TheVariants as journal
+use Rattle.intent_journal.specs.Openings.{IsLeft, IsOpenedOn}
 use Rattle.intent_journal.specs.Recovered.{KeepsNow, MayStand, OnRefusal, kept_for}
 use Rattle.intent_journal.specs.Verdicts.{verdict}
 use Rattle.rollout_report.specs.Journals.{digest_for}
 use Rattle.rollout_report.proofs.Journaling.{still_each}
 use Rattle.swanroll_top.specs.Endings.{ending_of_journal, status_of}
-use Rattle.swanroll_top.specs.Leavings.{LeavesAsked, LeavesJournal, LeavesReported}
+use Rattle.swanroll_top.specs.Leavings.{LeavesJournal, LeavesRead, LeavesReported}
 use Rattle.swanroll_top.specs.Reading.{IsCut, IsShortInput}
 use Rattle.swanroll_top.specs.Reports.{EndsJournal, rollout_in, rollout_to}
 use Rattle.swanroll_top.specs.Runs.{EndsWith, Gives, IsTold}
-use Rattle.swanroll_top.specs.Words.{Asked, a_report, a_run, a_text, a_trial, an_agent}
 use Rattle.swanroll_top.specs.declared.ending.Ending.{Ending}
 use Rattle.swanroll_top.specs.declared.ending.Ending.TheVariants.{Done, Usage, AboveLimit, Input, NotValid, NoPlan, ReadFault, WriteFault, DiskFault, GuestFault, Refused, NotFinished, OutOfMemory}
 use Rattle.swanroll_top.proofs.Reporting.{short-rollout}
@@ -90,13 +93,13 @@ some-more (Some bytes) P Q more h = more bytes h
 
 -- ---- the disk
 
-module _ {D : Type 0} (tells : D → Option (List ℕ)) (leaves : D → List ℕ → Type 0) (moment : D → ℕ) (left_since : D → ℕ → List ℕ → Type 0) (old new : D) where
+module _ {D : Type 0} (trace : D → DiskTrace) (old new : D) where
   -- a journal was opened, and its report made or refused
   journal-each : (o : Rollout) (d : Digest) (told : Option (List ℕ)) (answer : Result (List ℕ) JournalFault) (e : Ending) (out now : Option (List ℕ)) → EndsJournal answer e out now
-      → IfOk answer (λ _. IfSome told (λ image. KeepsNow (kept_for o d (verdict o d image)) (tells new) (leaves new)))
-      → IfSome told (λ image. LeavesOnly moment left_since old new (MayStand o d image (verdict o d image) (leaves old)))
-      → IfErr answer (λ cause. OnRefusal cause ((tells new ≡ tells old) × Within (leaves new) (leaves old)))
-      → IfSome told (λ image. LeavesJournal tells leaves moment left_since o d image (status_of e) old new)
+      → IfOk answer (λ _. IfSome told (λ image. KeepsNow (kept_for o d (verdict o d image)) (trace new).bytes (trace new).may_leave))
+      → IfSome told (λ image. LeavesOnly trace old new (MayStand o d image (verdict o d image) (trace old).may_leave))
+      → IfErr answer (λ cause. OnRefusal cause (((trace new).bytes ≡ (trace old).bytes) × Within (trace new).may_leave (trace old).may_leave))
+      → IfSome told (λ image. LeavesJournal trace o d image (status_of e) old new)
   journal-each o d None answer e out now ends keeps any unwritten = tt
   journal-each o d (Some image) (Ok text) e out now ends keeps any unwritten = record {
     any_moment = any;
@@ -109,38 +112,31 @@ module _ {D : Type 0} (tells : D → Option (List ℕ)) (leaves : D → List ℕ
     refused = λ h. on-refusal cause _ (sym (ap status_of ends.0) ∙ h) unwritten;
   }
 
-  pub journal-leaves : (o : Rollout) (m : ℕ) (answer : Result (List ℕ) JournalFault) (e : Ending) (out now : Option (List ℕ)) → EndsJournal answer e out now
-      → IfOk answer (λ _. IfSome (tells old) (λ image. KeepsNow (kept_for o (digest_for o m) (verdict o (digest_for o m) image)) (tells new) (leaves new)))
-      → IfSome (tells old) (λ image. LeavesOnly moment left_since old new (MayStand o (digest_for o m) image (verdict o (digest_for o m) image) (leaves old)))
-      → IfErr answer (λ cause. OnRefusal cause ((tells new ≡ tells old) × Within (leaves new) (leaves old)))
-      → IfSome (tells old) (λ image. LeavesJournal tells leaves moment left_since o (digest_for o m) image (status_of e) old new)
-  journal-leaves o m answer e out now ends keeps any unwritten = journal-each o (digest_for o m) (tells old) answer e out now ends keeps any unwritten
-
   -- a disk that is as it was, and a status that says nothing of it
-  untouched : (m : ℕ) (r : Result Rollout Ending) (status : ℕ) → ((c : List ℕ) → left_since old (moment old) c → leaves old c) → new ≡ old → IsSilent status
-      → LeavesReported tells leaves moment left_since m r status old new
-  untouched m r status only same silent = ok-each r _ (λ o. some-each (tells old) _ (λ image. record {
-    any_moment = still_each moment left_since leaves o (digest_for o m) (Some image) old new only same;
+  untouched : (m : ℕ) (r : Result Rollout Ending) (status : ℕ) → ((c : List ℕ) → (trace old).left_since (trace old).moment c → (trace old).may_leave c) → new ≡ old → IsSilent status
+      → LeavesReported trace m r status old new
+  untouched m r status only same silent = ok-each r _ (λ o. some-each (trace old).bytes _ (λ image. record {
+    any_moment = still_each trace o (digest_for o m) (Some image) old new only same;
     reported = λ h. absurd (elim h [ inl zero ↦ silent.0 zero | inr seven ↦ silent.1.0 seven ]);
     refused = λ h. absurd (silent.1.1 h);
   }))
 
-  pub input-leaves : (m : ℕ) (left now : Option (List ℕ)) (input : List ℕ) (status : ℕ) → IsShortInput left now input → LeavesReported tells leaves moment left_since m (rollout_in input) status old new
-      → IfSome left (λ x. LeavesReported tells leaves moment left_since m (rollout_to x) status old new)
+  pub input-leaves : (m : ℕ) (left now : Option (List ℕ)) (input : List ℕ) (status : ℕ) → IsShortInput left now input → LeavesReported trace m (rollout_in input) status old new
+      → IfSome left (λ x. LeavesReported trace m (rollout_to x) status old new)
   input-leaves m None now input status s h = tt
   input-leaves m (Some left) now input status s h =
-      let short = subst (λ r. LeavesReported tells leaves moment left_since m r status old new) (sym (short-rollout input s.within)) h in
-      subst (λ x. LeavesReported tells leaves moment left_since m (rollout_to x) status old new) (sym s.input.whole) short
+      let short = subst (λ r. LeavesReported trace m r status old new) (sym (short-rollout input s.within)) h in
+      subst (λ x. LeavesReported trace m (rollout_to x) status old new) (sym s.input.whole) short
 
-  pub cut-leaves : (m : ℕ) (left now : Option (List ℕ)) (e : Ending) → IsCut left e now → ((c : List ℕ) → left_since old (moment old) c → leaves old c) → new ≡ old
-      → IfSome left (λ x. LeavesReported tells leaves moment left_since m (rollout_to x) (status_of e) old new)
+  pub cut-leaves : (m : ℕ) (left now : Option (List ℕ)) (e : Ending) → IsCut left e now → ((c : List ℕ) → (trace old).left_since (trace old).moment c → (trace old).may_leave c) → new ≡ old
+      → IfSome left (λ x. LeavesReported trace m (rollout_to x) (status_of e) old new)
   cut-leaves m left now e cut only same = some-each left _ (λ x. untouched m (rollout_to x) (status_of e) only same (cut-silent left now e cut))
 
-  refused-leaves : (m : ℕ) (r : Result Rollout Ending) (e : Ending) → r ≡ Err e → LeavesReported tells leaves moment left_since m r (status_of e) old new
-  refused-leaves m r e is = subst (λ x. LeavesReported tells leaves moment left_since m x (status_of e) old new) (sym is) tt
+  refused-leaves : (m : ℕ) (r : Result Rollout Ending) (e : Ending) → r ≡ Err e → LeavesReported trace m r (status_of e) old new
+  refused-leaves m r e is = subst (λ x. LeavesReported trace m x (status_of e) old new) (sym is) tt
 
-  pub unread-leaves : (m : ℕ) (r : Result Rollout Ending) (e : Ending) → Gives {A = Rollout} (Err e) r → ((c : List ℕ) → left_since old (moment old) c → leaves old c) → new ≡ old
-      → LeavesReported tells leaves moment left_since m r (status_of e) old new
+  pub unread-leaves : (m : ℕ) (r : Result Rollout Ending) (e : Ending) → Gives {A = Rollout} (Err e) r → ((c : List ℕ) → (trace old).left_since (trace old).moment c → (trace old).may_leave c) → new ≡ old
+      → LeavesReported trace m r (status_of e) old new
   unread-leaves m r Done g only same = refused-leaves m r Done g
   unread-leaves m r Usage g only same = refused-leaves m r Usage g
   unread-leaves m r AboveLimit g only same = refused-leaves m r AboveLimit g
@@ -156,8 +152,8 @@ module _ {D : Type 0} (tells : D → Option (List ℕ)) (leaves : D → List ℕ
   unread-leaves m r OutOfMemory g only same = untouched m r 12 only same memory-silent
 
   pub read-leaves : (m : ℕ) (r : Result Rollout Ending) (o : Rollout) (status : ℕ) → r ≡ Ok o
-      → IfSome (tells old) (λ image. LeavesJournal tells leaves moment left_since o (digest_for o m) image status old new) → LeavesReported tells leaves moment left_since m r status old new
-  read-leaves m r o status is h = subst (λ x. LeavesReported tells leaves moment left_since m x status old new) (sym is) h
+      → IfSome (trace old).bytes (λ image. LeavesJournal trace o (digest_for o m) image status old new) → LeavesReported trace m r status old new
+  read-leaves m r o status is h = subst (λ x. LeavesReported trace m x status old new) (sym is) h
 
   -- the status that is told
   told-status : (e : Ending) (status : ℕ) (before now : Option (List ℕ)) (faults faults_now : ℕ) → IsTold e status before now faults faults_now → (n : ℕ) → (n ≡ 12 → ⊥) → status ≡ n → status_of e ≡ n
@@ -166,15 +162,10 @@ module _ {D : Type 0} (tells : D → Option (List ℕ)) (leaves : D → List ℕ
     | inr memory ↦ absurd (other (sym is ∙ (told.is_status ∙ ap status_of memory.0)))
   ]
 
-  pub told-leaves : (asked : Option Asked) (left : Option (List ℕ)) (e : Ending) (status : ℕ) (before now : Option (List ℕ)) (faults faults_now : ℕ) → IsTold e status before now faults faults_now
-      → LeavesAsked tells leaves moment left_since asked left (status_of e) old new → LeavesAsked tells leaves moment left_since asked left status old new
-  told-leaves None left e status before now faults faults_now told h = tt
-  told-leaves (Some (a_text what)) left e status before now faults faults_now told h = tt
-  told-leaves (Some (an_agent guests)) left e status before now faults faults_now told h = tt
-  told-leaves (Some (a_run limits policy)) left e status before now faults faults_now told h = tt
-  told-leaves (Some (a_trial shape policy)) left e status before now faults faults_now told h = tt
-  told-leaves (Some (a_report m)) left e status before now faults faults_now told h =
-      some-more left _ _ (λ input. ok-more (rollout_to input) _ _ (λ o. some-more (tells old) _ _ (λ image j. record {
+  pub told-leaves : (m : ℕ) (left : Option (List ℕ)) (e : Ending) (status : ℕ) (before now : Option (List ℕ)) (faults faults_now : ℕ) → IsTold e status before now faults faults_now
+      → LeavesRead trace m left (status_of e) old new → LeavesRead trace m left status old new
+  told-leaves m left e status before now faults faults_now told h =
+      some-more left _ _ (λ input. ok-more (rollout_to input) _ _ (λ o. some-more (trace old).bytes _ _ (λ image j. record {
         any_moment = j.any_moment;
         reported = λ s. j.reported (elim s [
           | inl zero ↦ inl (told-status e status before now faults faults_now told 0 (λ n. omega (arith, n)) zero)
@@ -182,3 +173,17 @@ module _ {D : Type 0} (tells : D → Option (List ℕ)) (leaves : D → List ℕ
         ]);
         refused = λ s. j.refused (told-status e status before now faults faults_now told 10 (λ n. omega (arith, n)) s);
       }))) h
+
+module _ {D : Type 0} (trace : D → DiskTrace) (old new : D) where
+  pub journal-leaves : (o : Rollout) (m : ℕ) (answer : Result (List ℕ) JournalFault) (e : Ending) (out now : Option (List ℕ)) → EndsJournal answer e out now
+      → IfOk answer (λ _. IsOpenedOn trace o (digest_for o m) old new) → IfErr answer (λ cause. IsLeft trace o (digest_for o m) old cause new)
+      → IfSome (trace old).bytes (λ image. LeavesJournal trace o (digest_for o m) image (status_of e) old new)
+  journal-leaves o m (Ok text) e out now ends opened left =
+      journal-each trace old new o (digest_for o m) (trace old).bytes (Ok text) e out now ends opened.keeps opened.meanwhile left
+  journal-leaves o m (Err cause) e out now ends opened left =
+      journal-each trace old new o (digest_for o m) (trace old).bytes (Err cause) e out now ends opened left.meanwhile left.unwritten
+
+  pub journal-failed : (o : Rollout) (digest : Digest) (answer : Result (List ℕ) JournalFault) → IfErr answer (λ cause. IsLeft trace o digest old cause new)
+      → IsErrOf answer journal.Disk → Rose (trace old).faults (trace new).faults
+  journal-failed o digest (Ok text) left is = absurd (cc is)
+  journal-failed o digest (Err cause) left is = left.failed (cc is)

@@ -20,3 +20,4 @@ pub mod Outcomes
 pub mod Reaching
 pub mod Certain
 pub mod ReadyFleets
+pub mod Promises

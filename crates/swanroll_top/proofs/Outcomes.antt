@@ -3,6 +3,8 @@ use Rattle.std.proofs.Common.{◌≡◌, ◌⊎◌, ◌≤◌, ℕ, List, length
 use Rattle.rollout_rules.specs.History.{History}
 use Rattle.rollout_rules.specs.Wan.{Rollout}
 use Rattle.rollout_rules.specs.declared.op.OpView.{OpView}
+use Rattle.disk_model.specs.Traces.{DiskTrace}
+use Rattle.wan_edge.specs.Ports.{PortTrace}
 use Rattle.wan_edge.specs.Streams.{Rose}
 use Rattle.intent_journal.specs.declared.digest.Digest.{Digest}
 use Rattle.intent_journal.specs.declared.fault.JournalFault.{JournalFault}
@@ -12,14 +14,13 @@ use Rattle.shared_history.specs.declared.note.Cause.TheVariants as cause
 use Rattle.shared_history.specs.declared.reply.Halt.{Halt}
 use Rattle.shared_book.specs.Homes.{homes_of}
 use Rattle.shared_book.specs.Opened.{opening_of}
-use Rattle.worker_ports.specs.Views.{Telling}
 use Rattle.rollout_ports.specs.Berths.{FleetPorts}
 use Rattle.rollout_ports.specs.Homes.{working_homes}
 use Rattle.rollout_run.specs.Causes.{IsCause}
 use Rattle.rollout_run.specs.Ran.{EndsRun, Ran}
 use Rattle.rollout_run.specs.declared.end.RunEnd.{RunEnd}
 use Rattle.rollout_run.specs.declared.end.RunEnd.TheVariants as run
-use Rattle.rollout_service.specs.Openings.{IsLeft}
+use Rattle.intent_journal.specs.Openings.{IsLeft}
 use Rattle.rollout_service.specs.Outcomes.{HasRolled, IfRolled, OnUnopened, answer_for}
 use Rattle.rollout_service.specs.declared.answer.RunAnswer.{RunAnswer}
 use Rattle.rollout_service.specs.declared.answer.RunAnswer.TheVariants as answer
@@ -209,25 +210,25 @@ pub rose-later : (before mid now : ℕ) → before ≤ mid → Rose mid now → 
 rose-later before mid now le (inl less) = inl (omega (arith, le, less))
 rose-later before mid now le (inr most) = inr most
 
-module _ {D P : Type 0} (bytes : D → Option (List ℕ)) (may_leave : D → List ℕ → Type 0) (moment : D → ℕ) (left_since : D → ℕ → List ℕ → Type 0) (faults : D → ℕ) (port_faults : P → ℕ) (tell : P → Telling)
+module _ {D P : Type 0} (trace : D → DiskTrace) (tell : P → PortTrace)
     (r : Rollout) (digest : Digest) (policy : OpView → ℕ) (rounds : ℕ) (disk disk_now : D) (before now : FleetPorts P) where
   stopped-failed : (other : Rollout) (halt : Halt) → halt.cause ≡ cause.Disk
-      → HasRolled bytes may_leave moment left_since faults port_faults tell r digest policy rounds disk before now disk_now (answer.Stopped other halt) → Rose (faults disk) (faults disk_now)
+      → HasRolled trace tell r digest policy rounds disk before now disk_now (answer.Stopped other halt) → Rose (trace disk).faults (trace disk_now).faults
   stopped-failed other halt is rolled =
       let ran = rolled.run in
       let opened = rolled.book in
       let homes = working_homes opened.rollout.problem opened.rollout.plan in
       let o = opening_of opened policy in
       let end : ran.end ≡ run.Stopped halt = stopped-end other opened.rollout (length opened.history.entries) ran.closed.history ran.end halt ran.tells in
-      let ends : Ran bytes may_leave moment left_since faults port_faults tell o (moment opened.disk) (faults opened.disk) digest.migration rounds homes before (run.Stopped halt) ran.closed now =
-      subst (λ (e : RunEnd). EndsRun port_faults homes opened ran.closed before now (Ran bytes may_leave moment left_since faults port_faults tell o (moment opened.disk) (faults opened.disk) digest.migration rounds homes before e ran.closed now) e) end ran.ran in
+      let ends : Ran trace tell o (trace opened.disk).moment (trace opened.disk).faults digest.migration rounds homes before (run.Stopped halt) ran.closed now =
+      subst (λ (e : RunEnd). EndsRun tell homes opened ran.closed before now (Ran trace tell o (trace opened.disk).moment (trace opened.disk).faults digest.migration rounds homes before e ran.closed now) e) end ran.ran in
       let held = ends.reason.holds in
-      let rose : Rose (faults opened.disk) (faults ran.closed.disk) =
-      subst (λ (why : Cause). IsCause tell o digest.migration (homes_of o.rollout.problem) rounds (Rose (faults opened.disk) (faults ran.closed.disk)) ends.log ends.reason.first why ends.reason.now) is held in
-      rose-later (faults disk) (faults opened.disk) (faults disk_now) rolled.opened.count (subst (λ (d : D). Rose (faults opened.disk) (faults d)) (sym ran.back) rose)
+      let rose : Rose (trace opened.disk).faults (trace ran.closed.disk).faults =
+      subst (λ (why : Cause). IsCause tell o digest.migration (homes_of o.rollout.problem) rounds (Rose (trace opened.disk).faults (trace ran.closed.disk).faults) ends.log ends.reason.first why ends.reason.now) is held in
+      rose-later (trace disk).faults (trace opened.disk).faults (trace disk_now).faults rolled.opened.on.count (subst (λ (d : D). Rose (trace opened.disk).faults (trace d).faults) (sym ran.back) rose)
 
-  pub disk-failed : (a : RunAnswer) → IsDiskFault a → IfRolled a (HasRolled bytes may_leave moment left_since faults port_faults tell r digest policy rounds disk before now disk_now a)
-      → OnUnopened a (λ why. IsLeft bytes may_leave moment left_since faults r digest disk why disk_now) → Rose (faults disk) (faults disk_now)
+  pub disk-failed : (a : RunAnswer) → IsDiskFault a → IfRolled a (HasRolled trace tell r digest policy rounds disk before now disk_now a)
+      → OnUnopened a (λ why. IsLeft trace r digest disk why disk_now) → Rose (trace disk).faults (trace disk_now).faults
   disk-failed (answer.Finished operations found) is rolled left = absurd is
   disk-failed (answer.Held left) is rolled unopened = absurd is
   disk-failed (answer.Stopped other halt) is rolled left = stopped-failed other halt is rolled

@@ -3,16 +3,16 @@ use Rattle.std.proofs.Common.{◌≡◌, ℕ, List, [], true, false, Option, Som
 use Rattle.wan_edge.specs.Streams.{Appends, Rose}
 use Rattle.swanroll_top.specs.Endings.{status_of, tells_place}
 use Rattle.swanroll_top.specs.Lines.{IsLineOf, IsToldAs}
-use Rattle.swanroll_top.specs.Program.{Streams, IsStatus, DoesAsked, IsRun, IsEnded, NotesLine, RunsAsked, IsUnfinished, names_disk, opens_ports, serves_guests}
+use Rattle.swanroll_top.specs.Program.{Streams, IsStatus, IsRun, IsEnded, NotesLine, IsUnfinished}
+use Rattle.swanroll_top.specs.Uses.{uses_of}
 use Rattle.swanroll_top.specs.Reports.{FollowsReport, RunsReport}
 use Rattle.swanroll_top.specs.Runs.{EndsWith, Follows, FollowsInput, IsTold, Notes, Runs}
 use Rattle.swanroll_top.specs.declared.ending.Ending.{Ending}
 use Rattle.swanroll_top.specs.declared.ending.Ending.TheVariants.{Done, Usage, AboveLimit, Input, NotValid, NoPlan, ReadFault, WriteFault, DiskFault, GuestFault, Refused, NotFinished, OutOfMemory}
 use Rattle.swanroll_top.specs.declared.line.Line.{Line}
 use Rattle.swanroll_top.specs.Rollouts.{FollowsRollout, RunsRollout}
-use Rattle.swanroll_top.specs.Tries.{tried}
 use Rattle.swanroll_top.specs.declared.unfinished.Unfinished.{Unfinished}
-use Rattle.swanroll_top.specs.Words.{Asked, TextAsked, a_report, a_run, a_text, a_trial, an_agent}
+use Rattle.swanroll_top.specs.Words.{Asked, TextAsked}
 use Rattle.swanroll_top.proofs.Statuses.{is-done, is-usage, is-read-fault, is-write-fault, is-disk-fault, is-fleet-fault, is-status, is-unfinished, not-status}
 
 -- ---- what an ending says of the input and the sink
@@ -55,7 +55,7 @@ follows-ends answer (NotFinished u) out now h memory = h
 follows-ends answer OutOfMemory out now h memory = absurd (memory refl)
 
 module _ (c : TextAsked) (left left_now out out_now : Option (List ℕ)) where
-  follows-of : (t : Ending) → Runs c left left_now t out out_now → (status_of t ≡ 6 → ⊥) → (status_of t ≡ 12 → ⊥) → FollowsInput c left left_now t out out_now
+  pub follows-of : (t : Ending) → Runs c left left_now t out out_now → (status_of t ≡ 6 → ⊥) → (status_of t ≡ 12 → ⊥) → FollowsInput c left left_now t out out_now
   follows-of Done r read memory = r
   follows-of Usage r read memory = r
   follows-of AboveLimit r read memory = r
@@ -70,7 +70,7 @@ module _ (c : TextAsked) (left left_now out out_now : Option (List ℕ)) where
   follows-of (NotFinished u) r read memory = r
   follows-of OutOfMemory r read memory = absurd (memory refl)
 
-  text-unwritten : (t : Ending) → Runs c left left_now t out out_now → (status_of t ≡ 0 → ⊥) → (status_of t ≡ 7 → ⊥) → out_now ≡ out
+  pub text-unwritten : (t : Ending) → Runs c left left_now t out out_now → (status_of t ≡ 0 → ⊥) → (status_of t ≡ 7 → ⊥) → out_now ≡ out
   text-unwritten Done r done cut = absurd (done refl)
   text-unwritten Usage r done cut = ends-unwritten _ _ out out_now r.answer (λ e. cc) (λ e. cc)
   text-unwritten AboveLimit r done cut = ends-unwritten _ _ out out_now r.answer (λ e. cc) (λ e. cc)
@@ -86,7 +86,7 @@ module _ (c : TextAsked) (left left_now out out_now : Option (List ℕ)) where
   text-unwritten OutOfMemory r done cut = r
 
 module _ (m : ℕ) (left left_now stored out out_now : Option (List ℕ)) where
-  reports-of : (t : Ending) → RunsReport m left left_now stored t out out_now → (status_of t ≡ 6 → ⊥) → (status_of t ≡ 8 → ⊥) → (status_of t ≡ 12 → ⊥)
+  pub reports-of : (t : Ending) → RunsReport m left left_now stored t out out_now → (status_of t ≡ 6 → ⊥) → (status_of t ≡ 8 → ⊥) → (status_of t ≡ 12 → ⊥)
       → FollowsReport m left left_now stored t out out_now
   reports-of Done r read disk memory = r
   reports-of Usage r read disk memory = r
@@ -102,7 +102,7 @@ module _ (m : ℕ) (left left_now stored out out_now : Option (List ℕ)) where
   reports-of (NotFinished u) r read disk memory = r
   reports-of OutOfMemory r read disk memory = absurd (memory refl)
 
-  report-unwritten : (t : Ending) → RunsReport m left left_now stored t out out_now → (status_of t ≡ 0 → ⊥) → (status_of t ≡ 7 → ⊥) → out_now ≡ out
+  pub report-unwritten : (t : Ending) → RunsReport m left left_now stored t out out_now → (status_of t ≡ 0 → ⊥) → (status_of t ≡ 7 → ⊥) → out_now ≡ out
   report-unwritten Done r done cut = r.silent done cut
   report-unwritten Usage r done cut = r.silent done cut
   report-unwritten AboveLimit r done cut = r.silent done cut
@@ -118,7 +118,7 @@ module _ (m : ℕ) (left left_now stored out out_now : Option (List ℕ)) where
   report-unwritten OutOfMemory r done cut = r
 
 module _ (left left_now out out_now : Option (List ℕ)) where
-  rollouts-of : (t : Ending) → RunsRollout left left_now t out out_now → (status_of t ≡ 6 → ⊥) → (status_of t ≡ 12 → ⊥) → FollowsRollout left left_now t out out_now
+  pub rollouts-of : (t : Ending) → RunsRollout left left_now t out out_now → (status_of t ≡ 6 → ⊥) → (status_of t ≡ 12 → ⊥) → FollowsRollout left left_now t out out_now
   rollouts-of Done r read memory = r
   rollouts-of Usage r read memory = r
   rollouts-of AboveLimit r read memory = r
@@ -133,7 +133,7 @@ module _ (left left_now out out_now : Option (List ℕ)) where
   rollouts-of (NotFinished u) r read memory = r
   rollouts-of OutOfMemory r read memory = absurd (memory refl)
 
-  rollout-unwritten : (t : Ending) → RunsRollout left left_now t out out_now → (status_of t ≡ 0 → ⊥) → (status_of t ≡ 7 → ⊥) → out_now ≡ out
+  pub rollout-unwritten : (t : Ending) → RunsRollout left left_now t out out_now → (status_of t ≡ 0 → ⊥) → (status_of t ≡ 7 → ⊥) → out_now ≡ out
   rollout-unwritten Done r done cut = r.silent done cut
   rollout-unwritten Usage r done cut = r.silent done cut
   rollout-unwritten AboveLimit r done cut = r.silent done cut
@@ -164,26 +164,15 @@ place-silent (Refused f) h = (λ e. omega (arith, e), λ e. omega (arith, e))
 place-silent (NotFinished u) h = (not-status 0 refl u, not-status 7 refl u)
 place-silent OutOfMemory h = cc
 
-module _ (left left_now stored out out_now : Option (List ℕ)) where
-  unwritten-of : (c : Asked) (t : Ending) → RunsAsked c left left_now stored t out out_now → (status_of t ≡ 0 → ⊥) → (status_of t ≡ 7 → ⊥) → out_now ≡ out
-  unwritten-of (a_text what) t r done cut = text-unwritten what left left_now out out_now t r done cut
-  unwritten-of (a_report m) t r done cut = report-unwritten m left left_now stored out out_now t r done cut
-  unwritten-of (an_agent n) t r done cut = r.silent done cut
-  unwritten-of (a_run limits policy) t r done cut = rollout-unwritten left left_now out out_now t r done cut
-  unwritten-of (a_trial shape policy) t r done cut = follows-unwritten (tried policy shape) t out out_now r.follows done cut
+-- what is told of an ending holds of the one that it is told as: for want of memory for a line, where nothing was written
+pub told-brings : (Holds : Ending → Type 0) (out out_now : Option (List ℕ)) (e t : Ending) → IsToldAs e t → Holds e → ((status_of e ≡ 0 → ⊥) → (status_of e ≡ 7 → ⊥) → out_now ≡ out)
+    → (out_now ≡ out → Holds OutOfMemory) → Holds t
+told-brings Holds out out_now e t (inl same) holds silent memory = subst Holds (sym same) holds
+told-brings Holds out out_now e t (inr none) holds silent memory = let place = place-silent e none.1 in subst Holds (sym none.0) (memory (silent place.0 place.1))
 
-  memory-runs : (c : Asked) (e : Ending) → RunsAsked c left left_now stored e out out_now → out_now ≡ out → RunsAsked c left left_now stored OutOfMemory out out_now
-  memory-runs (a_text what) e r same = same
-  memory-runs (a_report m) e r same = same
-  memory-runs (an_agent n) e r same = record { unread = r.unread; silent = λ done cut. same }
-  memory-runs (a_run limits policy) e r same = same
-  memory-runs (a_trial shape policy) e r same = record { unread = r.unread; shape = r.shape; follows = same }
-
-  told-runs : (c : Asked) (e t : Ending) → IsToldAs e t → RunsAsked c left left_now stored e out out_now → RunsAsked c left left_now stored t out out_now
-  told-runs c e t (inl same) r = subst (λ x. RunsAsked c left left_now stored x out out_now) (sym same) r
-  told-runs c e t (inr memory) r =
-      let silent = place-silent e memory.1 in
-      subst (λ x. RunsAsked c left left_now stored x out out_now) (sym memory.0) (memory-runs c e r (unwritten-of c e r silent.0 silent.1))
+told-silent : (out out_now : Option (List ℕ)) (e t : Ending) → IsToldAs e t → ((status_of e ≡ 0 → ⊥) → (status_of e ≡ 7 → ⊥) → out_now ≡ out) → (status_of t ≡ 0 → ⊥) → (status_of t ≡ 7 → ⊥) → out_now ≡ out
+told-silent out out_now e t (inl same) silent done cut = silent (λ h. done (ap status_of same ∙ h)) (λ h. cut (ap status_of same ∙ h))
+told-silent out out_now e t (inr none) silent done cut = let place = place-silent e none.1 in silent place.0 place.1
 
 -- an ending is told by the line that was written
 pub told-by : (e t : Ending) (line : Line) (status : ℕ) (before now : Option (List ℕ)) (faults faults_now : ℕ) → IsLineOf e t line → status ≡ status_of t → Notes t before now faults faults_now → IsTold e status before now faults faults_now
@@ -205,62 +194,29 @@ not-usage e status before now faults faults_now ran told h =
     let usage : told.told ≡ Usage = is-usage told.told (sym told.is_status ∙ h) in
     ran (told-same e told.told told.is (λ m. let no : Usage ≡ OutOfMemory = sym usage ∙ m in cc) ∙ usage)
 
--- what a run of a command does, by its ending
-does-asked : (c : Asked) (before after : Streams) (t : Ending) (status : ℕ) → status ≡ status_of t
-    → RunsAsked c before.left after.left before.stored t before.written after.written → NotesLine t before after
-    → (status_of t ≡ 6 → ⊥) → (status_of t ≡ 8 → ⊥) → (status_of t ≡ 12 → ⊥) → DoesAsked (Some c) before after status
-does-asked (a_text what) before after t status is runs line read disk memory = record {
-  ending = t;
-  is_status = is;
-  follows = follows-of what before.left after.left before.written after.written t runs read memory;
-  line = line;
-}
-does-asked (a_report m) before after t status is runs line read disk memory = record {
-  ending = t;
-  is_status = is;
-  follows = reports-of m before.left after.left before.stored before.written after.written t runs read disk memory;
-  line = line;
-}
-does-asked (an_agent n) before after t status is runs line read disk memory = runs.unread
-does-asked (a_run limits policy) before after t status is runs line read disk memory = record {
-  ending = t;
-  is_status = is;
-  follows = rollouts-of before.left after.left before.written after.written t runs read memory;
-  line = line;
-}
-does-asked (a_trial shape policy) before after t status is runs line read disk memory = record {
-  ending = t;
-  is_status = is;
-  follows = record { unread = runs.unread; shape = runs.shape; answer = follows-ends (tried policy shape) t before.written after.written runs.follows memory };
-  line = line;
-}
-
 -- a run of a command
 pub command-run : (asked : Option Asked) (c : Asked) (before after : Streams) (e : Ending) (status : ℕ) → asked ≡ Some c
-    → RunsAsked c before.left after.left before.stored e before.written after.written
+    → ((status_of e ≡ 0 → ⊥) → (status_of e ≡ 7 → ⊥) → after.written ≡ before.written)
     → (e ≡ ReadFault → Rose before.source_faults after.source_faults) → (e ≡ WriteFault → Rose before.sink_faults after.sink_faults)
-    → (e ≡ DiskFault → IsTrue (names_disk (Some c)) × Rose before.disk_faults after.disk_faults)
-    → (e ≡ GuestFault → IsTrue (serves_guests (Some c)) × Rose before.fleet_faults after.fleet_faults)
-    → ((u : Unfinished) → e ≡ NotFinished u → IsTrue (opens_ports (Some c))) → (e ≡ Usage → ⊥)
+    → (e ≡ DiskFault → IsTrue (uses_of (Some c)).journal × Rose before.disk_faults after.disk_faults)
+    → (e ≡ GuestFault → IsTrue (uses_of (Some c)).guests × Rose before.fleet_faults after.fleet_faults)
+    → ((u : Unfinished) → e ≡ NotFinished u → IsTrue (uses_of (Some c)).ports) → (e ≡ Usage → ⊥)
     → IsTold e status before.noted after.noted before.notes_faults after.notes_faults → IsRun asked before after status
-command-run asked c before after e status is runs read write disk guest unfinished ran told =
+command-run asked c before after e status is silent read write disk guest unfinished ran told =
     let t = told.told in
-    let runs_told = told-runs before.left after.left before.stored before.written after.written c e t told.is runs in
     let was : (x : Ending) → (x ≡ OutOfMemory → ⊥) → t ≡ x → e ≡ x = λ x other same. told-same e t told.is (λ m. other (sym same ∙ m)) ∙ same in
     record {
       statuses = subst IsStatus (sym told.is_status) (is-status t);
       usage = (λ h. absurd (ran (was Usage (λ m. cc) (is-usage t (sym told.is_status ∙ h)))), λ h. absurd (let no : Some c ≡ None = sym is ∙ h in cc));
       read_fault = λ h. read (was ReadFault (λ m. cc) (is-read-fault t (sym told.is_status ∙ h)));
       write_fault = λ h. write (was WriteFault (λ m. cc) (is-write-fault t (sym told.is_status ∙ h)));
-      disk_fault = λ h. let found = disk (was DiskFault (λ m. cc) (is-disk-fault t (sym told.is_status ∙ h))) in (subst (λ a. IsTrue (names_disk a)) (sym is) found.0, found.1);
+      disk_fault = λ h. let found = disk (was DiskFault (λ m. cc) (is-disk-fault t (sym told.is_status ∙ h))) in (subst (λ a. IsTrue (uses_of a).journal) (sym is) found.0, found.1);
       fleet_fault = λ h. elim (is-fleet-fault t (sym told.is_status ∙ h)) [
-        | inl same ↦ (let found = guest (was GuestFault (λ m. cc) same) in inl (subst (λ a. IsTrue (serves_guests a)) (sym is) found.0, found.1))
-        | inr more ↦ inr (subst (λ a. IsTrue (opens_ports a)) (sym is) (unfinished more.0 (was (NotFinished more.0) (λ m. cc) more.1)))
+        | inl same ↦ (let found = guest (was GuestFault (λ m. cc) same) in inl (subst (λ a. IsTrue (uses_of a).guests) (sym is) found.0, found.1))
+        | inr more ↦ inr (subst (λ a. IsTrue (uses_of a).ports) (sym is) (unfinished more.0 (was (NotFinished more.0) (λ m. cc) more.1)))
       ];
-      unfinished = λ h. let more = is-unfinished t (subst IsUnfinished told.is_status h) in subst (λ a. IsTrue (opens_ports a)) (sym is) (unfinished more.0 (was (NotFinished more.0) (λ m. cc) more.1));
-      does = λ usage fault device memory. subst (λ a. DoesAsked a before after status) (sym is)
-          (does-asked c before after t status told.is_status runs_told told.line (λ h. fault (told.is_status ∙ h)) (λ h. device (told.is_status ∙ h)) (λ h. memory (told.is_status ∙ h)));
-      silent = λ done cut. unwritten-of before.left after.left before.stored before.written after.written c t runs_told (λ h. done (told.is_status ∙ h)) (λ h. cut (told.is_status ∙ h));
+      unfinished = λ h. let more = is-unfinished t (subst IsUnfinished told.is_status h) in subst (λ a. IsTrue (uses_of a).ports) (sym is) (unfinished more.0 (was (NotFinished more.0) (λ m. cc) more.1));
+      silent = λ done cut. told-silent before.written after.written e t told.is silent (λ h. done (told.is_status ∙ h)) (λ h. cut (told.is_status ∙ h));
       noted = record { ending = t; is_status = told.is_status; line = told.line };
     }
 
@@ -295,11 +251,8 @@ usage-run asked before after status is left written told =
       disk_fault = λ h. absurd (omega (arith, h, two));
       fleet_fault = λ h. absurd (omega (arith, h, two));
       unfinished = λ h. absurd (let no : IsUnfinished 2 = subst IsUnfinished two h in cc);
-      does = λ usage fault device memory. absurd (usage e.is_status);
       silent = λ done cut. written;
       noted = record { ending = Usage; is_status = e.is_status; line = e.line };
     }
 
 pub ruleset telling = (told-by, appends-nothing, is-done)
-
-pub ruleset running = (command-run, usage-run, ended)

@@ -9,6 +9,8 @@ use Rattle.rollout_rules.specs.Network.{IsNetwork}
 use Rattle.rollout_rules.specs.Valid.{is_valid_plan}
 use Rattle.rollout_rules.specs.declared.limits.TheConstants.{MOST_INPUT}
 use Rattle.rollout_rules.specs.declared.op.OpView.{OpView}
+use Rattle.disk_model.specs.Traces.{DiskTrace}
+use Rattle.wan_edge.specs.Ports.{PortTrace}
 use Rattle.wan_edge.specs.Streams.{Appends}
 use Rattle.dependency_graph.specs.Graph.{op_total}
 use Rattle.intent_journal.specs.Verdicts.{verdict}
@@ -24,7 +26,6 @@ use Rattle.shared_book.specs.Homes.{homes_of}
 use Rattle.shared_book.specs.Opened.{opening_of}
 use Rattle.rollout_book.specs.Chronicles.{Chronicled}
 use Rattle.port_session.specs.Sessions.{first_talk}
-use Rattle.worker_ports.specs.Views.{Telling}
 use Rattle.worker_ports.specs.declared.ports.Berth.{Berth}
 use Rattle.rollout_ports.specs.Berths.{FleetPorts}
 use Rattle.rollout_ports.specs.Hands.{first_talks}
@@ -40,19 +41,18 @@ use Rattle.rollout_run.specs.declared.end.RunEnd.TheVariants as run
 use Rattle.rollout_run.specs.declared.running.Limits.{Limits}
 use Rattle.rollout_run.proofs.Standing.{runs_at}
 use Rattle.completion_laws.proofs.Excused.{held-rests, held-still}
-use Rattle.rollout_service.specs.Openings.{found_by}
+use Rattle.intent_journal.specs.Openings.{found_by}
 use Rattle.rollout_service.specs.Outcomes.{HasRolled, IfRolled, answer_for}
 use Rattle.rollout_service.specs.declared.answer.RunAnswer.{RunAnswer}
 use Rattle.rollout_service.specs.declared.answer.RunAnswer.TheVariants as outcome
 use Rattle.swanroll_top.specs.Endings.{ending_of_journal, status_of}
 use Rattle.swanroll_top.specs.Lines.{IsToldAs}
 use Rattle.swanroll_top.specs.Reports.{rollout_in, rollout_to}
-use Rattle.swanroll_top.specs.Rollouts.{FleetSeen, IsUnbegun, Rolls, RollsBy, RollsOutOf, ending_of_stop, finished_line, line_or_ending}
+use Rattle.swanroll_top.specs.Rollouts.{FleetSeen, IsUnbegun, Rolls, RollsAs, RollsOutOf, ending_of_stop, finished_line, line_or_ending}
 use Rattle.swanroll_top.specs.Program.{IsUnfinished}
 use Rattle.swanroll_top.specs.Runs.{EndsWith, Follows}
-use Rattle.swanroll_top.specs.Targets.{EndsAtTarget, EndsWithin, IsOfBegun, ReachesTarget, RestsHeld, SafeBy, StaysSafe, TargetBy}
+use Rattle.swanroll_top.specs.Targets.{EndsAtTarget, EndsWithin, IsOfBegun, ReachesTarget, RestsHeld, StaysSafe}
 use Rattle.swanroll_top.specs.Unfinished.{unfinished_status}
-use Rattle.swanroll_top.specs.Words.{Asked, a_report, a_run, a_text, a_trial, an_agent}
 use Rattle.swanroll_top.specs.declared.ending.Ending.{Ending}
 use Rattle.swanroll_top.specs.declared.ending.Ending.TheVariants.{Done, Usage, AboveLimit, Input, NotValid, NoPlan, ReadFault, WriteFault, DiskFault, GuestFault, Refused, NotFinished, OutOfMemory}
 use Rattle.swanroll_top.specs.declared.unfinished.Unfinished.{Unfinished}
@@ -182,8 +182,8 @@ ends-ran outcome.Memory e out now begun h = absurd (not-begun e OutOfMemory begu
 ends-ran (outcome.Unopened why) e out now begun h = absurd (not-begun e (ending_of_journal why) begun h.0 (journal-begun why))
 
 -- the run behind it was begun
-module _ {D P : Type 0} (port_faults : P → ℕ) (homes : List ℕ) (opened closed : Chronicled D) (before now : FleetPorts P) where
-  ran-begun : (r : Rollout) (found : ℕ) (h : History) (Ran : RunEnd → Type 0) (end : RunEnd) → is_ran (answer_for r found h end) ≡ true → EndsRun port_faults homes opened closed before now (Ran end) end → Ran end
+module _ {D P : Type 0} (tell : P → PortTrace) (homes : List ℕ) (opened closed : Chronicled D) (before now : FleetPorts P) where
+  ran-begun : (r : Rollout) (found : ℕ) (h : History) (Ran : RunEnd → Type 0) (end : RunEnd) → is_ran (answer_for r found h end) ≡ true → EndsRun tell homes opened closed before now (Ran end) end → Ran end
   ran-begun r found h Ran run.Finished is ran = ran
   ran-begun r found h Ran run.Held is ran = ran
   ran-begun r found h Ran (run.Stopped halt) is ran = ran
@@ -213,10 +213,10 @@ held-end r found h run.Memory count is = absurd cc
 
 -- ---- the ports
 
-module _ {P : Type 0} (port_faults : P → ℕ) (tell : P → Telling) (o : Opening) (migration : ℕ) (log : List Written) (before now : FleetPorts P)
+module _ {P : Type 0} (tell : P → PortTrace) (o : Opening) (migration : ℕ) (log : List Written) (before now : FleetPorts P)
     (net : IsNetwork o.rollout.problem) (valid : is_valid_plan o.rollout.problem o.rollout.plan ≡ true) (legal : is_legal_shared o log ≡ true) (small : migration < 2 ^ 32) where
-  berths-within : (bs : List (Berth P)) → AllByRecursion (IsGiven port_faults before.waiting) bs → All (IsBack tell o migration (homes_of o.rollout.problem) log now.kept) (first_talks bs)
-      → AllByRecursion (EndsWithin port_faults tell o.rollout migration o.found (history_of o log) before now) bs
+  berths-within : (bs : List (Berth P)) → AllByRecursion (IsGiven tell before.waiting) bs → All (IsBack tell o migration (homes_of o.rollout.problem) log now.kept) (first_talks bs)
+      → AllByRecursion (EndsWithin tell o.rollout migration o.found (history_of o log) before now) bs
   berths-within [] given back = tt
   berths-within (b ∷ bs) given all =
       let back : IsBack tell o migration (homes_of o.rollout.problem) log now.kept (first_talk b.switch b.port) = All-head (IsBack tell o migration (homes_of o.rollout.problem) log now.kept) (first_talk b.switch b.port) (first_talks bs) all in (
@@ -229,8 +229,8 @@ module _ {P : Type 0} (port_faults : P → ℕ) (tell : P → Telling) (o : Open
         berths-within bs given.1 (All-tail (IsBack tell o migration (homes_of o.rollout.problem) log now.kept) (first_talk b.switch b.port) (first_talks bs) all),
       )
 
-  berths-end : is_finished o.rollout.problem o.rollout.plan (history_of o log) ≡ true → (bs : List (Berth P)) → AllByRecursion (IsGiven port_faults before.waiting) bs
-      → All (IsBack tell o migration (homes_of o.rollout.problem) log now.kept) (first_talks bs) → AllByRecursion (EndsAtTarget port_faults tell o.rollout migration o.found before now) bs
+  berths-end : is_finished o.rollout.problem o.rollout.plan (history_of o log) ≡ true → (bs : List (Berth P)) → AllByRecursion (IsGiven tell before.waiting) bs
+      → All (IsBack tell o migration (homes_of o.rollout.problem) log now.kept) (first_talks bs) → AllByRecursion (EndsAtTarget tell o.rollout migration o.found before now) bs
   berths-end finished [] given back = tt
   berths-end finished (b ∷ bs) given all =
       let back : IsBack tell o migration (homes_of o.rollout.problem) log now.kept (first_talk b.switch b.port) = All-head (IsBack tell o migration (homes_of o.rollout.problem) log now.kept) (first_talk b.switch b.port) (first_talks bs) all in (
@@ -245,12 +245,12 @@ module _ {P : Type 0} (port_faults : P → ℕ) (tell : P → Telling) (o : Open
 
 -- ---- a rollout that was run
 
-module _ {D P : Type 0} (bytes : D → Option (List ℕ)) (may_leave : D → List ℕ → Type 0) (moment : D → ℕ) (left_since : D → ℕ → List ℕ → Type 0) (faults : D → ℕ) (port_faults : P → ℕ) (tell : P → Telling)
+module _ {D P : Type 0} (trace : D → DiskTrace) (tell : P → PortTrace)
     (left : Option (List ℕ)) (disk disk_now : D) (before now : FleetSeen P) (limits : Limits) (policy : OpView → ℕ) (e : Ending) (out out_now : Option (List ℕ))
-    (rolled : RollsOutOf bytes may_leave moment left_since faults port_faults tell left limits policy disk disk_now before now e out out_now) (a : RunAnswer)
-    (has : HasRolled bytes may_leave moment left_since faults port_faults tell rolled.r (digest_for rolled.r limits.migration) policy limits.rounds disk before.ports now.ports disk_now a) where
+    (rolled : RollsOutOf trace tell left limits policy disk disk_now before now e out out_now) (a : RunAnswer)
+    (has : HasRolled trace tell rolled.r (digest_for rolled.r limits.migration) policy limits.rounds disk before.ports now.ports disk_now a) where
   abbrev Begun : RunEnd → Type 0
-  Begun end = Ran bytes may_leave moment left_since faults port_faults tell (opening_of has.book policy) (moment has.book.disk) (faults has.book.disk) limits.migration limits.rounds
+  Begun end = Ran trace tell (opening_of has.book policy) (trace has.book.disk).moment (trace has.book.disk).faults limits.migration limits.rounds
       (working_homes has.book.rollout.problem has.book.rollout.plan) before.ports end has.run.closed now.ports
 
   net : IsNetwork has.book.rollout.problem
@@ -262,26 +262,26 @@ module _ {D P : Type 0} (bytes : D → Option (List ℕ)) (may_leave : D → Lis
   has-run : is_ran a ≡ true → Begun has.run.end
   unfolding digest_for
   has-run is =
-      ran-begun port_faults (working_homes has.book.rollout.problem has.book.rollout.plan) has.book has.run.closed before.ports now.ports
+      ran-begun tell (working_homes has.book.rollout.problem has.book.rollout.plan) has.book has.run.closed before.ports now.ports
       has.book.rollout (length has.book.history.entries) has.run.closed.history Begun has.run.end (sym (ap is_ran has.run.tells) ∙ is) has.run.ran
 
-  stays-safe : (end : RunEnd) → Begun end → StaysSafe bytes port_faults tell limits left disk before.ports now.ports
+  stays-safe : (end : RunEnd) → Begun end → StaysSafe trace tell limits left disk before.ports now.ports
   stays-safe end ran = record {
     input = rolled.input;
     whole = rolled.whole;
     r = has.book.rollout;
     is = rolled.is ∙ ap Ok (sym has.opened.rollout);
     found = has.book.history;
-    begins = subst (λ (r : Rollout). IfSome (bytes disk) (λ image. found_by r (verdict r (digest_for r limits.migration) image) ≡ Some has.book.history)) (sym has.opened.rollout) has.opened.found;
+    begins = subst (λ (r : Rollout). IfSome (trace disk).bytes (λ image. found_by r (verdict r (digest_for r limits.migration) image) ≡ Some has.book.history)) (sym has.opened.rollout) has.opened.found;
     added = added ran.log;
     legal = list-is_legal (opening_of has.book policy) ran.log ran.legal;
     safe = λ held within. held-safe has.book.rollout.problem has.book.rollout.plan (history_of (opening_of has.book policy) ran.log) held net valid (list-is_legal (opening_of has.book policy) ran.log ran.legal) within;
     berths = ran.berths;
     switches = ran.switches;
-    ports = berths-within port_faults tell (opening_of has.book policy) limits.migration ran.log before.ports now.ports net valid ran.legal rolled.rolls.small ran.berths ran.given ran.ports;
+    ports = berths-within tell (opening_of has.book policy) limits.migration ran.log before.ports now.ports net valid ran.legal rolled.rolls.small ran.berths ran.given ran.ports;
   }
 
-  reaches : (operations count : ℕ) → a ≡ outcome.Finished operations count → Appends out (finished_line operations count) out_now → ReachesTarget bytes port_faults tell limits left disk before.ports now.ports out out_now
+  reaches : (operations count : ℕ) → a ≡ outcome.Finished operations count → Appends out (finished_line operations count) out_now → ReachesTarget trace tell limits left disk before.ports now.ports out out_now
   unfolding stays-safe
   reaches operations count is line =
       let end = finished-end has.book.rollout (length has.book.history.entries) has.run.closed.history has.run.end operations count (sym is ∙ has.run.tells) in
@@ -289,11 +289,11 @@ module _ {D P : Type 0} (bytes : D → Option (List ℕ)) (may_leave : D → Lis
       record {
         stays = stays-safe run.Finished ran;
         finished = ran.ends.1;
-        ports = berths-end port_faults tell (opening_of has.book policy) limits.migration ran.log before.ports now.ports net valid ran.legal rolled.rolls.small ran.ends.1 ran.berths ran.given ran.ports;
+        ports = berths-end tell (opening_of has.book policy) limits.migration ran.log before.ports now.ports net valid ran.legal rolled.rolls.small ran.ends.1 ran.berths ran.given ran.ports;
         line = subst (λ (text : List ℕ). Appends out text out_now) (ap (λ n. finished_line n count) end.operations_is ∙ ap (finished_line (op_total has.book.rollout)) end.count_is) line;
       }
 
-  rests : (count : ℕ) → a ≡ outcome.Held count → RestsHeld bytes port_faults tell limits policy left disk before.ports now.ports
+  rests : (count : ℕ) → a ≡ outcome.Held count → RestsHeld trace tell limits policy left disk before.ports now.ports
   unfolding stays-safe
   rests count is =
       let end = held-end has.book.rollout (length has.book.history.entries) has.run.closed.history has.run.end count (sym is ∙ has.run.tells) in
@@ -302,14 +302,14 @@ module _ {D P : Type 0} (bytes : D → Option (List ℕ)) (may_leave : D → Lis
       record {
         stays = stays-safe run.Held ran;
         unfinished = ran.ends.1;
-        still = held-still bytes may_leave moment left_since faults port_faults tell (opening_of has.book policy) (moment has.book.disk) (faults has.book.disk) limits.migration limits.rounds homes before.ports has.run.closed now.ports ran;
-        held = held-rests bytes may_leave moment left_since faults port_faults tell (opening_of has.book policy) (moment has.book.disk) (faults has.book.disk) limits.migration limits.rounds homes before.ports has.run.closed now.ports ran;
+        still = held-still trace tell (opening_of has.book policy) (trace has.book.disk).moment (trace has.book.disk).faults limits.migration limits.rounds homes before.ports has.run.closed now.ports ran;
+        held = held-rests trace tell (opening_of has.book policy) (trace has.book.disk).moment (trace has.book.disk).faults limits.migration limits.rounds homes before.ports has.run.closed now.ports ran;
       }
 
-module _ {D P : Type 0} (bytes : D → Option (List ℕ)) (may_leave : D → List ℕ → Type 0) (moment : D → ℕ) (left_since : D → ℕ → List ℕ → Type 0) (faults : D → ℕ) (port_faults : P → ℕ) (tell : P → Telling)
+module _ {D P : Type 0} (trace : D → DiskTrace) (tell : P → PortTrace)
     (left : Option (List ℕ)) (disk disk_now : D) (before now : FleetSeen P) (limits : Limits) (policy : OpView → ℕ) (out out_now : Option (List ℕ)) where
-  rolled-if : (r : Rollout) (a : RunAnswer) → is_ran a ≡ true → IfRolled a (HasRolled bytes may_leave moment left_since faults port_faults tell r (digest_for r limits.migration) policy limits.rounds disk before.ports now.ports disk_now a)
-      → HasRolled bytes may_leave moment left_since faults port_faults tell r (digest_for r limits.migration) policy limits.rounds disk before.ports now.ports disk_now a
+  rolled-if : (r : Rollout) (a : RunAnswer) → is_ran a ≡ true → IfRolled a (HasRolled trace tell r (digest_for r limits.migration) policy limits.rounds disk before.ports now.ports disk_now a)
+      → HasRolled trace tell r (digest_for r limits.migration) policy limits.rounds disk before.ports now.ports disk_now a
   rolled-if r (outcome.Finished operations found) is has = has
   rolled-if r (outcome.Held left) is has = has
   rolled-if r (outcome.Stopped other halt) is has = has
@@ -317,21 +317,21 @@ module _ {D P : Type 0} (bytes : D → Option (List ℕ)) (may_leave : D → Lis
   rolled-if r outcome.Memory is has = has
   rolled-if r (outcome.Unopened why) is has = absurd cc
 
-  begun-safe : (e : Ending) → is_of_begun e ≡ true → Rolls bytes may_leave moment left_since faults port_faults tell left limits policy disk disk_now before now e out out_now
-      → StaysSafe bytes port_faults tell limits left disk before.ports now.ports
+  begun-safe : (e : Ending) → is_of_begun e ≡ true → Rolls trace tell left limits policy disk disk_now before now e out out_now
+      → StaysSafe trace tell limits left disk before.ports now.ports
   begun-safe e begun (inl none) = absurd (unbegun-refused left e begun none.why)
   begun-safe e begun (inr rolled) =
       let a = rolled.rolls.answer in
       let is : is_ran a ≡ true = ends-ran a e out out_now begun (begun-ends (line_or_ending a) e out out_now begun rolled.rolls.follows) in
       let has = rolled-if rolled.r a is rolled.rolls.rolled in
-      stays-safe bytes may_leave moment left_since faults port_faults tell left disk disk_now before now limits policy e out out_now rolled a has has.run.end
-      (has-run bytes may_leave moment left_since faults port_faults tell left disk disk_now before now limits policy e out out_now rolled a has is)
+      stays-safe trace tell left disk disk_now before now limits policy e out out_now rolled a has has.run.end
+      (has-run trace tell left disk disk_now before now limits policy e out out_now rolled a has is)
 
-  answer-reaches : (rolled : RollsOutOf bytes may_leave moment left_since faults port_faults tell left limits policy disk disk_now before now Done out out_now) (a : RunAnswer)
-      → IfRolled a (HasRolled bytes may_leave moment left_since faults port_faults tell rolled.r (digest_for rolled.r limits.migration) policy limits.rounds disk before.ports now.ports disk_now a)
-      → Follows (line_or_ending a) Done out out_now → ReachesTarget bytes port_faults tell limits left disk before.ports now.ports out out_now
+  answer-reaches : (rolled : RollsOutOf trace tell left limits policy disk disk_now before now Done out out_now) (a : RunAnswer)
+      → IfRolled a (HasRolled trace tell rolled.r (digest_for rolled.r limits.migration) policy limits.rounds disk before.ports now.ports disk_now a)
+      → Follows (line_or_ending a) Done out out_now → ReachesTarget trace tell limits left disk before.ports now.ports out out_now
   answer-reaches rolled (outcome.Finished operations count) has (inl done) =
-      reaches bytes may_leave moment left_since faults port_faults tell left disk disk_now before now limits policy Done out out_now rolled (outcome.Finished operations count) has operations count refl done.1
+      reaches trace tell left disk disk_now before now limits policy Done out out_now rolled (outcome.Finished operations count) has operations count refl done.1
   answer-reaches rolled (outcome.Finished operations count) has (inr cut) = absurd (cc (cut.0))
   answer-reaches rolled (outcome.Held held) has ends = absurd (cc (ends.0))
   answer-reaches rolled (outcome.Stopped r halt) has ends = absurd (stop-done r halt.cause ends.0)
@@ -348,19 +348,19 @@ module _ {D P : Type 0} (bytes : D → Option (List ℕ)) (may_leave : D → Lis
   answer-reaches rolled outcome.Memory has ends = absurd (cc (ends.0))
   answer-reaches rolled (outcome.Unopened why) has ends = absurd (not-begun Done (ending_of_journal why) refl ends.0 (journal-begun why))
 
-  done-reaches : Rolls bytes may_leave moment left_since faults port_faults tell left limits policy disk disk_now before now Done out out_now → ReachesTarget bytes port_faults tell limits left disk before.ports now.ports out out_now
+  done-reaches : Rolls trace tell left limits policy disk disk_now before now Done out out_now → ReachesTarget trace tell limits left disk before.ports now.ports out out_now
   done-reaches (inl none) = absurd (unbegun-refused left Done refl none.why)
   done-reaches (inr rolled) = answer-reaches rolled rolled.rolls.answer rolled.rolls.rolled rolled.rolls.follows
 
   -- by the answer of a run that says held
   module _ (count : ℕ) where
-    answer-rests : (rolled : RollsOutOf bytes may_leave moment left_since faults port_faults tell left limits policy disk disk_now before now (NotFinished (Held count)) out out_now) (a : RunAnswer)
-        → IfRolled a (HasRolled bytes may_leave moment left_since faults port_faults tell rolled.r (digest_for rolled.r limits.migration) policy limits.rounds disk before.ports now.ports disk_now a)
-        → Follows (line_or_ending a) (NotFinished (Held count)) out out_now → RestsHeld bytes port_faults tell limits policy left disk before.ports now.ports
+    answer-rests : (rolled : RollsOutOf trace tell left limits policy disk disk_now before now (NotFinished (Held count)) out out_now) (a : RunAnswer)
+        → IfRolled a (HasRolled trace tell rolled.r (digest_for rolled.r limits.migration) policy limits.rounds disk before.ports now.ports disk_now a)
+        → Follows (line_or_ending a) (NotFinished (Held count)) out out_now → RestsHeld trace tell limits policy left disk before.ports now.ports
     answer-rests rolled (outcome.Finished operations found) has (inl done) = absurd (cc (done.0))
     answer-rests rolled (outcome.Finished operations found) has (inr cut) = absurd (cc (cut.0))
     answer-rests rolled (outcome.Held held) has ends =
-        rests bytes may_leave moment left_since faults port_faults tell left disk disk_now before now limits policy (NotFinished (Held count)) out out_now rolled (outcome.Held held) has held refl
+        rests trace tell left disk disk_now before now limits policy (NotFinished (Held count)) out out_now rolled (outcome.Held held) has held refl
     answer-rests rolled (outcome.Stopped r halt) has ends = absurd (stop-held r halt.cause ends.0)
       where
         stop-held : (r : Rollout) (why : Cause) → NotFinished (Held count) ≡ ending_of_stop r why → ⊥
@@ -375,7 +375,7 @@ module _ {D P : Type 0} (bytes : D → Option (List ℕ)) (may_leave : D → Lis
     answer-rests rolled outcome.Memory has ends = absurd (cc (ends.0))
     answer-rests rolled (outcome.Unopened why) has ends = absurd (not-begun (NotFinished (Held count)) (ending_of_journal why) refl ends.0 (journal-begun why))
 
-    held-rests-by : Rolls bytes may_leave moment left_since faults port_faults tell left limits policy disk disk_now before now (NotFinished (Held count)) out out_now → RestsHeld bytes port_faults tell limits policy left disk before.ports now.ports
+    held-rests-by : Rolls trace tell left limits policy disk disk_now before now (NotFinished (Held count)) out out_now → RestsHeld trace tell limits policy left disk before.ports now.ports
     held-rests-by (inl none) = absurd (unbegun-refused left (NotFinished (Held count)) refl none.why)
     held-rests-by (inr rolled) = answer-rests rolled rolled.rolls.answer rolled.rolls.rolled rolled.rolls.follows
 
@@ -392,40 +392,30 @@ is-held (Held count) h = (count, refl)
 begun-told : (e told : Ending) → IsToldAs e told → is_of_begun told ≡ true → e ≡ told
 begun-told e told by begun = told-same e told by (λ m. not-begun told OutOfMemory begun m refl)
 
-module _ {D P : Type 0} (bytes : D → Option (List ℕ)) (may_leave : D → List ℕ → Type 0) (moment : D → ℕ) (left_since : D → ℕ → List ℕ → Type 0) (faults : D → ℕ) (port_faults : P → ℕ) (tell : P → Telling)
+module _ {D P : Type 0} (trace : D → DiskTrace) (tell : P → PortTrace)
     (left : Option (List ℕ)) (disk disk_now : D) (before now : FleetSeen P) (out out_now : Option (List ℕ)) where
-  pub rolls-safe : (asked : Option Asked) (status : ℕ) → RollsBy bytes may_leave moment left_since faults port_faults tell asked left disk disk_now before now status out out_now → IsOfBegun status
-      → SafeBy bytes port_faults tell asked left disk before now
-  rolls-safe None status rolls of = tt
-  rolls-safe (Some (a_text what)) status rolls of = tt
-  rolls-safe (Some (a_report migration)) status rolls of = tt
-  rolls-safe (Some (an_agent guests)) status rolls of = tt
-  rolls-safe (Some (a_trial shape policy)) status rolls of = tt
-  rolls-safe (Some (a_run limits policy)) status rolls of =
+  pub rolls-safe : (limits : Limits) (policy : OpView → ℕ) (status : ℕ) → RollsAs trace tell left limits policy disk disk_now before now status out out_now → IsOfBegun status
+      → StaysSafe trace tell limits left disk before.ports now.ports
+  rolls-safe limits policy status rolls of =
       let begun : is_of_begun rolls.told ≡ true = of-begun rolls.told (subst IsOfBegun rolls.is_status of) in
       let same : rolls.ending ≡ rolls.told = begun-told rolls.ending rolls.told rolls.told_as begun in
-      begun-safe bytes may_leave moment left_since faults port_faults tell left disk disk_now before now limits policy out out_now rolls.ending (ap is_of_begun same ∙ begun) rolls.rolls
+      begun-safe trace tell left disk disk_now before now limits policy out out_now rolls.ending (ap is_of_begun same ∙ begun) rolls.rolls
 
-  pub rolls-target : (asked : Option Asked) (status : ℕ) → RollsBy bytes may_leave moment left_since faults port_faults tell asked left disk disk_now before now status out out_now → status ≡ 0
-      → TargetBy bytes port_faults tell asked left disk before now out out_now
-  rolls-target None status rolls zero = tt
-  rolls-target (Some (a_text what)) status rolls zero = tt
-  rolls-target (Some (a_report migration)) status rolls zero = tt
-  rolls-target (Some (an_agent guests)) status rolls zero = tt
-  rolls-target (Some (a_trial shape policy)) status rolls zero = tt
-  rolls-target (Some (a_run limits policy)) status rolls zero =
+  pub rolls-target : (limits : Limits) (policy : OpView → ℕ) (status : ℕ) → RollsAs trace tell left limits policy disk disk_now before now status out out_now → status ≡ 0
+      → ReachesTarget trace tell limits left disk before.ports now.ports out out_now
+  rolls-target limits policy status rolls zero =
       let told : rolls.told ≡ Done = is-done rolls.told (sym rolls.is_status ∙ zero) in
       let done : rolls.ending ≡ Done = begun-told rolls.ending rolls.told rolls.told_as (ap is_of_begun told) ∙ told in
-      done-reaches bytes may_leave moment left_since faults port_faults tell left disk disk_now before now limits policy out out_now
-      (subst (λ (e : Ending). Rolls bytes may_leave moment left_since faults port_faults tell left limits policy disk disk_now before now e out out_now) done rolls.rolls)
+      done-reaches trace tell left disk disk_now before now limits policy out out_now
+      (subst (λ (e : Ending). Rolls trace tell left limits policy disk disk_now before now e out out_now) done rolls.rolls)
 
-  pub held-rest : (limits : Limits) (policy : OpView → ℕ) (status : ℕ) → RollsBy bytes may_leave moment left_since faults port_faults tell (Some (a_run limits policy)) left disk disk_now before now status out out_now → status ≡ 14
-      → RestsHeld bytes port_faults tell limits policy left disk before.ports now.ports
+  pub held-rest : (limits : Limits) (policy : OpView → ℕ) (status : ℕ) → RollsAs trace tell left limits policy disk disk_now before now status out out_now → status ≡ 14
+      → RestsHeld trace tell limits policy left disk before.ports now.ports
   held-rest limits policy status rolls is =
       let fourteen : status_of rolls.told ≡ 14 = sym rolls.is_status ∙ is in
       let unfinished = is-unfinished rolls.told (subst IsUnfinished (sym fourteen) refl) in
       let count = is-held unfinished.0 (sym (ap status_of unfinished.1) ∙ fourteen) in
       let told : rolls.told ≡ NotFinished (Held count.0) = unfinished.1 ∙ ap NotFinished count.1 in
       let held : rolls.ending ≡ NotFinished (Held count.0) = begun-told rolls.ending rolls.told rolls.told_as (ap is_of_begun told) ∙ told in
-      held-rests-by bytes may_leave moment left_since faults port_faults tell left disk disk_now before now limits policy out out_now count.0
-      (subst (λ (e : Ending). Rolls bytes may_leave moment left_since faults port_faults tell left limits policy disk disk_now before now e out out_now) held rolls.rolls)
+      held-rests-by trace tell left disk disk_now before now limits policy out out_now count.0
+      (subst (λ (e : Ending). Rolls trace tell left limits policy disk disk_now before now e out out_now) held rolls.rolls)

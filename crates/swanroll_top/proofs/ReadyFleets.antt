@@ -3,10 +3,10 @@ use Rattle.std.proofs.Common.{◌≡◌, ℕ, Bool, true, false, [], ◌==◌, i
 use Rattle.std.proofs.lemmas.Bool.{false≢true}
 use Rattle.rollout_rules.specs.Worked.{fresh}
 use Rattle.rollout_rules.specs.Legal.{unsettled}
-use Rattle.wan_edge.specs.Ports.{NothingToCome}
+use Rattle.wan_edge.specs.Ports.{NothingToCome, PortTrace}
 use Rattle.wan_edge.specs.Streams.{Rose}
 use Rattle.port_session.specs.Sessions.{first_talk}
-use Rattle.worker_ports.specs.Views.{Telling, view}
+use Rattle.worker_ports.specs.Views.{view}
 use Rattle.shared_book.specs.Homes.{homes_of}
 use Rattle.switch_laws.specs.Runs.{StartsAsFound}
 use Rattle.switch_laws.specs.Worked.{two_flows}
@@ -59,7 +59,7 @@ held-not ready = false≢true (sym (ready.free (record { item = 0; number = 1; s
 pub untold-not : IsReadyFor itself (in_rounds 4) by_item None two_flows (fresh []) → ⊥
 untold-not ready = absurd (cc (ready.told))
 
-abbrev at_first : Option (ℕ → Option Telling) → Option Telling
+abbrev at_first : Option (ℕ → Option PortTrace) → Option PortTrace
 at_first None = None
 at_first (Some waiting) = waiting 0
 
@@ -68,11 +68,11 @@ unanswered-not ready =
     let first = ready.each.0 in
     let waits : Some unanswered ≡ Some first.port = ap at_first ready.told ∙ first.waits in
     let same : first.port ≡ unanswered = sym (cc waits) in
-    silent-waits (subst (λ (port : Telling). NothingToCome port.start port.offered port.heard) same first.ready.no_more)
+    silent-waits (subst (λ (port : PortTrace). NothingToCome port.start port.offered port.heard) same first.ready.no_more)
 
 -- ---- counts of faults
 -- what stands where a test holds
-where-any : (test : Bool) (port other : Telling) → (if test then Some port else None) ≡ Some other → port ≡ other
+where-any : (test : Bool) (port other : PortTrace) → (if test then Some port else None) ≡ Some other → port ≡ other
 where-any true port other is = cc is
 where-any false port other is = absurd (cc is)
 
@@ -81,7 +81,7 @@ counts-none = record {
   disk = λ rose. none rose;
   fleet = λ rose. none rose;
   ports = λ switch first back waits kept rose.
-      none (subst (λ (faults : ℕ). Rose faults 0) (sym (ap (λ (port : Telling). port.faults) (where-any (switch == 0) never_used first waits))) (subst (λ (faults : ℕ). Rose first.faults faults) (sym (ap (λ (port : Telling). port.faults) (where-any (switch == 0) answered_once back kept))) rose));
+      none (subst (λ (faults : ℕ). Rose faults 0) (sym (ap (λ (port : PortTrace). port.faults) (where-any (switch == 0) never_used first waits))) (subst (λ (faults : ℕ). Rose first.faults faults) (sym (ap (λ (port : PortTrace). port.faults) (where-any (switch == 0) answered_once back kept))) rose));
 }
   where
     none : Rose 0 0 → ⊥

@@ -4,16 +4,16 @@ use Rattle.rollout_rules.specs.Wan.{Rollout}
 use Rattle.rollout_rules.specs.declared.limits.TheConstants.{MOST_INPUT}
 use Rattle.rollout_rules.specs.declared.op.OpView.{OpView}
 use Rattle.std.proofs.lemmas.List.{length-append}
+use Rattle.disk_model.specs.Traces.{DiskTrace}
+use Rattle.wan_edge.specs.Ports.{PortTrace}
 use Rattle.wan_edge.specs.ReadAll.{GoesBeyond}
-use Rattle.worker_ports.specs.Views.{Telling}
 use Rattle.rollout_run.specs.declared.running.Limits.{Limits}
 use Rattle.swanroll_top.specs.Endings.{status_of}
 use Rattle.swanroll_top.specs.Reading.{IsCut, IsShortInput}
 use Rattle.swanroll_top.specs.Reports.{rollout_in, rollout_to}
-use Rattle.swanroll_top.specs.Rollouts.{EndsRollout, FleetSeen, FollowsRollout, FollowsRolled, IsRefused, IsUnbegun, LeavesAll, RefusesAs, Rolls, RollsAs, RollsAsked, RollsBy, RollsIn, RollsOut, RunsRollout, may_end}
-use Rattle.swanroll_top.specs.Runs.{EndsWith, Gives, IsInput, IsTold}
+use Rattle.swanroll_top.specs.Rollouts.{EndsRollout, FleetSeen, FollowsRollout, FollowsRolled, IsRefused, IsUnbegun, LeavesAll, RefusesAs, Rolls, RollsIn, RollsOut, RunsRollout, may_end}
+use Rattle.swanroll_top.specs.Runs.{EndsWith, Gives, IsInput}
 use Rattle.swanroll_top.specs.Taken.{IsValidDocument}
-use Rattle.swanroll_top.specs.Words.{Asked, a_run}
 use Rattle.swanroll_top.specs.declared.ending.Ending.{Ending}
 use Rattle.swanroll_top.specs.declared.ending.Ending.TheVariants.{Done, Usage, AboveLimit, Input, NotValid, NoPlan, ReadFault, WriteFault, DiskFault, GuestFault, Refused, NotFinished, OutOfMemory}
 use Rattle.swanroll_top.proofs.Answering.{is_answer, rollout-answers}
@@ -187,7 +187,7 @@ cut-unbegun left now OutOfMemory r = tt
 
 -- ---- the disk and the ports
 
-module _ {D P : Type 0} (bytes : D → Option (List ℕ)) (may_leave : D → List ℕ → Type 0) (moment : D → ℕ) (left_since : D → ℕ → List ℕ → Type 0) (faults : D → ℕ) (port_faults : P → ℕ) (tell : P → Telling)
+module _ {D P : Type 0} (trace : D → DiskTrace) (tell : P → PortTrace)
     (limits : Limits) (policy : OpView → ℕ) (disk disk_now : D) (before fleet_now : FleetSeen P) (out out_now : Option (List ℕ)) where
   unbegun : (left now : Option (List ℕ)) (input : List ℕ) (e : Ending) → IsShortInput left now input → IsRefused (rollout_in input) e → IsUnbegun left e
   unbegun left now input e short h = by_ending e h
@@ -211,8 +211,8 @@ module _ {D P : Type 0} (bytes : D → Option (List ℕ)) (may_leave : D → Lis
       by_ending OutOfMemory h = tt
 
   pub input-rolls : (left now : Option (List ℕ)) (input : List ℕ) (e : Ending) → IsShortInput left now input
-      → RollsIn bytes may_leave moment left_since faults port_faults tell (rollout_in input) limits policy disk disk_now before fleet_now e out out_now
-      → Rolls bytes may_leave moment left_since faults port_faults tell left limits policy disk disk_now before fleet_now e out out_now
+      → RollsIn trace tell (rollout_in input) limits policy disk disk_now before fleet_now e out out_now
+      → Rolls trace tell left limits policy disk disk_now before fleet_now e out out_now
   input-rolls left now input e short (inl refused) = inl (record { why = unbegun left now input e short refused.why; disk_is = refused.disk_is; fleet_is = refused.fleet_is })
   input-rolls left now input e short (inr begun) = inr (record {
     input = input;
@@ -221,32 +221,3 @@ module _ {D P : Type 0} (bytes : D → Option (List ℕ)) (may_leave : D → Lis
     is = short-rollout input short.within ∙ begun.1;
     rolls = begun.2;
   })
-
--- ---- the status that is told
-
-module _ {D P : Type 0} (bytes : D → Option (List ℕ)) (may_leave : D → List ℕ → Type 0) (moment : D → ℕ) (left_since : D → ℕ → List ℕ → Type 0) (faults : D → ℕ) (port_faults : P → ℕ) (tell : P → Telling)
-    (disk disk_now : D) (before fleet_now : FleetSeen P) where
-  pub told-rolls : (asked : Option Asked) (c : Asked) (left : Option (List ℕ)) (e : Ending) (status : ℕ) (noted noted_now : Option (List ℕ)) (failed failed_now : ℕ) (out out_now : Option (List ℕ)) → asked ≡ Some c
-      → IsTold e status noted noted_now failed failed_now → RollsAsked bytes may_leave moment left_since faults port_faults tell c left disk disk_now before fleet_now e out out_now
-      → RollsBy bytes may_leave moment left_since faults port_faults tell asked left disk disk_now before fleet_now status out out_now
-  told-rolls asked c left e status noted noted_now failed failed_now out out_now is told rolls =
-      subst (λ a. RollsBy bytes may_leave moment left_since faults port_faults tell a left disk disk_now before fleet_now status out out_now) (sym is) (record {
-        ending = e;
-        told = told.told;
-        told_as = told.is;
-        is_status = told.is_status;
-        rolls = rolls;
-      })
-
-  -- a rollout is what was asked for
-  pub asked-rolls : (what : Asked) (limits : Limits) (policy : OpView → ℕ) (left : Option (List ℕ)) (e : Ending) (out out_now : Option (List ℕ)) → what ≡ a_run limits policy
-      → Rolls bytes may_leave moment left_since faults port_faults tell left limits policy disk disk_now before fleet_now e out out_now
-      → RollsAsked bytes may_leave moment left_since faults port_faults tell what left disk disk_now before fleet_now e out out_now
-  asked-rolls what limits policy left e out out_now is rolls =
-      subst (λ a. RollsAsked bytes may_leave moment left_since faults port_faults tell a left disk disk_now before fleet_now e out out_now) (sym is) rolls
-
-  -- words that are no command line roll nothing out
-  pub usage-rolls : (asked : Option Asked) (left : Option (List ℕ)) (status : ℕ) (out out_now : Option (List ℕ)) → asked ≡ None
-      → RollsBy bytes may_leave moment left_since faults port_faults tell asked left disk disk_now before fleet_now status out out_now
-  usage-rolls asked left status out out_now is =
-      subst (λ a. RollsBy bytes may_leave moment left_since faults port_faults tell a left disk disk_now before fleet_now status out out_now) (sym is) tt

@@ -1,12 +1,11 @@
 -- What the command `agent` brings about.
-use Rattle.std.specs.Prelude.{◌≡◌, ◌⊎◌, ⊤, ℕ, List, ◌++◌, codes, decimal, false, Option, Some, None, Result, Ok, Err}
+use Rattle.std.specs.Prelude.{◌≡◌, ◌⊎◌, ℕ, List, ◌++◌, codes, decimal, false, Option, Result, Ok, Err}
 use Rattle.agent_service.specs.Services.{Guests, Serves, Tells}
 use Rattle.agent_service.specs.declared.service.Service.{Service}
 use Rattle.agent_service.specs.declared.service.ServiceFault.{ServiceFault}
 use Rattle.agent_service.specs.declared.service.ServiceFault.TheVariants.{Fleet, Memory}
 use Rattle.swanroll_top.specs.Endings.{status_of, tells_place}
 use Rattle.swanroll_top.specs.Runs.{Follows}
-use Rattle.swanroll_top.specs.Words.{Asked, a_report, a_run, a_text, a_trial, an_agent}
 use Rattle.swanroll_top.specs.declared.ending.Ending.{Ending}
 use Rattle.swanroll_top.specs.declared.ending.Ending.TheVariants.{Done, GuestFault, OutOfMemory, WriteFault}
 
@@ -32,25 +31,8 @@ pub record RunsAgent {G : Type 0} (tells : Tells G) (guests : ℕ) (before now :
   -- the line of the notes takes no memory
   pub known : tells_place ending ≡ false
 
--- what an ending says of the guests, by what the words ask for
-abbrev pub ServesAsked : {G : Type 0} → Tells G → Asked → Guests G → Guests G → Ending → Option (List ℕ) → Option (List ℕ) → Type 0
-ServesAsked tells (a_text what) before now ending out out_now = ⊤
-ServesAsked tells (a_report migration) before now ending out out_now = ⊤
-ServesAsked tells (a_trial shape policy) before now ending out out_now = ⊤
-ServesAsked tells (a_run limits policy) before now ending out out_now = now ≡ before
-ServesAsked tells (an_agent guests) before now ending out out_now = RunsAgent tells guests before now ending out out_now
-
 -- the same by the status
 pub record ServesAs {G : Type 0} (tells : Tells G) (guests : ℕ) (before now : Guests G) (status : ℕ) (out out_now : Option (List ℕ)) : Type 0 where
   pub ending : Ending
   pub is_status : status ≡ status_of ending
   pub runs : RunsAgent tells guests before now ending out out_now
-
--- the same of whatever the words ask for
-abbrev pub ServesBy : {G : Type 0} → Tells G → Option Asked → Guests G → Guests G → ℕ → Option (List ℕ) → Option (List ℕ) → Type 0
-ServesBy tells None before now status out out_now = ⊤
-ServesBy tells (Some (a_text what)) before now status out out_now = ⊤
-ServesBy tells (Some (a_report migration)) before now status out out_now = ⊤
-ServesBy tells (Some (a_trial shape policy)) before now status out out_now = ⊤
-ServesBy tells (Some (a_run limits policy)) before now status out out_now = now ≡ before
-ServesBy tells (Some (an_agent guests)) before now status out out_now = ServesAs tells guests before now status out out_now

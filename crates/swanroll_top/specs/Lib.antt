@@ -17,5 +17,13 @@ pub mod Unfinished
 pub mod Rollouts
 pub mod Targets
 pub mod Ready
+pub mod Uses
 pub mod Program
+pub mod Views
+pub mod TextPromise
+pub mod ReportPromise
+pub mod AgentPromise
+pub mod TrialPromise
+pub mod RunPromise
+pub mod Promise
 pub mod Worked

@@ -6,15 +6,16 @@ use Rattle.rollout_rules.specs.History.{History}
 use Rattle.rollout_rules.specs.declared.op.OpView.{OpView}
 use Rattle.rollout_rules.specs.Legal.{unsettled}
 use Rattle.rollout_laws.specs.Waiting.{HoldsNothing}
+use Rattle.wan_edge.specs.Ports.{PortTrace}
 use Rattle.wan_edge.specs.Streams.{Rose}
 use Rattle.intent_journal.specs.Verdicts.{verdict}
 use Rattle.port_session.specs.Sessions.{first_talk}
-use Rattle.worker_ports.specs.Views.{Telling, view}
+use Rattle.worker_ports.specs.Views.{view}
 use Rattle.shared_book.specs.Homes.{homes_of}
 use Rattle.rollout_ports.specs.Homes.{working_homes}
 use Rattle.rollout_report.specs.Journals.{digest_for}
 use Rattle.rollout_run.specs.declared.running.Limits.{Limits}
-use Rattle.rollout_service.specs.Openings.{found_by}
+use Rattle.intent_journal.specs.Openings.{found_by}
 use Rattle.completion_laws.specs.Answering.{IsReady}
 use Rattle.swanroll_top.specs.Reports.{rollout_to}
 use Rattle.swanroll_top.specs.Rollouts.{FleetSeen}
@@ -30,14 +31,14 @@ pub record GoesOnFrom (migration : ℕ) (left stored : Option (List ℕ)) (r : R
   pub begins : found_by r (verdict r (digest_for r migration) image) ≡ Some found
 
 -- A port waits for this switch, and is ready for a run from there.
-pub record WaitsReady {P : Type 0} (tell : P → Telling) (r : Rollout) (migration : ℕ) (found : History) (waiting : ℕ → Option P) (switch : ℕ) : Type 0 where
+pub record WaitsReady {P : Type 0} (tell : P → PortTrace) (r : Rollout) (migration : ℕ) (found : History) (waiting : ℕ → Option P) (switch : ℕ) : Type 0 where
   pub port : P
   pub waits : waiting switch ≡ Some port
   pub ready : IsReady r migration (homes_of r.problem) found (view tell (first_talk switch port))
 
 -- So it is with each switch with an operation, over a fleet that tells what waits. Rounds are given for all that isn't settled, and the policy holds
 -- nothing back.
-pub record IsReadyFor {P : Type 0} (tell : P → Telling) (limits : Limits) (policy : OpView → ℕ) (waiting : Option (ℕ → Option P)) (r : Rollout) (found : History) : Type 0 where
+pub record IsReadyFor {P : Type 0} (tell : P → PortTrace) (limits : Limits) (policy : OpView → ℕ) (waiting : Option (ℕ → Option P)) (r : Rollout) (found : History) : Type 0 where
   pub ports : ℕ → Option P
   pub told : waiting ≡ Some ports
   pub each : AllByRecursion (WaitsReady tell r limits.migration found ports) (working_homes r.problem r.plan)
@@ -46,7 +47,7 @@ pub record IsReadyFor {P : Type 0} (tell : P → Telling) (limits : Limits) (pol
 
 -- No count of faults has risen: that of the disk, which was the first and is the second, that of the fleet, and that of no port, from where it waited
 -- to where it is back.
-pub record CountsNoFault {P : Type 0} (tell : P → Telling) (count later : ℕ) (before now : FleetSeen P) : Type 0 where
+pub record CountsNoFault {P : Type 0} (tell : P → PortTrace) (count later : ℕ) (before now : FleetSeen P) : Type 0 where
   pub disk : Rose count later → ⊥
   pub fleet : Rose before.faults now.faults → ⊥
   pub ports : IfSome before.ports.waiting (λ waiting. (switch : ℕ) (first back : P) → waiting switch ≡ Some first → now.ports.kept switch ≡ Some back → Rose (tell first).faults (tell back).faults → ⊥)

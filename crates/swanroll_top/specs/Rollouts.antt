@@ -1,17 +1,18 @@
 -- What the command `run` brings about. A disk and a port are given by what they tell.
-use Rattle.std.specs.Prelude.{◌≡◌, ◌⊎◌, ⊤, ◌↔◌, ◌<◌, ◌^◌, Bool, true, false, ℕ, List, ◌++◌, codes, decimal, Option, Some, None, Result, Ok, Err, IfSome}
+use Rattle.std.specs.Prelude.{◌≡◌, ◌⊎◌, ⊤, ◌↔◌, ◌<◌, ◌^◌, Bool, true, false, ℕ, List, ◌++◌, codes, decimal, Option, Result, Ok, Err, IfSome}
 use Rattle.rollout_rules.specs.Wan.{Rollout}
 use Rattle.rollout_rules.specs.Network.{IsNetwork}
 use Rattle.rollout_rules.specs.declared.op.OpView.{OpView}
+use Rattle.disk_model.specs.Traces.{DiskTrace}
 use Rattle.intent_journal.specs.declared.fault.JournalFault.TheVariants as fault
 use Rattle.shared_history.specs.declared.note.Cause.{Cause}
 use Rattle.shared_history.specs.declared.note.Cause.TheVariants as cause
+use Rattle.wan_edge.specs.Ports.{PortTrace}
 use Rattle.wan_edge.specs.Streams.{Rose}
-use Rattle.worker_ports.specs.Views.{Telling}
 use Rattle.rollout_ports.specs.Berths.{FleetPorts, ports_of}
 use Rattle.rollout_report.specs.Journals.{digest_for}
 use Rattle.rollout_run.specs.declared.running.Limits.{Limits}
-use Rattle.rollout_service.specs.Openings.{IsLeft}
+use Rattle.intent_journal.specs.Openings.{IsLeft}
 use Rattle.rollout_service.specs.Outcomes.{HasRolled, IfRolled, OnUnopened}
 use Rattle.rollout_service.specs.declared.answer.RunAnswer.{RunAnswer}
 use Rattle.rollout_service.specs.declared.answer.RunAnswer.TheVariants as outcome
@@ -21,7 +22,6 @@ use Rattle.swanroll_top.specs.Reports.{rollout_to}
 use Rattle.swanroll_top.specs.Runs.{Follows, IsInput}
 use Rattle.swanroll_top.specs.Safety.{IsValid}
 use Rattle.swanroll_top.specs.Taken.{IsValidDocument}
-use Rattle.swanroll_top.specs.Words.{Asked, a_report, a_run, a_text, a_trial, an_agent}
 use Rattle.swanroll_top.specs.declared.ending.Ending.{Ending}
 use Rattle.swanroll_top.specs.declared.ending.Ending.TheVariants.{DiskFault, Done, NotFinished, OutOfMemory, ReadFault, Refused, WriteFault}
 use Rattle.swanroll_top.specs.declared.unfinished.Unfinished.TheVariants.{RoundsSpent, PortFault, Above, NotMine, NoAnswer, Held}
@@ -70,14 +70,14 @@ fleet_of waiting kept lent faults fleet = record { ports = ports_of waiting kept
 
 -- The rollout of an input, whose plan is valid, was run from what its disk had, over the ports of a fleet, and the run ends as the answer says.
 -- Where no journal was opened, no port was; where a port is missing, the fleet failed to give it.
-pub record RollsOut {D P : Type 0} (bytes : D → Option (List ℕ)) (may_leave : D → List ℕ → Type 0) (moment : D → ℕ) (left_since : D → ℕ → List ℕ → Type 0) (faults : D → ℕ) (port_faults : P → ℕ) (tell : P → Telling)
+pub record RollsOut {D P : Type 0} (trace : D → DiskTrace) (tell : P → PortTrace)
     (r : Rollout) (limits : Limits) (policy : OpView → ℕ) (disk disk_now : D) (before now : FleetSeen P) (ending : Ending) (out out_now : Option (List ℕ)) : Type 0 where
   pub network : IsNetwork r.problem
   pub valid : IsValid r.problem r.plan
   pub small : limits.migration < 2 ^ 32
   pub answer : RunAnswer
-  pub rolled : IfRolled answer (HasRolled bytes may_leave moment left_since faults port_faults tell r (digest_for r limits.migration) policy limits.rounds disk before.ports now.ports disk_now answer)
-  pub unopened : OnUnopened answer (λ why. IsLeft bytes may_leave moment left_since faults r (digest_for r limits.migration) disk why disk_now × (now ≡ before))
+  pub rolled : IfRolled answer (HasRolled trace tell r (digest_for r limits.migration) policy limits.rounds disk before.ports now.ports disk_now answer)
+  pub unopened : OnUnopened answer (λ why. IsLeft trace r (digest_for r limits.migration) disk why disk_now × (now ≡ before))
   pub no_port : (other : Rollout) (switch : ℕ) → answer ≡ outcome.NoPort other switch → Rose before.faults now.faults
   pub follows : Follows (line_or_ending answer) ending out out_now
 
@@ -104,52 +104,36 @@ pub record LeavesAll {D P : Type 0} (cause : Type 0) (disk disk_now : D) (before
   pub fleet_is : now ≡ before
 
 -- The input is a rollout, and it was run.
-pub record RollsOutOf {D P : Type 0} (bytes : D → Option (List ℕ)) (may_leave : D → List ℕ → Type 0) (moment : D → ℕ) (left_since : D → ℕ → List ℕ → Type 0) (faults : D → ℕ) (port_faults : P → ℕ) (tell : P → Telling)
+pub record RollsOutOf {D P : Type 0} (trace : D → DiskTrace) (tell : P → PortTrace)
     (left : Option (List ℕ)) (limits : Limits) (policy : OpView → ℕ) (disk disk_now : D) (before now : FleetSeen P) (ending : Ending) (out out_now : Option (List ℕ)) : Type 0 where
   pub input : List ℕ
-  pub whole : IfSome left (λ bytes. bytes ≡ input)
+  pub whole : IfSome left (λ trace. trace ≡ input)
   pub r : Rollout
   pub is : rollout_to input ≡ Ok r
-  pub rolls : RollsOut bytes may_leave moment left_since faults port_faults tell r limits policy disk disk_now before now ending out out_now
+  pub rolls : RollsOut trace tell r limits policy disk disk_now before now ending out out_now
 
 -- either way
-abbrev pub Rolls : {D P : Type 0} → (D → Option (List ℕ)) → (D → List ℕ → Type 0) → (D → ℕ) → (D → ℕ → List ℕ → Type 0) → (D → ℕ) → (P → ℕ) → (P → Telling)
+abbrev pub Rolls : {D P : Type 0} → (D → DiskTrace) → (P → PortTrace)
     → Option (List ℕ) → Limits → (OpView → ℕ) → D → D → FleetSeen P → FleetSeen P → Ending → Option (List ℕ) → Option (List ℕ) → Type 0
-Rolls bytes may_leave moment left_since faults port_faults tell left limits policy disk disk_now before now ending out out_now =
+Rolls trace tell left limits policy disk disk_now before now ending out out_now =
     LeavesAll (IsUnbegun left ending) disk disk_now before now
-    ⊎ RollsOutOf bytes may_leave moment left_since faults port_faults tell left limits policy disk disk_now before now ending out out_now
+    ⊎ RollsOutOf trace tell left limits policy disk disk_now before now ending out out_now
 
 -- the same of an input that is this rollout
-abbrev pub RollsIn : {D P : Type 0} → (D → Option (List ℕ)) → (D → List ℕ → Type 0) → (D → ℕ) → (D → ℕ → List ℕ → Type 0) → (D → ℕ) → (P → ℕ) → (P → Telling)
+abbrev pub RollsIn : {D P : Type 0} → (D → DiskTrace) → (P → PortTrace)
     → Result Rollout Ending → Limits → (OpView → ℕ) → D → D → FleetSeen P → FleetSeen P → Ending → Option (List ℕ) → Option (List ℕ) → Type 0
-RollsIn bytes may_leave moment left_since faults port_faults tell rollout limits policy disk disk_now before now ending out out_now =
+RollsIn trace tell rollout limits policy disk disk_now before now ending out out_now =
     LeavesAll (IsRefused rollout ending) disk disk_now before now
-    ⊎ ((r : Rollout) × (rollout ≡ Ok r) × RollsOut bytes may_leave moment left_since faults port_faults tell r limits policy disk disk_now before now ending out out_now)
-
--- the same by what the words ask for, and by what the source had left
-abbrev pub RollsAsked : {D P : Type 0} → (D → Option (List ℕ)) → (D → List ℕ → Type 0) → (D → ℕ) → (D → ℕ → List ℕ → Type 0) → (D → ℕ) → (P → ℕ) → (P → Telling)
-    → Asked → Option (List ℕ) → D → D → FleetSeen P → FleetSeen P → Ending → Option (List ℕ) → Option (List ℕ) → Type 0
-RollsAsked bytes may_leave moment left_since faults port_faults tell (a_text what) left disk disk_now before now ending out out_now = ⊤
-RollsAsked bytes may_leave moment left_since faults port_faults tell (a_report migration) left disk disk_now before now ending out out_now = ⊤
-RollsAsked bytes may_leave moment left_since faults port_faults tell (an_agent guests) left disk disk_now before now ending out out_now = ⊤
-RollsAsked bytes may_leave moment left_since faults port_faults tell (a_trial shape policy) left disk disk_now before now ending out out_now = ⊤
-RollsAsked bytes may_leave moment left_since faults port_faults tell (a_run limits policy) left disk disk_now before now ending out out_now =
-    Rolls bytes may_leave moment left_since faults port_faults tell left limits policy disk disk_now before now ending out out_now
+    ⊎ ((r : Rollout) × (rollout ≡ Ok r) × RollsOut trace tell r limits policy disk disk_now before now ending out out_now)
 
 -- the same by the status
-pub record RollsAs {D P : Type 0} (bytes : D → Option (List ℕ)) (may_leave : D → List ℕ → Type 0) (moment : D → ℕ) (left_since : D → ℕ → List ℕ → Type 0) (faults : D → ℕ) (port_faults : P → ℕ) (tell : P → Telling)
-    (asked : Asked) (left : Option (List ℕ)) (disk disk_now : D) (before now : FleetSeen P) (status : ℕ) (out out_now : Option (List ℕ)) : Type 0 where
+pub record RollsAs {D P : Type 0} (trace : D → DiskTrace) (tell : P → PortTrace)
+    (left : Option (List ℕ)) (limits : Limits) (policy : OpView → ℕ) (disk disk_now : D) (before now : FleetSeen P) (status : ℕ) (out out_now : Option (List ℕ)) : Type 0 where
   pub ending : Ending
   pub told : Ending
   pub told_as : IsToldAs ending told
   pub is_status : status ≡ status_of told
-  pub rolls : RollsAsked bytes may_leave moment left_since faults port_faults tell asked left disk disk_now before now ending out out_now
-
-abbrev pub RollsBy : {D P : Type 0} → (D → Option (List ℕ)) → (D → List ℕ → Type 0) → (D → ℕ) → (D → ℕ → List ℕ → Type 0) → (D → ℕ) → (P → ℕ) → (P → Telling)
-    → Option Asked → Option (List ℕ) → D → D → FleetSeen P → FleetSeen P → ℕ → Option (List ℕ) → Option (List ℕ) → Type 0
-RollsBy bytes may_leave moment left_since faults port_faults tell None left disk disk_now before now status out out_now = ⊤
-RollsBy bytes may_leave moment left_since faults port_faults tell (Some asked) left disk disk_now before now status out out_now =
-    RollsAs bytes may_leave moment left_since faults port_faults tell asked left disk disk_now before now status out out_now
+  pub rolls : Rolls trace tell left limits policy disk disk_now before now ending out out_now
 
 -- ---- what is read and written
 

@@ -1,5 +1,5 @@
 -- What stands behind a rollout: the network is safe, and behind status 0 it is at the target.
-use Rattle.std.specs.Prelude.{◌≡◌, ⊤, true, false, ◌==◌, ℕ, List, [], ◌∷◌, length, Option, Some, None, Ok, IfSome, IsTrue}
+use Rattle.std.specs.Prelude.{◌≡◌, true, false, ◌==◌, ℕ, List, [], ◌∷◌, length, Option, Some, Ok, IfSome, IsTrue}
 use Rattle.std.specs.List.{AllByRecursion, list_any}
 use Rattle.rollout_rules.specs.Wan.{Rollout}
 use Rattle.rollout_rules.specs.History.{History, with_entries}
@@ -9,11 +9,13 @@ use Rattle.rollout_rules.specs.Safe.{IsSafe}
 use Rattle.rollout_rules.specs.declared.op.Entry.{Entry}
 use Rattle.rollout_rules.specs.declared.op.OpView.{OpView}
 use Rattle.rollout_laws.specs.Good.{AreHeldWithin, places_held}
+use Rattle.disk_model.specs.Traces.{DiskTrace}
+use Rattle.wan_edge.specs.Ports.{PortTrace}
 use Rattle.wan_edge.specs.Streams.{Appends}
 use Rattle.dependency_graph.specs.Graph.{op_total}
 use Rattle.intent_journal.specs.Verdicts.{verdict}
 use Rattle.port_session.specs.Sessions.{first_talk}
-use Rattle.worker_ports.specs.Views.{Telling, view}
+use Rattle.worker_ports.specs.Views.{view}
 use Rattle.shared_history.specs.Legal.{is_still}
 use Rattle.shared_book.specs.Homes.{homes_of}
 use Rattle.worker_ports.specs.declared.ports.Berth.{Berth}
@@ -24,23 +26,22 @@ use Rattle.switch_laws.specs.Holdings.{AreHeldAt, AreHeldAtEnd}
 use Rattle.switch_laws.specs.Runs.{StartsAsFound}
 use Rattle.rollout_report.specs.Journals.{digest_for}
 use Rattle.rollout_run.specs.declared.running.Limits.{Limits}
-use Rattle.rollout_service.specs.Openings.{found_by}
+use Rattle.intent_journal.specs.Openings.{found_by}
 use Rattle.swanroll_top.specs.Reports.{rollout_to}
-use Rattle.swanroll_top.specs.Rollouts.{FleetSeen, finished_line}
-use Rattle.swanroll_top.specs.Words.{Asked, a_report, a_run, a_text, a_trial, an_agent}
+use Rattle.swanroll_top.specs.Rollouts.{finished_line}
 
 -- The port of this berth was opened, and one is back at its switch. Where the switch held at entry what the list found allows, and all that its port
 -- was told before agrees with that, it holds now what the history allows: each item between what is settled and what is begun.
-pub record EndsWithin {P : Type 0} (port_faults : P → ℕ) (tell : P → Telling) (r : Rollout) (migration : ℕ) (found h : History) (before now : FleetPorts P) (berth : Berth P) : Type 0 where
-  pub given : IsGiven port_faults before.waiting berth
+pub record EndsWithin {P : Type 0} (tell : P → PortTrace) (r : Rollout) (migration : ℕ) (found h : History) (before now : FleetPorts P) (berth : Berth P) : Type 0 where
+  pub given : IsGiven tell before.waiting berth
   pub back : P
   pub kept : now.kept berth.switch ≡ Some back
   pub holds : StartsAsFound r migration (homes_of r.problem) found (view tell (first_talk berth.switch berth.port))
       → IfSome (tell back).offered (λ _. IfSome (tell back).heard (λ _. IfSome (tell back).held (AreHeldAt r migration (homes_of r.problem) berth.switch h)))
 
 -- The same behind a history in which all is settled: it holds exactly the target.
-pub record EndsAtTarget {P : Type 0} (port_faults : P → ℕ) (tell : P → Telling) (r : Rollout) (migration : ℕ) (found : History) (before now : FleetPorts P) (berth : Berth P) : Type 0 where
-  pub given : IsGiven port_faults before.waiting berth
+pub record EndsAtTarget {P : Type 0} (tell : P → PortTrace) (r : Rollout) (migration : ℕ) (found : History) (before now : FleetPorts P) (berth : Berth P) : Type 0 where
+  pub given : IsGiven tell before.waiting berth
   pub back : P
   pub kept : now.kept berth.switch ≡ Some back
   pub holds : StartsAsFound r migration (homes_of r.problem) found (view tell (first_talk berth.switch berth.port))
@@ -49,30 +50,30 @@ pub record EndsAtTarget {P : Type 0} (port_faults : P → ℕ) (tell : P → Tel
 -- The input is a rollout, and it was begun. Behind the history that was found on its disk there are entries with which it is legal, and whatever the
 -- switches hold between what it settles and what it begins, and whichever of their next updates have applied, the network is safe. Each switch with an
 -- operation has a port, and holds what that history allows.
-pub record StaysSafe {D P : Type 0} (bytes : D → Option (List ℕ)) (port_faults : P → ℕ) (tell : P → Telling) (limits : Limits) (left : Option (List ℕ)) (disk : D) (before now : FleetPorts P) : Type 0 where
+pub record StaysSafe {D P : Type 0} (trace : D → DiskTrace) (tell : P → PortTrace) (limits : Limits) (left : Option (List ℕ)) (disk : D) (before now : FleetPorts P) : Type 0 where
   pub input : List ℕ
-  pub whole : IfSome left (λ bytes. bytes ≡ input)
+  pub whole : IfSome left (λ trace. trace ≡ input)
   pub r : Rollout
   pub is : rollout_to input ≡ Ok r
   pub found : History
-  pub begins : IfSome (bytes disk) (λ image. found_by r (verdict r (digest_for r limits.migration) image) ≡ Some found)
+  pub begins : IfSome (trace disk).bytes (λ image. found_by r (verdict r (digest_for r limits.migration) image) ≡ Some found)
   pub added : List Entry
   pub legal : is_legal r.problem r.plan (with_entries found added) ≡ true
   pub safe : (held : ℕ → ℕ) → AreHeldWithin r.problem (with_entries found added) held → IsSafe r.problem r.plan (places_held r.problem held)
   pub berths : List (Berth P)
   pub switches : switches_of berths ≡ working_homes r.problem r.plan
-  pub ports : AllByRecursion (EndsWithin port_faults tell r limits.migration found (with_entries found added) before now) berths
+  pub ports : AllByRecursion (EndsWithin tell r limits.migration found (with_entries found added) before now) berths
 
 -- So it is, every operation is settled, and the switches are at the target. And the line of it was written.
-pub record ReachesTarget {D P : Type 0} (bytes : D → Option (List ℕ)) (port_faults : P → ℕ) (tell : P → Telling) (limits : Limits) (left : Option (List ℕ)) (disk : D) (before now : FleetPorts P) (out out_now : Option (List ℕ)) : Type 0 where
-  pub stays : StaysSafe bytes port_faults tell limits left disk before now
+pub record ReachesTarget {D P : Type 0} (trace : D → DiskTrace) (tell : P → PortTrace) (limits : Limits) (left : Option (List ℕ)) (disk : D) (before now : FleetPorts P) (out out_now : Option (List ℕ)) : Type 0 where
+  pub stays : StaysSafe trace tell limits left disk before now
   pub finished : is_finished stays.r.problem stays.r.plan (with_entries stays.found stays.added) ≡ true
-  pub ports : AllByRecursion (EndsAtTarget port_faults tell stays.r limits.migration stays.found before now) stays.berths
+  pub ports : AllByRecursion (EndsAtTarget tell stays.r limits.migration stays.found before now) stays.berths
   pub line : Appends out (finished_line (op_total stays.r) (length stays.found.entries)) out_now
 
 -- So it is, not every operation is settled, none is in flight, and each that may begin is one that the policy holds back.
-pub record RestsHeld {D P : Type 0} (bytes : D → Option (List ℕ)) (port_faults : P → ℕ) (tell : P → Telling) (limits : Limits) (policy : OpView → ℕ) (left : Option (List ℕ)) (disk : D) (before now : FleetPorts P) : Type 0 where
-  pub stays : StaysSafe bytes port_faults tell limits left disk before now
+pub record RestsHeld {D P : Type 0} (trace : D → DiskTrace) (tell : P → PortTrace) (limits : Limits) (policy : OpView → ℕ) (left : Option (List ℕ)) (disk : D) (before now : FleetPorts P) : Type 0 where
+  pub stays : StaysSafe trace tell limits left disk before now
   pub unfinished : is_finished stays.r.problem stays.r.plan (with_entries stays.found stays.added) ≡ false
   pub still : is_still stays.r.problem (with_entries stays.found stays.added) ≡ true
   pub held : (n : ℕ) → may_begin stays.r.problem stays.r.plan (with_entries stays.found stays.added) (next_op (with_entries stays.found stays.added) n) ≡ true
@@ -81,26 +82,3 @@ pub record RestsHeld {D P : Type 0} (bytes : D → Option (List ℕ)) (port_faul
 -- the statuses that come only behind a rollout that was begun
 abbrev pub IsOfBegun : ℕ → Type 0
 IsOfBegun status = IsTrue (list_any (λ s. s == status) (0 ∷ 5 ∷ 7 ∷ 11 ∷ 14 ∷ []))
-
-abbrev pub SafeAsked : {D P : Type 0} → (D → Option (List ℕ)) → (P → ℕ) → (P → Telling) → Asked → Option (List ℕ) → D → FleetSeen P → FleetSeen P → Type 0
-SafeAsked bytes port_faults tell (a_text what) left disk before now = ⊤
-SafeAsked bytes port_faults tell (a_report migration) left disk before now = ⊤
-SafeAsked bytes port_faults tell (an_agent guests) left disk before now = ⊤
-SafeAsked bytes port_faults tell (a_trial shape policy) left disk before now = ⊤
-SafeAsked bytes port_faults tell (a_run limits policy) left disk before now = StaysSafe bytes port_faults tell limits left disk before.ports now.ports
-
-abbrev pub SafeBy : {D P : Type 0} → (D → Option (List ℕ)) → (P → ℕ) → (P → Telling) → Option Asked → Option (List ℕ) → D → FleetSeen P → FleetSeen P → Type 0
-SafeBy bytes port_faults tell None left disk before now = ⊤
-SafeBy bytes port_faults tell (Some asked) left disk before now = SafeAsked bytes port_faults tell asked left disk before now
-
--- the same by what the words ask for: of a run alone it says something
-abbrev pub TargetAsked : {D P : Type 0} → (D → Option (List ℕ)) → (P → ℕ) → (P → Telling) → Asked → Option (List ℕ) → D → FleetSeen P → FleetSeen P → Option (List ℕ) → Option (List ℕ) → Type 0
-TargetAsked bytes port_faults tell (a_text what) left disk before now out out_now = ⊤
-TargetAsked bytes port_faults tell (a_report migration) left disk before now out out_now = ⊤
-TargetAsked bytes port_faults tell (an_agent guests) left disk before now out out_now = ⊤
-TargetAsked bytes port_faults tell (a_trial shape policy) left disk before now out out_now = ⊤
-TargetAsked bytes port_faults tell (a_run limits policy) left disk before now out out_now = ReachesTarget bytes port_faults tell limits left disk before.ports now.ports out out_now
-
-abbrev pub TargetBy : {D P : Type 0} → (D → Option (List ℕ)) → (P → ℕ) → (P → Telling) → Option Asked → Option (List ℕ) → D → FleetSeen P → FleetSeen P → Option (List ℕ) → Option (List ℕ) → Type 0
-TargetBy bytes port_faults tell None left disk before now out out_now = ⊤
-TargetBy bytes port_faults tell (Some asked) left disk before now out out_now = TargetAsked bytes port_faults tell asked left disk before now out out_now

@@ -12,7 +12,7 @@ use Rattle.sim_run.specs.TrialText.{trial_text}
 use Rattle.sim_run.specs.declared.shape.Shape.{Shape}
 use Rattle.swanroll_top.specs.Endings.{ending_without}
 use Rattle.swanroll_top.specs.Runs.{EndsWith, Follows}
-use Rattle.swanroll_top.specs.Words.{Asked, a_report, a_run, a_text, a_trial, an_agent}
+use Rattle.swanroll_top.specs.Words.{Asked, a_trial}
 use Rattle.swanroll_top.specs.declared.ending.Ending.{Ending}
 
 -- the numbers of which a case can be made
@@ -25,11 +25,8 @@ pub record IsShape (s : Shape) : Type 0 where
 
 -- a trial is asked for with such numbers
 abbrev pub IsAskedShape : Asked → Type 0
-IsAskedShape (a_text what) = ⊤
-IsAskedShape (a_report migration) = ⊤
-IsAskedShape (an_agent guests) = ⊤
 IsAskedShape (a_trial shape policy) = IsShape shape
-IsAskedShape (a_run limits policy) = ⊤
+IsAskedShape other = ⊤
 
 -- the case of these numbers, and what is left to draw behind it
 abbrev pub case_of : Shape → Problem

@@ -123,7 +123,8 @@ impl From<Unplanned> for Ending {
     ghost use Rattle.std.specs.Prelude.{◌≡◌};
     ghost use Rattle.swanroll_top.specs.Endings.{ending_without};
 
-    ghost from_gives = { λ unplanned ending. ending ≡ ending_without unplanned.problem unplanned.cause };
+    ghost from_gives = { λ unplanned ending. ending
+        ≡ ending_without unplanned.problem unplanned.cause };
 
     fn from(unplanned: Unplanned) -> Ending {
         match unplanned.cause {

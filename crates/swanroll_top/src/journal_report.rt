@@ -31,11 +31,17 @@ pub fn report<S: Source, K: Sink, D: Disk>(
     sink: &mut K,
     disk: D,
 ) -> Closed<D>
-    ensures runs { RunsReport migration (S.left source.old) (S.left source.new) (D.bytes disk) result.ending (K.written sink.old) (K.written sink.new) }
-    ensures leaves { IfSome (S.left source.old) (λ input. LeavesReported D.bytes D.may_leave D.moment D.left_since migration (rollout_to input) (status_of result.ending) disk result.disk) }
-    ensures read_fault { result.ending ≡ Ending.ReadFault → Rose (S.faults source.old) (S.faults source.new) }
-    ensures write_fault { result.ending ≡ Ending.WriteFault → Rose (K.faults sink.old) (K.faults sink.new) }
-    ensures disk_fault { result.ending ≡ Ending.DiskFault → Rose (D.faults disk) (D.faults result.disk) }
+    ensures runs { RunsReport migration (S.left source.old) (S.left source.new) (D.told disk).bytes
+        result.ending (K.written sink.old) (K.written sink.new) }
+    ensures leaves { IfSome (S.left source.old)
+        (λ input. LeavesReported D.told migration (rollout_to input) (status_of result.ending) disk
+        result.disk) }
+    ensures read_fault { result.ending ≡ Ending.ReadFault
+        → Rose (S.faults source.old) (S.faults source.new) }
+    ensures write_fault { result.ending ≡ Ending.WriteFault
+        → Rose (K.faults sink.old) (K.faults sink.new) }
+    ensures disk_fault { result.ending ≡ Ending.DiskFault
+        → Rose (D.told disk).faults (D.told result.disk).faults }
     ensures no_guest { result.ending ≢ Ending.GuestFault }
     ensures no_rollout { (u : Unfinished) → result.ending ≢ Ending.NotFinished u }
     ensures ran { result.ending ≢ Ending.Usage }
@@ -53,10 +59,14 @@ fn report_input<K: Sink, D: Disk>(
     sink: &mut K,
     disk: D,
 ) -> Closed<D>
-    ensures follows { FollowsReported migration (rollout_in input) (D.bytes disk) result.ending (K.written sink.old) (K.written sink.new) }
-    ensures leaves { LeavesReported D.bytes D.may_leave D.moment D.left_since migration (rollout_in input) (status_of result.ending) disk result.disk }
-    ensures write_fault { result.ending ≡ Ending.WriteFault → Rose (K.faults sink.old) (K.faults sink.new) }
-    ensures disk_fault { result.ending ≡ Ending.DiskFault → Rose (D.faults disk) (D.faults result.disk) }
+    ensures follows { FollowsReported migration (rollout_in input) (D.told disk).bytes result.ending
+        (K.written sink.old) (K.written sink.new) }
+    ensures leaves { LeavesReported D.told migration (rollout_in input) (status_of result.ending)
+        disk result.disk }
+    ensures write_fault { result.ending ≡ Ending.WriteFault
+        → Rose (K.faults sink.old) (K.faults sink.new) }
+    ensures disk_fault { result.ending ≡ Ending.DiskFault
+        → Rose (D.told disk).faults (D.told result.disk).faults }
 {
     match rollout_of(alloc, input) {
         Ok(plan) => report_plan(alloc, plan, migration, sink, disk),
@@ -71,10 +81,15 @@ fn report_plan<K: Sink, D: Disk>(
     sink: &mut K,
     disk: D,
 ) -> Closed<D>
-    ensures follows { FollowsReported migration (Ok plan) (D.bytes disk) result.ending (K.written sink.old) (K.written sink.new) }
-    ensures leaves { IfSome (D.bytes disk) (λ image. LeavesJournal D.bytes D.may_leave D.moment D.left_since plan (digest_for plan migration) image (status_of result.ending) disk result.disk) }
-    ensures write_fault { result.ending ≡ Ending.WriteFault → Rose (K.faults sink.old) (K.faults sink.new) }
-    ensures disk_fault { result.ending ≡ Ending.DiskFault → Rose (D.faults disk) (D.faults result.disk) }
+    ensures follows { FollowsReported migration (Ok plan) (D.told disk).bytes result.ending
+        (K.written sink.old) (K.written sink.new) }
+    ensures leaves { IfSome (D.told disk).bytes
+        (λ image. LeavesJournal D.told plan (digest_for plan migration) image
+        (status_of result.ending) disk result.disk) }
+    ensures write_fault { result.ending ≡ Ending.WriteFault
+        → Rose (K.faults sink.old) (K.faults sink.new) }
+    ensures disk_fault { result.ending ≡ Ending.DiskFault
+        → Rose (D.told disk).faults (D.told result.disk).faults }
 {
     let Reported { disk, answer } = report_journal(alloc, plan, migration, disk);
     Closed {
@@ -86,7 +101,8 @@ fn report_plan<K: Sink, D: Disk>(
 /// Writes a report, or says how the run ends without one.
 fn write_report<K: Sink>(sink: &mut K, report: Result<Text, JournalFault>) -> Ending
     ensures written { EndsJournal report result (K.written sink.old) (K.written sink.new) }
-    ensures write_fault { result ≡ Ending.WriteFault → Rose (K.faults sink.old) (K.faults sink.new) }
+    ensures write_fault { result ≡ Ending.WriteFault
+        → Rose (K.faults sink.old) (K.faults sink.new) }
     ensures disk { result ≡ Ending.DiskFault → IsErrOf report fault.Disk }
 {
     match report {

@@ -13,18 +13,20 @@ ghost use Rattle.plan_choose.specs.Choice.{direct_plan, step_plan, most_tried};
 ghost use Rattle.problem_json.specs.Grammar.{problem_in};
 ghost use Rattle.rollout_rules.specs.declared.op.OpView.{OpView};
 ghost use Rattle.agent_service.specs.Services.{Guests};
-ghost use Rattle.worker_ports.specs.Views.{telling};
 ghost use Rattle.rollout_run.specs.declared.running.Limits.{Limits};
-ghost use Rattle.swanroll_top.specs.Agents.{ServesBy};
+ghost use Rattle.swanroll_top.specs.Agents.{ServesAs};
 ghost use Rattle.swanroll_top.specs.Answers.{answer_to};
 ghost use Rattle.rollout_report.specs.Journals.{journal_report};
 ghost use Rattle.swanroll_top.specs.Reports.{rollout_to};
-ghost use Rattle.swanroll_top.specs.Program.{IsRun, Streams};
+ghost use Rattle.swanroll_top.specs.Program.{Streams};
+ghost use Rattle.swanroll_top.specs.ReportPromise.{ReportsBy};
+ghost use Rattle.swanroll_top.specs.TextPromise.{TextPromise};
+ghost use Rattle.swanroll_top.specs.TrialPromise.{TrialPromise};
 ghost use Rattle.swanroll_top.specs.Ready.{CountsNoFault, GoesOnFrom, IsReadyFor};
-ghost use Rattle.swanroll_top.specs.Rollouts.{FleetSeen, RollsBy};
+ghost use Rattle.swanroll_top.specs.Rollouts.{FleetSeen, RollsAs};
 ghost use Rattle.swanroll_top.specs.Taken.{IsValidDocument, IsValidScript};
 ghost use Rattle.swanroll_top.specs.Targets.{RestsHeld};
-ghost use Rattle.swanroll_top.specs.Words.{TextAsked, a_plan, a_check, a_rehearsal, a_report, a_run, a_text, a_trial, an_agent};
+ghost use Rattle.swanroll_top.specs.Words.{TextAsked, a_plan, a_check, a_rehearsal};
 ghost use Rattle.sim_run.specs.declared.shape.Shape.{Shape};
 ghost use Rattle.swanroll_top.specs.Tries.{IsShape, tried};
 
@@ -35,54 +37,105 @@ use wan_edge::Fleet;
 /// answer: equal rates, a direct plan that is valid, a number of steps with a plan, slack 1/k for some k
 /// from 2 to 64.
 pub fn what_fits_is_planned()
-    ensures still { (input : List ℕ) (p : Problem) → length input ≤ MOST_INPUT → problem_in input ≡ Ok p → refusal p ≡ None
-        → IsTrue (has_equal_rates p) → IsOk (answer_to a_plan input) }
-    ensures direct { (input : List ℕ) (p : Problem) → length input ≤ MOST_INPUT → problem_in input ≡ Ok p → refusal p ≡ None
-        → IsTrue (is_valid_plan p (direct_plan p)) → IsOk (answer_to a_plan input) }
-    ensures steps { (input : List ℕ) (p : Problem) (q : ℕ) → length input ≤ MOST_INPUT → problem_in input ≡ Ok p → refusal p ≡ None
-        → 2 ≤ q → q ≤ most_tried (least_slack p) → IsSome (step_plan p q) → IsOk (answer_to a_plan input) }
-    ensures slack { (input : List ℕ) (p : Problem) (k : ℕ) → length input ≤ MOST_INPUT → problem_in input ≡ Ok p → refusal p ≡ None
-        → 2 ≤ k → k ≤ 64 → IsTrue (has_slack p k) → IsOk (answer_to a_plan input) }
+    ensures still { (input : List ℕ) (p : Problem)
+        → length input ≤ MOST_INPUT
+        → problem_in input ≡ Ok p
+        → refusal p ≡ None
+        → IsTrue (has_equal_rates p)
+        → IsOk (answer_to a_plan input) }
+    ensures direct { (input : List ℕ) (p : Problem)
+        → length input ≤ MOST_INPUT
+        → problem_in input ≡ Ok p
+        → refusal p ≡ None
+        → IsTrue (is_valid_plan p (direct_plan p))
+        → IsOk (answer_to a_plan input) }
+    ensures steps { (input : List ℕ) (p : Problem) (q : ℕ)
+        → length input ≤ MOST_INPUT
+        → problem_in input ≡ Ok p
+        → refusal p ≡ None
+        → 2 ≤ q
+        → q ≤ most_tried (least_slack p)
+        → IsSome (step_plan p q)
+        → IsOk (answer_to a_plan input) }
+    ensures slack { (input : List ℕ) (p : Problem) (k : ℕ)
+        → length input ≤ MOST_INPUT
+        → problem_in input ≡ Ok p
+        → refusal p ≡ None
+        → 2 ≤ k
+        → k ≤ 64
+        → IsTrue (has_slack p k)
+        → IsOk (answer_to a_plan input) }
 {}
 
 /// Every document with a valid plan has an answer of `check`, and every script on one of `sim`, whatever the
 /// policy.
 pub fn what_is_valid_is_answered()
     ensures check { (input : List ℕ) → IsValidDocument input → IsOk (answer_to a_check input) }
-    ensures sim { (policy : OpView → ℕ) (input : List ℕ) → IsValidScript input → IsOk (answer_to (a_rehearsal policy) input) }
+    ensures sim { (policy : OpView → ℕ) (input : List ℕ)
+        → IsValidScript input
+        → IsOk (answer_to (a_rehearsal policy) input) }
 {}
 
 /// A run whose source tells its bytes, and whose command has an answer to them, ends with status 0 unless
 /// the source or the sink failed or memory ran out.
 pub fn an_answer_is_written()
-    ensures { (asked : TextAsked) (before after : Streams) (status : ℕ) (input : List ℕ) → IsRun (Some (a_text asked)) before after status
-        → before.left ≡ Some input → IsOk (answer_to asked input)
-        → status ≢ 6 → status ≢ 7 → status ≢ 12 → status ≡ 0 }
+    ensures { (asked : TextAsked) (before after : Streams) (status : ℕ) (input : List ℕ)
+        → TextPromise asked before after status
+        → before.left ≡ Some input
+        → IsOk (answer_to asked input)
+        → status ≢ 6
+        → status ≢ 7
+        → status ≢ 12
+        → status ≡ 0 }
 {}
 
 /// A report ends with status 0 unless the source, the sink or the disk failed or memory ran out, where the
 /// source tells a document with a valid plan, and the disk no journal yet, or one of this rollout with a
 /// legal list.
 pub fn a_report_is_written()
-    ensures { (migration : ℕ) (before after : Streams) (status : ℕ) (input image : List ℕ) (o : Rollout) → IsRun (Some (a_report migration)) before after status
-        → before.left ≡ Some input → before.stored ≡ Some image → rollout_to input ≡ Ok o → IsOk (journal_report o migration image)
-        → status ≢ 6 → status ≢ 7 → status ≢ 8 → status ≢ 12 → status ≡ 0 }
+    ensures { (migration : ℕ) (before after : Streams) (status : ℕ) (input image : List ℕ)
+        (o : Rollout)
+        → ReportsBy migration before after status
+        → before.left ≡ Some input
+        → before.stored ≡ Some image
+        → rollout_to input ≡ Ok o
+        → IsOk (journal_report o migration image)
+        → status ≢ 6
+        → status ≢ 7
+        → status ≢ 8
+        → status ≢ 12
+        → status ≡ 0 }
 {}
 
 /// Each trial has a text, since a plan is chosen for each case, and a trial ends with status 0 unless the sink
 /// failed or memory ran out.
 pub fn a_trial_is_written()
-    ensures answered { (policy : OpView → ℕ) (shape : Shape) → IsShape shape → IsOk (tried policy shape) }
-    ensures written { (policy : OpView → ℕ) (shape : Shape) (before after : Streams) (status : ℕ) → IsRun (Some (a_trial shape policy)) before after status
-        → status ≢ 6 → status ≢ 7 → status ≢ 12 → status ≡ 0 }
+    ensures answered { (policy : OpView → ℕ) (shape : Shape)
+        → IsShape shape
+        → IsOk (tried policy shape) }
+    ensures written { (policy : OpView → ℕ) (shape : Shape) (before after : Streams) (status : ℕ)
+        → TrialPromise policy shape before after status
+        → status ≢ 6
+        → status ≢ 7
+        → status ≢ 12
+        → status ≡ 0 }
 {}
 
 /// An agent ends with status 0 unless the sink or the fleet failed or memory ran out: how many guests came
 /// by then the clause on it says.
 pub fn an_agent_ends_well<F: Fleet>()
-    ensures { (guests : ℕ) (before now : Guests F.Guest) (status : ℕ) (out out_now : Option (List ℕ))
-        → ServesBy (record { left = F.Guest.left; written = F.Guest.written; read_faults = F.Guest.Source.faults; write_faults = F.Guest.Sink.faults }) (Some (an_agent guests)) before now status out out_now
-        → status ≢ 7 → status ≢ 9 → status ≢ 12 → status ≡ 0 }
+    ensures { (guests : ℕ) (before now : Guests F.Guest) (status : ℕ)
+        (out out_now : Option (List ℕ))
+        → ServesAs (record {
+          left = F.Guest.left;
+          written = F.Guest.written;
+          read_faults = F.Guest.Source.faults;
+          write_faults = F.Guest.Sink.faults;
+        }) guests before now status out out_now
+        → status ≢ 7
+        → status ≢ 9
+        → status ≢ 12
+        → status ≡ 0 }
 {}
 
 /// A run ends with status 0 unless the source, the sink, the disk, the fleet or a port failed or memory ran
@@ -91,25 +144,41 @@ pub fn an_agent_ends_well<F: Fleet>()
 /// given for all that isn't settled; and where the policy holds nothing back. Neither disk, fleet nor port
 /// failed where no count of theirs has risen.
 pub fn a_run_over_ready_ports_ends_well<D: Disk, F: Fleet>()
-    ensures by_status { (limits : Limits) (policy : OpView → ℕ) (left : Option (List ℕ)) (disk disk_now : D) (before now : FleetSeen F.Port) (status : ℕ) (out out_now : Option (List ℕ)) (r : Rollout) (found : History)
-        → RollsBy D.bytes D.may_leave D.moment D.left_since D.faults F.Port.faults (telling F.Port.offered F.Port.heard F.Port.held F.Port.quiet F.Port.faults F.Port.honest F.Port.prompt F.Port.start) (Some (a_run limits policy)) left disk disk_now before now status out out_now
-        → GoesOnFrom limits.migration left (D.bytes disk) r found
-        → IsReadyFor (telling F.Port.offered F.Port.heard F.Port.held F.Port.quiet F.Port.faults F.Port.honest F.Port.prompt F.Port.start) limits policy before.ports.waiting r found
-        → status ≢ 6 → status ≢ 7 → status ≢ 8 → status ≢ 9 → status ≢ 12 → status ≡ 0 }
-    ensures by_counts { (limits : Limits) (policy : OpView → ℕ) (left : Option (List ℕ)) (disk disk_now : D) (before now : FleetSeen F.Port) (status : ℕ) (out out_now : Option (List ℕ)) (r : Rollout) (found : History)
-        → RollsBy D.bytes D.may_leave D.moment D.left_since D.faults F.Port.faults (telling F.Port.offered F.Port.heard F.Port.held F.Port.quiet F.Port.faults F.Port.honest F.Port.prompt F.Port.start) (Some (a_run limits policy)) left disk disk_now before now status out out_now
-        → GoesOnFrom limits.migration left (D.bytes disk) r found
-        → IsReadyFor (telling F.Port.offered F.Port.heard F.Port.held F.Port.quiet F.Port.faults F.Port.honest F.Port.prompt F.Port.start) limits policy before.ports.waiting r found
-        → CountsNoFault (telling F.Port.offered F.Port.heard F.Port.held F.Port.quiet F.Port.faults F.Port.honest F.Port.prompt F.Port.start) (D.faults disk) (D.faults disk_now) before now
-        → status ≢ 6 → status ≢ 7 → status ≢ 12 → status ≡ 0 }
+    ensures by_status { (limits : Limits) (policy : OpView → ℕ) (left : Option (List ℕ))
+        (disk disk_now : D) (before now : FleetSeen F.Port) (status : ℕ)
+        (out out_now : Option (List ℕ)) (r : Rollout) (found : History)
+        → RollsAs D.told F.Port.told left limits policy
+        disk disk_now before now status out out_now
+        → GoesOnFrom limits.migration left (D.told disk).bytes r found
+        → IsReadyFor F.Port.told limits policy before.ports.waiting r found
+        → status ≢ 6
+        → status ≢ 7
+        → status ≢ 8
+        → status ≢ 9
+        → status ≢ 12
+        → status ≡ 0 }
+    ensures by_counts { (limits : Limits) (policy : OpView → ℕ) (left : Option (List ℕ))
+        (disk disk_now : D) (before now : FleetSeen F.Port) (status : ℕ)
+        (out out_now : Option (List ℕ)) (r : Rollout) (found : History)
+        → RollsAs D.told F.Port.told left limits policy
+        disk disk_now before now status out out_now
+        → GoesOnFrom limits.migration left (D.told disk).bytes r found
+        → IsReadyFor F.Port.told limits policy before.ports.waiting r found
+        → CountsNoFault F.Port.told (D.told disk).faults (D.told disk_now).faults before now
+        → status ≢ 6
+        → status ≢ 7
+        → status ≢ 12
+        → status ≡ 0 }
 {}
 
 /// Where a run says that the rest is held back, the network is safe as behind every rollout that was begun,
 /// not every operation is settled, none is in flight, and each that may begin is one that the policy holds
 /// back.
 pub fn a_rollout_is_held_by_its_policy_alone<D: Disk, F: Fleet>()
-    ensures { (limits : Limits) (policy : OpView → ℕ) (left : Option (List ℕ)) (disk disk_now : D) (before now : FleetSeen F.Port) (status : ℕ) (out out_now : Option (List ℕ))
-        → RollsBy D.bytes D.may_leave D.moment D.left_since D.faults F.Port.faults (telling F.Port.offered F.Port.heard F.Port.held F.Port.quiet F.Port.faults F.Port.honest F.Port.prompt F.Port.start) (Some (a_run limits policy)) left disk disk_now before now status out out_now
+    ensures { (limits : Limits) (policy : OpView → ℕ) (left : Option (List ℕ)) (disk disk_now : D)
+        (before now : FleetSeen F.Port) (status : ℕ) (out out_now : Option (List ℕ))
+        → RollsAs D.told F.Port.told left limits policy
+        disk disk_now before now status out out_now
         → status ≡ 14
-        → RestsHeld D.bytes F.Port.faults (telling F.Port.offered F.Port.heard F.Port.held F.Port.quiet F.Port.faults F.Port.honest F.Port.prompt F.Port.start) limits policy left disk before.ports now.ports }
+        → RestsHeld D.told F.Port.told limits policy left disk before.ports now.ports }
 {}

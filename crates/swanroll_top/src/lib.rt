@@ -5,7 +5,8 @@
 //! A module a concern: the words, reading all of the source, writing all of the text, how a run ends and
 //! the notes. The commands that make a text of their input stand in `texts`, a module each; none of them
 //! needs a device. `trial` reads nothing, `report` opens the journal on a disk, and `agent` serves the guests of a fleet. The contract
-//! speaks from the bytes read, those on the disk and those that guests send, to the bytes written.
+//! is one record, `specs::Promise`, with a record of its own for each command. It speaks from the bytes read, those on the disk and
+//! those that guests send, to the bytes written.
 #![tactic(auto)]
 
 mod agent;

@@ -12,7 +12,8 @@ use wan_text::{push_link, push_switch};
 
 /// The line of a problem for which no plan is chosen.
 pub fn no_plan_line(alloc: Global, unplanned: &Unplanned) -> Result<Line, Memory>
-    ensures { IfOk result (λ line. bytes_of line ≡ no_plan_line unplanned.now.problem unplanned.now.cause) }
+    ensures { IfOk result
+        (λ line. bytes_of line ≡ no_plan_line unplanned.now.problem unplanned.now.cause) }
 {
     let mut line = Text::new(alloc);
     push_cause(alloc, &mut line, &unplanned.problem, unplanned.cause)?;

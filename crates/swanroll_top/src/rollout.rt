@@ -1,14 +1,11 @@
 //! The command `run`: a rollout from the journal on the disk to the ports of a fleet.
 
 ghost use Rattle.std.specs.Prelude.{◌≡◌, ◌≢◌, ◌++◌, IfOk};
-ghost use Rattle.rollout_rules.specs.Network.{IsNetwork};
 ghost use Rattle.order_policy.specs.Answers.{rank_by};
 ghost use Rattle.wan_edge.specs.Streams.{Rose};
-ghost use Rattle.worker_ports.specs.Views.{telling};
 ghost use Rattle.swanroll_top.specs.Reports.{rollout_in};
 ghost use Rattle.swanroll_top.specs.Rollouts.{EndsRollout, FollowsRolled, IsDiskFault, Rolls, RollsIn, RollsOut, RunsRollout, ending_of_stop, finished_line, fleet_of, line_or_ending};
 ghost use Rattle.swanroll_top.specs.Runs.{Follows, Gives};
-ghost use Rattle.swanroll_top.specs.Safety.{IsValid};
 
 use crate::ending::Ending;
 use crate::reading::read_input;
@@ -16,6 +13,7 @@ use crate::run::Closed;
 use crate::texts::rollout_of;
 use crate::unfinished::Unfinished;
 use crate::writing::write_text;
+use dependency_graph::checked_plan_is_valid;
 use disk_model::Disk;
 use lists::{Memory, Text};
 use order_policy::Policy;
@@ -42,12 +40,21 @@ pub fn roll_out<R: Wait + Threads + Sync, S: Source, K: Sink, D: Disk + Drop + S
 ) -> Closed<D>
 where
     F::Port: Drop + Send,
-    ensures runs { RunsRollout (S.left source.old) (S.left source.new) result.ending (K.written sink.old) (K.written sink.new) }
-    ensures rolls { Rolls D.bytes D.may_leave D.moment D.left_since D.faults F.Port.faults (telling F.Port.offered F.Port.heard F.Port.held F.Port.quiet F.Port.faults F.Port.honest F.Port.prompt F.Port.start) (S.left source.old) limits (rank_by policy.now.answers) disk result.disk (fleet_of F.waiting F.kept F.lent F.faults fleet.old) (fleet_of F.waiting F.kept F.lent F.faults fleet.new) result.ending (K.written sink.old) (K.written sink.new) }
-    ensures guests { (F.coming fleet.new ≡ F.coming fleet.old) × (F.served fleet.new ≡ F.served fleet.old) × (F.visiting fleet.new ≡ F.visiting fleet.old) }
-    ensures read_fault { result.ending ≡ Ending.ReadFault → Rose (S.faults source.old) (S.faults source.new) }
-    ensures write_fault { result.ending ≡ Ending.WriteFault → Rose (K.faults sink.old) (K.faults sink.new) }
-    ensures disk_fault { result.ending ≡ Ending.DiskFault → Rose (D.faults disk) (D.faults result.disk) }
+    ensures runs { RunsRollout (S.left source.old) (S.left source.new) result.ending
+        (K.written sink.old) (K.written sink.new) }
+    ensures rolls { Rolls D.told F.Port.told (S.left source.old) limits (rank_by policy.now.answers)
+        disk result.disk (fleet_of F.waiting F.kept F.lent F.faults fleet.old)
+        (fleet_of F.waiting F.kept F.lent F.faults fleet.new) result.ending (K.written sink.old)
+        (K.written sink.new) }
+    ensures guests { (F.coming fleet.new ≡ F.coming fleet.old)
+        × (F.served fleet.new ≡ F.served fleet.old)
+        × (F.visiting fleet.new ≡ F.visiting fleet.old) }
+    ensures read_fault { result.ending ≡ Ending.ReadFault
+        → Rose (S.faults source.old) (S.faults source.new) }
+    ensures write_fault { result.ending ≡ Ending.WriteFault
+        → Rose (K.faults sink.old) (K.faults sink.new) }
+    ensures disk_fault { result.ending ≡ Ending.DiskFault
+        → Rose (D.told disk).faults (D.told result.disk).faults }
     ensures others { (result.ending ≢ Ending.Usage) × (result.ending ≢ Ending.GuestFault) }
 {
     match read_input(alloc, source) {
@@ -68,11 +75,20 @@ fn roll_out_input<R: Wait + Threads + Sync, K: Sink, D: Disk + Drop + Send, F: F
 ) -> Closed<D>
 where
     F::Port: Drop + Send,
-    ensures follows { FollowsRolled (rollout_in input) result.ending (K.written sink.old) (K.written sink.new) }
-    ensures rolls { RollsIn D.bytes D.may_leave D.moment D.left_since D.faults F.Port.faults (telling F.Port.offered F.Port.heard F.Port.held F.Port.quiet F.Port.faults F.Port.honest F.Port.prompt F.Port.start) (rollout_in input) limits (rank_by policy.now.answers) disk result.disk (fleet_of F.waiting F.kept F.lent F.faults fleet.old) (fleet_of F.waiting F.kept F.lent F.faults fleet.new) result.ending (K.written sink.old) (K.written sink.new) }
-    ensures guests { (F.coming fleet.new ≡ F.coming fleet.old) × (F.served fleet.new ≡ F.served fleet.old) × (F.visiting fleet.new ≡ F.visiting fleet.old) }
-    ensures write_fault { result.ending ≡ Ending.WriteFault → Rose (K.faults sink.old) (K.faults sink.new) }
-    ensures disk_fault { result.ending ≡ Ending.DiskFault → Rose (D.faults disk) (D.faults result.disk) }
+    ensures follows { FollowsRolled (rollout_in input) result.ending (K.written sink.old)
+        (K.written sink.new) }
+    ensures rolls { RollsIn D.told F.Port.told (rollout_in input) limits
+        (rank_by policy.now.answers) disk result.disk
+        (fleet_of F.waiting F.kept F.lent F.faults fleet.old)
+        (fleet_of F.waiting F.kept F.lent F.faults fleet.new) result.ending (K.written sink.old)
+        (K.written sink.new) }
+    ensures guests { (F.coming fleet.new ≡ F.coming fleet.old)
+        × (F.served fleet.new ≡ F.served fleet.old)
+        × (F.visiting fleet.new ≡ F.visiting fleet.old) }
+    ensures write_fault { result.ending ≡ Ending.WriteFault
+        → Rose (K.faults sink.old) (K.faults sink.new) }
+    ensures disk_fault { result.ending ≡ Ending.DiskFault
+        → Rose (D.told disk).faults (D.told result.disk).faults }
 {
     match rollout_of(alloc, input) {
         Ok(plan) => roll_out_plan(rt, alloc, limits, policy, plan, sink, disk, fleet),
@@ -92,13 +108,20 @@ fn roll_out_plan<R: Wait + Threads + Sync, K: Sink, D: Disk + Drop + Send, F: Fl
 ) -> Closed<D>
 where
     F::Port: Drop + Send,
-    ensures rolls { RollsOut D.bytes D.may_leave D.moment D.left_since D.faults F.Port.faults (telling F.Port.offered F.Port.heard F.Port.held F.Port.quiet F.Port.faults F.Port.honest F.Port.prompt F.Port.start) plan limits (rank_by policy.now.answers) disk result.disk (fleet_of F.waiting F.kept F.lent F.faults fleet.old) (fleet_of F.waiting F.kept F.lent F.faults fleet.new) result.ending (K.written sink.old) (K.written sink.new) }
+    ensures rolls { RollsOut D.told F.Port.told plan limits (rank_by policy.now.answers) disk
+        result.disk (fleet_of F.waiting F.kept F.lent F.faults fleet.old)
+        (fleet_of F.waiting F.kept F.lent F.faults fleet.new) result.ending (K.written sink.old)
+        (K.written sink.new) }
     ensures ends { EndsRollout result.ending (K.written sink.old) (K.written sink.new) }
-    ensures guests { (F.coming fleet.new ≡ F.coming fleet.old) × (F.served fleet.new ≡ F.served fleet.old) × (F.visiting fleet.new ≡ F.visiting fleet.old) }
-    ensures write_fault { result.ending ≡ Ending.WriteFault → Rose (K.faults sink.old) (K.faults sink.new) }
-    ensures disk_fault { result.ending ≡ Ending.DiskFault → Rose (D.faults disk) (D.faults result.disk) }
+    ensures guests { (F.coming fleet.new ≡ F.coming fleet.old)
+        × (F.served fleet.new ≡ F.served fleet.old)
+        × (F.visiting fleet.new ≡ F.visiting fleet.old) }
+    ensures write_fault { result.ending ≡ Ending.WriteFault
+        → Rose (K.faults sink.old) (K.faults sink.new) }
+    ensures disk_fault { result.ending ≡ Ending.DiskFault
+        → Rose (D.told disk).faults (D.told result.disk).faults }
 {
-    keeps_valid(&plan);
+    checked_plan_is_valid(&plan);
     let Outcome { disk, answer } = run_rollout(rt, alloc, plan, policy, limits, disk, fleet);
     Closed {
         ending: write_outcome(alloc, answer, sink),
@@ -106,21 +129,14 @@ where
     }
 }
 
-// What the type keeps: a network, and a plan that is valid for it.
-fn keeps_valid(plan: &CheckedPlan)
-    ensures network { IsNetwork plan.now.problem }
-    ensures valid { IsValid plan.now.problem plan.now.plan }
-{
-    let _ = plan.problem().links();
-    let _ = plan.plan();
-}
-
 /// Writes the line of a rollout that is finished, or says how the run ends without one.
 fn write_outcome<K: Sink>(alloc: Global, answer: RunAnswer, sink: &mut K) -> Ending
-    ensures follows { Follows (line_or_ending answer) result (K.written sink.old) (K.written sink.new) }
+    ensures follows { Follows (line_or_ending answer) result (K.written sink.old)
+        (K.written sink.new) }
     ensures ends { EndsRollout result (K.written sink.old) (K.written sink.new) }
     ensures disk { result ≡ Ending.DiskFault → IsDiskFault answer }
-    ensures write_fault { result ≡ Ending.WriteFault → Rose (K.faults sink.old) (K.faults sink.new) }
+    ensures write_fault { result ≡ Ending.WriteFault
+        → Rose (K.faults sink.old) (K.faults sink.new) }
 {
     match line_of(alloc, answer) {
         Ok(line) => write_text(sink, line.as_str()),

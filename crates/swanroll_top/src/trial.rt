@@ -20,10 +20,15 @@ use wan_edge::Sink;
 /// Makes the case of these numbers, chooses a plan for it, and writes the text of its trial under a policy.
 pub fn trial<K: Sink>(alloc: Global, shape: &Shape, policy: &Policy, sink: &mut K) -> Ending
     requires { IsShape shape.now }
-    ensures follows { Follows (tried (rank_by policy.now.answers) shape.now) result (K.written sink.old) (K.written sink.new) }
-    ensures write_fault { result ≡ Ending.WriteFault → Rose (K.faults sink.old) (K.faults sink.new) }
+    ensures follows { Follows (tried (rank_by policy.now.answers) shape.now) result
+        (K.written sink.old) (K.written sink.new) }
+    ensures write_fault { result ≡ Ending.WriteFault
+        → Rose (K.faults sink.old) (K.faults sink.new) }
     ensures no_rollout { (u : Unfinished) → result ≢ Ending.NotFinished u }
-    ensures others { (result ≢ Ending.Usage) × (result ≢ Ending.ReadFault) × (result ≢ Ending.DiskFault) × (result ≢ Ending.GuestFault) }
+    ensures others { (result ≢ Ending.Usage)
+        × (result ≢ Ending.ReadFault)
+        × (result ≢ Ending.DiskFault)
+        × (result ≢ Ending.GuestFault) }
 {
     match text_of(alloc, shape, policy) {
         Ok(text) => write_text(sink, text.as_str()),

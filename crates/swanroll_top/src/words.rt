@@ -98,7 +98,8 @@ fn command_with<'a>(
     pairs: &[String],
     policies: &'a Policies<Policy>,
 ) -> Option<Command<'a>>
-    ensures asked { option_map asked result ≡ with_kind (answers_in policies.now) (map string_bytes pairs.now) kind }
+    ensures asked { option_map asked result
+        ≡ with_kind (answers_in policies.now) (map string_bytes pairs.now) kind }
     ensures within { IfSome result (λ command. IsAskedShape (asked command)) }
 {
     if !are_pairs(kind, pairs) {
@@ -161,7 +162,8 @@ fn begins_with_dash(word: &str) -> bool
 
 /// The policy that the pairs name, if it is there.
 fn policy_of<'a>(pairs: &[String], policies: &'a Policies<Policy>) -> Option<&'a Policy>
-    ensures { option_map (λ policy. rank_by policy.now.answers) result ≡ policy_in (answers_in policies.now) (map string_bytes pairs.now) }
+    ensures { option_map (λ policy. rank_by policy.now.answers) result
+        ≡ policy_in (answers_in policies.now) (map string_bytes pairs.now) }
 {
     policy_named(policies, value_or(pairs, "--policy", "critical")?)
 }
@@ -284,7 +286,8 @@ fn are_digits(bytes: &[u8]) -> bool
 
 /// The policy that stands first under a name.
 fn policy_named<'a>(policies: &'a Policies<Policy>, name: &str) -> Option<&'a Policy>
-    ensures { option_map (λ policy. rank_by policy.now.answers) result ≡ policy_named name.now (answers_in policies.now) }
+    ensures { option_map (λ policy. rank_by policy.now.answers) result
+        ≡ policy_named name.now (answers_in policies.now) }
 {
     policies.find(name)
 }
@@ -292,7 +295,8 @@ fn policy_named<'a>(policies: &'a Policies<Policy>, name: &str) -> Option<&'a Po
 /// The value behind a name, or the default where it isn't among the pairs; None where it stands there
 /// twice.
 fn value_or<'a>(pairs: &'a [String], name: &str, default: &'a str) -> Option<&'a str>
-    ensures { option_map (λ value. value.now) result ≡ value_or name.now default.now (map string_bytes pairs.now) }
+    ensures { option_map (λ value. value.now) result
+        ≡ value_or name.now default.now (map string_bytes pairs.now) }
 {
     let mut found = None;
     let mut rest = pairs;

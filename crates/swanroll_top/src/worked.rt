@@ -12,13 +12,20 @@ ghost use Rattle.swanroll_top.specs.Worked.{answered_once, by_item, chain_first,
 pub fn command_lines()
     ensures plan { asked_in two_policies (codes "plan" ∷ []) ≡ Some (a_text a_plan) }
     ensures check { asked_in two_policies (codes "check" ∷ []) ≡ Some (a_text a_check) }
-    ensures sim { asked_in two_policies (codes "sim" ∷ []) ≡ Some (a_text (a_rehearsal chain_first)) }
-    ensures critical { asked_in two_policies (codes "sim" ∷ codes "--policy" ∷ codes "critical" ∷ []) ≡ Some (a_text (a_rehearsal chain_first)) }
-    ensures order { asked_in two_policies (codes "sim" ∷ codes "--policy" ∷ codes "order" ∷ []) ≡ Some (a_text (a_rehearsal by_item)) }
+    ensures sim { asked_in two_policies (codes "sim" ∷ [])
+        ≡ Some (a_text (a_rehearsal chain_first)) }
+    ensures critical { asked_in two_policies
+        (codes "sim" ∷ codes "--policy" ∷ codes "critical" ∷ [])
+        ≡ Some (a_text (a_rehearsal chain_first)) }
+    ensures order { asked_in two_policies (codes "sim" ∷ codes "--policy" ∷ codes "order" ∷ [])
+        ≡ Some (a_text (a_rehearsal by_item)) }
     ensures report { asked_in two_policies (codes "report" ∷ []) ≡ Some (a_report 0) }
     ensures agent { asked_in two_policies (codes "agent" ∷ []) ≡ Some (an_agent 1) }
-    ensures guests { asked_in two_policies (codes "agent" ∷ codes "--guests" ∷ codes "40" ∷ []) ≡ Some (an_agent 40) }
-    ensures migration { asked_in two_policies (codes "report" ∷ codes "--migration" ∷ codes "007" ∷ []) ≡ Some (a_report 7) }
+    ensures guests { asked_in two_policies (codes "agent" ∷ codes "--guests" ∷ codes "40" ∷ [])
+        ≡ Some (an_agent 40) }
+    ensures migration { asked_in two_policies
+        (codes "report" ∷ codes "--migration" ∷ codes "007" ∷ [])
+        ≡ Some (a_report 7) }
 {}
 
 /// A word that is no command, or none.
@@ -26,56 +33,101 @@ pub fn words_without_a_command()
     ensures none { asked_in two_policies [] ≡ None }
     ensures capital { asked_in two_policies (codes "Plan" ∷ []) ≡ None }
     ensures help { asked_in two_policies (codes "--help" ∷ []) ≡ None }
-    ensures behind { asked_in two_policies (codes "--policy" ∷ codes "order" ∷ codes "sim" ∷ []) ≡ None }
+    ensures behind { asked_in two_policies (codes "--policy" ∷ codes "order" ∷ codes "sim" ∷ [])
+        ≡ None }
 {}
 
 /// A name that the command doesn't take, that has no value, or that comes twice.
 pub fn words_with_a_wrong_name()
     ensures other { asked_in two_policies (codes "sim" ∷ codes "--k" ∷ codes "3" ∷ []) ≡ None }
-    ensures of_another { asked_in two_policies (codes "plan" ∷ codes "--policy" ∷ codes "order" ∷ []) ≡ None }
-    ensures bare { asked_in two_policies (codes "sim" ∷ codes "policy" ∷ codes "order" ∷ []) ≡ None }
+    ensures of_another { asked_in two_policies
+        (codes "plan" ∷ codes "--policy" ∷ codes "order" ∷ [])
+        ≡ None }
+    ensures bare { asked_in two_policies (codes "sim" ∷ codes "policy" ∷ codes "order" ∷ [])
+        ≡ None }
     ensures joined { asked_in two_policies (codes "sim" ∷ codes "--policy=order" ∷ []) ≡ None }
     ensures without_value { asked_in two_policies (codes "sim" ∷ codes "--policy" ∷ []) ≡ None }
-    ensures twice { asked_in two_policies (codes "sim" ∷ codes "--policy" ∷ codes "order" ∷ codes "--policy" ∷ codes "order" ∷ []) ≡ None }
+    ensures twice { asked_in two_policies
+        (codes "sim" ∷ codes "--policy" ∷ codes "order" ∷ codes "--policy" ∷ codes "order" ∷ [])
+        ≡ None }
 {}
 
 /// A value before its name, that begins with `-`, or is no policy; a default that isn't there.
 pub fn words_with_a_wrong_value()
-    ensures before_the_name { asked_in two_policies (codes "sim" ∷ codes "order" ∷ codes "--policy" ∷ []) ≡ None }
+    ensures before_the_name { asked_in two_policies
+        (codes "sim" ∷ codes "order" ∷ codes "--policy" ∷ [])
+        ≡ None }
     ensures dash { asked_in two_policies (codes "sim" ∷ codes "--policy" ∷ codes "-" ∷ []) ≡ None }
-    ensures unknown { asked_in two_policies (codes "sim" ∷ codes "--policy" ∷ codes "none" ∷ []) ≡ None }
+    ensures unknown { asked_in two_policies (codes "sim" ∷ codes "--policy" ∷ codes "none" ∷ [])
+        ≡ None }
     ensures empty { asked_in two_policies (codes "sim" ∷ codes "--policy" ∷ [] ∷ []) ≡ None }
-    ensures no_digits { asked_in two_policies (codes "report" ∷ codes "--migration" ∷ codes "+1" ∷ []) ≡ None }
-    ensures large { asked_in two_policies (codes "report" ∷ codes "--migration" ∷ codes "4294967296" ∷ []) ≡ None }
-    ensures no_guest { asked_in two_policies (codes "agent" ∷ codes "--guests" ∷ codes "0" ∷ []) ≡ None }
+    ensures no_digits { asked_in two_policies
+        (codes "report" ∷ codes "--migration" ∷ codes "+1" ∷ [])
+        ≡ None }
+    ensures large { asked_in two_policies
+        (codes "report" ∷ codes "--migration" ∷ codes "4294967296" ∷ [])
+        ≡ None }
+    ensures no_guest { asked_in two_policies (codes "agent" ∷ codes "--guests" ∷ codes "0" ∷ [])
+        ≡ None }
     ensures no_default { asked_in [] (codes "sim" ∷ []) ≡ None }
 {}
 
 /// A trial with its defaults, under a policy that is named, and with each number at the end of its range.
 pub fn trials()
-    ensures default { asked_in two_policies (codes "trial" ∷ []) ≡ Some (a_trial (record { k = 4; switches = 24; flows = 24; seed = 1; events = 1000 }) chain_first) }
-    ensures named { asked_in two_policies (codes "trial" ∷ codes "--policy" ∷ codes "order" ∷ codes "--flows" ∷ codes "0" ∷ []) ≡ Some (a_trial (record { k = 4; switches = 24; flows = 0; seed = 1; events = 1000 }) by_item) }
-    ensures largest { asked_in two_policies (codes "trial" ∷ codes "--seed" ∷ codes "1000000000000000000" ∷ codes "--k" ∷ codes "64" ∷ []) ≡ Some (a_trial (record { k = 64; switches = 24; flows = 24; seed = 1000000000000000000; events = 1000 }) chain_first) }
-    ensures above { asked_in two_policies (codes "trial" ∷ codes "--seed" ∷ codes "1000000000000000001" ∷ []) ≡ None }
-    ensures long { asked_in two_policies (codes "trial" ∷ codes "--seed" ∷ codes "00000000000000000001" ∷ []) ≡ None }
+    ensures default { asked_in two_policies (codes "trial" ∷ [])
+        ≡ Some (a_trial (record { k = 4; switches = 24; flows = 24; seed = 1; events = 1000 })
+        chain_first) }
+    ensures named { asked_in two_policies
+        (codes "trial" ∷ codes "--policy" ∷ codes "order" ∷ codes "--flows" ∷ codes "0" ∷ [])
+        ≡ Some (a_trial (record { k = 4; switches = 24; flows = 0; seed = 1; events = 1000 })
+        by_item) }
+    ensures largest { asked_in two_policies
+        (codes "trial"
+        ∷ codes "--seed"
+        ∷ codes "1000000000000000000"
+        ∷ codes "--k"
+        ∷ codes "64"
+        ∷ [])
+        ≡ Some (a_trial (record {
+          k = 64;
+          switches = 24;
+          flows = 24;
+          seed = 1000000000000000000;
+          events = 1000;
+        }) chain_first) }
+    ensures above { asked_in two_policies
+        (codes "trial" ∷ codes "--seed" ∷ codes "1000000000000000001" ∷ [])
+        ≡ None }
+    ensures long { asked_in two_policies
+        (codes "trial" ∷ codes "--seed" ∷ codes "00000000000000000001" ∷ [])
+        ≡ None }
     ensures wide { asked_in two_policies (codes "trial" ∷ codes "--k" ∷ codes "65" ∷ []) ≡ None }
-    ensures two { asked_in two_policies (codes "trial" ∷ codes "--switches" ∷ codes "2" ∷ []) ≡ None }
+    ensures two { asked_in two_policies (codes "trial" ∷ codes "--switches" ∷ codes "2" ∷ [])
+        ≡ None }
 {}
 
 /// For two flows of one switch, with four operations: a fleet with a prompt port there, and four rounds.
 /// Three are too few, the policy must let begin, the fleet must tell what waits, and no answer may be still
 /// to come.
 pub fn a_fleet_is_ready_for_a_rollout()
-    ensures ready { IsReadyFor itself (in_rounds 4) by_item (waiting_at_first never_used) two_flows (fresh []) }
-    ensures few_rounds { IsReadyFor itself (in_rounds 3) by_item (waiting_at_first never_used) two_flows (fresh []) → ⊥ }
-    ensures held { IsReadyFor itself (in_rounds 4) none_begins (waiting_at_first never_used) two_flows (fresh []) → ⊥ }
+    ensures ready { IsReadyFor itself (in_rounds 4) by_item (waiting_at_first never_used) two_flows
+        (fresh []) }
+    ensures few_rounds { IsReadyFor itself (in_rounds 3) by_item (waiting_at_first never_used)
+        two_flows (fresh [])
+        → ⊥ }
+    ensures held { IsReadyFor itself (in_rounds 4) none_begins (waiting_at_first never_used)
+        two_flows (fresh [])
+        → ⊥ }
     ensures untold { IsReadyFor itself (in_rounds 4) by_item None two_flows (fresh []) → ⊥ }
-    ensures to_come { IsReadyFor itself (in_rounds 4) by_item (waiting_at_first unanswered) two_flows begun_one → ⊥ }
+    ensures to_come { IsReadyFor itself (in_rounds 4) by_item (waiting_at_first unanswered)
+        two_flows begun_one
+        → ⊥ }
 {}
 
 /// The one port was given back as it had answered; it failed; the disk did.
 pub fn a_fleet_counts_its_faults()
     ensures none { CountsNoFault itself 0 0 (fleet_with None) (fleet_with (Some answered_once)) }
     ensures port { CountsNoFault itself 0 0 (fleet_with None) (fleet_with (Some failed_once)) → ⊥ }
-    ensures disk { CountsNoFault itself 0 1 (fleet_with None) (fleet_with (Some answered_once)) → ⊥ }
+    ensures disk { CountsNoFault itself 0 1 (fleet_with None) (fleet_with (Some answered_once))
+        → ⊥ }
 {}

@@ -41,9 +41,12 @@ impl Agent {
     /// migration and the number then held. Memory is taken for an item that wasn't seen before alone;
     /// want of it changes nothing.
     pub fn apply(&mut self, migration: u32, command: &Command) -> Result<(u32, Answer), Memory>
-        ensures applied { OnOk result (holding self.new ≡ after_command (holding self.old) (migration, command.now)) }
-        ensures answer { IfOk result (λ a. a ≡ answer_to (holding self.old) (migration, command.now)) }
-        ensures seen { OnOk result ((item : ℕ) → seen self.new item ≡ (item == command.now.item || seen self.old item)) }
+        ensures applied { OnOk result
+            (holding self.new ≡ after_command (holding self.old) (migration, command.now)) }
+        ensures answer { IfOk result
+            (λ a. a ≡ answer_to (holding self.old) (migration, command.now)) }
+        ensures seen { OnOk result
+            ((item : ℕ) → seen self.new item ≡ (item == command.now.item || seen self.old item)) }
         ensures err { OnErr result (self.new ≡ self.old) }
         ensures memory { OnErr result (seen self.old command.now.item ≡ false) }
     {

@@ -17,11 +17,16 @@ const BUFFER: usize = 4_096;
 /// Reads the guest to its end, and carries out and answers each command in order. A command that is cut
 /// off at the end is dropped.
 pub fn serve_bytes<G: Guest>(agent: &mut Agent, guest: &mut G) -> Served
-    ensures served { ServesGuest agent.old agent.new (G.left guest.old) (G.left guest.new) result (G.written guest.old) (G.written guest.new) }
-    ensures read_cause { result.fault ≡ Some fault.Read → Rose (G.Source.faults guest.old) (G.Source.faults guest.new) }
-    ensures write_cause { result.fault ≡ Some fault.Write → Rose (G.Sink.faults guest.old) (G.Sink.faults guest.new) }
-    ensures counts { (G.Source.faults guest.old ≤ G.Source.faults guest.new) × (G.Sink.faults guest.old ≤ G.Sink.faults guest.new) }
-    ensures told { KeepsTelling (G.left guest.old) (G.left guest.new) × KeepsTelling (G.written guest.old) (G.written guest.new) }
+    ensures served { ServesGuest agent.old agent.new (G.left guest.old) (G.left guest.new) result
+        (G.written guest.old) (G.written guest.new) }
+    ensures read_cause { result.fault ≡ Some fault.Read
+        → Rose (G.Source.faults guest.old) (G.Source.faults guest.new) }
+    ensures write_cause { result.fault ≡ Some fault.Write
+        → Rose (G.Sink.faults guest.old) (G.Sink.faults guest.new) }
+    ensures counts { (G.Source.faults guest.old ≤ G.Source.faults guest.new)
+        × (G.Sink.faults guest.old ≤ G.Sink.faults guest.new) }
+    ensures told { KeepsTelling (G.left guest.old) (G.left guest.new)
+        × KeepsTelling (G.written guest.old) (G.written guest.new) }
 {
     let mut buffer = [0; BUFFER];
     let mut reader = CommandReader::new();
@@ -63,15 +68,18 @@ fn serve_piece<G: Guest>(
 ) -> Served
     requires live { IsTrue reader.old.live }
     requires cut { IsCutCommand reader.old.kept }
-    ensures carried { CarriesOut agent.old agent.new (reader.old.kept ++ piece.now) result (λ rest. rest ≡ reader.new.kept) (G.written guest.old) (G.written guest.new) }
+    ensures carried { CarriesOut agent.old agent.new (reader.old.kept ++ piece.now) result
+        (λ rest. rest ≡ reader.new.kept) (G.written guest.old) (G.written guest.new) }
     ensures few { result.commands ≤ length piece.now }
     ensures own { IfSome result.fault IsOwnFault }
     ensures live { result.fault ≡ None → IsTrue reader.new.live }
     ensures cut { result.fault ≡ None → IsCutCommand reader.new.kept }
-    ensures write_cause { result.fault ≡ Some fault.Write → Rose (G.Sink.faults guest.old) (G.Sink.faults guest.new) }
+    ensures write_cause { result.fault ≡ Some fault.Write
+        → Rose (G.Sink.faults guest.old) (G.Sink.faults guest.new) }
     ensures counts { G.Sink.faults guest.old ≤ G.Sink.faults guest.new }
     ensures told { KeepsTelling (G.written guest.old) (G.written guest.new) }
-    ensures unread { (G.left guest.new ≡ G.left guest.old) × (G.Source.faults guest.new ≡ G.Source.faults guest.old) }
+    ensures unread { (G.left guest.new ≡ G.left guest.old)
+        × (G.Source.faults guest.new ≡ G.Source.faults guest.old) }
 {
     let mut commands = 0;
     let mut rest = piece;
@@ -100,15 +108,18 @@ fn serve_next<G: Guest>(
     requires live { IsTrue reader.old.live }
     requires some { 0 < length piece.now }
     ensures taken { (0 < result.0) × (result.0 ≤ length piece.now) }
-    ensures carried { CarriesOut agent.old agent.new (reader.old.kept ++ take result.0 piece.now) result.1 (λ rest. rest ≡ reader.new.kept) (G.written guest.old) (G.written guest.new) }
+    ensures carried { CarriesOut agent.old agent.new (reader.old.kept ++ take result.0 piece.now)
+        result.1 (λ rest. rest ≡ reader.new.kept) (G.written guest.old) (G.written guest.new) }
     ensures few { result.1.commands ≤ 1 }
     ensures own { IfSome result.1.fault IsOwnFault }
     ensures live { result.1.fault ≡ None → IsTrue reader.new.live }
     ensures cut { result.1.fault ≡ None → IsCutCommand reader.new.kept }
-    ensures write_cause { result.1.fault ≡ Some fault.Write → Rose (G.Sink.faults guest.old) (G.Sink.faults guest.new) }
+    ensures write_cause { result.1.fault ≡ Some fault.Write
+        → Rose (G.Sink.faults guest.old) (G.Sink.faults guest.new) }
     ensures counts { G.Sink.faults guest.old ≤ G.Sink.faults guest.new }
     ensures told { KeepsTelling (G.written guest.old) (G.written guest.new) }
-    ensures unread { (G.left guest.new ≡ G.left guest.old) × (G.Source.faults guest.new ≡ G.Source.faults guest.old) }
+    ensures unread { (G.left guest.new ≡ G.left guest.old)
+        × (G.Source.faults guest.new ≡ G.Source.faults guest.old) }
 {
     match reader.feed(piece) {
         Ok((n, Some((migration, command)))) => (n, answer(agent, guest, migration, &command)),
@@ -129,13 +140,16 @@ fn serve_next<G: Guest>(
 // Carries out a command of this migration and answers it.
 fn answer<G: Guest>(agent: &mut Agent, guest: &mut G, migration: u32, command: &Command) -> Served
     requires { IsCommand (migration, command.now) }
-    ensures carried { CarriesOut agent.old agent.new (command_bytes (migration, command.now)) result (λ rest. rest ≡ []) (G.written guest.old) (G.written guest.new) }
+    ensures carried { CarriesOut agent.old agent.new (command_bytes (migration, command.now)) result
+        (λ rest. rest ≡ []) (G.written guest.old) (G.written guest.new) }
     ensures few { result.commands ≤ 1 }
     ensures own { IfSome result.fault IsOwnFault }
-    ensures write_cause { result.fault ≡ Some fault.Write → Rose (G.Sink.faults guest.old) (G.Sink.faults guest.new) }
+    ensures write_cause { result.fault ≡ Some fault.Write
+        → Rose (G.Sink.faults guest.old) (G.Sink.faults guest.new) }
     ensures counts { G.Sink.faults guest.old ≤ G.Sink.faults guest.new }
     ensures told { KeepsTelling (G.written guest.old) (G.written guest.new) }
-    ensures unread { (G.left guest.new ≡ G.left guest.old) × (G.Source.faults guest.new ≡ G.Source.faults guest.old) }
+    ensures unread { (G.left guest.new ≡ G.left guest.old)
+        × (G.Source.faults guest.new ≡ G.Source.faults guest.old) }
 {
     let bytes = match agent.apply(migration, command) {
         Ok(given) => bytes_of(&given),

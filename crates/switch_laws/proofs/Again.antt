@@ -15,13 +15,13 @@ use Rattle.rollout_rules.specs.Agent.{held_after, is_at_most}
 use Rattle.rollout_rules.specs.declared.op.Entry.{Entry}
 use Rattle.rollout_laws.proofs.Pairs.{after-more, at_most-refl, at_most-trans}
 use Rattle.wan_edge.specs.Frames.{Command, CommandFrame, IsAnswer, IsCommand, Splits, answer_bytes, command_bytes}
-use Rattle.wan_edge.specs.Ports.{IsHonestStep, MovesByRule}
+use Rattle.wan_edge.specs.Ports.{IsHonestStep, MovesByRule, PortTrace}
 use Rattle.wan_edge.specs.Streams.{Appends}
 use Rattle.wan_edge.specs.Switches.{Holdings, after_command, after_commands, pair_asked}
 use Rattle.port_session.specs.Offers.{frames_of}
 use Rattle.worker_ports.specs.Lots.{home_at, is_switch, own}
 use Rattle.worker_ports.specs.Stories.{LastStory, Story}
-use Rattle.worker_ports.specs.Views.{PortView, Telling}
+use Rattle.worker_ports.specs.Views.{PortView}
 use Rattle.switch_laws.specs.Holdings.{AreHeldAt}
 use Rattle.switch_laws.specs.Runs.{AreAnswers, AreCommands, IsBegunCommand, MayCome, RunsAt, StartsAsFound}
 use Rattle.switch_laws.proofs.Offered.{all_framed, frames-framed, framed}
@@ -69,7 +69,7 @@ module _ (r : Rollout) (migration : ℕ) (homes : List (Option ℕ)) (found : Hi
   module _ (offered : List ℕ) (before after : Holdings) (offered_is : now.port.offered ≡ Some offered) (before_is : first.port.held ≡ Some before) (after_is : now.port.held ≡ Some after) where
     rises_by : (now.port ≡ first.port) ⊎ IsHonestStep now.port.offered now.port.heard first.port.held now.port.held → (n : ℕ) → is_at_most (before n).held (after n).held ≡ true
     rises_by (inl same) n =
-        let alike : before ≡ after = same_Some before after (sym before_is ∙ sym (ap (λ (t : Telling). t.held) same) ∙ after_is) in
+        let alike : before ≡ after = same_Some before after (sym before_is ∙ sym (ap (λ (t : PortTrace). t.held) same) ∙ after_is) in
         subst (λ (holdings : Holdings). is_at_most (before n).held (holdings n).held ≡ true) alike (at_most-refl (before n).held)
     rises_by (inr step) n =
         let moves : MovesByRule offered before after = some_at (MovesByRule offered before) now.port.held after after_is

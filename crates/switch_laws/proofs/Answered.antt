@@ -7,12 +7,12 @@ use Rattle.std.proofs.lemmas.Option.{none-some, same_Some}
 use Rattle.std.specs.List.{All, Contains, flat_map}
 use Rattle.rollout_rules.specs.Agent.{is_at_most}
 use Rattle.wan_edge.specs.Frames.{Answer, AnswerFrame, IsAnswer, Splits, answer_bytes}
-use Rattle.wan_edge.specs.Ports.{AnswersHeld, IsHonestStep}
+use Rattle.wan_edge.specs.Ports.{AnswersHeld, IsHonestStep, PortTrace}
 use Rattle.wan_edge.specs.Streams.{Appends}
 use Rattle.wan_edge.specs.Switches.{Holdings, pair_given}
 use Rattle.port_session.specs.Reading.{answers_of}
 use Rattle.worker_ports.specs.Stories.{Tells}
-use Rattle.worker_ports.specs.Views.{PortView, Telling}
+use Rattle.worker_ports.specs.Views.{PortView}
 use Rattle.switch_laws.specs.Runs.{AreAnswers}
 
 -- what holds of each answer holds of those of a migration
@@ -84,7 +84,7 @@ told_is_held migration first moment now told later all holdings none_kept were t
     by : {earlier bytes rest : List ℕ} {answers : List AnswerFrame} → all ≡ (earlier ++ bytes) ++ later → AreAnswers earlier → Splits answer_bytes IsAnswer bytes answers rest → first.port.heard ≡ Some earlier
         → (now.port ≡ first.port) ⊎ IsHonestStep now.port.offered now.port.heard first.port.held now.port.held → All (IsHeld holdings) answers
     by {earlier = earlier} {bytes = bytes} {rest = rest} {answers = answers} parts answers_were whole at (inl same) =
-        held_by_none holdings all earlier bytes later parts answers_were answers rest whole (same_Some all earlier (sym heard ∙ ap (λ (t : Telling). t.heard) same ∙ at))
+        held_by_none holdings all earlier bytes later parts answers_were answers rest whole (same_Some all earlier (sym heard ∙ ap (λ (t : PortTrace). t.heard) same ∙ at))
     by {earlier = earlier} {bytes = bytes} {rest = rest} {answers = answers} parts answers_were whole at (inr step) =
         held_by_rule holdings all earlier bytes later parts answers_were answers rest whole
         (some_at (AnswersHeld all) now.port.held holdings held (some_at (λ bytes. IfSome now.port.held (AnswersHeld bytes)) now.port.heard all heard step.answers))

@@ -22,12 +22,12 @@ use Rattle.rollout_laws.proofs.Ends.{finished-target}
 use Rattle.rollout_laws.proofs.Histories.{is_counted, rest_follows}
 use Rattle.rollout_laws.proofs.Pairs.{at_most-is}
 use Rattle.wan_edge.specs.Frames.{Command, CommandFrame, IsCommand, command_bytes}
-use Rattle.wan_edge.specs.Ports.{IsHonestStep, IsOffered, MovesByRule}
+use Rattle.wan_edge.specs.Ports.{IsHonestStep, IsOffered, MovesByRule, PortTrace}
 use Rattle.wan_edge.specs.Streams.{KeepsTelling}
 use Rattle.wan_edge.specs.Switches.{Holdings}
 use Rattle.port_session.specs.Offers.{frames_of}
 use Rattle.worker_ports.specs.Lots.{home_at, is_switch, own}
-use Rattle.worker_ports.specs.Views.{PortView, Telling}
+use Rattle.worker_ports.specs.Views.{PortView}
 use Rattle.switch_laws.specs.Holdings.{AreHeldAt, AreHeldAtEnd, HasGoneOn, HaveGoneOn, IsHeldAt, IsHeldAtEnd, IsMovedWithin, operations_of}
 use Rattle.switch_laws.specs.Runs.{AreCommands, IsBegunCommand, MayCome, RunsAt}
 use Rattle.switch_laws.proofs.Offered.{all_framed, frames-framed, framed, one_offered}
@@ -93,7 +93,7 @@ module _ (r : Rollout) (migration : ℕ) (homes : List (Option ℕ)) (found : Hi
 
       come_by : (now.port ≡ first.port) ⊎ IsHonestStep now.port.offered now.port.heard first.port.held now.port.held → Come (after n)
       come_by (inl same) =
-          let alike : before ≡ after = same_Some before after (sym before_is ∙ sym (ap (λ (t : Telling). t.held) same) ∙ after_is) in
+          let alike : before ≡ after = same_Some before after (sym before_is ∙ sym (ap (λ (t : PortTrace). t.held) same) ∙ after_is) in
           subst (λ (holdings : Holdings). Come (holdings n)) alike (come_first r migration found added before n legal held_first)
       come_by (inr step) =
           let moves : MovesByRule offered before after = some_at (MovesByRule offered before) now.port.held after after_is

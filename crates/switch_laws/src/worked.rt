@@ -50,20 +50,31 @@ pub fn a_switch_ends_at_the_target()
 
 /// What was begun, and what is late: at most the pair held, of an earlier migration.
 pub fn begun_and_late_commands_may_come()
-    ensures begun { MayCome two_flows 4 under_way left_by_third (4, command_of two_flows (op_of 0 2)) }
-    ensures unbegun { MayCome two_flows 4 under_way left_by_third (4, command_of two_flows (op_of 0 3)) → ⊥ }
-    ensures late { MayCome two_flows 4 under_way left_by_third (3, command_of two_flows (op_of 0 7)) }
-    ensures above { MayCome two_flows 4 under_way left_by_third (3, command_of two_flows (op_of 0 8)) → ⊥ }
+    ensures begun { MayCome two_flows 4 under_way left_by_third
+        (4, command_of two_flows (op_of 0 2)) }
+    ensures unbegun { MayCome two_flows 4 under_way left_by_third
+        (4, command_of two_flows (op_of 0 3))
+        → ⊥ }
+    ensures late { MayCome two_flows 4 under_way left_by_third
+        (3, command_of two_flows (op_of 0 7)) }
+    ensures above { MayCome two_flows 4 under_way left_by_third
+        (3, command_of two_flows (op_of 0 8))
+        → ⊥ }
 {}
 
 /// Of a switch that holds nothing, before the first entry; a byte of a command that was cut off doesn't do.
 pub fn a_port_that_was_never_used_starts_as_found()
     ensures unused { StartsAsFound two_flows 4 both_at_first (fresh []) unused }
-    ensures cut { StartsAsFound two_flows 4 both_at_first (fresh []) (port_of (77 ∷ []) [] holding_nothing) → ⊥ }
+    ensures cut { StartsAsFound two_flows 4 both_at_first (fresh [])
+        (port_of (77 ∷ []) [] holding_nothing)
+        → ⊥ }
 {}
 
 /// It was begun, sent, applied, answered and done; without an answer it can't be done.
 pub fn a_run_of_one_operation_is_a_run()
-    ensures answered { RunsAt two_flows 4 both_at_first (fresh []) begun_and_done (first_command ∷ []) unused answering }
-    ensures unanswered { RunsAt two_flows 4 both_at_first (fresh []) begun_and_done (first_command ∷ []) unused silent → ⊥ }
+    ensures answered { RunsAt two_flows 4 both_at_first (fresh []) begun_and_done
+        (first_command ∷ []) unused answering }
+    ensures unanswered { RunsAt two_flows 4 both_at_first (fresh []) begun_and_done
+        (first_command ∷ []) unused silent
+        → ⊥ }
 {}

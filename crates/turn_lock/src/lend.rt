@@ -8,7 +8,9 @@ use crate::held::Held;
 impl<V: Counted> Held<V> {
     /// The value. When the borrow ends, it is what was left behind the reference.
     pub fn value(&mut self) -> &mut V
-        ensures* lends { sem 𝓛 (Lends (the_row V.row V.Entry.row V.Counted) V.row self.entry result (λ w. record self.old { value = w })) }
+        ensures* lends { sem 𝓛
+            (Lends (the_row V.row V.Entry.row V.Counted) V.row self.entry result
+            (λ w. record self.old { value = w })) }
         ensures value { result.now ≡ self.old.value }
     {
         &mut self.value

@@ -122,7 +122,8 @@ impl<V: Counted> TurnLock<V> {
     /// entries of this seat alone.
     pub fn give(&self, held: Held<V>) -> Pass<V>
         requires lock { IsHeldOf self.now held }
-        requires history { GoesOn V.seat_of (holder_of held) (taken_of held) (V.history held.value) }
+        requires history { GoesOn V.seat_of (holder_of held) (taken_of held)
+            (V.history held.value) }
         ensures lock { IsPassOf self.now result }
         ensures pass { IsOutWith result held }
         ensures seen { seen_of result ≡ V.history held.value }

@@ -25,13 +25,15 @@ impl Model for Bench {
 
     ghost view = { λ b. record { items = b.items; begun = b.begun.items } };
 
-    ghost invariant = { λ b. (b.items ≤ vec_capacity b.candidates) × (b.items ≤ vec_capacity b.begun) };
+    ghost invariant = { λ b. (b.items ≤ vec_capacity b.candidates)
+        × (b.items ≤ vec_capacity b.begun) };
 }
 
 impl Bench {
     /// Room for a release of a graph with as many items as this one.
     pub fn new(alloc: Global, graph: &Graph) -> Result<Bench, Memory>
-        ensures { IfOk result (λ bench. bench ≡ record { items = item_count graph.now.rollout.problem; begun = [] }) }
+        ensures { IfOk result
+            (λ bench. bench ≡ record { items = item_count graph.now.rollout.problem; begun = [] }) }
     {
         let items = item_count(graph.plan().problem());
         Ok(Bench {

@@ -15,10 +15,14 @@ pub(crate) fn offer_each(
     row: &[u32],
     candidates: &mut Vec<Candidate>,
 )
-    requires inside { (j : ℕ) → j < length row.now → slice_index row.now j < item_count graph.now.rollout.problem }
+    requires inside { (j : ℕ)
+        → j < length row.now
+        → slice_index row.now j < item_count graph.now.rollout.problem }
     requires empty { candidates.old.items ≡ [] }
     requires room { length row.now ≤ vec_capacity candidates.old }
-    ensures offered { candidates.new.items ≡ candidates_of (rank_of graph.now (rank_by policy.now.answers)) (offered_among graph.now (rank_by policy.now.answers) row.now) }
+    ensures offered { candidates.new.items
+        ≡ candidates_of (rank_of graph.now (rank_by policy.now.answers))
+        (offered_among graph.now (rank_by policy.now.answers) row.now) }
     ensures few { vec_len candidates.new ≤ length row.now }
     ensures capacity { vec_capacity candidates.new ≡ vec_capacity candidates.old }
 {
@@ -31,7 +35,10 @@ pub(crate) fn offer_each(
 fn offer(graph: &Graph, policy: &Policy, item: u32, candidates: &mut Vec<Candidate>)
     requires item { item < item_count graph.now.rollout.problem }
     requires room { vec_len candidates.old < vec_capacity candidates.old }
-    ensures offered { candidates.new.items ≡ candidates.old.items ++ candidates_of (rank_of graph.now (rank_by policy.now.answers)) (offered graph.now (rank_by policy.now.answers) item) }
+    ensures offered { candidates.new.items
+        ≡ candidates.old.items
+        ++ candidates_of (rank_of graph.now (rank_by policy.now.answers))
+        (offered graph.now (rank_by policy.now.answers) item) }
     ensures capacity { vec_capacity candidates.new ≡ vec_capacity candidates.old }
 {
     if graph.has_next(item) {

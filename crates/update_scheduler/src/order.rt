@@ -6,7 +6,9 @@ use crate::candidate::Candidate;
 
 /// Puts candidates in the order in which they are tried: by rank, and then by item.
 pub(crate) fn put_in_order(candidates: &mut Vec<Candidate>)
-    ensures order { (rank : ℕ → ℕ) (ns : List ℕ) → candidates.old.items ≡ candidates_of rank ns → candidates.new.items ≡ candidates_of rank (in_order_of rank ns) }
+    ensures order { (rank : ℕ → ℕ) (ns : List ℕ)
+        → candidates.old.items ≡ candidates_of rank ns
+        → candidates.new.items ≡ candidates_of rank (in_order_of rank ns) }
     ensures len { vec_len candidates.new ≡ vec_len candidates.old }
     ensures capacity { vec_capacity candidates.new ≡ vec_capacity candidates.old }
 {

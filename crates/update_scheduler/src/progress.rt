@@ -11,6 +11,14 @@ ghost use Rattle.update_scheduler.specs.Tried.{released_by, IsAllHeld};
 /// A rollout is never stuck but by its policy: in a legal history that isn't finished and has nothing in
 /// flight some operation may begin, and a release begins none only where each such one is held back.
 pub fn a_release_is_stuck_by_its_policy_alone()
-    ensures some { (g : Followed) → IsNetwork g.rollout.problem → IsTrue (is_valid_plan g.rollout.problem g.rollout.plan) → IsTrue (is_legal g.rollout.problem g.rollout.plan g.history) → IsFalse (is_finished g.rollout.problem g.rollout.plan g.history) → NothingFlies g.rollout.problem g.history → SomeMayBegin g.rollout.problem g.rollout.plan g.history }
-    ensures held { (g : Followed) (policy : OpView → ℕ) → ops_of (released_by g policy) ≡ [] → IsAllHeld g policy }
+    ensures some { (g : Followed)
+        → IsNetwork g.rollout.problem
+        → IsTrue (is_valid_plan g.rollout.problem g.rollout.plan)
+        → IsTrue (is_legal g.rollout.problem g.rollout.plan g.history)
+        → IsFalse (is_finished g.rollout.problem g.rollout.plan g.history)
+        → NothingFlies g.rollout.problem g.history
+        → SomeMayBegin g.rollout.problem g.rollout.plan g.history }
+    ensures held { (g : Followed) (policy : OpView → ℕ)
+        → ops_of (released_by g policy) ≡ []
+        → IsAllHeld g policy }
 {}

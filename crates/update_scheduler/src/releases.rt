@@ -20,7 +20,8 @@ use rollout_rules::Op;
 pub fn release(graph: &mut Graph, policy: &Policy, bench: &mut Bench)
     requires { bench.old.items ≡ item_count graph.old.rollout.problem }
     ensures graph { graph.new ≡ with_release graph.old (rank_by policy.now.answers) }
-    ensures begun { bench.new ≡ record bench.old { begun = ops_of (released_by graph.old (rank_by policy.now.answers)) } }
+    ensures begun { bench.new
+        ≡ record bench.old { begun = ops_of (released_by graph.old (rank_by policy.now.answers)) } }
     ensures held { bench.new.begun ≡ [] → IsAllHeld graph.old (rank_by policy.now.answers) }
     ensures none { IsAllHeld graph.old (rank_by policy.now.answers) → bench.new.begun ≡ [] }
 {

@@ -13,7 +13,8 @@ pub(crate) fn try_each(graph: &mut Graph, order: &[Candidate], begun: &mut Vec<O
     requires items { All (λ c. c.item < item_count graph.old.rollout.problem) order.now }
     requires room { vec_len begun.old + length order.now ≤ vec_capacity begun.old }
     ensures graph { graph.new ≡ tried graph.old (items_of order.now) }
-    ensures begun { begun.new.items ≡ begun.old.items ++ ops_of (begun_by graph.old (items_of order.now)) }
+    ensures begun { begun.new.items
+        ≡ begun.old.items ++ ops_of (begun_by graph.old (items_of order.now)) }
     ensures capacity { vec_capacity begun.new ≡ vec_capacity begun.old }
 {
     for candidate in order {

@@ -1,5 +1,6 @@
 -- Ports by the number of their switch, and guests in a row: what a fleet gives, and takes back.
 use Rattle.std.specs.Prelude.{◌≡◌, ℕ, ◌==◌, List, ◌∷◌, Bool, Option, Some, None, if◌then◌else◌}
+use Rattle.wan_edge.specs.Ports.{PortTrace}
 
 -- what stands at each number, the one at this number taken away
 abbrev pub without : {X : Type 0} → (ℕ → Option X) → ℕ → ℕ → Option X
@@ -14,9 +15,9 @@ abbrev pub marked : (ℕ → Bool) → ℕ → Bool → ℕ → Bool
 marked marks number mark = λ n. if n == number then mark else marks n
 
 -- The port given is the one that waited for the switch, which waits no more. Where it is not told what waits, the port has not failed yet.
-abbrev pub GivesPort : {P : Type 0} → (P → ℕ) → Option (ℕ → Option P) → ℕ → P → Option (ℕ → Option P) → Type 0
-GivesPort faults None switch port now = (now ≡ None) × (faults port ≡ 0)
-GivesPort faults (Some waiting) switch port now = (waiting switch ≡ Some port) × (now ≡ Some (without waiting switch))
+abbrev pub GivesPort : {P : Type 0} → (P → PortTrace) → Option (ℕ → Option P) → ℕ → P → Option (ℕ → Option P) → Type 0
+GivesPort tell None switch port now = (now ≡ None) × ((tell port).faults ≡ 0)
+GivesPort tell (Some waiting) switch port now = (waiting switch ≡ Some port) × (now ≡ Some (without waiting switch))
 
 -- The guest given is the first of those to come. Where these are not told, it has not failed yet, neither as a source nor as a sink.
 abbrev pub GivesGuest : {G : Type 0} → (G → ℕ) → (G → ℕ) → Option (List G) → G → Option (List G) → Type 0

@@ -1,10 +1,24 @@
--- What ports tell, and which of them keep to the agent rule. What a port tells is Some, and what it does not tell is None.
-use Rattle.std.specs.Prelude.{◌≡◌, ℕ, ◌-◌, ◌<◌, ◌≤◌, List, ◌++◌, length, take, true, All, Option, Some, IfSome}
+-- What a port tells, which ports keep to the agent rule, and what becomes of what is told in a call and in any number of them. What a port tells is
+-- Some, and what it does not tell is None.
+use Rattle.std.specs.Prelude.{◌≡◌, ◌⊎◌, ℕ, ◌-◌, ◌<◌, ◌≤◌, Bool, List, ◌++◌, length, take, true, All, Option, Some, IfSome}
+use Rattle.std.specs.Bool.{OnTrue}
 use Rattle.std.specs.List.{flat_map}
 use Rattle.rollout_rules.specs.Agent.{is_at_most}
 use Rattle.wan_edge.specs.Frames.{AnswerFrame, CommandFrame, IsAnswer, IsCommand, Splits, answer_bytes, command_bytes}
-use Rattle.wan_edge.specs.Streams.{Appends}
+use Rattle.wan_edge.specs.Streams.{Appends, KeepsTelling, Rose}
 use Rattle.wan_edge.specs.Switches.{Holdings, after_commands, answers_to, pair_given}
+
+-- All that a port tells: the bytes that went out, those that came back, what its switch holds of each item, and how often nothing came back, each where
+-- it is told; how often it has failed; whether it is honest, and prompt; and what the switch held before the first byte went out.
+pub record PortTrace : Type 0 where
+  pub offered : Option (List ℕ)
+  pub heard : Option (List ℕ)
+  pub held : Option Holdings
+  pub quiet : Option ℕ
+  pub faults : ℕ
+  pub honest : Bool
+  pub prompt : Bool
+  pub start : Holdings
 
 -- some of the bytes were appended from the front, perhaps all of them
 pub record AppendsFront (before : Option (List ℕ)) (bytes : List ℕ) (now : Option (List ℕ)) : Type 0 where
@@ -66,3 +80,57 @@ IsPromptState start offered heard held = IfSome offered (λ commands. IfSome hea
 -- where a prompt port has nothing to give, nothing is still to come
 abbrev pub NothingToCome : Holdings → Option (List ℕ) → Option (List ℕ) → Type 0
 NothingToCome start offered heard = IfSome offered (λ commands. IfSome heard (λ answers. AllAnswered start commands answers))
+
+-- What holds of each call of a port. Its faults don't become fewer, it stays as honest and as prompt as it is, and tells what is held where it did so
+-- before. An honest switch moves by the agent rule alone, on commands that went out; a prompt one answers in order.
+pub record Steps (before now : PortTrace) : Type 0 where
+  pub count : before.faults ≤ now.faults
+  pub told : KeepsTelling before.held now.held
+  pub honest : now.honest ≡ before.honest
+  pub prompt : now.prompt ≡ before.prompt
+  pub start : now.start ≡ before.start
+  pub by_rule : OnTrue before.honest (IsHonestStep now.offered now.heard before.held now.held)
+  pub in_order : OnTrue before.prompt (IsPromptState before.start now.offered now.heard now.held)
+
+-- the bytes went out, and nothing was heard
+pub record Sends (bytes : List ℕ) (before now : PortTrace) : Type 0 where
+  pub offered : Appends before.offered bytes now.offered
+  pub heard : now.heard ≡ before.heard
+  pub quiet : now.quiet ≡ before.quiet
+
+-- the port failed: the first of the bytes went out, perhaps none or all of them, and nothing was heard
+pub record FailsToSend (bytes : List ℕ) (before now : PortTrace) : Type 0 where
+  pub offered : AppendsFront before.offered bytes now.offered
+  pub heard : now.heard ≡ before.heard
+  pub quiet : now.quiet ≡ before.quiet
+  pub cause : Rose before.faults now.faults
+
+-- So many bytes came back, the first of these, and nothing went out. None is nothing now: it is counted, and a prompt port has given all its answers.
+pub record Hears (count : ℕ) (bytes : List ℕ) (before now : PortTrace) : Type 0 where
+  pub offered : now.offered ≡ before.offered
+  pub heard : Appends before.heard (take count bytes) now.heard
+  pub quieter : count ≡ 0 → IsOneMore before.quiet now.quiet
+  pub as_quiet : 0 < count → now.quiet ≡ before.quiet
+  pub all_given : OnTrue before.prompt (count ≡ 0 → NothingToCome before.start now.offered now.heard)
+
+-- the port failed, and nothing came back or went out
+pub record FailsToHear (before now : PortTrace) : Type 0 where
+  pub offered : now.offered ≡ before.offered
+  pub heard : now.heard ≡ before.heard
+  pub quiet : now.quiet ≡ before.quiet
+  pub cause : Rose before.faults now.faults
+
+-- A port went on by any number of calls. Bytes were added at the ends of what went out and of what came. Where some call was made, an honest switch moved
+-- by the agent rule alone, on commands that went out, and a prompt one answered in order.
+pub record GoesOn (before now : PortTrace) : Type 0 where
+  pub sent : List ℕ
+  pub offered : Appends before.offered sent now.offered
+  pub came : List ℕ
+  pub heard : Appends before.heard came now.heard
+  pub count : before.faults ≤ now.faults
+  pub told : KeepsTelling before.held now.held
+  pub honest : now.honest ≡ before.honest
+  pub prompt : now.prompt ≡ before.prompt
+  pub start : now.start ≡ before.start
+  pub by_rule : OnTrue before.honest ((now ≡ before) ⊎ IsHonestStep now.offered now.heard before.held now.held)
+  pub in_order : OnTrue before.prompt ((now ≡ before) ⊎ IsPromptState before.start now.offered now.heard now.held)

@@ -37,37 +37,49 @@ pub trait Fleet {
 
     /// Opens the connection to a switch.
     fn port(&mut self, switch: u32, name: &str) -> Result<Self::Port, Failed>
-        ensures given { IfOk result (λ p. GivesPort Self.Port.faults (waiting self.old) switch p (waiting self.new)) }
+        ensures given { IfOk result
+            (λ p. GivesPort Self.Port.told (waiting self.old) switch p (waiting self.new)) }
         ensures none { OnErr result (IfSome (waiting self.old) (λ ports. ports switch ≡ None)) }
         ensures still_waiting { OnErr result (waiting self.new ≡ waiting self.old) }
         ensures taken { OnOk result (kept self.new ≡ without (kept self.old) switch) }
         ensures left { OnErr result (kept self.new ≡ kept self.old) }
         ensures place { OnOk result (lent self.new ≡ marked (lent self.old) switch true) }
         ensures no_place { OnErr result (lent self.new ≡ lent self.old) }
-        ensures guests { (coming self.new ≡ coming self.old) × (served self.new ≡ served self.old) × (visiting self.new ≡ visiting self.old) }
+        ensures guests { (coming self.new ≡ coming self.old)
+            × (served self.new ≡ served self.old)
+            × (visiting self.new ≡ visiting self.old) }
         ensures cause { OnErr result (Rose (faults self.old) (faults self.new)) }
         ensures count { faults self.old ≤ faults self.new };
 
     /// Takes the port of a switch back.
     fn keep(&mut self, switch: u32, port: Self::Port)
         requires { lent self.old switch ≡ true }
-        ensures ready { waiting self.new ≡ option_map (λ ports. with_one ports switch port) (waiting self.old) }
+        ensures ready { waiting self.new
+            ≡ option_map (λ ports. with_one ports switch port) (waiting self.old) }
         ensures back { kept self.new ≡ with_one (kept self.old) switch port }
         ensures place { lent self.new ≡ marked (lent self.old) switch false }
-        ensures guests { (coming self.new ≡ coming self.old) × (served self.new ≡ served self.old) × (visiting self.new ≡ visiting self.old) }
+        ensures guests { (coming self.new ≡ coming self.old)
+            × (served self.new ≡ served self.old)
+            × (visiting self.new ≡ visiting self.old) }
         ensures count { faults self.old ≤ faults self.new };
 
     /// Waits for the next controller that comes, or says that no more will come.
     fn guest(&mut self) -> Result<Option<Self::Guest>, Failed>
-        ensures given { IfOk result (λ found. IfSome found (λ g. GivesGuest Self.Guest.Source.faults Self.Guest.Sink.faults (coming self.old) g (coming self.new))) }
+        ensures given { IfOk result
+            (λ found. IfSome found
+            (λ g. GivesGuest Self.Guest.Source.faults Self.Guest.Sink.faults (coming self.old) g
+            (coming self.new))) }
         ensures no_more { result ≡ Ok None → IfSome (coming self.old) (λ guests. guests ≡ []) }
         ensures still_none { result ≡ Ok None → coming self.new ≡ coming self.old }
         ensures still_coming { OnErr result (coming self.new ≡ coming self.old) }
-        ensures place { IfOk result (λ found. IfSome found (λ _. visiting self.new ≡ visiting self.old + 1)) }
+        ensures place { IfOk result
+            (λ found. IfSome found (λ _. visiting self.new ≡ visiting self.old + 1)) }
         ensures no_place { result ≡ Ok None → visiting self.new ≡ visiting self.old }
         ensures no_visit { OnErr result (visiting self.new ≡ visiting self.old) }
         ensures others { served self.new ≡ served self.old }
-        ensures ports { (waiting self.new ≡ waiting self.old) × (kept self.new ≡ kept self.old) × (lent self.new ≡ lent self.old) }
+        ensures ports { (waiting self.new ≡ waiting self.old)
+            × (kept self.new ≡ kept self.old)
+            × (lent self.new ≡ lent self.old) }
         ensures cause { OnErr result (Rose (faults self.old) (faults self.new)) }
         ensures count { faults self.old ≤ faults self.new };
 
@@ -77,6 +89,8 @@ pub trait Fleet {
         ensures back { served self.new ≡ served self.old ++ guest ∷ [] }
         ensures place { visiting self.new + 1 ≡ visiting self.old }
         ensures others { coming self.new ≡ coming self.old }
-        ensures ports { (waiting self.new ≡ waiting self.old) × (kept self.new ≡ kept self.old) × (lent self.new ≡ lent self.old) }
+        ensures ports { (waiting self.new ≡ waiting self.old)
+            × (kept self.new ≡ kept self.old)
+            × (lent self.new ≡ lent self.old) }
         ensures count { faults self.old ≤ faults self.new };
 }

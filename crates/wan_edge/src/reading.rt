@@ -46,7 +46,8 @@ impl From<AllocError> for ReadFault {
 pub fn read_all<S: Source>(alloc: Global, source: &mut S, most: usize) -> Result<Nums8, ReadFault>
     requires { most < 2 ^ 63 }
     ensures read { ReadsToEnd most (S.left source.old) result (S.left source.new) }
-    ensures cause { IsErrOf result ReadFault.Failed → Rose (S.faults source.old) (S.faults source.new) }
+    ensures cause { IsErrOf result ReadFault.Failed
+        → Rose (S.faults source.old) (S.faults source.new) }
     ensures count { S.faults source.old ≤ S.faults source.new }
     ensures told { KeepsTelling (S.left source.old) (S.left source.new) }
     ensures apart { S.as_sink source.new ≡ S.as_sink source.old }
@@ -72,8 +73,10 @@ fn read_more<S: Source>(
     bytes: &mut Nums8,
 ) -> Result<usize, ReadFault>
     requires { 0 < length buffer.old }
-    ensures read { ReadsMore (length buffer.old) (S.left source.old) bytes.old result bytes.new (S.left source.new) }
-    ensures cause { IsErrOf result ReadFault.Failed → Rose (S.faults source.old) (S.faults source.new) }
+    ensures read { ReadsMore (length buffer.old) (S.left source.old) bytes.old result bytes.new
+        (S.left source.new) }
+    ensures cause { IsErrOf result ReadFault.Failed
+        → Rose (S.faults source.old) (S.faults source.new) }
     ensures count { S.faults source.old ≤ S.faults source.new }
     ensures told { KeepsTelling (S.left source.old) (S.left source.new) }
     ensures apart { S.as_sink source.new ≡ S.as_sink source.old }

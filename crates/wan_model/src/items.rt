@@ -1,5 +1,5 @@
-ghost use Rattle.std.specs.Prelude.{◌≡◌, ◌<◌, length};
-ghost use Rattle.rollout_rules.specs.Items.{item_count, item_at, entry_from, home_of};
+ghost use Rattle.std.specs.Prelude.{◌≡◌, ◌<◌, length, IfSome, IsTrue};
+ghost use Rattle.rollout_rules.specs.Items.{item_count, item_at, entry_from, home_of, is_item};
 ghost use Rattle.rollout_rules.specs.declared.item.Item.TheVariants as variants;
 
 use crate::problem::Problem;
@@ -53,21 +53,32 @@ fn entry_at(tunnels: &[Tunnel], number: u32) -> Item
     }
 }
 
-/// The switch that applies the item's operations: the first on a flow's paths, or the entry's own. None
-/// exactly for a flow without tunnels.
+/// The switch that applies the operations of the item with a number: the first on a flow's paths, or the
+/// entry's own. None exactly for a flow without tunnels. Time: the tunnels.
 pub fn home_of(problem: &Problem, number: u32) -> Option<u32>
     requires { number < item_count problem.now }
     ensures { result ≡ home_of problem.now (item_at problem.now number) }
 {
-    match item_at(problem, number) {
+    home_of_item(problem, item_at(problem, number))
+}
+
+/// The same of an item.
+pub fn home_of_item(problem: &Problem, item: Item) -> Option<u32>
+    requires { IsTrue (is_item problem.now item) }
+    ensures home { result ≡ home_of problem.now item }
+    ensures inside { IfSome result (λ home. home < length problem.now.switches) }
+{
+    match item {
         Item::Flow(flow) => first_switch(problem, flow as usize),
         Item::Entry { tunnel, hop } => Some(problem.path(tunnel as usize)[hop as usize]),
     }
 }
 
+// The first switch on a flow's paths.
 fn first_switch(problem: &Problem, flow: usize) -> Option<u32>
     requires { flow < length problem.now.flows }
-    ensures { result ≡ home_of problem.now (variants.Flow flow) }
+    ensures home { result ≡ home_of problem.now (variants.Flow flow) }
+    ensures inside { IfSome result (λ home. home < length problem.now.switches) }
 {
     if problem.tunnel_count(flow) == 0 {
         return None;

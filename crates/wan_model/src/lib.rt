@@ -21,7 +21,7 @@ mod tunnel;
 
 pub use checked::CheckedPlan;
 pub use flow::Flow;
-pub use items::{home_of, item_at, item_count};
+pub use items::{home_of, home_of_item, item_at, item_count};
 pub use link::Link;
 pub use lists::{Ids, Marks, Nums};
 pub use plan::Plan;

@@ -37,7 +37,8 @@ impl Plan {
 
     /// Adds a stage at the end. Want of memory changes nothing.
     pub fn add_stage(&mut self, stage: Stage) -> Result<(), Memory>
-        ensures ok { OnOk result (self.new ≡ record self.old { stages = self.old.stages ++ stage ∷ [] }) }
+        ensures ok { OnOk result
+            (self.new ≡ record self.old { stages = self.old.stages ++ stage ∷ [] }) }
         ensures err { OnErr result (self.new ≡ self.old) }
     {
         self.stages.push(stage)

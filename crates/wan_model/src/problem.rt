@@ -37,9 +37,21 @@ impl Model for Problem {
 
     ghost Value = { wan.Problem };
 
-    ghost view = { λ p. record { format = p.format; switches = p.switches.items; links = p.links.items; flows = p.flows.items; tunnels = p.tunnels.items } };
+    ghost view = { λ p. record {
+      format = p.format;
+      switches = p.switches.items;
+      links = p.links.items;
+      flows = p.flows.items;
+      tunnels = p.tunnels.items;
+    } };
 
-    ghost invariant = { λ p. IsNumberedNetwork (record { format = p.format; switches = p.switches.items; links = p.links.items; flows = p.flows.items; tunnels = p.tunnels.items }) p.switch_names p.flow_names p.link_ends };
+    ghost invariant = { λ p. IsNumberedNetwork (record {
+      format = p.format;
+      switches = p.switches.items;
+      links = p.links.items;
+      flows = p.flows.items;
+      tunnels = p.tunnels.items;
+    }) p.switch_names p.flow_names p.link_ends };
 }
 
 impl Problem {

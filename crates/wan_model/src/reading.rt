@@ -180,7 +180,8 @@ impl Problem {
     /// The sum of a flow's old rates. Time: its tunnels.
     pub fn old_total(&self, flow: usize) -> u128
         requires { flow < length self.now.flows }
-        ensures value { result ≡ flow_total self.now (λ t. wan.old_rate (wan.tunnel_at self.now t)) flow }
+        ensures value { result
+            ≡ flow_total self.now (λ t. wan.old_rate (wan.tunnel_at self.now t)) flow }
         ensures most { result ≤ MOST_TUNNELS_OF_FLOW * LARGEST_RATE }
     {
         self.total_on(Side::Old, flow)
@@ -189,7 +190,8 @@ impl Problem {
     /// The sum of a flow's new rates. Time: its tunnels.
     pub fn new_total(&self, flow: usize) -> u128
         requires { flow < length self.now.flows }
-        ensures value { result ≡ flow_total self.now (λ t. wan.new_rate (wan.tunnel_at self.now t)) flow }
+        ensures value { result
+            ≡ flow_total self.now (λ t. wan.new_rate (wan.tunnel_at self.now t)) flow }
         ensures most { result ≤ MOST_TUNNELS_OF_FLOW * LARGEST_RATE }
     {
         self.total_on(Side::New, flow)

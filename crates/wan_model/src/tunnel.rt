@@ -19,7 +19,21 @@ impl Model for Tunnel {
 
     ghost Value = { wan.Tunnel };
 
-    ghost view = { λ t. record { flow = t.flow; path = t.path; links = t.links; width = t.width; old = t.old; new = t.new } };
+    ghost view = { λ t. record {
+      flow = t.flow;
+      path = t.path;
+      links = t.links;
+      width = t.width;
+      old = t.old;
+      new = t.new;
+    } };
 
-    ghost inverse = { λ t. record { flow = t.flow; path = t.path; links = t.links; width = t.width; old = t.old; new = t.new } };
+    ghost inverse = { λ t. record {
+      flow = t.flow;
+      path = t.path;
+      links = t.links;
+      width = t.width;
+      old = t.old;
+      new = t.new;
+    } };
 }

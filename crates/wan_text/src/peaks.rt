@@ -40,7 +40,10 @@ pub fn push_table_peak(
 }
 
 fn push_fullness(alloc: Global, text: &mut Text, peak: u128, capacity: u128) -> Result<(), Memory>
-    ensures { OnOk result (text.new ≡ text.old ++ (codes " " ++ decimal peak ++ codes " of " ++ decimal capacity ++ codes "\n")) }
+    ensures { OnOk result
+        (text.new
+        ≡ text.old
+        ++ (codes " " ++ decimal peak ++ codes " of " ++ decimal capacity ++ codes "\n")) }
 {
     let line = format!(in alloc; " {peak} of {capacity}\n")?;
     text.push_str(&line)

@@ -57,7 +57,10 @@ impl Source for Visitor {
 
     ghost faults = { λ v. v.source.turns.failures };
 
-    ghost as_sink = { λ v. record { written = Some v.sink.written; faults = v.sink.turns.failures } };
+    ghost as_sink = { λ v. record {
+      written = Some v.sink.written;
+      faults = v.sink.turns.failures;
+    } };
 
     fn read(&mut self, into: &mut [u8]) -> Result<usize, Failed> {
         let most = into.len().min(self.step.max(1));
@@ -70,7 +73,10 @@ impl Sink for Visitor {
 
     ghost faults = { λ v. v.sink.turns.failures };
 
-    ghost as_source = { λ v. record { left = Some v.source.left; faults = v.source.turns.failures } };
+    ghost as_source = { λ v. record {
+      left = Some v.source.left;
+      faults = v.source.turns.failures;
+    } };
 
     fn write(&mut self, from: &[u8]) -> Result<usize, Failed> {
         self.sink.write(from)

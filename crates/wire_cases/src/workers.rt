@@ -20,21 +20,16 @@ impl<'a> Port for Tape<'a> {
     ghost use Rattle.std.specs.Prelude.{◌-◌, ◌^◌, false, None};
     ghost use Rattle.rollout_rules.specs.Agent.{nothing_held};
 
-    ghost offered = { λ _. None };
-
-    ghost heard = { λ _. None };
-
-    ghost held = { λ _. None };
-
-    ghost quiet = { λ _. None };
-
-    ghost faults = { λ _. 2 ^ 64 - 1 };
-
-    ghost honest = { λ _. false };
-
-    ghost prompt = { λ _. false };
-
-    ghost start = { λ _ _. nothing_held };
+    ghost told = { λ _. record {
+      offered = None;
+      heard = None;
+      held = None;
+      quiet = None;
+      faults = 2 ^ 64 - 1;
+      honest = false;
+      prompt = false;
+      start = λ _. nothing_held;
+    } };
 
     ghost prompt_is_honest = { λ _ e. e };
 

@@ -63,7 +63,8 @@ fn read_answer(
 ) -> Result<(usize, Option<(u32, Answer)>), FrameFault>
     requires { IsBegunAnswer front.old }
     ensures begun { IsBegunAnswer front.new }
-    ensures read { ReadsAnswer front.old piece.now result (record { kept = front.new; live = is_ok result }) }
+    ensures read { ReadsAnswer front.old piece.now result
+        (record { kept = front.new; live = is_ok result }) }
 {
     if let Some(byte) = other_kind(front.bytes(), piece, ANSWER) {
         return Err(FrameFault::Kind(byte));

@@ -33,16 +33,28 @@ impl Model for Command {
 
     ghost Value = { Command };
 
-    ghost view = { λ c. record { item = c.item; number = c.number; scale = c.scale; content = content_of c.count c.rates } };
+    ghost view = { λ c. record {
+      item = c.item;
+      number = c.number;
+      scale = c.scale;
+      content = content_of c.count c.rates;
+    } };
 
     ghost invariant = { λ c. IsFilled c.count c.rates };
 
-    ghost inverse = { λ c. record { item = c.item; number = c.number; scale = c.scale; count = length c.content; rates = rates_of c.content } };
+    ghost inverse = { λ c. record {
+      item = c.item;
+      number = c.number;
+      scale = c.scale;
+      count = length c.content;
+      rates = rates_of c.content;
+    } };
 
     ghost use Rattle.std.proofs.Common.{ap₂};
     ghost use Rattle.wire_frames.specs.Contents.{length-content_of, rates_of-content_of};
 
-    ghost inverse_ok = { λ a h. ap₂ (λ count rates. record a { count = count; rates = rates }) (length-content_of a.count a.rates h) (rates_of-content_of a.count a.rates h) };
+    ghost inverse_ok = { λ a h. ap₂ (λ count rates. record a { count = count; rates = rates })
+        (length-content_of a.count a.rates h) (rates_of-content_of a.count a.rates h) };
 }
 
 /// Writes the bytes of a command of this migration to the front of `out`, and says how many there are.

@@ -63,7 +63,8 @@ fn read_command(
 ) -> Result<(usize, Option<(u32, Command)>), FrameFault>
     requires { IsBegun front.old }
     ensures begun { IsBegun front.new }
-    ensures read { ReadsCommand front.old piece.now result (record { kept = front.new; live = is_ok result }) }
+    ensures read { ReadsCommand front.old piece.now result
+        (record { kept = front.new; live = is_ok result }) }
 {
     if let Some(byte) = other_kind(front.bytes(), piece, COMMAND) {
         return Err(FrameFault::Kind(byte));

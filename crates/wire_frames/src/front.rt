@@ -18,7 +18,8 @@ impl<const N: usize> Model for Front<N> {
 
     ghost view = { λ f. take f.filled f.bytes };
 
-    ghost invariant = { λ f. (f.filled ≤ N) × ((i : ℕ) → slice_index (take f.filled f.bytes) i < 256) };
+    ghost invariant = { λ f. (f.filled ≤ N)
+        × ((i : ℕ) → slice_index (take f.filled f.bytes) i < 256) };
 }
 
 impl<const N: usize> Front<N> {
@@ -64,7 +65,8 @@ pub(crate) fn other_kind(front: &[u8], piece: &[u8], kind: u8) -> Option<u8>
     requires { 0 < length front.now → slice_index front.now 0 ≡ kind }
     ensures some { IfSome result (HasOtherKind kind (front.now ++ piece.now)) }
     ensures first { IfSome result (λ _. front.now ≡ []) }
-    ensures none { IfNone result (0 < length (front.now ++ piece.now) → slice_index (front.now ++ piece.now) 0 ≡ kind) }
+    ensures none { IfNone result
+        (0 < length (front.now ++ piece.now) → slice_index (front.now ++ piece.now) 0 ≡ kind) }
 {
     if !front.is_empty() {
         return None;

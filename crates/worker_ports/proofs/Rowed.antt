@@ -4,8 +4,9 @@ use Rattle.std.proofs.Common.{take, drop, ◌+◌, Bool, ◌||◌, map, ap₂, �
 use Rattle.std.specs.List.{AllZip, list_any}
 use Rattle.std.specs.Prelude.{All, IsTrue, ⊤}
 use Rattle.wan_edge.specs.Frames.{Answer}
+use Rattle.wan_edge.specs.Ports.{PortTrace}
 use Rattle.port_session.specs.Sessions.{Talk}
-use Rattle.worker_ports.specs.Views.{Telling, view}
+use Rattle.worker_ports.specs.Views.{view}
 use Rattle.shared_history.specs.declared.note.Cause.{Cause}
 use Rattle.shared_history.specs.declared.note.Cause.TheVariants as cause
 use Rattle.worker_ports.specs.Hearing.{HearsOut}
@@ -124,7 +125,7 @@ of_one R (cause.NoAnswer switch byte) ps bs one = one
 of_one R cause.Disk ps bs one = one
 of_one R cause.Memory ps bs one = tt
 
-module _ {P : Type 0} (tell : P → Telling) (migration : ℕ) (homes : List (Option ℕ)) where
+module _ {P : Type 0} (tell : P → PortTrace) (migration : ℕ) (homes : List (Option ℕ)) where
   -- the first so many were heard out, and told this
   abbrev pub HeardSoFar : ℕ → List (Talk P) → List (Talk P) → List Answer → Type 0
   HeardSoFar zero ps bs told = (bs ≡ ps) × (told ≡ [])

@@ -8,10 +8,10 @@ use Rattle.std.specs.Bool.{OnTrue}
 use Rattle.std.specs.List.{All, AllZip, Contains, flat_map}
 use Rattle.std.specs.Prelude.{IfSome, IsTrue, is_some}
 use Rattle.wan_edge.specs.Frames.{Answer, Command, CommandFrame, command_bytes}
-use Rattle.wan_edge.specs.Ports.{AnswersHeld, AppendsFront, IsHonestStep, IsOffered, IsPromptState, MovesByRule}
+use Rattle.wan_edge.specs.Ports.{AnswersHeld, AppendsFront, GoesOn, IsHonestStep, IsOffered, IsPromptState, MovesByRule, PortTrace}
 use Rattle.wan_edge.specs.Streams.{Appends, KeepsTelling}
 use Rattle.wan_edge.specs.Switches.{Holdings, after_command, after_commands}
-use Rattle.wan_edge.proofs.Chains.{Appends-chain}
+use Rattle.wan_edge.proofs.Chains.{Appends-chain, Appends-nothing, stays}
 use Rattle.port_session.specs.Offers.{frames_of}
 use Rattle.port_session.specs.Reading.{ReadsAnswers, answers_of}
 use Rattle.port_session.specs.Sessions.{HearsAnswers, Talk, listening}
@@ -21,8 +21,7 @@ use Rattle.worker_ports.specs.Lots.{home_at, is_switch, own}
 use Rattle.worker_ports.specs.Offering.{Offers, OffersAll}
 use Rattle.worker_ports.specs.Rows.{AtOne, HearsEach, OffersAllEach, OffersEach, ListensEach}
 use Rattle.worker_ports.specs.Stories.{IsTold, LastStory, LastStoryEach, Story, StoryEach, Tells, ToldAt}
-use Rattle.worker_ports.specs.Views.{GoesOn, PortView, Telling, view}
-use Rattle.worker_ports.proofs.Told.{none_appended, on_true, stays}
+use Rattle.worker_ports.specs.Views.{PortView, view}
 
 -- ---- the rule, over calls in a row
 after-both : (cs ds : List CommandFrame) (h : Holdings) → after_commands h (cs ++ ds) ≡ after_commands (after_commands h cs) ds
@@ -59,18 +58,18 @@ moves-told (Some bytes) later more (Some a) (Some b) (Some c) grew kept first se
     subst (λ (l : Option (List ℕ)). IfSome l (λ bs. MovesByRule bs a c)) (sym grew)
     (moves-on bytes more a b c first (subst (λ (l : Option (List ℕ)). IfSome l (λ bs. MovesByRule bs b c)) grew second))
 
-by-rule : (a b c : Telling) (more : List ℕ) → Appends b.offered more c.offered → KeepsTelling a.held b.held → (b ≡ a) ⊎ IsHonestStep b.offered b.heard a.held b.held → (c ≡ b) ⊎ IsHonestStep c.offered c.heard b.held c.held → (c ≡ a) ⊎ IsHonestStep c.offered c.heard a.held c.held
-by-rule a b c more grew kept (inl first) second = subst (λ (t : Telling). (c ≡ t) ⊎ IsHonestStep c.offered c.heard t.held c.held) first second
-by-rule a b c more grew kept (inr first) (inl second) = inr (subst (λ (t : Telling). IsHonestStep t.offered t.heard a.held t.held) (sym second) first)
+by-rule : (a b c : PortTrace) (more : List ℕ) → Appends b.offered more c.offered → KeepsTelling a.held b.held → (b ≡ a) ⊎ IsHonestStep b.offered b.heard a.held b.held → (c ≡ b) ⊎ IsHonestStep c.offered c.heard b.held c.held → (c ≡ a) ⊎ IsHonestStep c.offered c.heard a.held c.held
+by-rule a b c more grew kept (inl first) second = subst (λ (t : PortTrace). (c ≡ t) ⊎ IsHonestStep c.offered c.heard t.held c.held) first second
+by-rule a b c more grew kept (inr first) (inl second) = inr (subst (λ (t : PortTrace). IsHonestStep t.offered t.heard a.held t.held) (sym second) first)
 by-rule a b c more grew kept (inr first) (inr second) = inr (record {
   moves = moves-told b.offered c.offered more a.held b.held c.held grew kept first.moves second.moves;
   answers = second.answers;
 })
 
-in-order : (a b c : Telling) → b.start ≡ a.start → (b ≡ a) ⊎ IsPromptState a.start b.offered b.heard b.held → (c ≡ b) ⊎ IsPromptState b.start c.offered c.heard c.held → (c ≡ a) ⊎ IsPromptState a.start c.offered c.heard c.held
+in-order : (a b c : PortTrace) → b.start ≡ a.start → (b ≡ a) ⊎ IsPromptState a.start b.offered b.heard b.held → (c ≡ b) ⊎ IsPromptState b.start c.offered c.heard c.held → (c ≡ a) ⊎ IsPromptState a.start c.offered c.heard c.held
 in-order a b c same (inl first) (inl second) = inl (second ∙ first)
 in-order a b c same first (inr second) = inr (subst (λ (s : Holdings). IsPromptState s c.offered c.heard c.held) same second)
-in-order a b c same (inr first) (inl second) = inr (subst (λ (t : Telling). IsPromptState a.start t.offered t.heard t.held) (sym second) first)
+in-order a b c same (inr first) (inl second) = inr (subst (λ (t : PortTrace). IsPromptState a.start t.offered t.heard t.held) (sym second) first)
 
 on-both : {A B C : Type 0} (x y : Bool) → y ≡ x → (A → B → C) → OnTrue x A → OnTrue y B → OnTrue x C
 on-both true true same f a b = f a b
@@ -78,7 +77,7 @@ on-both true false same f a b = absurd (false≢true same)
 on-both false y same f a b = tt
 
 -- a port goes on, and goes on again
-pub goes_on_on : (a b c : Telling) → GoesOn a b → GoesOn b c → GoesOn a c
+pub goes_on_on : (a b c : PortTrace) → GoesOn a b → GoesOn b c → GoesOn a c
 goes_on_on a b c first second = record {
   sent = first.sent ++ second.sent;
   offered = Appends-chain a.offered b.offered c.offered first.sent second.sent first.offered second.offered;
@@ -98,7 +97,7 @@ goes_on_on a b c first second = record {
 tells-nothing : (migration : ℕ) (v : PortView) → Tells migration v [] v
 tells-nothing migration v = record {
   bytes = [];
-  appended = none_appended v.port.heard;
+  appended = Appends-nothing v.port.heard;
   reads = reads_nothing migration (record { kept = v.stream.kept; awaited = 0; told = [] });
 }
 
@@ -130,7 +129,7 @@ pub story_begins : (migration : ℕ) (homes : List (Option ℕ)) (v : PortView) 
 story_begins migration homes v live = record {
   switch = refl;
   goes_on = stays v.port;
-  sent = none_appended v.port.offered;
+  sent = Appends-nothing v.port.offered;
   told = [];
   tells = tells-nothing migration v;
   own_told = All-nil (IsOwn homes v.switch);

@@ -2,7 +2,7 @@
 use Rattle.std.specs.Prelude.{◌≡◌, ◌⊎◌, ℕ, ◌<◌, true, false, List, [], ◌∷◌, ◌++◌, All, Option, None, Some, IsTrue}
 use Rattle.std.specs.Bool.{OnTrue}
 use Rattle.wan_edge.specs.Frames.{Answer, IsCutAnswer}
-use Rattle.wan_edge.specs.Ports.{IsOneMore, NothingToCome}
+use Rattle.wan_edge.specs.Ports.{GoesOn, IsOneMore, NothingToCome}
 use Rattle.wan_edge.specs.Streams.{Rose}
 use Rattle.port_session.specs.Sessions.{EndsAnswer, HearsAnswers, IsHeardOut, listening}
 use Rattle.port_session.specs.declared.fault.SessionFault.{SessionFault}
@@ -10,7 +10,7 @@ use Rattle.port_session.specs.declared.fault.SessionFault.TheVariants as fault
 use Rattle.shared_history.specs.declared.note.Cause.{Cause}
 use Rattle.shared_history.specs.declared.note.Cause.TheVariants as cause
 use Rattle.worker_ports.specs.Lots.{home_at, is_switch}
-use Rattle.worker_ports.specs.Views.{GoesOn, PortView}
+use Rattle.worker_ports.specs.Views.{PortView}
 
 -- Something may have come from a port, and nothing went out.
 pub record Listens (before now : PortView) : Type 0 where

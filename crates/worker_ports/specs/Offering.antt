@@ -1,12 +1,12 @@
 -- What goes out to the ports in a round.
 use Rattle.std.specs.Prelude.{◌≡◌, ℕ, List, length}
 use Rattle.wan_edge.specs.Frames.{Command}
-use Rattle.wan_edge.specs.Ports.{AppendsFront}
+use Rattle.wan_edge.specs.Ports.{AppendsFront, GoesOn}
 use Rattle.wan_edge.specs.Streams.{Appends, Rose}
 use Rattle.port_session.specs.Offers.{frames_of}
 use Rattle.shared_history.specs.declared.note.Cause.{Cause}
 use Rattle.shared_history.specs.declared.note.Cause.TheVariants as cause
-use Rattle.worker_ports.specs.Views.{GoesOn, PortView}
+use Rattle.worker_ports.specs.Views.{PortView}
 
 -- The bytes of these commands went out to a port, or a front of them, and nothing was heard.
 pub record Offers (migration : ℕ) (commands : List Command) (before now : PortView) : Type 0 where

@@ -2,10 +2,11 @@
 use Rattle.std.specs.Prelude.{◌≡◌, ◌⊎◌, ℕ, List, [], ◌∷◌, ◌++◌, Option}
 use Rattle.std.specs.List.{AllZip}
 use Rattle.wan_edge.specs.Frames.{Answer, Command}
+use Rattle.wan_edge.specs.Ports.{PortTrace}
 use Rattle.shared_history.specs.declared.note.Cause.{Cause}
 use Rattle.shared_history.specs.declared.note.Cause.TheVariants as cause
 use Rattle.port_session.specs.Sessions.{Talk}
-use Rattle.worker_ports.specs.Views.{Telling, view}
+use Rattle.worker_ports.specs.Views.{view}
 use Rattle.worker_ports.specs.Lots.{own}
 use Rattle.worker_ports.specs.Offering.{IsOfferCause, Offers, OffersAll}
 use Rattle.worker_ports.specs.Hearing.{HearsOut, IsHearCause, Listens}
@@ -28,7 +29,7 @@ AtOneOrMemory R cause.Disk ps bs = AtOne R ps bs
 AtOneOrMemory R cause.Memory ps bs = Unit {0}
 
 -- Each port was heard out, one after the other, and what they told follows in this order.
-abbrev pub HearsEach : {P : Type 0} → (P → Telling) → ℕ → List (Option ℕ) → List (Talk P) → List (Talk P) → List Answer → Type 0
+abbrev pub HearsEach : {P : Type 0} → (P → PortTrace) → ℕ → List (Option ℕ) → List (Talk P) → List (Talk P) → List Answer → Type 0
 HearsEach tell migration homes [] [] told = told ≡ []
 HearsEach tell migration homes [] (b ∷ bs) told = ⊥
 HearsEach tell migration homes (a ∷ rest) [] told = ⊥
@@ -36,22 +37,22 @@ HearsEach tell migration homes (a ∷ rest) (b ∷ bs) told =
     (mine : List Answer) × (later : List Answer) × HearsOut migration homes (view tell a) mine (view tell b) × (told ≡ mine ++ later) × HearsEach tell migration homes rest bs later
 
 -- the commands of a round went out, each to the port whose switch is its item's home, or a front of them
-abbrev pub OffersEach : {P : Type 0} → (P → Telling) → ℕ → List (Option ℕ) → List Command → List (Talk P) → List (Talk P) → Type 0
+abbrev pub OffersEach : {P : Type 0} → (P → PortTrace) → ℕ → List (Option ℕ) → List Command → List (Talk P) → List (Talk P) → Type 0
 OffersEach tell migration homes commands = AllZip (λ before now. Offers migration (own homes before.switch commands) (view tell before) (view tell now))
 
 -- all of them did
-abbrev pub OffersAllEach : {P : Type 0} → (P → Telling) → ℕ → List (Option ℕ) → List Command → List (Talk P) → List (Talk P) → Type 0
+abbrev pub OffersAllEach : {P : Type 0} → (P → PortTrace) → ℕ → List (Option ℕ) → List Command → List (Talk P) → List (Talk P) → Type 0
 OffersAllEach tell migration homes commands = AllZip (λ before now. OffersAll migration (own homes before.switch commands) (view tell before) (view tell now))
 
 -- from each port something may have come
-abbrev pub ListensEach : {P : Type 0} → (P → Telling) → List (Talk P) → List (Talk P) → Type 0
+abbrev pub ListensEach : {P : Type 0} → (P → PortTrace) → List (Talk P) → List (Talk P) → Type 0
 ListensEach tell = AllZip (λ before now. Listens (view tell before) (view tell now))
 
 -- why a round stops a worker
-abbrev pub IsCauseOfOffer : {P : Type 0} → (P → Telling) → Cause → List (Talk P) → List (Talk P) → Type 0
+abbrev pub IsCauseOfOffer : {P : Type 0} → (P → PortTrace) → Cause → List (Talk P) → List (Talk P) → Type 0
 IsCauseOfOffer tell why = AtOneOrMemory (λ before now. IsOfferCause why (view tell before) (view tell now)) why
 
-abbrev pub IsCauseOfHear : {P : Type 0} → (P → Telling) → ℕ → List (Option ℕ) → Cause → List (Talk P) → List (Talk P) → Type 0
+abbrev pub IsCauseOfHear : {P : Type 0} → (P → PortTrace) → ℕ → List (Option ℕ) → Cause → List (Talk P) → List (Talk P) → Type 0
 IsCauseOfHear tell migration homes why = AtOneOrMemory (λ before now. IsHearCause migration homes why (view tell before) (view tell now)) why
 
 -- the port of the last talk was taken out

@@ -2,7 +2,7 @@
 use Rattle.std.specs.Prelude.{◌≡◌, ℕ, List, [], All, None, Option, IsTrue}
 use Rattle.std.specs.List.{AllZip, Contains}
 use Rattle.wan_edge.specs.Frames.{Answer, Command, IsCutAnswer}
-use Rattle.wan_edge.specs.Ports.{AppendsFront}
+use Rattle.wan_edge.specs.Ports.{AppendsFront, GoesOn, PortTrace}
 use Rattle.wan_edge.specs.Streams.{Appends}
 use Rattle.port_session.specs.Offers.{frames_of}
 use Rattle.port_session.specs.Reading.{ReadsAnswers}
@@ -10,7 +10,7 @@ use Rattle.port_session.specs.Sessions.{Talk}
 use Rattle.worker_ports.specs.Hearing.{IsOwn}
 use Rattle.worker_ports.specs.Lots.{own}
 use Rattle.worker_ports.specs.Rows.{AtOne}
-use Rattle.worker_ports.specs.Views.{GoesOn, PortView, Telling, view}
+use Rattle.worker_ports.specs.Views.{PortView, view}
 
 -- What came since, behind what was kept then: whole answers, of which those of the migration were told, and the front of one that is kept now.
 pub record Tells (migration : ℕ) (before : PortView) (told : List Answer) (now : PortView) : Type 0 where
@@ -35,10 +35,10 @@ pub record LastStory (migration : ℕ) (homes : List (Option ℕ)) (commands : L
   pub part : AppendsFront before.port.offered (frames_of migration (own homes before.switch commands)) now.port.offered
 
 -- the rounds so far at each port
-abbrev pub StoryEach : {P : Type 0} → (P → Telling) → ℕ → List (Option ℕ) → List Command → List (Talk P) → List (Talk P) → Type 0
+abbrev pub StoryEach : {P : Type 0} → (P → PortTrace) → ℕ → List (Option ℕ) → List Command → List (Talk P) → List (Talk P) → Type 0
 StoryEach tell migration homes commands = AllZip (λ before now. Story migration homes commands (view tell before) (view tell now))
 
-abbrev pub LastStoryEach : {P : Type 0} → (P → Telling) → ℕ → List (Option ℕ) → List Command → List (Talk P) → List (Talk P) → Type 0
+abbrev pub LastStoryEach : {P : Type 0} → (P → PortTrace) → ℕ → List (Option ℕ) → List Command → List (Talk P) → List (Talk P) → Type 0
 LastStoryEach tell migration homes commands = AllZip (λ before now. LastStory migration homes commands (view tell before) (view tell now))
 
 -- an answer was told by the port of a switch
@@ -48,5 +48,5 @@ pub record ToldAt (migration switch : ℕ) (answer : Answer) (before now : PortV
   pub tells : Tells migration before told now
   pub among : Contains told answer
 
-abbrev pub IsTold : {P : Type 0} → (P → Telling) → ℕ → ℕ → Answer → List (Talk P) → List (Talk P) → Type 0
+abbrev pub IsTold : {P : Type 0} → (P → PortTrace) → ℕ → ℕ → Answer → List (Talk P) → List (Talk P) → Type 0
 IsTold tell migration switch answer = AtOne (λ before now. ToldAt migration switch answer (view tell before) (view tell now))

@@ -24,7 +24,8 @@ impl Model for Lots {
 
     ghost view = { λ l. record { switches = l.switches.keys; lots = l.lots.items } };
 
-    ghost invariant = { λ l. (length l.lots.items ≡ length l.switches.keys) × IsDistinct nat_eq l.switches.keys };
+    ghost invariant = { λ l. (length l.lots.items ≡ length l.switches.keys)
+        × IsDistinct nat_eq l.switches.keys };
 }
 
 impl Lots {
@@ -55,7 +56,12 @@ impl Lots {
     /// Adds a switch, for which nothing lies ready. Want of memory changes nothing.
     pub(crate) fn add(&mut self, alloc: Global, switch: u32) -> Result<(), Memory>
         requires new { list_any (λ w. switch == w) self.old.switches ≡ false }
-        ensures ok { OnOk result (self.new ≡ record { switches = self.old.switches ++ switch ∷ []; lots = self.old.lots ++ [] ∷ [] }) }
+        ensures ok { OnOk result
+            (self.new
+            ≡ record {
+              switches = self.old.switches ++ switch ∷ [];
+              lots = self.old.lots ++ [] ∷ [];
+            }) }
         ensures err { OnErr result (self.new ≡ self.old) }
     {
         self.lots.reserve(1)?;
@@ -67,7 +73,8 @@ impl Lots {
     /// Takes the last switch out, with what lies ready for it.
     pub(crate) fn drop_last(&mut self)
         requires some { 0 < length self.old.switches }
-        ensures switches { self.new.switches ≡ take (length self.old.switches - 1) self.old.switches }
+        ensures switches { self.new.switches
+            ≡ take (length self.old.switches - 1) self.old.switches }
     {
         self.switches.pop();
         self.lots.pop();
@@ -77,7 +84,8 @@ impl Lots {
     /// of the switches.
     pub(crate) fn deal(&mut self, commands: &[Command], homes: &[Option<u32>]) -> Result<(), Memory>
         ensures switches { self.new.switches ≡ self.old.switches }
-        ensures ok { OnOk result (self.new.lots ≡ map (λ w. own homes.now w commands.now) self.old.switches) }
+        ensures ok { OnOk result
+            (self.new.lots ≡ map (λ w. own homes.now w commands.now) self.old.switches) }
     {
         clear_each(&mut self.lots);
         for command in commands {
@@ -89,7 +97,8 @@ impl Lots {
     // Puts a command to what lies ready at a home, where that is one of the switches.
     fn put(&mut self, command: &Command, home: Option<u32>) -> Result<(), Memory>
         ensures switches { self.new.switches ≡ self.old.switches }
-        ensures ok { OnOk result (self.new.lots ≡ with_put self.old.lots (place_of self.old.switches home) command.now) }
+        ensures ok { OnOk result
+            (self.new.lots ≡ with_put self.old.lots (place_of self.old.switches home) command.now) }
     {
         if let Some(place) = self.place_of(home) {
             self.lots[place].add(*command)?;

@@ -3,7 +3,6 @@ ghost use Rattle.std.specs.List.{list_any};
 ghost use Rattle.wan_edge.specs.Frames.{Answer};
 ghost use Rattle.port_session.specs.Sessions.{first_talk};
 ghost use Rattle.worker_ports.specs.Rows.{IsLast, HearsEach, IsCauseOfHear, IsCauseOfOffer, ListensEach, OffersAllEach, OffersEach};
-ghost use Rattle.worker_ports.specs.Views.{telling};
 
 use crate::lots::Lots;
 use crate::round::{hear_each, offer_each};
@@ -73,7 +72,8 @@ impl<T: Port> WorkerPorts<T> {
 
     /// Takes the last port out. It takes no memory.
     pub fn take(&mut self) -> Option<Berth<T>>
-        ensures { MatchOption result ((self.old ≡ []) × (self.new ≡ [])) (λ berth. IsLast berth.switch berth.port self.old self.new) }
+        ensures { MatchOption result ((self.old ≡ []) × (self.new ≡ []))
+            (λ berth. IsLast berth.switch berth.port self.old self.new) }
     {
         let session = self.sessions.pop()?;
         self.lots.drop_last();
@@ -95,10 +95,12 @@ impl<T: Port> WorkerPorts<T> {
         homes: &[Option<u32>],
         migration: u32,
     ) -> Result<(), Cause>
-        ensures each { OffersEach (telling T.offered T.heard T.held T.quiet T.faults T.honest T.prompt T.start) migration homes.now commands.now self.old self.new }
-        ensures all { OnOk result (OffersAllEach (telling T.offered T.heard T.held T.quiet T.faults T.honest T.prompt T.start) migration homes.now commands.now self.old self.new) }
-        ensures live { All (λ s. IsTrue s.stream.live) self.old → All (λ s. IsTrue s.stream.live) self.new }
-        ensures cause { IfErr result (λ cause. IsCauseOfOffer (telling T.offered T.heard T.held T.quiet T.faults T.honest T.prompt T.start) cause self.old self.new) }
+        ensures each { OffersEach T.told migration homes.now commands.now self.old self.new }
+        ensures all { OnOk result
+            (OffersAllEach T.told migration homes.now commands.now self.old self.new) }
+        ensures live { All (λ s. IsTrue s.stream.live) self.old
+            → All (λ s. IsTrue s.stream.live) self.new }
+        ensures cause { IfErr result (λ cause. IsCauseOfOffer T.told cause self.old self.new) }
     {
         offer_each(
             self.sessions.as_mut_slice(),
@@ -124,10 +126,14 @@ impl<T: Port> WorkerPorts<T> {
         answers: &mut AnswerList,
     ) -> Result<(), Cause>
         requires live { All (λ s. IsTrue s.stream.live) self.old }
-        ensures each { ListensEach (telling T.offered T.heard T.held T.quiet T.faults T.honest T.prompt T.start) self.old self.new }
-        ensures ok { OnOk result ((told : List Answer) × (answers.new ≡ answers.old ++ told) × HearsEach (telling T.offered T.heard T.held T.quiet T.faults T.honest T.prompt T.start) migration homes.now self.old self.new told) }
+        ensures each { ListensEach T.told self.old self.new }
+        ensures ok { OnOk result
+            ((told : List Answer)
+            × (answers.new ≡ answers.old ++ told)
+            × HearsEach T.told migration homes.now self.old self.new told) }
         ensures live { OnOk result (All (λ s. IsTrue s.stream.live) self.new) }
-        ensures cause { IfErr result (λ cause. IsCauseOfHear (telling T.offered T.heard T.held T.quiet T.faults T.honest T.prompt T.start) migration homes.now cause self.old self.new) }
+        ensures cause { IfErr result
+            (λ cause. IsCauseOfHear T.told migration homes.now cause self.old self.new) }
     {
         hear_each(self.sessions.as_mut_slice(), homes, migration, answers)
     }

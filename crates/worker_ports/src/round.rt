@@ -2,7 +2,6 @@
 ghost use Rattle.std.specs.Prelude.{◌≡◌, ◌++◌, List, All, map, IfErr, IsTrue, OnOk};
 ghost use Rattle.wan_edge.specs.Frames.{Answer};
 ghost use Rattle.worker_ports.specs.Rows.{HearsEach, IsCauseOfHear, IsCauseOfOffer, ListensEach, OffersAllEach, OffersEach};
-ghost use Rattle.worker_ports.specs.Views.{telling};
 
 use crate::lots::Lots;
 use crate::talk::{hear_at, offer_at};
@@ -20,9 +19,10 @@ pub(crate) fn offer_each<T: Port>(
     migration: u32,
 ) -> Result<(), Cause>
     requires { lots.old.switches ≡ map (λ s. s.switch) sessions.old }
-    ensures each { OffersEach (telling T.offered T.heard T.held T.quiet T.faults T.honest T.prompt T.start) migration homes.now commands.now sessions.old sessions.new }
-    ensures all { OnOk result (OffersAllEach (telling T.offered T.heard T.held T.quiet T.faults T.honest T.prompt T.start) migration homes.now commands.now sessions.old sessions.new) }
-    ensures cause { IfErr result (λ cause. IsCauseOfOffer (telling T.offered T.heard T.held T.quiet T.faults T.honest T.prompt T.start) cause sessions.old sessions.new) }
+    ensures each { OffersEach T.told migration homes.now commands.now sessions.old sessions.new }
+    ensures all { OnOk result
+        (OffersAllEach T.told migration homes.now commands.now sessions.old sessions.new) }
+    ensures cause { IfErr result (λ cause. IsCauseOfOffer T.told cause sessions.old sessions.new) }
     ensures switches { lots.new.switches ≡ lots.old.switches }
 {
     if let Err(_) = lots.deal(commands, homes) {
@@ -42,10 +42,14 @@ pub(crate) fn hear_each<T: Port>(
     answers: &mut AnswerList,
 ) -> Result<(), Cause>
     requires live { All (λ s. IsTrue s.stream.live) sessions.old }
-    ensures each { ListensEach (telling T.offered T.heard T.held T.quiet T.faults T.honest T.prompt T.start) sessions.old sessions.new }
-    ensures ok { OnOk result ((told : List Answer) × (answers.new ≡ answers.old ++ told) × HearsEach (telling T.offered T.heard T.held T.quiet T.faults T.honest T.prompt T.start) migration homes.now sessions.old sessions.new told) }
+    ensures each { ListensEach T.told sessions.old sessions.new }
+    ensures ok { OnOk result
+        ((told : List Answer)
+        × (answers.new ≡ answers.old ++ told)
+        × HearsEach T.told migration homes.now sessions.old sessions.new told) }
     ensures live { OnOk result (All (λ s. IsTrue s.stream.live) sessions.new) }
-    ensures cause { IfErr result (λ cause. IsCauseOfHear (telling T.offered T.heard T.held T.quiet T.faults T.honest T.prompt T.start) migration homes.now cause sessions.old sessions.new) }
+    ensures cause { IfErr result
+        (λ cause. IsCauseOfHear T.told migration homes.now cause sessions.old sessions.new) }
 {
     for session in sessions.iter_mut() {
         hear_at(session, homes, migration, answers)?;

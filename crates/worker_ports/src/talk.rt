@@ -5,7 +5,7 @@ ghost use Rattle.worker_ports.specs.Causes.{cause_of};
 ghost use Rattle.worker_ports.specs.Hearing.{HasAlien, HearsOut, IsHearCause, IsOwn, Listens};
 ghost use Rattle.worker_ports.specs.Lots.{home_at, is_switch};
 ghost use Rattle.worker_ports.specs.Offering.{IsOfferCause, Offers, OffersAll};
-ghost use Rattle.worker_ports.specs.Views.{telling, view};
+ghost use Rattle.worker_ports.specs.Views.{view};
 
 use crate::lots::home_at;
 use port_session::{AnswerList, Session, SessionFault};
@@ -19,9 +19,12 @@ pub(crate) fn offer_at<T: Port>(
     commands: &[Command],
     migration: u32,
 ) -> Result<(), Cause>
-    ensures some { Offers migration commands.now (view (telling T.offered T.heard T.held T.quiet T.faults T.honest T.prompt T.start) session.old) (view (telling T.offered T.heard T.held T.quiet T.faults T.honest T.prompt T.start) session.new) }
-    ensures all { OnOk result (OffersAll migration commands.now (view (telling T.offered T.heard T.held T.quiet T.faults T.honest T.prompt T.start) session.old) (view (telling T.offered T.heard T.held T.quiet T.faults T.honest T.prompt T.start) session.new)) }
-    ensures cause { IfErr result (λ cause. IsOfferCause cause (view (telling T.offered T.heard T.held T.quiet T.faults T.honest T.prompt T.start) session.old) (view (telling T.offered T.heard T.held T.quiet T.faults T.honest T.prompt T.start) session.new)) }
+    ensures some { Offers migration commands.now (view T.told session.old)
+        (view T.told session.new) }
+    ensures all { OnOk result
+        (OffersAll migration commands.now (view T.told session.old) (view T.told session.new)) }
+    ensures cause { IfErr result
+        (λ cause. IsOfferCause cause (view T.told session.old) (view T.told session.new)) }
 {
     match session.offer_all(commands, migration) {
         Ok(()) => Ok(()),
@@ -37,9 +40,14 @@ pub(crate) fn hear_at<T: Port>(
     answers: &mut AnswerList,
 ) -> Result<(), Cause>
     requires live { IsTrue session.old.stream.live }
-    ensures some { Listens (view (telling T.offered T.heard T.held T.quiet T.faults T.honest T.prompt T.start) session.old) (view (telling T.offered T.heard T.held T.quiet T.faults T.honest T.prompt T.start) session.new) }
-    ensures ok { OnOk result ((told : List Answer) × (answers.new ≡ answers.old ++ told) × HearsOut migration homes.now (view (telling T.offered T.heard T.held T.quiet T.faults T.honest T.prompt T.start) session.old) told (view (telling T.offered T.heard T.held T.quiet T.faults T.honest T.prompt T.start) session.new)) }
-    ensures cause { IfErr result (λ cause. IsHearCause migration homes.now cause (view (telling T.offered T.heard T.held T.quiet T.faults T.honest T.prompt T.start) session.old) (view (telling T.offered T.heard T.held T.quiet T.faults T.honest T.prompt T.start) session.new)) }
+    ensures some { Listens (view T.told session.old) (view T.told session.new) }
+    ensures ok { OnOk result
+        ((told : List Answer)
+        × (answers.new ≡ answers.old ++ told)
+        × HearsOut migration homes.now (view T.told session.old) told (view T.told session.new)) }
+    ensures cause { IfErr result
+        (λ cause. IsHearCause migration homes.now cause (view T.told session.old)
+        (view T.told session.new)) }
 {
     let before = answers.as_slice().len();
     if let Err(fault) = session.hear_all(migration, answers) {

@@ -8,7 +8,8 @@ use wan_model::CheckedPlan;
 
 /// Per link the tunnels that cross it. Time: the links of all tunnels.
 pub(crate) fn crossings(alloc: Global, plan: &CheckedPlan) -> Result<Vec<Ids>, Memory>
-    ensures { IfOk result (λ rows. AreCrossings plan.now.problem rows.items (length plan.now.problem.links)) }
+    ensures { IfOk result
+        (λ rows. AreCrossings plan.now.problem rows.items (length plan.now.problem.links)) }
 {
     let mut rows = empty_rows(alloc, plan.problem().links().len())?;
     for t in 0..plan.problem().tunnels().len() {

@@ -18,7 +18,9 @@ pub(crate) fn empty_rows<T: Drop>(alloc: Global, count: usize) -> Result<Vec<Man
 /// Adds an element at the end of one of the rows.
 pub(crate) fn push_at<T: Drop>(rows: &mut Vec<Many<T>>, at: usize, element: T) -> Result<(), Memory>
     requires { at < vec_len rows.old }
-    ensures { OnOk result (rows.new.items ≡ slice_set rows.old.items at (slice_index_or rows.old.items at [] ++ element ∷ [])) }
+    ensures { OnOk result
+        (rows.new.items
+        ≡ slice_set rows.old.items at (slice_index_or rows.old.items at [] ++ element ∷ [])) }
 {
     rows[at].push(element)
 }

@@ -13,7 +13,8 @@ use wan_model::CheckedPlan;
 
 /// All items by number. An Err is want of memory.
 pub fn items(alloc: Global, plan: &CheckedPlan) -> Result<Many<Item>, Memory>
-    ensures list { IfOk result (λ row. AreItems plan.now.problem (item_count plan.now.problem) row) }
+    ensures list { IfOk result
+        (λ row. AreItems plan.now.problem (item_count plan.now.problem) row) }
     ensures network { IfOk result (λ row. IsNetwork plan.now.problem) }
 {
     let mut row = flows(alloc, plan)?;
@@ -35,8 +36,11 @@ fn flows(alloc: Global, plan: &CheckedPlan) -> Result<Many<Item>, Memory>
 
 fn push_entries(row: &mut Many<Item>, plan: &CheckedPlan, t: usize) -> Result<(), Memory>
     requires tunnel { t < length plan.now.problem.tunnels }
-    requires before { AreItems plan.now.problem (number_of plan.now.problem (variants.Entry t 0)) row.old }
-    ensures { OnOk result (AreItems plan.now.problem (number_of plan.now.problem (variants.Entry t (wan.hops plan.now.problem t))) row.new) }
+    requires before { AreItems plan.now.problem (number_of plan.now.problem (variants.Entry t 0))
+        row.old }
+    ensures { OnOk result
+        (AreItems plan.now.problem
+        (number_of plan.now.problem (variants.Entry t (wan.hops plan.now.problem t))) row.new) }
 {
     for hop in 0..plan.path(t).len() {
         row.push(Item::Entry {
@@ -65,7 +69,8 @@ pub(crate) fn operations_of_all(
 
 /// The item number of each tunnel's first entry.
 pub(crate) fn first_entries(alloc: Global, plan: &CheckedPlan) -> Result<Ids, Memory>
-    ensures { IfOk result (λ row. AreFirstEntries plan.now.problem (length plan.now.problem.tunnels) row) }
+    ensures { IfOk result
+        (λ row. AreFirstEntries plan.now.problem (length plan.now.problem.tunnels) row) }
 {
     let mut row = Ids::new(alloc);
     let mut next = plan.problem().flows().len() as u32;

@@ -17,8 +17,10 @@ pub(crate) fn tables(
     plan: &CheckedPlan,
     first_entries: &[u32],
 ) -> Result<Vec<TablePlaces>, Memory>
-    requires { AreFirstEntries plan.now.problem (length plan.now.problem.tunnels) first_entries.now }
-    ensures { IfOk result (λ rows. AreTables plan.now.problem rows.items (length plan.now.problem.switches)) }
+    requires { AreFirstEntries plan.now.problem (length plan.now.problem.tunnels)
+        first_entries.now }
+    ensures { IfOk result
+        (λ rows. AreTables plan.now.problem rows.items (length plan.now.problem.switches)) }
 {
     let mut rows = empty_rows(alloc, plan.problem().switches().len())?;
     for t in 0..plan.problem().tunnels().len() {

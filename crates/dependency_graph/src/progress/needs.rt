@@ -19,7 +19,9 @@ pub fn needs_met(progress: &Progress, plan: &CheckedPlan, ahead: &[Entry], item:
     requires own { plan.now ≡ progress.now.rollout }
     requires item { item < item_count plan.now.problem }
     requires left { stand_with plan.now progress.now ahead.now item < wan.last_stage plan.now.plan }
-    ensures { result ≡ needs.needs_met plan.now.problem plan.now.plan (places_with plan.now progress.now ahead.now) (item_at plan.now.problem item) }
+    ensures { result
+        ≡ needs.needs_met plan.now.problem plan.now.plan
+        (places_with plan.now progress.now ahead.now) (item_at plan.now.problem item) }
 {
     let s = stand(progress, plan, ahead, item);
     match progress.lookup().item(item) {
@@ -33,7 +35,9 @@ pub(crate) fn needs_met_at(progress: &Progress, plan: &CheckedPlan, item: Item, 
     requires own { plan.now ≡ progress.now.rollout }
     requires item { IsTrue (is_item plan.now.problem item) }
     requires stage { s < wan.last_stage plan.now.plan }
-    ensures { result ≡ needs.needs_met_at plan.now.problem plan.now.plan (places_with plan.now progress.now []) item s }
+    ensures { result
+        ≡ needs.needs_met_at plan.now.problem plan.now.plan (places_with plan.now progress.now [])
+        item s }
 {
     match item {
         Item::Flow(flow) => carriers_stand(progress, plan, &[], flow as usize, s),
@@ -52,7 +56,9 @@ fn carriers_stand(
     requires own { plan.now ≡ progress.now.rollout }
     requires flow { f < length plan.now.problem.flows }
     requires stage { s < wan.last_stage plan.now.plan }
-    ensures { result ≡ needs.needs_met_at plan.now.problem plan.now.plan (places_with plan.now progress.now ahead.now) (variants.Flow f) s }
+    ensures { result
+        ≡ needs.needs_met_at plan.now.problem plan.now.plan
+        (places_with plan.now progress.now ahead.now) (variants.Flow f) s }
 {
     for j in 0..plan.tunnel_count(f) {
         if !carrier_stands(progress, plan, ahead, plan.tunnel_of(f, j), s) {
@@ -72,7 +78,9 @@ fn carrier_stands(
     requires own { plan.now ≡ progress.now.rollout }
     requires tunnel { t < length plan.now.problem.tunnels }
     requires stage { s < wan.last_stage plan.now.plan }
-    ensures { result ≡ parts.carrier_stands plan.now.problem plan.now.plan (places_with plan.now progress.now ahead.now) t s }
+    ensures { result
+        ≡ parts.carrier_stands plan.now.problem plan.now.plan
+        (places_with plan.now progress.now ahead.now) t s }
 {
     let next = plan.next_stage(s);
     if plan.rate(next, t) == 0 {
@@ -93,7 +101,9 @@ fn entries_past(
     requires own { plan.now ≡ progress.now.rollout }
     requires tunnel { t < length plan.now.problem.tunnels }
     requires stage { s ≤ wan.last_stage plan.now.plan }
-    ensures { result ≡ needs.entries_past plan.now.problem plan.now.plan (places_with plan.now progress.now ahead.now) t (needs.installed_since plan.now.plan t s) }
+    ensures { result
+        ≡ needs.entries_past plan.now.problem plan.now.plan
+        (places_with plan.now progress.now ahead.now) t (needs.installed_since plan.now.plan t s) }
 {
     for hop in 0..plan.path(t).len() {
         if !entry_past(progress, plan, ahead, t, hop, s) {
@@ -116,7 +126,10 @@ fn entry_past(
     requires tunnel { t < length plan.now.problem.tunnels }
     requires hop { hop < wan.hops plan.now.problem t }
     requires stage { s ≤ wan.last_stage plan.now.plan }
-    ensures { result ≡ nat_le (needs.installed_since plan.now.plan t s) (history.stand plan.now.problem plan.now.plan (places_with plan.now progress.now ahead.now) (variants.Entry t hop)) }
+    ensures { result
+        ≡ nat_le (needs.installed_since plan.now.plan t s)
+        (history.stand plan.now.problem plan.now.plan (places_with plan.now progress.now ahead.now)
+        (variants.Entry t hop)) }
 {
     let item = progress.lookup().first_entry(t) + hop as u32;
     installed_between(plan, t, stand(progress, plan, ahead, item), s)
@@ -133,7 +146,10 @@ fn entry_may_change(
     requires own { plan.now ≡ progress.now.rollout }
     requires tunnel { t < length plan.now.problem.tunnels }
     requires stage { s < wan.last_stage plan.now.plan }
-    ensures { (h : ℕ) → result ≡ needs.needs_met_at plan.now.problem plan.now.plan (places_with plan.now progress.now ahead.now) (variants.Entry t h) s }
+    ensures { (h : ℕ)
+        → result
+        ≡ needs.needs_met_at plan.now.problem plan.now.plan
+        (places_with plan.now progress.now ahead.now) (variants.Entry t h) s }
 {
     if plan.mark(plan.next_stage(s), t) {
         return true;

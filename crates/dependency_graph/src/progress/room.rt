@@ -35,7 +35,9 @@ pub(crate) fn room(progress: &Progress, plan: &CheckedPlan, resource: usize, s: 
     requires own { plan.now ≡ progress.now.rollout }
     requires resource { resource < resource_count plan.now.problem }
     requires stage { s < wan.last_stage plan.now.plan }
-    ensures { result ≡ rooms.room plan.now.problem plan.now.plan (places_with plan.now progress.now []) s (resource_at plan.now.problem resource) }
+    ensures { result
+        ≡ rooms.room plan.now.problem plan.now.plan (places_with plan.now progress.now []) s
+        (resource_at plan.now.problem resource) }
 {
     checked_plan_is_valid(plan);
     let nobodys = Op {
@@ -63,7 +65,9 @@ pub fn load(
     requires network { IsNetwork plan.now.problem }
     requires stage { s < wan.last_stage plan.now.plan }
     requires link { l < length plan.now.problem.links }
-    ensures { result ≡ rooms.room plan.now.problem plan.now.plan (places_begun plan.now progress.now ahead.now op) s (the_link l) }
+    ensures { result
+        ≡ rooms.room plan.now.problem plan.now.plan
+        (places_begun plan.now progress.now ahead.now op) s (the_link l) }
 {
     let mut sum = 0;
     for tunnel in progress.lookup().crossing(l) {
@@ -84,7 +88,9 @@ pub fn entries(
     requires own { plan.now ≡ progress.now.rollout }
     requires stage { s < wan.last_stage plan.now.plan }
     requires switch { w < length plan.now.problem.switches }
-    ensures { result ≡ rooms.room plan.now.problem plan.now.plan (places_begun plan.now progress.now ahead.now op) s (the_table w) }
+    ensures { result
+        ≡ rooms.room plan.now.problem plan.now.plan
+        (places_begun plan.now progress.now ahead.now op) s (the_table w) }
 {
     let mut sum = 0;
     for place in progress.lookup().table(w) {
@@ -132,7 +138,8 @@ fn width_share(
     requires stage { s < wan.last_stage plan.now.plan }
     requires tunnel { place.tunnel < length plan.now.problem.tunnels }
     requires item { place.item < item_count plan.now.problem }
-    ensures { result ≡ places.width_share plan.now progress.now ahead.now op s place.tunnel place.item }
+    ensures { result
+        ≡ places.width_share plan.now progress.now ahead.now op s place.tunnel place.item }
 {
     if takes_place(progress, plan, ahead, op, s, place) {
         plan.width(place.tunnel as usize)
@@ -154,7 +161,8 @@ fn takes_place(
     requires stage { s < wan.last_stage plan.now.plan }
     requires tunnel { place.tunnel < length plan.now.problem.tunnels }
     requires item { place.item < item_count plan.now.problem }
-    ensures { result ≡ places.takes_place plan.now progress.now ahead.now op s place.tunnel place.item }
+    ensures { result
+        ≡ places.takes_place plan.now progress.now ahead.now op s place.tunnel place.item }
 {
     let at = stand(progress, plan, ahead, place.item);
     let t = place.tunnel as usize;

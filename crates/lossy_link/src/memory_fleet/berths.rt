@@ -35,11 +35,13 @@ impl<P> Berths<P> {
 impl<P: Drop> Berths<P> {
     /// Lets this port wait, in place of the one that waited. Want of memory changes nothing.
     pub(crate) fn put(&mut self, switch: u32, port: P) -> Result<(), Memory>
-        ensures waiting { OnOk result (waiting_at self.new ≡ with_one (waiting_at self.old) switch port) }
+        ensures waiting { OnOk result
+            (waiting_at self.new ≡ with_one (waiting_at self.old) switch port) }
         ensures kept { OnOk result (kept_at self.new ≡ without (kept_at self.old) switch) }
         ensures lent { OnOk result (lent_at self.new ≡ lent_at self.old) }
         ensures err { OnErr result (self.new ≡ self.old) }
-        ensures memory { OnErr result ((waiting_at self.old switch ≡ None) × (lent_at self.old switch ≡ false)) }
+        ensures memory { OnErr result
+            ((waiting_at self.old switch ≡ None) × (lent_at self.old switch ≡ false)) }
     {
         let lent = self.is_lent(switch);
         self.set(
@@ -76,7 +78,8 @@ impl<P: Drop> Berths<P> {
     pub(crate) fn lend(&mut self, switch: u32) -> Option<P>
         ensures given { result ≡ waiting_at self.old switch }
         ensures none { IfNone result (self.new ≡ self.old) }
-        ensures waiting { IsSome result → waiting_at self.new ≡ without (waiting_at self.old) switch }
+        ensures waiting { IsSome result
+            → waiting_at self.new ≡ without (waiting_at self.old) switch }
         ensures kept { IsSome result → kept_at self.new ≡ without (kept_at self.old) switch }
         ensures lent { IsSome result → lent_at self.new ≡ marked (lent_at self.old) switch true }
     {
@@ -134,7 +137,8 @@ impl<P: Drop> Berths<P> {
     fn reset(&mut self, switch: u32, berth: Berth<P>) -> Option<P>
         requires { IsSome (berth_at self.old switch) }
         ensures waited { result ≡ waiting_at self.old switch }
-        ensures updates { (n : ℕ) → berth_at self.new n ≡ (if n == switch then Some berth else berth_at self.old n) }
+        ensures updates { (n : ℕ)
+            → berth_at self.new n ≡ (if n == switch then Some berth else berth_at self.old n) }
     {
         match self.set(switch, berth).unwrap() {
             Some(before) => before.port,
@@ -146,7 +150,9 @@ impl<P: Drop> Berths<P> {
     // not made yet.
     fn set(&mut self, switch: u32, berth: Berth<P>) -> Result<Option<Berth<P>>, Memory>
         ensures before { IfOk result (λ before. before ≡ berth_at self.old switch) }
-        ensures updates { OnOk result ((n : ℕ) → berth_at self.new n ≡ (if n == switch then Some berth else berth_at self.old n)) }
+        ensures updates { OnOk result
+            ((n : ℕ)
+            → berth_at self.new n ≡ (if n == switch then Some berth else berth_at self.old n)) }
         ensures err { OnErr result (self.new ≡ self.old) }
         ensures memory { OnErr result (berth_at self.old switch ≡ None) }
         ensures succeeds { IsSome (berth_at self.old switch) → IsOk result }

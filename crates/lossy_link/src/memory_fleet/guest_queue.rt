@@ -23,9 +23,14 @@ impl Model for GuestQueue {
 
     ghost Value = { Visits };
 
-    ghost view = { λ q. record { coming = q.coming.items; served = q.served.items; visiting = q.visiting } };
+    ghost view = { λ q. record {
+      coming = q.coming.items;
+      served = q.served.items;
+      visiting = q.visiting;
+    } };
 
-    ghost invariant = { λ q. HasPlaces (q.visiting + length q.coming.items) (length q.served.items) (vec_capacity q.served) };
+    ghost invariant = { λ q. HasPlaces (q.visiting + length q.coming.items) (length q.served.items)
+        (vec_capacity q.served) };
 }
 
 impl GuestQueue {
@@ -41,7 +46,8 @@ impl GuestQueue {
 
     /// Adds a guest to those that come. Want of memory changes nothing.
     pub(crate) fn put(&mut self, guest: MemoryGuest) -> Result<(), Memory>
-        ensures ok { OnOk result (self.new ≡ record self.old { coming = self.old.coming ++ guest ∷ [] }) }
+        ensures ok { OnOk result
+            (self.new ≡ record self.old { coming = self.old.coming ++ guest ∷ [] }) }
         ensures err { OnErr result (self.new ≡ self.old) }
     {
         let to_come = self.coming.len() + 1;

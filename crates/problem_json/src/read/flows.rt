@@ -55,11 +55,13 @@ fn add_tunnels(
     tunnels: Elements<'_, '_>,
 ) -> Result<(), InputFault>
     requires some_flow { 0 < length problem.old.flows }
-    requires few { tunnels_of_last problem.old + items_len (items_view tunnels) ≤ MOST_TUNNELS_OF_FLOW }
+    requires few { tunnels_of_last problem.old + items_len (items_view tunnels)
+        ≤ MOST_TUNNELS_OF_FLOW }
     requires room { length problem.old.tunnels + items_len (items_view tunnels) ≤ MOST_TUNNELS }
     ensures added { Leaves result problem.new
         (add_each with_one_tunnel (items_view tunnels.entry) problem.old) }
-    ensures grown { OnOk result (HasMoreTunnels problem.old problem.new (items_len (items_view tunnels.entry))) }
+    ensures grown { OnOk result
+        (HasMoreTunnels problem.old problem.new (items_len (items_view tunnels.entry))) }
 {
     let mut left = tunnels;
     'each: while let Some(tunnel) = left.next() {
@@ -114,7 +116,8 @@ fn have_same_ends(path: &[u32], other: &[u32]) -> bool
     requires path { 2 ≤ length path.now }
     requires other { 2 ≤ length other.now }
     ensures { result ≡ (slice_index path.now 0 == slice_index other.now 0)
-        && (slice_index path.now (length path.now - 1) == slice_index other.now (length other.now - 1)) }
+        && (slice_index path.now (length path.now - 1)
+        == slice_index other.now (length other.now - 1)) }
 {
     path[0] == other[0] && path[path.len() - 1] == other[other.len() - 1]
 }

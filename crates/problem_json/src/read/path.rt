@@ -79,7 +79,8 @@ fn add_hops(problem: &Problem, names: Elements<'_, '_>, path: &mut Ids) -> Resul
     ensures hops { Leaves result path.new
         (add_each (with_one_hop problem.now) (items_view names.entry) path.old) }
     ensures route { OnOk result (IsRoute problem.now path.new) }
-    ensures longer { OnOk result (length path.new ≡ length path.old + items_len (items_view names.entry)) }
+    ensures longer { OnOk result
+        (length path.new ≡ length path.old + items_len (items_view names.entry)) }
 {
     let mut left = names;
     'each: while let Some(name) = left.next() {

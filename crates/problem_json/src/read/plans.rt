@@ -79,7 +79,8 @@ fn marks_of(alloc: Global, stage: u32, value: &Element<'_, '_>) -> Result<Marks,
 #[tactic(auto, using(crate::proofs::Steps::steps))]
 fn add_marks(stage: u32, marks: &mut Marks, elements: Elements<'_, '_>) -> Result<(), InputFault>
     requires { length marks.old + items_len (items_view elements) ≤ MOST_TUNNELS }
-    ensures { Leaves result marks.new (add_each (with_one_mark stage) (items_view elements.entry) marks.old) }
+    ensures { Leaves result marks.new
+        (add_each (with_one_mark stage) (items_view elements.entry) marks.old) }
 {
     let mut left = elements;
     'each: while let Some(element) = left.next() {
@@ -115,7 +116,8 @@ fn rates_of(alloc: Global, stage: u32, value: &Element<'_, '_>) -> Result<Nums, 
 #[tactic(auto, using(crate::proofs::Steps::steps))]
 fn add_rates(stage: u32, rates: &mut Nums, elements: Elements<'_, '_>) -> Result<(), InputFault>
     requires { length rates.old + items_len (items_view elements) ≤ MOST_TUNNELS }
-    ensures { Leaves result rates.new (add_each (with_one_rate stage) (items_view elements.entry) rates.old) }
+    ensures { Leaves result rates.new
+        (add_each (with_one_rate stage) (items_view elements.entry) rates.old) }
 {
     let mut left = elements;
     'each: while let Some(element) = left.next() {

@@ -30,7 +30,8 @@ pub(super) fn script_of(alloc: Global, value: &Element<'_, '_>) -> Result<Script
 #[tactic(auto, using(crate::proofs::Steps::steps))]
 fn add_events(script: &mut Script, events: Elements<'_, '_>) -> Result<(), InputFault>
     requires { length script.old + items_len (items_view events) ≤ MOST_ACTS }
-    ensures { Leaves result script.new (add_each with_one_event (items_view events.entry) script.old) }
+    ensures { Leaves result script.new
+        (add_each with_one_event (items_view events.entry) script.old) }
 {
     let mut left = events;
     'each: while let Some(event) = left.next() {
@@ -95,7 +96,9 @@ fn event_of_two(
     second: &Element<'_, '_>,
     rest: Elements<'_, '_>,
 ) -> Result<Act, InputFault>
-    ensures { Reads result (event_of_parts event (item (view name.now) (item (view second.now) (items_view rest.entry)))) }
+    ensures { Reads result
+        (event_of_parts event
+        (item (view name.now) (item (view second.now) (items_view rest.entry)))) }
 {
     let mut left = rest;
     match left.next() {

@@ -20,7 +20,8 @@ pub fn push_plan(text: &mut Text, plan: &Plan) -> Result<(), Memory>
 }
 
 fn push_stages(text: &mut Text, stages: &[Stage]) -> Result<(), Memory>
-    ensures text { OnOk result (text.new ≡ text.old ++ compact_text (list_data (map stage_data stages.now))) }
+    ensures text { OnOk result
+        (text.new ≡ text.old ++ compact_text (list_data (map stage_data stages.now))) }
     ensures words { OnOk result (AreStagesOfWords (length stages.now) stages.now) }
 {
     text.push_str("[")?;
@@ -43,7 +44,8 @@ fn push_stage(text: &mut Text, stage: &Stage) -> Result<(), Memory>
 }
 
 fn push_marks(text: &mut Text, marks: &[bool]) -> Result<(), Memory>
-    ensures { OnOk result (text.new ≡ text.old ++ compact_text (list_data (map boolean marks.now))) }
+    ensures { OnOk result
+        (text.new ≡ text.old ++ compact_text (list_data (map boolean marks.now))) }
 {
     text.push_str("[")?;
     for (number, mark) in marks.iter().enumerate() {
@@ -60,7 +62,8 @@ fn push_mark(text: &mut Text, mark: bool) -> Result<(), Memory>
 }
 
 fn push_rates(text: &mut Text, rates: &[u64]) -> Result<(), Memory>
-    ensures text { OnOk result (text.new ≡ text.old ++ compact_text (list_data (map number_data rates.now))) }
+    ensures text { OnOk result
+        (text.new ≡ text.old ++ compact_text (list_data (map number_data rates.now))) }
     ensures words { AreWords rates.now }
 {
     text.push_str("[")?;

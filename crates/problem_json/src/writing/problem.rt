@@ -108,8 +108,11 @@ fn push_flows(
     names: &[Text],
 ) -> Result<(), Memory>
     requires { names.now ≡ map quoted_name problem.now.switches }
-    ensures { OnOk result (text.new ≡ text.old
-        ++ compact_text (list_data (list_below (length problem.now.flows) (flow_data problem.now)))) }
+    ensures { OnOk result
+        (text.new
+        ≡ text.old
+        ++ compact_text (list_data (list_below (length problem.now.flows)
+        (flow_data problem.now)))) }
 {
     text.push_str("[")?;
     for number in 0..problem.flows().len() {
@@ -195,8 +198,10 @@ fn push_rate(text: &mut Text, rate: Option<u64>) -> Result<(), Memory>
 /// Adds the names of the switches on a path.
 fn push_path(text: &mut Text, names: &[Text], path: &[u32]) -> Result<(), Memory>
     requires { (h : ℕ) → h < length path.now → slice_index path.now h < length names.now }
-    ensures { (p : Problem) → names.now ≡ map quoted_name p.switches
-        → OnOk result (text.new ≡ text.old ++ compact_text (list_data (map (name_data p) path.now))) }
+    ensures { (p : Problem)
+        → names.now ≡ map quoted_name p.switches
+        → OnOk result
+        (text.new ≡ text.old ++ compact_text (list_data (map (name_data p) path.now))) }
 {
     text.push_str("[")?;
     for (number, switch) in path.iter().enumerate() {

@@ -42,8 +42,12 @@ fn rehearsed(
     policy: &Policy,
     script: &Script,
 ) -> Result<Text, Ending>
-    ensures gives { Gives result (rehearsed (rank_by policy.now.answers) (record { document = document; script = script.now })) }
-    ensures safe { IfOk result (λ text. IsSafeRehearsal document.problem document.plan (rank_by policy.now.answers) script.now) }
+    ensures gives { Gives result
+        (rehearsed (rank_by policy.now.answers)
+        (record { document = document; script = script.now })) }
+    ensures safe { IfOk result
+        (λ text. IsSafeRehearsal document.problem document.plan (rank_by policy.now.answers)
+        script.now) }
 {
     let plan = checked(alloc, document)?;
     Ok(run_script(alloc, plan, policy, script)?)

@@ -1,13 +1,12 @@
 use Rattle.wan_edge.specs.Streams.{Rose}
 use Rattle.rollout_ports.specs.Hands.{first_talks}
 use Rattle.shared_book.specs.Homes.{homes_of}
-use Rattle.worker_ports.specs.Views.{telling}
 use Rattle.completion_laws.proofs.Finished.{finishes}
 use Rattle.completion_laws.proofs.OfRun.{of-workers}
 use Rattle.completion_laws.proofs.finishing.a_run_over_ready_ports_finishes.Goals as goal
 
 pub returns : goal.returns
 returns g c = λ o from count migration rounds homes before end book now ran sure without.
-    let tell = telling g.T.Port.offered g.T.Port.heard g.T.Port.held g.T.Port.quiet g.T.Port.faults g.T.Port.honest g.T.Port.prompt g.T.Port.start in
+    let tell = g.T.Port.told in
     let one = of-workers tell o migration (homes_of o.rollout.problem) rounds ran.berths ran.apart ran.log ran.seats ran.made ran.left ran.worked in
-    finishes tell o migration rounds (Rose count (g.D.Disk.faults book.disk)) (first_talks ran.berths) now.kept ran.log without ran.legal one sure end ran.ends ran.reason
+    finishes tell o migration rounds (Rose count (g.D.Disk.told book.disk).faults) (first_talks ran.berths) now.kept ran.log without ran.legal one sure end ran.ends ran.reason

@@ -2,7 +2,6 @@ use Rattle.std.proofs.Common.{ℕ, List, [], ◌∷◌, ◌++◌, ◌∙◌, inr
 use Rattle.std.specs.Prelude.{All, IsTrue}
 use Rattle.turn_lock.specs.Passes.{seat_of_pass, seats_of, seen_of}
 use Rattle.shared_book.specs.Calls.{IsStopCall}
-use Rattle.worker_ports.specs.Views.{telling}
 use Rattle.controller_run.specs.Serving.{Moment}
 use Rattle.controller_run.specs.declared.outcome.Outcome.TheVariants as outcome
 use Rattle.controller_run.proofs.Serves.{ends, of_seat, of_whole, one_more}
@@ -25,9 +24,9 @@ loop-preserved g c =
       calls = c.work-next.ensures.calls;
       live = of_whole c.work-next.result.1 c.in-Whole.offered _ c.in-Whole.is c.work-next.ensures.live;
       moments = c.loop.invariant.moments ++ now ∷ [];
-      whole = one_more (telling g.T.Port.offered g.T.Port.heard g.T.Port.held g.T.Port.quiet g.T.Port.faults g.T.Port.honest g.T.Port.prompt g.T.Port.start) g.M.Marker.opening c.args.terms.migration c.args.terms.homes.now c.args.terms.rounds (seats_of c.args.pass.pass) (seat_of_pass c.args.pass.pass) (record { stands = record { seen = seen_of c.args.pass.pass; ports = c.args.ports }; left = c.args.terms.rounds }) c.loop.invariant.moments at now c.loop.invariant.whole (record {
+      whole = one_more g.T.Port.told g.M.Marker.opening c.args.terms.migration c.args.terms.homes.now c.args.terms.rounds (seats_of c.args.pass.pass) (seat_of_pass c.args.pass.pass) (record { stands = record { seen = seen_of c.args.pass.pass; ports = c.args.ports }; left = c.args.terms.rounds }) c.loop.invariant.moments at now c.loop.invariant.whole (record {
         offered = c.in-Whole.offered;
-        worked = of_seat (telling g.T.Port.offered g.T.Port.heard g.T.Port.held g.T.Port.quiet g.T.Port.faults g.T.Port.honest g.T.Port.prompt g.T.Port.start) g.M.Marker.opening c.args.terms.migration c.args.terms.homes.now c.args.terms.rounds (seats_of c.args.pass.pass) (seats_of c.loop.pass.pass) (seat_of_pass c.args.pass.pass) (seat_of_pass c.loop.pass.pass) (record { stands = record { seen = seen_of c.loop.pass.pass; ports = c.loop.ports }; left = c.loop.left }) c.work-next.result.1 (outcome.Whole c.in-Whole.offered) now.stands
+        worked = of_seat g.T.Port.told g.M.Marker.opening c.args.terms.migration c.args.terms.homes.now c.args.terms.rounds (seats_of c.args.pass.pass) (seats_of c.loop.pass.pass) (seat_of_pass c.args.pass.pass) (seat_of_pass c.loop.pass.pass) (record { stands = record { seen = seen_of c.loop.pass.pass; ports = c.loop.ports }; left = c.loop.left }) c.work-next.result.1 (outcome.Whole c.in-Whole.offered) now.stands
             (ap₂ (λ (s : ℕ) (js : List ℕ). s ∷ js) same.seat same.joined) same.seat c.in-Whole.is c.work-next.ensures.worked;
         less = c.left_behind-left.ensures;
       });
@@ -40,8 +39,8 @@ returns-in-Ended-clause-served g c =
       moments = c.loop.invariant.moments;
       at = (record { stands = record { seen = seen_of c.loop.pass.pass; ports = c.loop.ports }; left = c.loop.left });
       whole = c.loop.invariant.whole;
-      last = ends (telling g.T.Port.offered g.T.Port.heard g.T.Port.held g.T.Port.quiet g.T.Port.faults g.T.Port.honest g.T.Port.prompt g.T.Port.start) g.M.Marker.opening c.args.terms.migration c.args.terms.homes.now c.args.terms.rounds (seats_of c.args.pass.pass) (seat_of_pass c.args.pass.pass) c.in-Ended.end (record { stands = record { seen = seen_of c.loop.pass.pass; ports = c.loop.ports }; left = c.loop.left }) (record { seen = seen_of c.work-next.result.0.pass; ports = c.work-next.new.ports })
-          (of_seat (telling g.T.Port.offered g.T.Port.heard g.T.Port.held g.T.Port.quiet g.T.Port.faults g.T.Port.honest g.T.Port.prompt g.T.Port.start) g.M.Marker.opening c.args.terms.migration c.args.terms.homes.now c.args.terms.rounds (seats_of c.args.pass.pass) (seats_of c.loop.pass.pass) (seat_of_pass c.args.pass.pass) (seat_of_pass c.loop.pass.pass) (record { stands = record { seen = seen_of c.loop.pass.pass; ports = c.loop.ports }; left = c.loop.left }) c.work-next.result.1 (outcome.Ended c.in-Ended.end) (record { seen = seen_of c.work-next.result.0.pass; ports = c.work-next.new.ports })
+      last = ends g.T.Port.told g.M.Marker.opening c.args.terms.migration c.args.terms.homes.now c.args.terms.rounds (seats_of c.args.pass.pass) (seat_of_pass c.args.pass.pass) c.in-Ended.end (record { stands = record { seen = seen_of c.loop.pass.pass; ports = c.loop.ports }; left = c.loop.left }) (record { seen = seen_of c.work-next.result.0.pass; ports = c.work-next.new.ports })
+          (of_seat g.T.Port.told g.M.Marker.opening c.args.terms.migration c.args.terms.homes.now c.args.terms.rounds (seats_of c.args.pass.pass) (seats_of c.loop.pass.pass) (seat_of_pass c.args.pass.pass) (seat_of_pass c.loop.pass.pass) (record { stands = record { seen = seen_of c.loop.pass.pass; ports = c.loop.ports }; left = c.loop.left }) c.work-next.result.1 (outcome.Ended c.in-Ended.end) (record { seen = seen_of c.work-next.result.0.pass; ports = c.work-next.new.ports })
           (ap₂ (λ (s : ℕ) (js : List ℕ). s ∷ js) same.seat same.joined) same.seat c.in-Ended.is c.work-next.ensures.worked);
     }
 
@@ -56,7 +55,7 @@ returns-in-Stops-clause-served g c =
       last = inr (record {
         cause = c.in-Stops.cause;
         log = seen_of c.work-next.result.0.pass;
-        worked = of_seat (telling g.T.Port.offered g.T.Port.heard g.T.Port.held g.T.Port.quiet g.T.Port.faults g.T.Port.honest g.T.Port.prompt g.T.Port.start) g.M.Marker.opening c.args.terms.migration c.args.terms.homes.now c.args.terms.rounds (seats_of c.args.pass.pass) (seats_of c.loop.pass.pass) (seat_of_pass c.args.pass.pass) (seat_of_pass c.loop.pass.pass) (record { stands = record { seen = seen_of c.loop.pass.pass; ports = c.loop.ports }; left = c.loop.left }) c.work-next.result.1 (outcome.Stops c.in-Stops.cause) (record { seen = seen_of c.work-next.result.0.pass; ports = c.work-next.new.ports })
+        worked = of_seat g.T.Port.told g.M.Marker.opening c.args.terms.migration c.args.terms.homes.now c.args.terms.rounds (seats_of c.args.pass.pass) (seats_of c.loop.pass.pass) (seat_of_pass c.args.pass.pass) (seat_of_pass c.loop.pass.pass) (record { stands = record { seen = seen_of c.loop.pass.pass; ports = c.loop.ports }; left = c.loop.left }) c.work-next.result.1 (outcome.Stops c.in-Stops.cause) (record { seen = seen_of c.work-next.result.0.pass; ports = c.work-next.new.ports })
             (ap₂ (λ (s : ℕ) (js : List ℕ). s ∷ js) same.seat same.joined) same.seat c.in-Stops.is c.work-next.ensures.worked;
         asked = subst (λ (s : List ℕ). IsStopCall g.M.Marker.opening s (seat_of_pass c.args.pass.pass) (seen_of c.work-next.result.0.pass) c.in-Stops.cause c.stop-pass.result.1 (seen_of c.stop-pass.result.0.pass))
             (ap₂ (λ (s : ℕ) (js : List ℕ). s ∷ js) (next.seat ∙ same.seat) (next.joined ∙ same.joined))

@@ -1,6 +1,5 @@
 use Rattle.std.proofs.Common.{ℕ, List, ◌∷◌, inl, inr, map, refl, ap₂}
 use Rattle.turn_lock.specs.Passes.{seat_of_pass, seats_of, seen_of}
-use Rattle.worker_ports.specs.Views.{telling}
 use Rattle.controller_run.proofs.Works.{carried, lists, some_left, wants}
 use Rattle.controller_run.proofs.working.work.Goals as goal
 
@@ -16,7 +15,7 @@ returns-in-Work-clause-worked g c =
       log = seen_of found.result.0.pass;
       lists = lists g.M.Marker.opening (seats_of c.args.pass.pass) (seat_of_pass c.args.pass.pass) c.switches.result.now (map (λ s. s.switch) c.args.ports.now) c.switches.ensures c.args.left
           (seen_of c.args.pass.pass) (seen_of found.result.0.pass) found.new.commands found.result.1 found.ensures.found c.in-Work.field-0 c.in-Work.is;
-      exchanged = carried (telling g.T.Port.offered g.T.Port.heard g.T.Port.held g.T.Port.quiet g.T.Port.faults g.T.Port.honest g.T.Port.prompt g.T.Port.start) g.M.Marker.opening (seats_of c.args.pass.pass) (seats_of found.result.0.pass) (seat_of_pass c.args.pass.pass) (seat_of_pass found.result.0.pass) c.args.terms.migration c.args.terms.homes.now
+      exchanged = carried g.T.Port.told g.M.Marker.opening (seats_of c.args.pass.pass) (seats_of found.result.0.pass) (seat_of_pass c.args.pass.pass) (seat_of_pass found.result.0.pass) c.args.terms.migration c.args.terms.homes.now
           found.new.commands c.as_slice.result.now (record { seen = seen_of found.result.0.pass; ports = c.args.ports.now }) c.carry_out.result.1 (record { seen = seen_of c.carry_out.result.0.pass; ports = c.carry_out.new.ports })
           (ap₂ (λ (s : ℕ) (js : List ℕ). s ∷ js) same.seat same.joined) same.seat c.as_slice.ensures c.carry_out.ensures.carried_out;
     })

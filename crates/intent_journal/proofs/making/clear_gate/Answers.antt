@@ -8,31 +8,31 @@ use Rattle.intent_journal.proofs.making.clear_gate.Goals as goal
 pub returns-in_err-put-clause-any_moment : goal.returns-in_err-put-clause-any_moment
 returns-in_err-put-clause-any_moment g c =
     let other : c.args.cleared ≡ false = search rules in
-    let blank = subst (λ (b : Bool). Holds (IsBlankFound b) (g.D.Disk.bytes c.args.disk.now) (g.D.Disk.may_leave c.args.disk.now)) other c.requires.blank in
-    write_run g.D.Disk.moment g.D.Disk.left_since g.D.Disk.may_leave (IsBlankFound false) IsBlankOrTorn (g.D.Disk.bytes c.args.disk.now) c.args.disk.now c.put.new.disk
+    let blank = subst (λ (b : Bool). Holds (IsBlankFound b) (g.D.Disk.told c.args.disk.now).bytes (g.D.Disk.told c.args.disk.now).may_leave) other c.requires.blank in
+    write_run g.D.Disk.told (IsBlankFound false) IsBlankOrTorn (g.D.Disk.told c.args.disk.now).bytes c.args.disk.now c.put.new.disk
     0 1 (g.met.D.Disk.only_now c.args.disk.now) blank c.put.ensures.time (λ image b is torn. first_torn image is b torn)
 
 pub returns-in_ok-put-clause-any_moment : goal.returns-in_ok-put-clause-any_moment
 returns-in_ok-put-clause-any_moment g c =
     let other : c.args.cleared ≡ false = search rules in
-    let blank = subst (λ (b : Bool). Holds (IsBlankFound b) (g.D.Disk.bytes c.args.disk.now) (g.D.Disk.may_leave c.args.disk.now)) other c.requires.blank in
-    write_run g.D.Disk.moment g.D.Disk.left_since g.D.Disk.may_leave (IsBlankFound false) IsBlankOrTorn (g.D.Disk.bytes c.args.disk.now) c.args.disk.now c.put.new.disk
+    let blank = subst (λ (b : Bool). Holds (IsBlankFound b) (g.D.Disk.told c.args.disk.now).bytes (g.D.Disk.told c.args.disk.now).may_leave) other c.requires.blank in
+    write_run g.D.Disk.told (IsBlankFound false) IsBlankOrTorn (g.D.Disk.told c.args.disk.now).bytes c.args.disk.now c.put.new.disk
     0 1 (g.met.D.Disk.only_now c.args.disk.now) blank c.put.ensures.time (λ image b is torn. first_torn image is b torn)
 
 pub returns-in_ok-put-clause-done : goal.returns-in_ok-put-clause-done
 returns-in_ok-put-clause-done g c =
     let other : c.args.cleared ≡ false = search rules in
-    let blank = subst (λ (b : Bool). Holds (IsBlankFound b) (g.D.Disk.bytes c.args.disk.now) (g.D.Disk.may_leave c.args.disk.now)) other c.requires.blank in
-    write_holds (IsBlankFound false) IsClear 0 (0 ∷ []) (g.D.Disk.bytes c.args.disk.now) (g.D.Disk.bytes c.put.new.disk) (g.D.Disk.may_leave c.args.disk.now) (g.D.Disk.may_leave c.put.new.disk)
+    let blank = subst (λ (b : Bool). Holds (IsBlankFound b) (g.D.Disk.told c.args.disk.now).bytes (g.D.Disk.told c.args.disk.now).may_leave) other c.requires.blank in
+    write_holds (IsBlankFound false) IsClear 0 (0 ∷ []) (g.D.Disk.told c.args.disk.now).bytes (g.D.Disk.told c.put.new.disk).bytes (g.D.Disk.told c.args.disk.now).may_leave (g.D.Disk.told c.put.new.disk).may_leave
     first_done blank c.in_ok-put.ensures.written c.in_ok-put.ensures.durable
 
 pub returns-else-not-cleared-clause-any_moment : goal.returns-else-not-cleared-clause-any_moment
 returns-else-not-cleared-clause-any_moment g c =
-    still_run g.D.Disk.moment g.D.Disk.left_since g.D.Disk.may_leave (IsBlankFound c.args.cleared) IsBlankOrTorn (g.D.Disk.bytes c.args.disk.now) c.args.disk.now
+    still_run g.D.Disk.told (IsBlankFound c.args.cleared) IsBlankOrTorn (g.D.Disk.told c.args.disk.now).bytes c.args.disk.now
     (g.met.D.Disk.only_now c.args.disk.now) c.requires.blank (λ image is. inl is.0)
 
 pub returns-else-not-cleared-clause-done : goal.returns-else-not-cleared-clause-done
 returns-else-not-cleared-clause-done g c =
     let zero : c.args.cleared ≡ true = search rules in
-    let blank = subst (λ (b : Bool). Holds (IsBlankFound b) (g.D.Disk.bytes c.args.disk.now) (g.D.Disk.may_leave c.args.disk.now)) zero c.requires.blank in
-    holds_still (IsBlankFound true) IsClear (g.D.Disk.bytes c.args.disk.now) (g.D.Disk.may_leave c.args.disk.now) clear_found blank
+    let blank = subst (λ (b : Bool). Holds (IsBlankFound b) (g.D.Disk.told c.args.disk.now).bytes (g.D.Disk.told c.args.disk.now).may_leave) zero c.requires.blank in
+    holds_still (IsBlankFound true) IsClear (g.D.Disk.told c.args.disk.now).bytes (g.D.Disk.told c.args.disk.now).may_leave clear_found blank

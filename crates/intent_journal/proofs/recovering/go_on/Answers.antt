@@ -11,7 +11,7 @@ use Rattle.intent_journal.proofs.recovering.go_on.Goals as goal
 
 pub renew-requires-clause-found : goal.renew-requires-clause-found
 renew-requires-clause-found g c =
-    holds_of (IsFound c.in_ok-judged.judged.found) (g.D.Disk.bytes c.args.disk.now) (g.D.Disk.may_leave c.args.disk.now) c.args.image.now c.requires.image c.in_ok-judged.ensures.ok.found
+    holds_of (IsFound c.in_ok-judged.judged.found) (g.D.Disk.told c.args.disk.now).bytes (g.D.Disk.told c.args.disk.now).may_leave c.args.image.now c.requires.image c.in_ok-judged.ensures.ok.found
 
 pub renew-requires-clause-small : goal.renew-requires-clause-small
 renew-requires-clause-small g c = end_small c.in_ok-judged.judged.found c.args.image.now c.in_ok-judged.ensures.ok.found (omega arith)
@@ -21,8 +21,8 @@ renew-requires-clause-side g c = other_small c.in_ok-judged.judged.found c.args.
 
 pub returns-in_err-judged-clause-any_moment : goal.returns-in_err-judged-clause-any_moment
 returns-in_err-judged-clause-any_moment g c =
-    still g.D.Disk.moment g.D.Disk.left_since g.D.Disk.may_leave c.args.graph.now.rollout c.args.digest.now c.args.image.now (judged_journal c.args.graph.now.rollout c.args.digest.now c.args.image.now)
-    (g.D.Disk.bytes c.args.disk.now) c.args.disk.now c.args.disk.now (g.met.D.Disk.only_now c.args.disk.now) refl
+    still g.D.Disk.told c.args.graph.now.rollout c.args.digest.now c.args.image.now (judged_journal c.args.graph.now.rollout c.args.digest.now c.args.image.now)
+    (g.D.Disk.told c.args.disk.now).bytes c.args.disk.now c.args.disk.now (g.met.D.Disk.only_now c.args.disk.now) refl
 
 pub returns-in_err-judged-clause-refusal : goal.returns-in_err-judged-clause-refusal
 returns-in_err-judged-clause-refusal g c =
@@ -31,7 +31,7 @@ returns-in_err-judged-clause-refusal g c =
 
 pub returns-in_err-judged-clause-cause : goal.returns-in_err-judged-clause-cause
 returns-in_err-judged-clause-cause g c =
-    let fact : c.in_err-judged.field-0.0 ≡ fault.Disk → Rose (g.D.Disk.faults c.args.disk.now) (g.D.Disk.faults c.args.disk.now) = never_disk _ _ _ _ c.in_err-judged.ensures.err in
+    let fact : c.in_err-judged.field-0.0 ≡ fault.Disk → Rose (g.D.Disk.told c.args.disk.now).faults (g.D.Disk.told c.args.disk.now).faults = never_disk _ _ _ _ c.in_err-judged.ensures.err in
     search (rules, fact)
 
 pub returns-in_err-judged-clause-unwritten : goal.returns-in_err-judged-clause-unwritten
@@ -41,13 +41,13 @@ returns-in_err-judged-clause-unwritten g c =
 
 pub returns-then-judged-gt-LATEST_START-clause-any_moment : goal.returns-then-judged-gt-LATEST_START-clause-any_moment
 returns-then-judged-gt-LATEST_START-clause-any_moment g c =
-    still g.D.Disk.moment g.D.Disk.left_since g.D.Disk.may_leave c.args.graph.now.rollout c.args.digest.now c.args.image.now (judged_journal c.args.graph.now.rollout c.args.digest.now c.args.image.now)
-    (g.D.Disk.bytes c.args.disk.now) c.args.disk.now c.args.disk.now (g.met.D.Disk.only_now c.args.disk.now) refl
+    still g.D.Disk.told c.args.graph.now.rollout c.args.digest.now c.args.image.now (judged_journal c.args.graph.now.rollout c.args.digest.now c.args.image.now)
+    (g.D.Disk.told c.args.disk.now).bytes c.args.disk.now c.args.disk.now (g.met.D.Disk.only_now c.args.disk.now) refl
 
 pub returns-in_err-prepared-clause-any_moment : goal.returns-in_err-prepared-clause-any_moment
 returns-in_err-prepared-clause-any_moment g c =
-    still g.D.Disk.moment g.D.Disk.left_since g.D.Disk.may_leave c.args.graph.now.rollout c.args.digest.now c.args.image.now (judged_journal c.args.graph.now.rollout c.args.digest.now c.args.image.now)
-    (g.D.Disk.bytes c.args.disk.now) c.args.disk.now c.args.disk.now (g.met.D.Disk.only_now c.args.disk.now) refl
+    still g.D.Disk.told c.args.graph.now.rollout c.args.digest.now c.args.image.now (judged_journal c.args.graph.now.rollout c.args.digest.now c.args.image.now)
+    (g.D.Disk.told c.args.disk.now).bytes c.args.disk.now c.args.disk.now (g.met.D.Disk.only_now c.args.disk.now) refl
 
 pub returns-in_err-prepared-clause-refusal : goal.returns-in_err-prepared-clause-refusal
 returns-in_err-prepared-clause-refusal g c =
@@ -62,7 +62,7 @@ returns-in_err-prepared-clause-unwritten g c =
 
 pub returns-in_err-rest-clause-cause : goal.returns-in_err-rest-clause-cause
 returns-in_err-rest-clause-cause g c =
-    let fact : Rose (g.D.Disk.faults c.args.disk.now) (g.D.Disk.faults c.renew.new.disk) = c.in_err-rest.ensures.cause in
+    let fact : Rose (g.D.Disk.told c.args.disk.now).faults (g.D.Disk.told c.renew.new.disk).faults = c.in_err-rest.ensures.cause in
     search (rules, fact)
 
 pub returns-in_err-rest-clause-any_moment : goal.returns-in_err-rest-clause-any_moment
@@ -72,8 +72,8 @@ returns-in_err-rest-clause-any_moment g c =
     let digest = c.args.digest.now in
     let kept : c.in_ok-prepared.prepared.part.kept ≡ kept_of digest start list =
     ap (λ (p : Planned). p.kept) c.in_ok-prepared.ensures.part ∙ ap (λ (s : List ℕ). kept_of digest s c.as_slice.result.now) c.deref.ensures.value ∙ ap (kept_of digest start) c.as_slice.ensures in
-    rewritten g.D.Disk.moment g.D.Disk.left_since g.D.Disk.may_leave c.args.graph.now.rollout digest c.args.image.now (judged_journal c.args.graph.now.rollout digest c.args.image.now)
-    (g.D.Disk.bytes c.args.disk.now) c.args.disk.now c.renew.new.disk start list c.in_ok-prepared.prepared.part.kept c.requires.image c.in_ok-judged.ensures.ok.stands kept c.renew.ensures.any_moment
+    rewritten g.D.Disk.told c.args.graph.now.rollout digest c.args.image.now (judged_journal c.args.graph.now.rollout digest c.args.image.now)
+    (g.D.Disk.told c.args.disk.now).bytes c.args.disk.now c.renew.new.disk start list c.in_ok-prepared.prepared.part.kept c.requires.image c.in_ok-judged.ensures.ok.stands kept c.renew.ensures.any_moment
 
 pub returns-clause-any_moment : goal.returns-clause-any_moment
 returns-clause-any_moment g c =
@@ -82,8 +82,8 @@ returns-clause-any_moment g c =
     let digest = c.args.digest.now in
     let kept : c.in_ok-prepared.prepared.part.kept ≡ kept_of digest start list =
     ap (λ (p : Planned). p.kept) c.in_ok-prepared.ensures.part ∙ ap (λ (s : List ℕ). kept_of digest s c.as_slice.result.now) c.deref.ensures.value ∙ ap (kept_of digest start) c.as_slice.ensures in
-    rewritten g.D.Disk.moment g.D.Disk.left_since g.D.Disk.may_leave c.args.graph.now.rollout digest c.args.image.now (judged_journal c.args.graph.now.rollout digest c.args.image.now)
-    (g.D.Disk.bytes c.args.disk.now) c.args.disk.now c.renew.new.disk start list c.in_ok-prepared.prepared.part.kept c.requires.image c.in_ok-judged.ensures.ok.stands kept c.renew.ensures.any_moment
+    rewritten g.D.Disk.told c.args.graph.now.rollout digest c.args.image.now (judged_journal c.args.graph.now.rollout digest c.args.image.now)
+    (g.D.Disk.told c.args.disk.now).bytes c.args.disk.now c.renew.new.disk start list c.in_ok-prepared.prepared.part.kept c.requires.image c.in_ok-judged.ensures.ok.stands kept c.renew.ensures.any_moment
 
 pub returns-clause-most : goal.returns-clause-most
 returns-clause-most g c = c.in_ok-prepared.ensures.most ∙ ap (λ (f : Followed). 2 * op_total f.rollout) c.in_ok-judged.ensures.ok.graph

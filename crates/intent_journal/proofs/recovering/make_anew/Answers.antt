@@ -12,17 +12,17 @@ use Rattle.intent_journal.proofs.recovering.make_anew.Goals as goal
 
 pub make-requires-clause-blank : goal.make-requires-clause-blank
 make-requires-clause-blank g c =
-    holds_of (IsBlankFound c.is_cleared.result) (g.D.Disk.bytes c.args.disk.now) (g.D.Disk.may_leave c.args.disk.now) c.args.image.now c.requires.image (c.requires.blank, sym c.is_cleared.ensures)
+    holds_of (IsBlankFound c.is_cleared.result) (g.D.Disk.told c.args.disk.now).bytes (g.D.Disk.told c.args.disk.now).may_leave c.args.image.now c.requires.image (c.requires.blank, sym c.is_cleared.ensures)
 
 pub returns-in_err-start-clause-any_moment : goal.returns-in_err-start-clause-any_moment
 returns-in_err-start-clause-any_moment g c =
-    still g.D.Disk.moment g.D.Disk.left_since g.D.Disk.may_leave c.args.graph.now.rollout c.args.digest.now c.args.image.now Fresh
-    (g.D.Disk.bytes c.args.disk.now) c.args.disk.now _ (g.met.D.Disk.only_now c.args.disk.now) refl
+    still g.D.Disk.told c.args.graph.now.rollout c.args.digest.now c.args.image.now Fresh
+    (g.D.Disk.told c.args.disk.now).bytes c.args.disk.now _ (g.met.D.Disk.only_now c.args.disk.now) refl
 
 pub returns-in_err-prepared-clause-any_moment : goal.returns-in_err-prepared-clause-any_moment
 returns-in_err-prepared-clause-any_moment g c =
-    still g.D.Disk.moment g.D.Disk.left_since g.D.Disk.may_leave c.args.graph.now.rollout c.args.digest.now c.args.image.now Fresh
-    (g.D.Disk.bytes c.args.disk.now) c.args.disk.now _ (g.met.D.Disk.only_now c.args.disk.now) refl
+    still g.D.Disk.told c.args.graph.now.rollout c.args.digest.now c.args.image.now Fresh
+    (g.D.Disk.told c.args.disk.now).bytes c.args.disk.now _ (g.met.D.Disk.only_now c.args.disk.now) refl
 
 pub returns-in_err-rest-clause-any_moment : goal.returns-in_err-rest-clause-any_moment
 returns-in_err-rest-clause-any_moment g c =
@@ -33,7 +33,7 @@ returns-in_err-rest-clause-any_moment g c =
     let list : c.as_slice.result.now ≡ [] = c.as_slice.ensures ∙ c.new-list.ensures in
     let kept : c.in_ok-prepared.prepared.part.kept ≡ kept_of digest (no_start p) [] =
     ap (λ (p : Planned). p.kept) c.in_ok-prepared.ensures.part ∙ ap (λ (s : List ℕ). kept_of digest s c.as_slice.result.now) start ∙ ap (kept_of digest (no_start p)) list in
-    made_run g.D.Disk.moment g.D.Disk.left_since g.D.Disk.may_leave c.args.graph.now.rollout digest c.args.image.now (g.D.Disk.bytes c.args.disk.now) c.args.disk.now c.make.new.disk c.in_ok-prepared.prepared.part.kept
+    made_run g.D.Disk.told c.args.graph.now.rollout digest c.args.image.now (g.D.Disk.told c.args.disk.now).bytes c.args.disk.now c.make.new.disk c.in_ok-prepared.prepared.part.kept
     c.requires.image kept c.make.ensures.any_moment
 
 pub returns-clause-any_moment : goal.returns-clause-any_moment
@@ -45,7 +45,7 @@ returns-clause-any_moment g c =
     let list : c.as_slice.result.now ≡ [] = c.as_slice.ensures ∙ c.new-list.ensures in
     let kept : c.in_ok-prepared.prepared.part.kept ≡ kept_of digest (no_start p) [] =
     ap (λ (p : Planned). p.kept) c.in_ok-prepared.ensures.part ∙ ap (λ (s : List ℕ). kept_of digest s c.as_slice.result.now) start ∙ ap (kept_of digest (no_start p)) list in
-    made_run g.D.Disk.moment g.D.Disk.left_since g.D.Disk.may_leave c.args.graph.now.rollout digest c.args.image.now (g.D.Disk.bytes c.args.disk.now) c.args.disk.now c.make.new.disk c.in_ok-prepared.prepared.part.kept
+    made_run g.D.Disk.told c.args.graph.now.rollout digest c.args.image.now (g.D.Disk.told c.args.disk.now).bytes c.args.disk.now c.make.new.disk c.in_ok-prepared.prepared.part.kept
     c.requires.image kept c.make.ensures.any_moment
 
 pub returns-clause-ok : goal.returns-clause-ok

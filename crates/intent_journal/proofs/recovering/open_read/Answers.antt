@@ -11,7 +11,7 @@ returns-in_err-blank-clause-any_moment g c =
     let r = c.args.graph.now.rollout in
     let digest = c.args.digest.now in
     let image = c.args.image.now in
-    still g.D.Disk.moment g.D.Disk.left_since g.D.Disk.may_leave r digest image (verdict r digest image) (g.D.Disk.bytes c.args.disk.now) c.args.disk.now c.args.disk.now (g.met.D.Disk.only_now c.args.disk.now) refl
+    still g.D.Disk.told r digest image (verdict r digest image) (g.D.Disk.told c.args.disk.now).bytes c.args.disk.now c.args.disk.now (g.met.D.Disk.only_now c.args.disk.now) refl
 
 pub returns-then-blank-clause-ok : goal.returns-then-blank-clause-ok
 returns-then-blank-clause-ok g c =
@@ -19,14 +19,14 @@ returns-then-blank-clause-ok g c =
     let digest = c.args.digest.now in
     let now = c.make_anew.new.disk in
     subst (λ (v : Verdict). IfOk c.make_anew.result (λ ready. IsReady v (kept_for r digest v) ready.list ready.rest.gate ready.rest.end ready.most (vec_capacity ready.body) c.args.graph.now c.args.graph.now
-    (g.D.Disk.bytes now) (g.D.Disk.may_leave now))) (sym (verdict_blank r digest c.args.image.now (sym c.in_ok-blank.ensures ∙ c.if-blank.true))) c.make_anew.ensures.ok
+    (g.D.Disk.told now).bytes (g.D.Disk.told now).may_leave)) (sym (verdict_blank r digest c.args.image.now (sym c.in_ok-blank.ensures ∙ c.if-blank.true))) c.make_anew.ensures.ok
 
 pub returns-then-blank-clause-any_moment : goal.returns-then-blank-clause-any_moment
 returns-then-blank-clause-any_moment g c =
     let r = c.args.graph.now.rollout in
     let digest = c.args.digest.now in
     let disk = c.args.disk.now in
-    subst (λ (v : Verdict). IfSome (g.D.Disk.bytes disk) (λ _. LeavesOnly g.D.Disk.moment g.D.Disk.left_since disk c.make_anew.new.disk (MayStand r digest c.args.image.now v (g.D.Disk.may_leave disk))))
+    subst (λ (v : Verdict). IfSome (g.D.Disk.told disk).bytes (λ _. LeavesOnly g.D.Disk.told disk c.make_anew.new.disk (MayStand r digest c.args.image.now v (g.D.Disk.told disk).may_leave)))
     (sym (verdict_blank r digest c.args.image.now (sym c.in_ok-blank.ensures ∙ c.if-blank.true))) c.make_anew.ensures.any_moment
 
 pub returns-then-blank-clause-cause : goal.returns-then-blank-clause-cause
@@ -44,14 +44,14 @@ returns-clause-ok g c =
     let digest = c.args.digest.now in
     let now = c.go_on.new.disk in
     subst (λ (v : Verdict). IfOk c.go_on.result (λ ready. IsReady v (kept_for r digest v) ready.list ready.rest.gate ready.rest.end ready.most (vec_capacity ready.body) c.args.graph.now c.go_on.new.graph
-    (g.D.Disk.bytes now) (g.D.Disk.may_leave now))) (sym (verdict_journal r digest c.args.image.now (sym c.in_ok-blank.ensures ∙ c.if-blank.false))) c.go_on.ensures.ok
+    (g.D.Disk.told now).bytes (g.D.Disk.told now).may_leave)) (sym (verdict_journal r digest c.args.image.now (sym c.in_ok-blank.ensures ∙ c.if-blank.false))) c.go_on.ensures.ok
 
 pub returns-clause-any_moment : goal.returns-clause-any_moment
 returns-clause-any_moment g c =
     let r = c.args.graph.now.rollout in
     let digest = c.args.digest.now in
     let disk = c.args.disk.now in
-    subst (λ (v : Verdict). IfSome (g.D.Disk.bytes disk) (λ _. LeavesOnly g.D.Disk.moment g.D.Disk.left_since disk c.go_on.new.disk (MayStand r digest c.args.image.now v (g.D.Disk.may_leave disk))))
+    subst (λ (v : Verdict). IfSome (g.D.Disk.told disk).bytes (λ _. LeavesOnly g.D.Disk.told disk c.go_on.new.disk (MayStand r digest c.args.image.now v (g.D.Disk.told disk).may_leave)))
     (sym (verdict_journal r digest c.args.image.now (sym c.in_ok-blank.ensures ∙ c.if-blank.false))) c.go_on.ensures.any_moment
 
 pub returns-clause-refusal : goal.returns-clause-refusal

@@ -10,14 +10,14 @@ use Rattle.intent_journal.proofs.renewing.renew.Goals as goal
 pub returns-in_err-close-clause-any_moment : goal.returns-in_err-close-clause-any_moment
 returns-in_err-close-clause-any_moment g c =
     let part = c.args.part.now in
-    weaker_run g.D.Disk.moment g.D.Disk.left_since g.D.Disk.may_leave (λ image. IsOld (journal_in image)) (λ image. IsOldOrNew (journal_in image) part.kept) (g.D.Disk.bytes c.args.disk.now) c.args.disk.now c.close.new.disk (λ image b is. inl is) c.close.ensures.any_moment
+    weaker_run g.D.Disk.told (λ image. IsOld (journal_in image)) (λ image. IsOldOrNew (journal_in image) part.kept) (g.D.Disk.told c.args.disk.now).bytes c.args.disk.now c.close.new.disk (λ image b is. inl is) c.close.ensures.any_moment
 
 pub returns-in_err-move_list-clause-any_moment : goal.returns-in_err-move_list-clause-any_moment
 returns-in_err-move_list-clause-any_moment g c =
     let part = c.args.part.now in
     let O = λ (image : List ℕ). IsOld (journal_in image) in
     let P = λ (image : List ℕ). IsOldOrNew (journal_in image) part.kept in
-    chained_run g.D.Disk.moment g.D.Disk.left_since g.D.Disk.may_leave O P P (g.D.Disk.bytes c.args.disk.now) (g.D.Disk.bytes c.close.new.disk) c.args.disk.now c.close.new.disk c.move_list.new.disk c.close.ensures.told
+    chained_run g.D.Disk.told O P P (g.D.Disk.told c.args.disk.now).bytes (g.D.Disk.told c.close.new.disk).bytes c.args.disk.now c.close.new.disk c.move_list.new.disk c.close.ensures.told
     (λ image b is. inl is) (λ image m b was is. ⊎_elim (λ same. inl (same ∙ was)) inr is)
     (g.met.D.Disk.shows_one c.close.new.disk) (g.met.D.Disk.counts_now c.close.new.disk) c.close.ensures.any_moment c.move_list.ensures.any_moment
 
@@ -26,7 +26,7 @@ returns-clause-any_moment g c =
     let part = c.args.part.now in
     let O = λ (image : List ℕ). IsOld (journal_in image) in
     let P = λ (image : List ℕ). IsOldOrNew (journal_in image) part.kept in
-    chained_run g.D.Disk.moment g.D.Disk.left_since g.D.Disk.may_leave O P P (g.D.Disk.bytes c.args.disk.now) (g.D.Disk.bytes c.close.new.disk) c.args.disk.now c.close.new.disk c.move_list.new.disk c.close.ensures.told
+    chained_run g.D.Disk.told O P P (g.D.Disk.told c.args.disk.now).bytes (g.D.Disk.told c.close.new.disk).bytes c.args.disk.now c.close.new.disk c.move_list.new.disk c.close.ensures.told
     (λ image b is. inl is) (λ image m b was is. ⊎_elim (λ same. inl (same ∙ was)) inr is)
     (g.met.D.Disk.shows_one c.close.new.disk) (g.met.D.Disk.counts_now c.close.new.disk) c.close.ensures.any_moment c.move_list.ensures.any_moment
 
@@ -37,4 +37,4 @@ returns-clause-done g c =
     let start : c.place_of-start.result ≡ new_start found part.size = search rules in
     let size : c.size.result ≡ part.size = search rules in
     rw (start, size) (renewed found.other found.this (new_start found part.size) part c.bytes.result.now c.bytes.ensures (start_small found part.size c.requires.small)
-    (g.D.Disk.bytes c.move_list.new.disk) (g.D.Disk.may_leave c.move_list.new.disk) c.in_ok-move_list.ensures.done)
+    (g.D.Disk.told c.move_list.new.disk).bytes (g.D.Disk.told c.move_list.new.disk).may_leave c.in_ok-move_list.ensures.done)

@@ -10,7 +10,7 @@ pub returns-in_err-put-clause-any_moment : goal.returns-in_err-put-clause-any_mo
 returns-in_err-put-clause-any_moment g c =
     let found = c.args.found.now in
     let part = c.args.part.now in
-    write_run g.D.Disk.moment g.D.Disk.left_since g.D.Disk.may_leave (IsNamed found part) (λ image. IsOldOrNew (journal_in image) part.kept) (g.D.Disk.bytes c.args.disk.now) c.args.disk.now c.put.new.disk
+    write_run g.D.Disk.told (IsNamed found part) (λ image. IsOldOrNew (journal_in image) part.kept) (g.D.Disk.told c.args.disk.now).bytes c.args.disk.now c.put.new.disk
     found.other 1 (g.met.D.Disk.only_now c.args.disk.now) c.requires.named c.put.ensures.time (λ image b is torn. open_torn found part image is b torn)
 
 pub returns-clause-any_moment : goal.returns-clause-any_moment
@@ -18,13 +18,13 @@ returns-clause-any_moment g c =
     let found = c.args.found.now in
     let part = c.args.part.now in
     let P = λ (image : List ℕ). IsOldOrNew (journal_in image) part.kept in
-    let opened = write_holds (IsNamed found part) (IsOpened found part) found.other (open_slot ∷ []) (g.D.Disk.bytes c.args.disk.now) (g.D.Disk.bytes c.put.new.disk) (g.D.Disk.may_leave c.args.disk.now) (g.D.Disk.may_leave c.put.new.disk)
+    let opened = write_holds (IsNamed found part) (IsOpened found part) found.other (open_slot ∷ []) (g.D.Disk.told c.args.disk.now).bytes (g.D.Disk.told c.put.new.disk).bytes (g.D.Disk.told c.args.disk.now).may_leave (g.D.Disk.told c.put.new.disk).may_leave
     (λ image is. open_done found part image is) c.requires.named c.in_ok-put.ensures.written c.in_ok-put.ensures.durable in
-    let first = write_run g.D.Disk.moment g.D.Disk.left_since g.D.Disk.may_leave (IsNamed found part) P (g.D.Disk.bytes c.args.disk.now) c.args.disk.now c.put.new.disk
+    let first = write_run g.D.Disk.told (IsNamed found part) P (g.D.Disk.told c.args.disk.now).bytes c.args.disk.now c.put.new.disk
     found.other 1 (g.met.D.Disk.only_now c.args.disk.now) c.requires.named c.put.ensures.time (λ image b is torn. open_torn found part image is b torn) in
-    let second = write_run g.D.Disk.moment g.D.Disk.left_since g.D.Disk.may_leave (IsOpened found part) P (g.D.Disk.bytes c.put.new.disk) c.put.new.disk c.put-2.new.disk
+    let second = write_run g.D.Disk.told (IsOpened found part) P (g.D.Disk.told c.put.new.disk).bytes c.put.new.disk c.put-2.new.disk
     found.this 1 (g.met.D.Disk.only_now c.put.new.disk) opened c.put-2.ensures.time (λ image b is torn. shut_torn found part image is b torn) in
-    chained_run g.D.Disk.moment g.D.Disk.left_since g.D.Disk.may_leave P P P (g.D.Disk.bytes c.args.disk.now) (g.D.Disk.bytes c.put.new.disk) c.args.disk.now c.put.new.disk c.put-2.new.disk c.put.ensures.told
+    chained_run g.D.Disk.told P P P (g.D.Disk.told c.args.disk.now).bytes (g.D.Disk.told c.put.new.disk).bytes c.args.disk.now c.put.new.disk c.put-2.new.disk c.put.ensures.told
     (λ image b is. is) (λ image m b was is. ⊎_elim (λ same. ⊎_elim (λ old. inl (same ∙ old)) (λ new. inr (same ∙ new)) was) inr is)
     (g.met.D.Disk.shows_one c.put.new.disk) (g.met.D.Disk.counts_now c.put.new.disk) first second
 
@@ -32,7 +32,7 @@ pub returns-clause-done : goal.returns-clause-done
 returns-clause-done g c =
     let found = c.args.found.now in
     let part = c.args.part.now in
-    let opened = write_holds (IsNamed found part) (IsOpened found part) found.other (open_slot ∷ []) (g.D.Disk.bytes c.args.disk.now) (g.D.Disk.bytes c.put.new.disk) (g.D.Disk.may_leave c.args.disk.now) (g.D.Disk.may_leave c.put.new.disk)
+    let opened = write_holds (IsNamed found part) (IsOpened found part) found.other (open_slot ∷ []) (g.D.Disk.told c.args.disk.now).bytes (g.D.Disk.told c.put.new.disk).bytes (g.D.Disk.told c.args.disk.now).may_leave (g.D.Disk.told c.put.new.disk).may_leave
     (λ image is. open_done found part image is) c.requires.named c.in_ok-put.ensures.written c.in_ok-put.ensures.durable in
-    write_ok (IsOpened found part) (IsMoved (new_home found part) part) found.this (0 ∷ []) (g.D.Disk.bytes c.put.new.disk) (g.D.Disk.bytes c.put-2.new.disk) (g.D.Disk.may_leave c.put.new.disk) (g.D.Disk.may_leave c.put-2.new.disk) c.put-2.result
+    write_ok (IsOpened found part) (IsMoved (new_home found part) part) found.this (0 ∷ []) (g.D.Disk.told c.put.new.disk).bytes (g.D.Disk.told c.put-2.new.disk).bytes (g.D.Disk.told c.put.new.disk).may_leave (g.D.Disk.told c.put-2.new.disk).may_leave c.put-2.result
     (λ image is. shut_done found part image is) opened c.put-2.ensures.written c.put-2.ensures.durable

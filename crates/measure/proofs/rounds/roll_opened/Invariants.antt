@@ -6,7 +6,7 @@ use Rattle.measure.proofs.rounds.roll_opened.Given as goal
 abbrev pub ghosts-roll_named : goal.ghosts-roll_named
 ghosts-roll_named g a = record {
   opening = opening_of a.book.chronicle (rank_by a.book.policy.now.answers);
-  moment = g.D.Disk.moment a.book.chronicle.disk;
-  faults = g.D.Disk.faults a.book.chronicle.disk;
+  moment = (g.D.Disk.told a.book.chronicle.disk).moment;
+  faults = (g.D.Disk.told a.book.chronicle.disk).faults;
   seats = 1;
 }

@@ -35,8 +35,8 @@ returns-in_err-write_batch-clause-any_moment g c =
     let es = c.args.entries.now.items in
     let old = c.args.journal.now.disk in
     let is = c.batch-batch.ensures ∙ ap (λ (u : Turning). u.batch) c.round.ensures.next in
-    subst (λ (batch : List Entry). IfSome (g.D.Disk.bytes old) (λ _. LeavesOnly g.D.Disk.moment g.D.Disk.left_since old c.write_batch.new.journal.disk (HasBeforeOrAfter start es batch))) is
-    (run-appended g.D.Disk.bytes g.D.Disk.may_leave g.D.Disk.moment g.D.Disk.left_since start es c.batch-batch.result.now (g.D.Disk.bytes old) old c.write_batch.new.journal.disk (c.requires.own.kept c.requires.live) c.write_batch.ensures.any_moment)
+    subst (λ (batch : List Entry). IfSome (g.D.Disk.told old).bytes (λ _. LeavesOnly g.D.Disk.told old c.write_batch.new.journal.disk (HasBeforeOrAfter start es batch))) is
+    (run-appended g.D.Disk.told start es c.batch-batch.result.now (g.D.Disk.told old).bytes old c.write_batch.new.journal.disk (c.requires.own.kept c.requires.live) c.write_batch.ensures.any_moment)
 
 pub returns-clause-own : goal.returns-clause-own
 returns-clause-own g c =
@@ -52,16 +52,16 @@ returns-clause-own g c =
     elim c.if-not-is_empty.branch [
       | then-not-is_empty+in_ok-write_batch w ↦
           let j' = w.write_batch.new.journal in
-          let kept = kept-appended g.D.Disk.bytes g.D.Disk.may_leave g.D.Disk.moment g.D.Disk.left_since t.history.start es batch (g.D.Disk.bytes j.disk) (g.D.Disk.bytes j'.disk) (g.D.Disk.may_leave j.disk)
-          (g.D.Disk.may_leave j'.disk) w.write_batch.ensures.told (own.kept live) w.in_ok-write_batch.ensures.done in
+          let kept = kept-appended g.D.Disk.told t.history.start es batch (g.D.Disk.told j.disk).bytes (g.D.Disk.told j'.disk).bytes (g.D.Disk.told j.disk).may_leave
+          (g.D.Disk.told j'.disk).may_leave w.write_batch.ensures.told (own.kept live) w.in_ok-write_batch.ensures.done in
           rw (w.journal-is, w.entries-is)
-          (chronicle-written g.D.Disk.bytes g.D.Disk.may_leave g.D.Disk.moment g.D.Disk.left_since t.history.start es batch t c.round.new.self j j' w.write_batch.new.entries.items (vec_capacity c.args.entries.now) (vec_capacity w.write_batch.new.entries)
+          (chronicle-written g.D.Disk.told t.history.start es batch t c.round.new.self j j' w.write_batch.new.entries.items (vec_capacity c.args.entries.now) (vec_capacity w.write_batch.new.entries)
           own rollout-is history-is w.write_batch.ensures.most w.write_batch.ensures.room live w.in_ok-write_batch.ensures.added w.in_ok-write_batch.ensures.count kept)
       | else-not-is_empty w ↦
           let none = no-entries batch (eqb-true (length batch) 0 (sym c.is_empty.ensures ∙ w.if-not-is_empty.false)) in
-          let kept = subst (λ (all : List Entry). IfSome (g.D.Disk.bytes j.disk) (IsKeptList t.history.start all (g.D.Disk.may_leave j.disk))) (sym (append-nil es)) (own.kept live) in
+          let kept = subst (λ (all : List Entry). IfSome (g.D.Disk.told j.disk).bytes (IsKeptList t.history.start all (g.D.Disk.told j.disk).may_leave)) (sym (append-nil es)) (own.kept live) in
           rw (w.journal-is, w.entries-is)
-          (chronicle-written g.D.Disk.bytes g.D.Disk.may_leave g.D.Disk.moment g.D.Disk.left_since t.history.start es [] t c.round.new.self j j es (vec_capacity c.args.entries.now) (vec_capacity c.args.entries.now)
+          (chronicle-written g.D.Disk.told t.history.start es [] t c.round.new.self j j es (vec_capacity c.args.entries.now) (vec_capacity c.args.entries.now)
           own rollout-is (history-is ∙ ap (with_entries t.history) none) refl (omega arith) live (sym (append-nil es)) (omega arith) kept)
     ]
 
@@ -74,17 +74,17 @@ returns-clause-any_moment g c =
     elim c.if-not-is_empty.branch [
       | then-not-is_empty+in_ok-write_batch w ↦
           rw (w.journal-is)
-          (subst (λ (batch : List Entry). IfSome (g.D.Disk.bytes old) (λ _. LeavesOnly g.D.Disk.moment g.D.Disk.left_since old w.write_batch.new.journal.disk (HasBeforeOrAfter start es batch))) is
-          (run-appended g.D.Disk.bytes g.D.Disk.may_leave g.D.Disk.moment g.D.Disk.left_since start es c.batch-batch.result.now (g.D.Disk.bytes old) old w.write_batch.new.journal.disk (c.requires.own.kept c.requires.live) w.write_batch.ensures.any_moment))
+          (subst (λ (batch : List Entry). IfSome (g.D.Disk.told old).bytes (λ _. LeavesOnly g.D.Disk.told old w.write_batch.new.journal.disk (HasBeforeOrAfter start es batch))) is
+          (run-appended g.D.Disk.told start es c.batch-batch.result.now (g.D.Disk.told old).bytes old w.write_batch.new.journal.disk (c.requires.own.kept c.requires.live) w.write_batch.ensures.any_moment))
       | else-not-is_empty w ↦
           rw (w.journal-is)
-          (run-still g.D.Disk.bytes g.D.Disk.may_leave g.D.Disk.moment g.D.Disk.left_since start es (batch_of c.args.rounds.now (rank_by c.args.policy.now.answers)) (g.D.Disk.bytes old) old old (g.met.D.Disk.only_now old) refl (c.requires.own.kept c.requires.live))
+          (run-still g.D.Disk.told start es (batch_of c.args.rounds.now (rank_by c.args.policy.now.answers)) (g.D.Disk.told old).bytes old old (g.met.D.Disk.only_now old) refl (c.requires.own.kept c.requires.live))
     ]
 
 pub returns-in_err-write_batch-clause-owner : goal.returns-in_err-write_batch-clause-owner
 returns-in_err-write_batch-clause-owner g c =
     let old = c.args.journal.now.disk in
-    owner-appended g.D.Disk.moment g.D.Disk.left_since (g.D.Disk.bytes old) old c.write_batch.new.journal.disk (entry_rows c.batch-batch.result.now) c.write_batch.ensures.any_moment
+    owner-appended g.D.Disk.told (g.D.Disk.told old).bytes old c.write_batch.new.journal.disk (entry_rows c.batch-batch.result.now) c.write_batch.ensures.any_moment
 
 pub returns-clause-owner : goal.returns-clause-owner
 returns-clause-owner g c =
@@ -92,8 +92,8 @@ returns-clause-owner g c =
     elim c.if-not-is_empty.branch [
       | then-not-is_empty+in_ok-write_batch w ↦
           rw (w.journal-is)
-          (owner-appended g.D.Disk.moment g.D.Disk.left_since (g.D.Disk.bytes old) old w.write_batch.new.journal.disk (entry_rows c.batch-batch.result.now) w.write_batch.ensures.any_moment)
+          (owner-appended g.D.Disk.told (g.D.Disk.told old).bytes old w.write_batch.new.journal.disk (entry_rows c.batch-batch.result.now) w.write_batch.ensures.any_moment)
       | else-not-is_empty w ↦
           rw (w.journal-is)
-          (owner-still g.D.Disk.moment g.D.Disk.left_since (g.D.Disk.bytes old) old old g.D.Disk.may_leave c.args.rounds.now.history.start c.args.entries.now.items (g.met.D.Disk.only_now old) refl (c.requires.own.kept c.requires.live))
+          (owner-still g.D.Disk.told (g.D.Disk.told old).bytes old old c.args.rounds.now.history.start c.args.entries.now.items (g.met.D.Disk.only_now old) refl (c.requires.own.kept c.requires.live))
     ]

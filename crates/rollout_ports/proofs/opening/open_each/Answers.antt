@@ -11,7 +11,7 @@ pub loop-switch-init : goal.loop-switch-init
 loop-switch-init g c =
     let before = ports_of g.F.Fleet.waiting g.F.Fleet.kept g.F.Fleet.lent c.args.fleet.now in
     record {
-      opens = subst (λ bs. Opens g.F.Port.Port.faults [] before bs before) (sym c.requires.fresh) (opened_none g.F.Port.Port.faults before);
+      opens = subst (λ bs. Opens g.F.Port.Port.told [] before bs before) (sym c.requires.fresh) (opened_none g.F.Port.Port.told before);
       long = omega (arith, ap length c.requires.fresh, c.args.berths.now.ok.0);
       room = c.requires.room;
       coming = refl;
@@ -30,10 +30,10 @@ loop-switch-preserved g c =
     let before = ports_of g.F.Fleet.waiting g.F.Fleet.kept g.F.Fleet.lent c.args.fleet.now in
     let now = ports_of g.F.Fleet.waiting g.F.Fleet.kept g.F.Fleet.lent c.loop-switch.fleet in
     let after = ports_of g.F.Fleet.waiting g.F.Fleet.kept g.F.Fleet.lent c.port.new.self in
-    let one = opened_one g.F.Port.Port.faults (take at homes) before now after c.loop-switch.berths.items switch c.in-Ok.port i.opens told.given told.taken told.place in
+    let one = opened_one g.F.Port.Port.told (take at homes) before now after c.loop-switch.berths.items switch c.in-Ok.port i.opens told.given told.taken told.place in
     record {
-      opens = subst (λ (hs : List ℕ). Opens g.F.Port.Port.faults hs before c.push_reserved.new.self.items after) (sym (take_more homes at 0 c.loop-switch-test.true))
-          (subst (λ bs. Opens g.F.Port.Port.faults (take at homes ++ switch ∷ []) before bs after) (sym c.push_reserved.ensures.items) one);
+      opens = subst (λ (hs : List ℕ). Opens g.F.Port.Port.told hs before c.push_reserved.new.self.items after) (sym (take_more homes at 0 c.loop-switch-test.true))
+          (subst (λ bs. Opens g.F.Port.Port.told (take at homes ++ switch ∷ []) before bs after) (sym c.push_reserved.ensures.items) one);
       long = omega (arith, i.long, c.push_reserved.ensures.len);
       room = omega (arith, i.room, c.push_reserved.ensures.capacity);
       coming = told.guests.0 ∙ i.coming;
@@ -52,7 +52,7 @@ returns-in-Err-clause-until g c =
     let before = ports_of g.F.Fleet.waiting g.F.Fleet.kept g.F.Fleet.lent c.args.fleet.now in
     let now = ports_of g.F.Fleet.waiting g.F.Fleet.kept g.F.Fleet.lent c.loop-switch.fleet in
     let after = ports_of g.F.Fleet.waiting g.F.Fleet.kept g.F.Fleet.lent c.port.new.self in
-    opened_until g.F.Port.Port.faults homes (take at homes) (drop (suc at) homes) switch before now after c.loop-switch.berths.items
+    opened_until g.F.Port.Port.told homes (take at homes) (drop (suc at) homes) switch before now after c.loop-switch.berths.items
     (parted homes at 0 c.loop-switch-test.true) (distinct_at homes at c.loop-switch-test.true c.requires.once)
     i.opens told.none told.still_waiting told.left told.no_place
 
@@ -60,5 +60,5 @@ pub returns-clause-opened : goal.returns-clause-opened
 returns-clause-opened g c =
     let homes = c.args.homes.now in
     let all : c.loop-switch.switch-index ≡ length homes = omega (arith, c.loop-switch-test.false, c.loop-switch.auto.switch-index-end) in
-    subst (λ (hs : List ℕ). Opens g.F.Port.Port.faults hs (ports_of g.F.Fleet.waiting g.F.Fleet.kept g.F.Fleet.lent c.args.fleet.now) c.loop-switch.berths.items (ports_of g.F.Fleet.waiting g.F.Fleet.kept g.F.Fleet.lent c.loop-switch.fleet))
+    subst (λ (hs : List ℕ). Opens g.F.Port.Port.told hs (ports_of g.F.Fleet.waiting g.F.Fleet.kept g.F.Fleet.lent c.args.fleet.now) c.loop-switch.berths.items (ports_of g.F.Fleet.waiting g.F.Fleet.kept g.F.Fleet.lent c.loop-switch.fleet))
     (ap (λ k. take k homes) all ∙ take-length homes) c.loop-switch.invariant.opens

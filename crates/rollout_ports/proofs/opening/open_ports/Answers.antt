@@ -39,12 +39,12 @@ keep_ports-requires-clause-apart g c =
 pub keep_ports-requires-clause-lent : goal.keep_ports-requires-clause-lent
 keep_ports-requires-clause-lent g c =
     let until = c.in-Err.ensures.until in
-    opened_lent g.F.Port.Port.faults until.earlier (ports_of g.F.Fleet.waiting g.F.Fleet.kept g.F.Fleet.lent c.args.fleet.now) (ports_of g.F.Fleet.waiting g.F.Fleet.kept g.F.Fleet.lent c.open_each-opened.new.fleet)
+    opened_lent g.F.Port.Port.told until.earlier (ports_of g.F.Fleet.waiting g.F.Fleet.kept g.F.Fleet.lent c.args.fleet.now) (ports_of g.F.Fleet.waiting g.F.Fleet.kept g.F.Fleet.lent c.open_each-opened.new.fleet)
     c.open_each-opened.new.berths.items until.opens
 
 pub returns-clause-refused : goal.returns-clause-refused
 returns-clause-refused g c =
-    stops_at g.F.Port.Port.faults c.as_slice-2.result.now (working_homes c.args.plan.now.problem c.args.plan.now.plan) c.in-Err.switch
+    stops_at g.F.Port.Port.told c.as_slice-2.result.now (working_homes c.args.plan.now.problem c.args.plan.now.plan) c.in-Err.switch
     (ports_of g.F.Fleet.waiting g.F.Fleet.kept g.F.Fleet.lent c.args.fleet.now) (ports_of g.F.Fleet.waiting g.F.Fleet.kept g.F.Fleet.lent c.open_each-opened.new.fleet)
     (ports_of g.F.Fleet.waiting g.F.Fleet.kept g.F.Fleet.lent c.keep_ports.new.fleet) c.open_each-opened.new.berths.items
     (c.as_slice-2.ensures ∙ c.in_ok-homes.ensures) c.in-Err.ensures.until c.keep_ports.ensures.ports

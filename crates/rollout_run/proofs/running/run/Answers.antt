@@ -2,7 +2,6 @@ use Rattle.std.proofs.Common.{List, ◌∙◌, ap, subst}
 use Rattle.order_policy.specs.Answers.{rank_by}
 use Rattle.rollout_rules.specs.Wan.{Rollout}
 use Rattle.port_session.specs.Sessions.{Talk}
-use Rattle.worker_ports.specs.Views.{telling}
 use Rattle.rollout_ports.specs.Berths.{ports_of}
 use Rattle.rollout_ports.specs.Hands.{first_talks}
 use Rattle.rollout_ports.specs.Homes.{working_homes}
@@ -16,7 +15,7 @@ use Rattle.rollout_run.proofs.running.run.Goals as goal
 
 pub run_over-requires-clause-lent : goal.run_over-requires-clause-lent
 run_over-requires-clause-lent g c κs within =
-    opened_lent g.F.Port.Port.faults (working_homes c.plan.result.now.problem c.plan.result.now.plan) (ports_of g.F.Fleet.waiting g.F.Fleet.kept g.F.Fleet.lent c.args.fleet.now) (ports_of g.F.Fleet.waiting g.F.Fleet.kept g.F.Fleet.lent c.open_ports.new.fleet) c.in-Ok.berths.items c.in-Ok.ensures.opened
+    opened_lent g.F.Port.Port.told (working_homes c.plan.result.now.problem c.plan.result.now.plan) (ports_of g.F.Fleet.waiting g.F.Fleet.kept g.F.Fleet.lent c.args.fleet.now) (ports_of g.F.Fleet.waiting g.F.Fleet.kept g.F.Fleet.lent c.open_ports.new.fleet) c.in-Ok.berths.items c.in-Ok.ensures.opened
 
 pub returns-in-Ok-clause-ran : goal.returns-in-Ok-clause-ran
 returns-in-Ok-clause-ran g c =
@@ -24,15 +23,15 @@ returns-in-Ok-clause-ran g c =
     let o = opening_of before_book (rank_by c.args.book.policy.now.answers) in
     let end = c.run_over.result.1 in
     let book = c.run_over.result.0.chronicle in
-    let tell = telling g.F.Port.Port.offered g.F.Port.Port.heard g.F.Port.Port.held g.F.Port.Port.quiet g.F.Port.Port.faults g.F.Port.Port.honest g.F.Port.Port.prompt g.F.Port.Port.start in
+    let tell = g.F.Port.Port.told in
     let homes = working_homes before_book.rollout.problem before_book.rollout.plan in
     let before = ports_of g.F.Fleet.waiting g.F.Fleet.kept g.F.Fleet.lent c.args.fleet.now in
     let opened = ports_of g.F.Fleet.waiting g.F.Fleet.kept g.F.Fleet.lent c.open_ports.new.fleet in
     let now = ports_of g.F.Fleet.waiting g.F.Fleet.kept g.F.Fleet.lent c.run_over.new.fleet in
     let berths = c.in-Ok.berths.items in
-    let runs : List (Talk g.row.F-Port.Denot) → Type 0 = λ ports. Runs g.D.Disk.bytes g.D.Disk.may_leave g.D.Disk.moment g.D.Disk.left_since g.D.Disk.faults tell o (g.D.Disk.moment before_book.disk) (g.D.Disk.faults before_book.disk) c.args.limits.migration c.args.limits.rounds (first_talks berths) end book ports in
-    let opens : Opens g.F.Port.Port.faults homes before berths opened = subst (λ (r : Rollout). Opens g.F.Port.Port.faults (working_homes r.problem r.plan) before berths opened) (c.plan.ensures ∙ ap (λ gr. gr.rollout) c.graph.ensures.value) c.in-Ok.ensures.opened in
-    ends_run g.F.Port.Port.faults homes before_book book before opened now berths runs
-    (Ran g.D.Disk.bytes g.D.Disk.may_leave g.D.Disk.moment g.D.Disk.left_since g.D.Disk.faults g.F.Port.Port.faults tell o (g.D.Disk.moment before_book.disk) (g.D.Disk.faults before_book.disk) c.args.limits.migration c.args.limits.rounds homes before end book now)
-    (to_ran g.D.Disk.bytes g.D.Disk.may_leave g.D.Disk.moment g.D.Disk.left_since g.D.Disk.faults g.F.Port.Port.faults tell o (g.D.Disk.moment before_book.disk) (g.D.Disk.faults before_book.disk) c.args.limits.migration c.args.limits.rounds homes before opened now end book berths opens c.in-Ok.ensures.apart)
+    let runs : List (Talk g.row.F-Port.Denot) → Type 0 = λ ports. Runs g.D.Disk.told tell o (g.D.Disk.told before_book.disk).moment (g.D.Disk.told before_book.disk).faults c.args.limits.migration c.args.limits.rounds (first_talks berths) end book ports in
+    let opens : Opens g.F.Port.Port.told homes before berths opened = subst (λ (r : Rollout). Opens g.F.Port.Port.told (working_homes r.problem r.plan) before berths opened) (c.plan.ensures ∙ ap (λ gr. gr.rollout) c.graph.ensures.value) c.in-Ok.ensures.opened in
+    ends_run g.F.Port.Port.told homes before_book book before opened now berths runs
+    (Ran g.D.Disk.told tell o (g.D.Disk.told before_book.disk).moment (g.D.Disk.told before_book.disk).faults c.args.limits.migration c.args.limits.rounds homes before end book now)
+    (to_ran g.D.Disk.told tell o (g.D.Disk.told before_book.disk).moment (g.D.Disk.told before_book.disk).faults c.args.limits.migration c.args.limits.rounds homes before opened now end book berths opens c.in-Ok.ensures.apart)
     opens end c.run_over.ensures.ran

@@ -1,7 +1,6 @@
 use Rattle.std.proofs.Common.{◌≡◌, List}
 use Rattle.order_policy.specs.Answers.{rank_by}
 use Rattle.port_session.specs.Sessions.{Talk}
-use Rattle.worker_ports.specs.Views.{telling}
 use Rattle.rollout_ports.specs.Berths.{ports_of}
 use Rattle.rollout_ports.specs.Hands.{first_talks}
 use Rattle.shared_book.specs.Opened.{opening_of}
@@ -36,8 +35,8 @@ returns-in-Ok-clause-ran g c =
     let dealt = team_ports team.own.ports team.own.spare.items team.crews.items in
     let ports = team_ports now.own.ports now.own.spare.items now.crews.items in
     let talks = first_talks c.args.berths.items in
-    let tell = telling g.F.Port.Port.offered g.F.Port.Port.heard g.F.Port.Port.held g.F.Port.Port.quiet g.F.Port.Port.faults g.F.Port.Port.honest g.F.Port.Port.prompt g.F.Port.Port.start in
-    let runs : List (Talk g.row.F-Port.Denot) → List (Talk g.row.F-Port.Denot) → Type 0 = λ whole left. Runs g.D.Disk.bytes g.D.Disk.may_leave g.D.Disk.moment g.D.Disk.left_since g.D.Disk.faults tell o (g.D.Disk.moment c.args.book.chronicle.disk) (g.D.Disk.faults c.args.book.chronicle.disk) c.args.limits.migration c.args.limits.rounds whole end book left in
+    let tell = g.F.Port.Port.told in
+    let runs : List (Talk g.row.F-Port.Denot) → List (Talk g.row.F-Port.Denot) → Type 0 = λ whole left. Runs g.D.Disk.told tell o (g.D.Disk.told c.args.book.chronicle.disk).moment (g.D.Disk.told c.args.book.chronicle.disk).faults c.args.limits.migration c.args.limits.rounds whole end book left in
     is_over (ports_of g.F.Fleet.waiting g.F.Fleet.kept g.F.Fleet.lent c.args.fleet.now) (ports_of g.F.Fleet.waiting g.F.Fleet.kept g.F.Fleet.lent c.keep_team.new.fleet) c.args.berths.items (runs talks) (runs dealt ports) (book ≡ c.args.book.chronicle) dealt ports
-    (runs_over g.D.Disk.bytes g.D.Disk.may_leave g.D.Disk.moment g.D.Disk.left_since g.D.Disk.faults tell o (g.D.Disk.moment c.args.book.chronicle.disk) (g.D.Disk.faults c.args.book.chronicle.disk) c.args.limits.migration c.args.limits.rounds end book ports talks dealt c.in-Ok.ensures.same)
+    (runs_over g.D.Disk.told tell o (g.D.Disk.told c.args.book.chronicle.disk).moment (g.D.Disk.told c.args.book.chronicle.disk).faults c.args.limits.migration c.args.limits.rounds end book ports talks dealt c.in-Ok.ensures.same)
     c.keep_team.ensures.ports (moved_switches c.args.berths.items dealt ports c.in-Ok.ensures.same c.run_team-book.ensures.switches) c.in-Ok.ensures.same c.requires.apart end c.run_team-book.ensures.ran

@@ -7,7 +7,7 @@ use Rattle.rollout_run.proofs.running.run_team.Given as goal
 abbrev pub ghosts-run_named : goal.ghosts-run_named
 ghosts-run_named g a = record {
   opening = opening_of a.book.chronicle (rank_by a.book.policy.now.answers);
-  moment = g.D.Disk.moment a.book.chronicle.disk;
-  faults = g.D.Disk.faults a.book.chronicle.disk;
+  moment = (g.D.Disk.told a.book.chronicle.disk).moment;
+  faults = (g.D.Disk.told a.book.chronicle.disk).faults;
   seats = max 1 a.limits.workers;
 }

@@ -2,7 +2,6 @@ use Rattle.std.proofs.Common.{ℕ, ◌+◌, ◌≤◌, List, Option, [], ◌∷�
 use Rattle.std.specs.Prelude.{nat_eq, vec_capacity, vec_len}
 use Rattle.std.specs.List.{IsDistinct}
 use Rattle.port_session.specs.Sessions.{Talk}
-use Rattle.worker_ports.specs.Views.{telling}
 use Rattle.rollout_ports.specs.Hands.{first_talks}
 use Rattle.shared_history.specs.declared.reply.Wake.{Wake}
 use Rattle.rollout_run.specs.Shifts.{AreFresh}
@@ -26,7 +25,7 @@ work_together-pass-requires-clause-team g t c κs within =
 
 pub returns-in-Ok-clause-led : goal.returns-in-Ok-clause-led
 returns-in-Ok-clause-led g t c =
-    let tell = telling g.T.Port.offered g.T.Port.heard g.T.Port.held g.T.Port.quiet g.T.Port.faults g.T.Port.honest g.T.Port.prompt g.T.Port.start in
+    let tell = g.T.Port.told in
     let o = g.M.Marker.opening in
     let theirs = c.split-pass.result.1.pass in
     let inner = c.work_together-pass.result in
@@ -48,7 +47,7 @@ returns-in-Ok-clause-led g t c =
 
 pub relieve-back-requires-clause-back : goal.relieve-back-requires-clause-back
 relieve-back-requires-clause-back g t c = λ is.
-    let tell = telling g.T.Port.offered g.T.Port.heard g.T.Port.held g.T.Port.quiet g.T.Port.faults g.T.Port.honest g.T.Port.prompt g.T.Port.start in
+    let tell = g.T.Port.told in
     let o = g.M.Marker.opening in
     let own = c.args.team.own.ports in
     let spare = c.args.team.own.spare in
@@ -69,7 +68,7 @@ work_together-pass-requires-in-Err-clause-leader g t c κs within =
 
 pub work_together-pass-requires-in-Err-clause-team : goal.work_together-pass-requires-in-Err-clause-team
 work_together-pass-requires-in-Err-clause-team g t c κs within =
-    let tell = telling g.T.Port.offered g.T.Port.heard g.T.Port.held g.T.Port.quiet g.T.Port.faults g.T.Port.honest g.T.Port.prompt g.T.Port.start in
+    let tell = g.T.Port.told in
     let o = g.M.Marker.opening in
     let own = c.args.team.own.ports in
     let spare = c.args.team.own.spare in
@@ -84,7 +83,7 @@ work_together-pass-requires-in-Err-clause-team g t c κs within =
 
 pub returns-in-Err-clause-led : goal.returns-in-Err-clause-led
 returns-in-Err-clause-led g t c =
-    let tell = telling g.T.Port.offered g.T.Port.heard g.T.Port.held g.T.Port.quiet g.T.Port.faults g.T.Port.honest g.T.Port.prompt g.T.Port.start in
+    let tell = g.T.Port.told in
     let o = g.M.Marker.opening in
     let theirs = c.split-pass.result.1.pass in
     let ports = c.in-Some.ports in

@@ -1,7 +1,6 @@
 use Rattle.std.proofs.Common.{◌++◌, ◌∙◌, eqb-true, subst, sym, refl, arith}
 use Rattle.std.specs.Prelude.{IsTrue, vec_len}
 use Rattle.port_session.specs.Sessions.{Talk}
-use Rattle.worker_ports.specs.Views.{telling}
 use Rattle.rollout_ports.specs.Hands.{first_talks}
 use Rattle.rollout_run.specs.Teams.{all_ports, team_ports}
 use Rattle.rollout_run.proofs.Crews.{no_ports}
@@ -32,13 +31,13 @@ serve-pass-requires-clause-live g c = λ k d inside. subst (λ (t : Talk g.row.T
 
 pub returns-then-not-is_empty-clause-led : goal.returns-then-not-is_empty-clause-led
 returns-then-not-is_empty-clause-led g c =
-    stopped_alone (telling g.T.Port.offered g.T.Port.heard g.T.Port.held g.T.Port.quiet g.T.Port.faults g.T.Port.honest g.T.Port.prompt g.T.Port.start) g.M.Marker.opening c.args.terms.migration c.args.terms.homes.now c.args.terms.rounds c.args.book.now.lock
+    stopped_alone g.T.Port.told g.M.Marker.opening c.args.terms.migration c.args.terms.homes.now c.args.terms.rounds c.args.book.now.lock
     g.M.Marker.seats 0 c.args.pass.pass c.stop.result.0.pass c.args.pass.calls c.stop.result.0.calls c.requires.leader c.stop.ensures.lock c.stop.ensures.pass c.stop.ensures.calls
     (team_ports c.args.team.own.ports c.args.team.own.spare.items c.args.team.crews.items) c.stop.result.1 c.stop.ensures.call
 
 pub returns-clause-led : goal.returns-clause-led
 returns-clause-led g c =
-    served_alone (telling g.T.Port.offered g.T.Port.heard g.T.Port.held g.T.Port.quiet g.T.Port.faults g.T.Port.honest g.T.Port.prompt g.T.Port.start) g.M.Marker.opening c.args.terms.migration c.args.terms.homes.now c.args.terms.rounds c.args.book.now.lock
+    served_alone g.T.Port.told g.M.Marker.opening c.args.terms.migration c.args.terms.homes.now c.args.terms.rounds c.args.book.now.lock
     g.M.Marker.seats 0 c.args.pass.pass c.serve-pass.result.pass.pass c.args.pass.calls c.serve-pass.result.pass.calls c.requires.leader c.serve-pass.ensures.lock c.serve-pass.ensures.pass c.serve-pass.ensures.calls
     c.args.team.own.ports c.serve-pass.result.ports (first_talks c.args.team.own.spare.items ++ all_ports c.args.team.crews.items) c.serve-pass.result.end c.requires.fresh
     (no_ports c.args.team.own.spare.items c.args.team.crews.items (none_long c.args.team.own.spare.items (let none = eqb-true (vec_len c.args.team.own.spare) 0 (sym c.is_empty.ensures ∙ c.if-not-is_empty.false) in omega (arith, none, c.args.team.own.spare.ok.0))) c.requires.alone) c.serve-pass.ensures.served

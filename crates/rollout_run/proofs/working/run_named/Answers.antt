@@ -1,7 +1,6 @@
 use Rattle.std.proofs.Common.{◌≡◌}
 use Rattle.rollout_rules.specs.Legal.{is_finished}
 use Rattle.turn_lock.specs.Passes.{given_of, seen_of}
-use Rattle.worker_ports.specs.Views.{telling}
 use Rattle.shared_book.specs.Homes.{homes_of}
 use Rattle.rollout_run.specs.Runs.{Runs}
 use Rattle.rollout_run.specs.Teams.{team_ports}
@@ -16,7 +15,7 @@ returns-in-Ok-clause-switches g c =
     let pass = c.work-pass.result.0.pass in
     let team = c.args.team in
     let now = c.work-pass.result.1 in
-    same_switches (telling g.T.Port.offered g.T.Port.heard g.T.Port.held g.T.Port.quiet g.T.Port.faults g.T.Port.honest g.T.Port.prompt g.T.Port.start) o c.args.limits.migration (homes_of o.rollout.problem) c.args.limits.rounds
+    same_switches g.T.Port.told o c.args.limits.migration (homes_of o.rollout.problem) c.args.limits.rounds
     (team_ports team.own.ports team.own.spare.items team.crews.items) (given_of pass) (seen_of pass) (team_ports now.own.ports now.own.spare.items now.crews.items) c.work-pass.ensures.worked
 
 pub returns-in-Ok-clause-ran : goal.returns-in-Ok-clause-ran
@@ -31,7 +30,7 @@ returns-in-Ok-clause-ran g c =
     let left = team_ports now.own.ports now.own.spare.items now.crews.items in
     let end = ends o (seen_of pass) book closed.legal closed.book c.close-book.result.2 c.end_of-end.result closed.halt c.end_of-end.ensures in
     has_begun c.close-book.result.2 (is_finished book.rollout.problem book.rollout.plan book.history)
-    (λ (e : RunEnd). Runs g.D.Disk.bytes g.D.Disk.may_leave g.D.Disk.moment g.D.Disk.left_since g.D.Disk.faults (telling g.T.Port.offered g.T.Port.heard g.T.Port.held g.T.Port.quiet g.T.Port.faults g.T.Port.honest g.T.Port.prompt g.T.Port.start) o g.M.Marker.moment g.M.Marker.faults c.args.limits.migration c.args.limits.rounds whole e book left)
+    (λ (e : RunEnd). Runs g.D.Disk.told g.T.Port.told o g.M.Marker.moment g.M.Marker.faults c.args.limits.migration c.args.limits.rounds whole e book left)
     ((book ≡ c.args.book.chronicle) × (left ≡ whole)) c.end_of-end.result c.end_of-end.ensures
     (record {
       log = seen_of pass;

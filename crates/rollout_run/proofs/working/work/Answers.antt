@@ -1,6 +1,5 @@
 use Rattle.std.proofs.Common.{ℕ, List, Option, ◌∷◌, ◌∙◌, length, sym, ap₂, subst, arith}
 use Rattle.turn_lock.specs.Passes.{given_of, seat_of_pass, seats_of, seen_of}
-use Rattle.worker_ports.specs.Views.{telling}
 use Rattle.shared_book.specs.Homes.{homes_of}
 use Rattle.rollout_run.specs.Teams.{Gathers, team_ports}
 use Rattle.rollout_run.proofs.Alone.{halted_after, quiet_after, quiet_first, stopped_nothing, turned_first, unserved}
@@ -20,7 +19,7 @@ returns-in-Some-clause-worked g c =
     let quiet = quiet_first o 0 (seats_of c.args.pass.pass) (seat_of_pass c.args.pass.pass) (seen_of c.args.pass.pass) (seen_of turned) c.round-pass.result.1 own first.seat first.seen c.round-pass.ensures.call in
     let after = quiet_after o 0 (seats_of turned) (seat_of_pass turned) (seen_of turned) (seen_of stopped) c.in-Some.cause c.stop.result.1 own' (passed.seat ∙ first.seat) quiet c.stop.ensures.call in
     let early = early_stop o 0 (seats_of c.args.pass.pass) (seats_of turned) (seat_of_pass c.args.pass.pass) (seat_of_pass turned) (seen_of c.args.pass.pass) (seen_of turned) (seen_of stopped) c.round-pass.result.1 c.in-Some.cause c.stop.result.1 own first.seat own' (passed.seat ∙ first.seat) first.seen (sym c.cause_of.ensures ∙ c.in-Some.is) c.round-pass.ensures.call c.stop.ensures.call in
-    unserved (telling g.T.Port.offered g.T.Port.heard g.T.Port.held g.T.Port.quiet g.T.Port.faults g.T.Port.honest g.T.Port.prompt g.T.Port.start) o c.args.limits.migration (homes_of o.rollout.problem) c.args.limits.rounds
+    unserved g.T.Port.told o c.args.limits.migration (homes_of o.rollout.problem) c.args.limits.rounds
     (team_ports c.args.team.own.ports c.args.team.own.spare.items c.args.team.crews.items) (given_of stopped) (seen_of stopped) (c.stop.ensures.pass.given ∙ passed.given ∙ first.given) after early
     (halted_after o 0 (seats_of turned) (seat_of_pass turned) (seen_of turned) (seen_of stopped) c.in-Some.cause c.stop.result.1 c.stop.ensures.call)
 
@@ -56,7 +55,7 @@ returns-clause-all_in g c = c.work_in_scope.ensures.led.out ∙ c.round-pass.ens
 pub returns-clause-worked : goal.returns-clause-worked
 returns-clause-worked g c =
     let o = g.M.Marker.opening in
-    let tell = telling g.T.Port.offered g.T.Port.heard g.T.Port.held g.T.Port.quiet g.T.Port.faults g.T.Port.honest g.T.Port.prompt g.T.Port.start in
+    let tell = g.T.Port.told in
     let turned = c.round-pass.result.0.pass in
     let last = c.work_in_scope.result.0.pass in
     let team = c.args.team in

@@ -13,7 +13,7 @@ returns-clause-run g c =
       closed = closed;
       ran = c.run-book.ensures.ran;
       tells = c.outcome_of.ensures.answer
-          ∙ told-behind g.F.Port.Port.faults (working_homes opened.rollout.problem opened.rollout.plan) opened closed (ports_of g.F.Fleet.waiting g.F.Fleet.kept g.F.Fleet.lent c.args.fleet.now)
+          ∙ told-behind g.F.Port.Port.told (working_homes opened.rollout.problem opened.rollout.plan) opened closed (ports_of g.F.Fleet.waiting g.F.Fleet.kept g.F.Fleet.lent c.args.fleet.now)
           (ports_of g.F.Fleet.waiting g.F.Fleet.kept g.F.Fleet.lent c.run-book.new.fleet) _ c.run-book.result.1 (λ ran. (ran.closed.rollout, ran.closed.count)) c.run-book.ensures.ran;
       back = c.outcome_of.ensures.disk;
     }

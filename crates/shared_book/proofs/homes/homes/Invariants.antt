@@ -5,4 +5,4 @@ use Rattle.shared_book.proofs.homes.homes.Given as goal
 
 -- the homes of the items so far
 abbrev pub invariant-loop-item : goal.invariant-loop-item
-invariant-loop-item l = l.homes ≡ list_below l.item (home_at l.problem)
+invariant-loop-item l = l.homes ≡ list_below l.item-index (home_at l.plan.problem)

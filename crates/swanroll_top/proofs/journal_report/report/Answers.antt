@@ -20,10 +20,10 @@ pub returns-in-Ok-clause-no_guest : goal.returns-in-Ok-clause-no_guest
 returns-in-Ok-clause-no_guest g c = λ e. report-no-guest _ _ _ _ _ _ c.report_input.ensures.follows e
 
 pub returns-in-Ok-clause-leaves : goal.returns-in-Ok-clause-leaves
-returns-in-Ok-clause-leaves g c = input-leaves g.D.Disk.bytes g.D.Disk.may_leave g.D.Disk.moment g.D.Disk.left_since _ _ _ _ _ _ _ c.in-Ok.ensures.read c.report_input.ensures.leaves
+returns-in-Ok-clause-leaves g c = input-leaves g.D.Disk.told _ _ _ _ _ _ _ c.in-Ok.ensures.read c.report_input.ensures.leaves
 
 pub returns-in-Err-clause-leaves : goal.returns-in-Err-clause-leaves
-returns-in-Err-clause-leaves g c = cut-leaves g.D.Disk.bytes g.D.Disk.may_leave g.D.Disk.moment g.D.Disk.left_since _ _ _ _ _ _ c.in-Err.ensures.read (g.met.D.Disk.only_now c.args.disk) refl
+returns-in-Err-clause-leaves g c = cut-leaves g.D.Disk.told _ _ _ _ _ _ c.in-Err.ensures.read (g.met.D.Disk.only_now c.args.disk) refl
 
 pub returns-in-Ok-clause-no_rollout : goal.returns-in-Ok-clause-no_rollout
 returns-in-Ok-clause-no_rollout g c = λ u e. report-no-rollout _ _ _ _ u _ _ c.report_input.ensures.follows e

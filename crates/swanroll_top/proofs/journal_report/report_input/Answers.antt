@@ -5,7 +5,7 @@ use Rattle.swanroll_top.proofs.Reporting.{input-no-disk, input-no-write, input-r
 use Rattle.swanroll_top.proofs.journal_report.report_input.Goals as goal
 
 pub returns-in-Ok-clause-follows : goal.returns-in-Ok-clause-follows
-returns-in-Ok-clause-follows g c = subst (λ r. FollowsReported c.args.migration r (g.D.Disk.bytes c.args.disk) c.report_plan.result.ending (g.K.Sink.written c.args.sink.now) (g.K.Sink.written c.report_plan.new.sink)) (sym c.in-Ok.ensures) c.report_plan.ensures.follows
+returns-in-Ok-clause-follows g c = subst (λ r. FollowsReported c.args.migration r (g.D.Disk.told c.args.disk).bytes c.report_plan.result.ending (g.K.Sink.written c.args.sink.now) (g.K.Sink.written c.report_plan.new.sink)) (sym c.in-Ok.ensures) c.report_plan.ensures.follows
 
 pub returns-in-Err-clause-follows : goal.returns-in-Err-clause-follows
 returns-in-Err-clause-follows g c = input-refused _ _ _ _ _ c.in-Err.ensures
@@ -17,7 +17,7 @@ pub returns-in-Err-clause-disk_fault : goal.returns-in-Err-clause-disk_fault
 returns-in-Err-clause-disk_fault g c = λ e. absurd (input-no-disk _ _ c.in-Err.ensures e)
 
 pub returns-in-Ok-clause-leaves : goal.returns-in-Ok-clause-leaves
-returns-in-Ok-clause-leaves g c = read-leaves g.D.Disk.bytes g.D.Disk.may_leave g.D.Disk.moment g.D.Disk.left_since _ _ _ _ _ _ c.in-Ok.ensures c.report_plan.ensures.leaves
+returns-in-Ok-clause-leaves g c = read-leaves g.D.Disk.told _ _ _ _ _ _ c.in-Ok.ensures c.report_plan.ensures.leaves
 
 pub returns-in-Err-clause-leaves : goal.returns-in-Err-clause-leaves
-returns-in-Err-clause-leaves g c = unread-leaves g.D.Disk.bytes g.D.Disk.may_leave g.D.Disk.moment g.D.Disk.left_since _ _ _ _ _ c.in-Err.ensures (g.met.D.Disk.only_now c.args.disk) refl
+returns-in-Err-clause-leaves g c = unread-leaves g.D.Disk.told _ _ _ _ _ c.in-Err.ensures (g.met.D.Disk.only_now c.args.disk) refl

@@ -1,4 +1,5 @@
-use Rattle.swanroll_top.proofs.Leaving.{journal-leaves}
+use Rattle.rollout_report.specs.Journals.{digest_for}
+use Rattle.swanroll_top.proofs.Leaving.{journal-failed, journal-leaves}
 use Rattle.swanroll_top.proofs.Reporting.{reported}
 use Rattle.swanroll_top.proofs.journal_report.report_plan.Goals as goal
 
@@ -7,4 +8,9 @@ returns-clause-follows g c = reported _ _ _ _ _ _ _ c.report_journal-disk.ensure
 
 pub returns-clause-leaves : goal.returns-clause-leaves
 returns-clause-leaves g c =
-    journal-leaves g.D.Disk.bytes g.D.Disk.may_leave g.D.Disk.moment g.D.Disk.left_since _ _ _ _ _ _ _ _ c.write_report.ensures.written c.report_journal-disk.ensures.keeps c.report_journal-disk.ensures.any_moment c.report_journal-disk.ensures.unwritten
+    journal-leaves g.D.Disk.told _ _ _ _ _ _ _ _ c.write_report.ensures.written c.report_journal-disk.ensures.opened c.report_journal-disk.ensures.left
+
+pub returns-clause-disk_fault : goal.returns-clause-disk_fault
+returns-clause-disk_fault g c = λ e.
+    journal-failed g.D.Disk.told c.args.disk c.report_journal-disk.result.disk c.args.plan (digest_for c.args.plan c.args.migration)
+    c.report_journal-disk.result.answer c.report_journal-disk.ensures.left (c.write_report.ensures.disk e)

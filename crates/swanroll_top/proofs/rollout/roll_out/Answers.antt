@@ -1,6 +1,5 @@
 use Rattle.std.proofs.Common.{refl, subst, inl}
 use Rattle.order_policy.specs.Answers.{rank_by}
-use Rattle.worker_ports.specs.Views.{telling}
 use Rattle.swanroll_top.specs.Rollouts.{fleet_of}
 use Rattle.swanroll_top.specs.declared.ending.Ending.TheVariants.{Usage, ReadFault, GuestFault}
 use Rattle.swanroll_top.proofs.Rolling.{cut-rollouts, cut-unbegun, input-rolls, never, short-rollouts}
@@ -11,7 +10,7 @@ returns-in-Ok-clause-runs g c = short-rollouts _ _ _ _ _ c.in-Ok.ensures.read _ 
 
 pub returns-in-Ok-clause-rolls : goal.returns-in-Ok-clause-rolls
 returns-in-Ok-clause-rolls g c =
-    input-rolls g.D.Disk.bytes g.D.Disk.may_leave g.D.Disk.moment g.D.Disk.left_since g.D.Disk.faults g.F.Port.Port.faults (telling g.F.Port.Port.offered g.F.Port.Port.heard g.F.Port.Port.held g.F.Port.Port.quiet g.F.Port.Port.faults g.F.Port.Port.honest g.F.Port.Port.prompt g.F.Port.Port.start)
+    input-rolls g.D.Disk.told g.F.Port.Port.told
     c.args.limits (rank_by c.args.policy.now.answers) c.args.disk c.roll_out_input.result.disk (fleet_of g.F.Fleet.waiting g.F.Fleet.kept g.F.Fleet.lent g.F.Fleet.faults c.args.fleet.now) (fleet_of g.F.Fleet.waiting g.F.Fleet.kept g.F.Fleet.lent g.F.Fleet.faults c.roll_out_input.new.fleet) _ _ _ _ _ _ c.in-Ok.ensures.read c.roll_out_input.ensures.rolls
 
 pub returns-in-Ok-clause-read_fault : goal.returns-in-Ok-clause-read_fault

@@ -1,6 +1,5 @@
 use Rattle.std.proofs.Common.{◌≡◌, ap, arith}
 use Rattle.order_policy.specs.Answers.{rank_by}
-use Rattle.worker_ports.specs.Views.{telling}
 use Rattle.rollout_ports.specs.Berths.{ports_of}
 use Rattle.rollout_report.specs.Journals.{digest_for}
 use Rattle.swanroll_top.specs.Rollouts.{fleet_of}
@@ -9,8 +8,8 @@ use Rattle.swanroll_top.proofs.rollout.roll_out_plan.Goals as goal
 
 pub returns-clause-rolls : goal.returns-clause-rolls
 returns-clause-rolls g c = record {
-  network = c.keeps_valid.ensures.network;
-  valid = c.keeps_valid.ensures.valid;
+  network = c.checked_plan_is_valid.ensures.network;
+  valid = c.checked_plan_is_valid.ensures.valid;
   small = omega arith;
   answer = c.run_rollout-disk.result.answer;
   rolled = c.run_rollout-disk.ensures.rolled;
@@ -21,7 +20,7 @@ returns-clause-rolls g c = record {
 
 pub returns-clause-disk_fault : goal.returns-clause-disk_fault
 returns-clause-disk_fault g c = λ e.
-    disk-failed g.D.Disk.bytes g.D.Disk.may_leave g.D.Disk.moment g.D.Disk.left_since g.D.Disk.faults g.F.Port.Port.faults (telling g.F.Port.Port.offered g.F.Port.Port.heard g.F.Port.Port.held g.F.Port.Port.quiet g.F.Port.Port.faults g.F.Port.Port.honest g.F.Port.Port.prompt g.F.Port.Port.start)
+    disk-failed g.D.Disk.told g.F.Port.Port.told
     c.args.plan (digest_for c.args.plan c.args.limits.migration) (rank_by c.args.policy.now.answers) c.args.limits.rounds c.args.disk c.run_rollout-disk.result.disk
     (ports_of g.F.Fleet.waiting g.F.Fleet.kept g.F.Fleet.lent c.args.fleet.now) (ports_of g.F.Fleet.waiting g.F.Fleet.kept g.F.Fleet.lent c.run_rollout-disk.new.fleet)
     c.run_rollout-disk.result.answer (c.write_outcome.ensures.disk e) c.run_rollout-disk.ensures.rolled c.run_rollout-disk.ensures.unopened

@@ -1,36 +1,80 @@
-use Rattle.std.proofs.Common.{◌≡◌, ℕ, List, Option, refl, sym, ap, subst}
-use Rattle.rollout_rules.specs.declared.op.OpView.{OpView}
-use Rattle.order_policy.specs.Answers.{rank_by}
-use Rattle.worker_ports.specs.Views.{telling}
-use Rattle.sim_run.specs.declared.shape.Shape.{Shape}
-use Rattle.swanroll_top.proofs.Rolling.{asked-rolls}
-use Rattle.swanroll_top.specs.Rollouts.{fleet_of}
-use Rattle.swanroll_top.specs.Program.{RunsAsked}
-use Rattle.swanroll_top.specs.Runs.{Follows}
-use Rattle.swanroll_top.specs.Tries.{IsAskedShape, tried}
-use Rattle.swanroll_top.specs.Words.{Asked, a_trial, asked}
-use Rattle.swanroll_top.specs.declared.ending.Ending.{Ending}
+use Rattle.std.proofs.Common.{◌≡◌, true, false, refl, sym, ap, ◌∙◌, subst}
+use Rattle.swanroll_top.specs.Endings.{tells_place}
+use Rattle.swanroll_top.specs.Tries.{IsAskedShape}
+use Rattle.swanroll_top.specs.Words.{asked}
+use Rattle.swanroll_top.proofs.Promises.{ran-as, same-guests, same-ports}
 use Rattle.swanroll_top.proofs.run.run.Goals as goal
 
--- a trial follows from what was asked
-tried-runs : (policy : OpView → ℕ) (s : Shape) (what : Asked) (left told out out_now : Option (List ℕ)) (e : Ending) → what ≡ a_trial s policy → IsAskedShape what → Follows (tried policy s) e out out_now → RunsAsked what left left told e out out_now
-tried-runs policy s what left told out out_now e is within follows =
-    subst (λ a. RunsAsked a left left told e out out_now) (sym is) (record { unread = refl; shape = subst IsAskedShape is within; follows = follows })
+pub returns-in-Text : goal.returns-in-Text
+returns-in-Text g c = ran-as _ _ _ _ _ _ (ap asked c.in-Text.is) (record {
+  brings = c.run_text.ensures.runs;
+  read_fault = c.run_text.ensures.read_fault;
+  write_fault = c.run_text.ensures.write_fault;
+  disk_fault = λ e. absurd (c.run_text.ensures.no_disk e);
+  guest_fault = λ e. absurd (c.run_text.ensures.no_guest e);
+  unfinished = λ u e. absurd (c.run_text.ensures.no_rollout u e);
+  ran = c.run_text.ensures.ran;
+  unnamed = record { unread = tt; disk = refl; fleet = refl; ports = refl };
+  visiting = refl;
+})
 
-pub returns-in-Trial-clause-runs : goal.returns-in-Trial-clause-runs
-returns-in-Trial-clause-runs g c = tried-runs (rank_by c.in-Trial.policy.now.answers) c.in-Trial.shape _ _ _ _ _ _ (ap asked c.in-Trial.is) c.requires c.trial.ensures.follows
+pub returns-in-Report : goal.returns-in-Report
+returns-in-Report g c = ran-as _ _ _ _ _ _ (ap asked c.in-Report.is) (record {
+  brings = record { runs = c.report.ensures.runs; leaves = c.report.ensures.leaves };
+  read_fault = c.report.ensures.read_fault;
+  write_fault = c.report.ensures.write_fault;
+  disk_fault = λ e. (refl, c.report.ensures.disk_fault e);
+  guest_fault = λ e. absurd (c.report.ensures.no_guest e);
+  unfinished = λ u e. absurd (c.report.ensures.no_rollout u e);
+  ran = c.report.ensures.ran;
+  unnamed = record { unread = tt; disk = tt; fleet = refl; ports = refl };
+  visiting = refl;
+})
 
-pub returns-in-Run-clause-rolls : goal.returns-in-Run-clause-rolls
-returns-in-Run-clause-rolls g c =
-    asked-rolls g.D.Disk.bytes g.D.Disk.may_leave g.D.Disk.moment g.D.Disk.left_since g.D.Disk.faults g.F.Port.Port.faults (telling g.F.Port.Port.offered g.F.Port.Port.heard g.F.Port.Port.held g.F.Port.Port.quiet g.F.Port.Port.faults g.F.Port.Port.honest g.F.Port.Port.prompt g.F.Port.Port.start)
-    c.args.disk c.roll_out.result.disk (fleet_of g.F.Fleet.waiting g.F.Fleet.kept g.F.Fleet.lent g.F.Fleet.faults c.args.fleet.now) (fleet_of g.F.Fleet.waiting g.F.Fleet.kept g.F.Fleet.lent g.F.Fleet.faults c.roll_out.new.fleet)
-    _ c.in-Run.limits (rank_by c.in-Run.policy.now.answers) _ _ _ _ (ap asked c.in-Run.is) c.roll_out.ensures.rolls
+pub returns-in-Agent : goal.returns-in-Agent
+returns-in-Agent g c = ran-as _ _ _ _ _ _ (ap asked c.in-Agent.is) (record {
+  brings = c.agent.ensures.runs;
+  read_fault = λ e. absurd (c.agent.ensures.others.1 e);
+  write_fault = c.agent.ensures.write_fault;
+  disk_fault = λ e. absurd (c.agent.ensures.others.2 e);
+  guest_fault = λ e. (refl, c.agent.ensures.guest_fault e);
+  unfinished = λ u e. absurd (let no : true ≡ false = sym (ap tells_place e) ∙ c.agent.ensures.runs.known in cc);
+  ran = c.agent.ensures.others.0;
+  unnamed = record {
+    unread = refl;
+    disk = refl;
+    fleet = tt;
+    ports = same-ports g.F.Fleet.waiting g.F.Fleet.kept g.F.Fleet.lent c.args.fleet.now c.agent.new.fleet c.agent.ensures.ports.0 c.agent.ensures.ports.1 c.agent.ensures.ports.2;
+  };
+  visiting = c.agent.ensures.visiting;
+})
 
-pub returns-in-Text-clause-unfinished : goal.returns-in-Text-clause-unfinished
-returns-in-Text-clause-unfinished g c = λ u e. absurd (c.run_text.ensures.no_rollout u e)
+pub returns-in-Run : goal.returns-in-Run
+returns-in-Run g c = ran-as _ _ _ _ _ _ (ap asked c.in-Run.is) (record {
+  brings = record {
+    runs = c.roll_out.ensures.runs;
+    guests = same-guests _ _ c.roll_out.ensures.guests.0 c.roll_out.ensures.guests.1;
+    rolls = c.roll_out.ensures.rolls;
+  };
+  read_fault = c.roll_out.ensures.read_fault;
+  write_fault = c.roll_out.ensures.write_fault;
+  disk_fault = λ e. (refl, c.roll_out.ensures.disk_fault e);
+  guest_fault = λ e. absurd (c.roll_out.ensures.others.1 e);
+  unfinished = λ u e. refl;
+  ran = c.roll_out.ensures.others.0;
+  unnamed = record { unread = tt; disk = tt; fleet = tt; ports = tt };
+  visiting = c.roll_out.ensures.guests.2;
+})
 
-pub returns-in-Report-clause-unfinished : goal.returns-in-Report-clause-unfinished
-returns-in-Report-clause-unfinished g c = λ u e. absurd (c.report.ensures.no_rollout u e)
-
-pub returns-in-Trial-clause-unfinished : goal.returns-in-Trial-clause-unfinished
-returns-in-Trial-clause-unfinished g c = λ u e. absurd (c.trial.ensures.no_rollout u e)
+pub returns-in-Trial : goal.returns-in-Trial
+returns-in-Trial g c = ran-as _ _ _ _ _ _ (ap asked c.in-Trial.is) (record {
+  brings = record { unread = refl; shape = subst IsAskedShape (ap asked c.in-Trial.is) c.requires; follows = c.trial.ensures.follows };
+  read_fault = λ e. absurd (c.trial.ensures.others.1 e);
+  write_fault = c.trial.ensures.write_fault;
+  disk_fault = λ e. absurd (c.trial.ensures.others.2 e);
+  guest_fault = λ e. absurd (c.trial.ensures.others.3 e);
+  unfinished = λ u e. absurd (c.trial.ensures.no_rollout u e);
+  ran = c.trial.ensures.others.0;
+  unnamed = record { unread = refl; disk = refl; fleet = refl; ports = refl };
+  visiting = refl;
+})

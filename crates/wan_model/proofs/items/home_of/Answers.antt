@@ -1,14 +1,7 @@
-use Rattle.std.proofs.Common.{ap, length, arith}
-use Rattle.wan_model.proofs.Counted.{flow-exists, entry-exists}
+use Rattle.std.proofs.Common.{◌≡◌, true, subst, sym}
+use Rattle.rollout_rules.specs.Items.{is_item}
+use Rattle.rollout_rules.proofs.Numbers.{is_item-item_at}
 use Rattle.wan_model.proofs.items.home_of.Goals as goal
 
-pub first_switch-requires : goal.first_switch-requires
-first_switch-requires c = flow-exists c.args.problem.now c.args.number c.in-Flow.flow c.requires c.in-Flow.ensures
-
-pub path-requires : goal.path-requires
-path-requires c = (entry-exists c.args.problem.now c.args.number c.in-Entry.tunnel c.in-Entry.hop c.requires c.in-Entry.ensures).row
-
-pub bounds-path-hop : goal.bounds-path-hop
-bounds-path-hop c =
-    let here = entry-exists c.args.problem.now c.args.number c.in-Entry.tunnel c.in-Entry.hop c.requires c.in-Entry.ensures in
-    omega (arith, here.hop, ap length c.path.ensures.list)
+pub home_of_item-requires : goal.home_of_item-requires
+home_of_item-requires c = subst (λ i. is_item c.args.problem.now i ≡ true) (sym c.item_at.ensures) (is_item-item_at c.args.problem.now c.args.number c.requires)

@@ -6,7 +6,7 @@ use Rattle.port_session.proofs.Chaining.{if_err}
 use Rattle.worker_ports.specs.Lots.{own}
 use Rattle.worker_ports.specs.Offering.{IsOfferCause, Offers, OffersAll}
 use Rattle.worker_ports.specs.Rows.{IsCauseOfOffer}
-use Rattle.worker_ports.specs.Views.{telling, view}
+use Rattle.worker_ports.specs.Views.{view}
 use Rattle.worker_ports.proofs.Rowed.{SoFar, as_it_was, at_end, at_one, in_all, in_all_with, next, of_one, same_each, same_long, weaker}
 use Rattle.worker_ports.proofs.Told.{offers_nothing}
 use Rattle.worker_ports.proofs.round.offer_each.Goals as goal
@@ -24,13 +24,13 @@ own_lot homes commands olds news place d lot lots switches R so inside lies deal
 
 pub returns-in-Err-clause-each : goal.returns-in-Err-clause-each
 returns-in-Err-clause-each g c =
-    let tell = (telling g.T.Port.offered g.T.Port.heard g.T.Port.held g.T.Port.quiet g.T.Port.faults g.T.Port.honest g.T.Port.prompt g.T.Port.start) in
+    let tell = g.T.Port.told in
     same_each (λ a b. Offers c.args.migration (own c.args.homes.now a.switch c.args.commands.now) (view tell a) (view tell b))
     (λ a. offers_nothing c.args.migration (own c.args.homes.now a.switch c.args.commands.now) (view tell a)) c.args.sessions.now
 
 pub loop-place-preserved : goal.loop-place-preserved
 loop-place-preserved g c =
-    let tell = (telling g.T.Port.offered g.T.Port.heard g.T.Port.held g.T.Port.quiet g.T.Port.faults g.T.Port.honest g.T.Port.prompt g.T.Port.start) in
+    let tell = g.T.Port.told in
     next (λ a b. OffersAll c.args.migration (own c.args.homes.now a.switch c.args.commands.now) (view tell a) (view tell b)) c.loop-place.place c.args.sessions.now c.loop-place.sessions c.offer_at.new.session c.index-sessions-place.result
     c.loop-place.invariant (omega (arith, c.loop-place-test.true, c.loop-place.auto.sessions))
     (subst (λ lot. OffersAll c.args.migration lot (view tell (get_or c.loop-place.sessions c.loop-place.place c.index-sessions-place.result)) (view tell c.offer_at.new.session)) (own_lot c.args.homes.now c.args.commands.now c.args.sessions.now c.loop-place.sessions c.loop-place.place c.index-sessions-place.result c.lot.result.now c.deal.new.self.lots c.args.lots.now.switches
@@ -39,7 +39,7 @@ loop-place-preserved g c =
 
 pub returns-in_err-offer_at-clause-each : goal.returns-in_err-offer_at-clause-each
 returns-in_err-offer_at-clause-each g c =
-    let tell = (telling g.T.Port.offered g.T.Port.heard g.T.Port.held g.T.Port.quiet g.T.Port.faults g.T.Port.honest g.T.Port.prompt g.T.Port.start) in
+    let tell = g.T.Port.told in
     in_all_with (λ a b. OffersAll c.args.migration (own c.args.homes.now a.switch c.args.commands.now) (view tell a) (view tell b))
     (λ a b. Offers c.args.migration (own c.args.homes.now a.switch c.args.commands.now) (view tell a) (view tell b)) (λ a b all. all.some)
     (λ a. offers_nothing c.args.migration (own c.args.homes.now a.switch c.args.commands.now) (view tell a)) c.loop-place.place c.args.sessions.now c.loop-place.sessions c.offer_at.new.session c.index-sessions-place.result
@@ -50,7 +50,7 @@ returns-in_err-offer_at-clause-each g c =
 
 pub returns-in_err-offer_at-clause-cause : goal.returns-in_err-offer_at-clause-cause
 returns-in_err-offer_at-clause-cause g c =
-    let tell = (telling g.T.Port.offered g.T.Port.heard g.T.Port.held g.T.Port.quiet g.T.Port.faults g.T.Port.honest g.T.Port.prompt g.T.Port.start) in
+    let tell = g.T.Port.told in
     let why = c.in_err-offer_at.field-0.0 in
     let now = set c.loop-place.sessions c.loop-place.place c.offer_at.new.session in
     if_err c.from_residual.result why (λ w. IsCauseOfOffer tell w c.args.sessions.now now) c.from_residual.ensures.1
@@ -60,7 +60,7 @@ returns-in_err-offer_at-clause-cause g c =
 
 pub returns-clause-each : goal.returns-clause-each
 returns-clause-each g c =
-    let tell = (telling g.T.Port.offered g.T.Port.heard g.T.Port.held g.T.Port.quiet g.T.Port.faults g.T.Port.honest g.T.Port.prompt g.T.Port.start) in
+    let tell = g.T.Port.told in
     in_all (λ a b. Offers c.args.migration (own c.args.homes.now a.switch c.args.commands.now) (view tell a) (view tell b))
     (λ a. offers_nothing c.args.migration (own c.args.homes.now a.switch c.args.commands.now) (view tell a)) c.loop-place.place c.args.sessions.now c.loop-place.sessions
     (weaker (λ a b. OffersAll c.args.migration (own c.args.homes.now a.switch c.args.commands.now) (view tell a) (view tell b))
@@ -68,6 +68,6 @@ returns-clause-each g c =
 
 pub returns-clause-all : goal.returns-clause-all
 returns-clause-all g c =
-    let tell = (telling g.T.Port.offered g.T.Port.heard g.T.Port.held g.T.Port.quiet g.T.Port.faults g.T.Port.honest g.T.Port.prompt g.T.Port.start) in
+    let tell = g.T.Port.told in
     at_end (λ a b. OffersAll c.args.migration (own c.args.homes.now a.switch c.args.commands.now) (view tell a) (view tell b)) c.loop-place.place c.args.sessions.now c.loop-place.sessions
     c.loop-place.invariant (omega (arith, c.loop-place-test.false, c.loop-place.auto.sessions))

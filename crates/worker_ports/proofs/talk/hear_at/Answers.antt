@@ -4,41 +4,32 @@ use Rattle.std.specs.Prelude.{All}
 use Rattle.wan_edge.specs.Frames.{Answer}
 use Rattle.worker_ports.specs.Causes.{cause_of}
 use Rattle.worker_ports.specs.Hearing.{HearsOut, IsHearCause, IsOwn, Listens}
-use Rattle.worker_ports.specs.Views.{telling, view}
-use Rattle.worker_ports.proofs.Told.{behind, hear_cause, listens, tail_told, told_apart}
+use Rattle.worker_ports.specs.Views.{view}
+use Rattle.worker_ports.proofs.Told.{behind, hear_cause, tail_told, told_apart}
 use Rattle.worker_ports.proofs.talk.hear_at.Goals as goal
 
 pub returns-in-Err-clause-some : goal.returns-in-Err-clause-some
 returns-in-Err-clause-some g c =
-    let said = c.hear_all.ensures in
-    let hears = c.in-Err.ensures.err in
-    listens (telling g.T.Port.offered g.T.Port.heard g.T.Port.held g.T.Port.quiet g.T.Port.faults g.T.Port.honest g.T.Port.prompt g.T.Port.start)
-    c.args.session.now c.hear_all.new.self hears.bytes hears.appended said.switch said.unsent said.count said.told said.still_honest said.still_prompt said.same_start said.by_rule said.in_order
+    let said = c.hear_all.ensures in record { switch = said.switch; goes_on = said.port; unsent = said.unsent }
 
 pub returns-in-Err-clause-cause : goal.returns-in-Err-clause-cause
 returns-in-Err-clause-cause g c =
-    let tell = (telling g.T.Port.offered g.T.Port.heard g.T.Port.held g.T.Port.quiet g.T.Port.faults g.T.Port.honest g.T.Port.prompt g.T.Port.start) in
+    let tell = g.T.Port.told in
     subst (λ why. IsHearCause c.args.migration c.args.homes.now why (view tell c.args.session.now) (view tell c.hear_all.new.self))
     (sym (c.cause_at.ensures ∙ ap (λ w. cause_of w c.in-Err.fault) (c.switch.ensures ∙ c.hear_all.ensures.switch)))
     (hear_cause tell c.args.migration c.args.homes.now c.args.session.now c.hear_all.new.self c.args.answers.now c.hear_all.new.answers c.in-Err.fault c.in-Err.ensures.err (λ same. c.in-Err.ensures.cause (ap Err same)))
 
 pub returns-in-Some-clause-some : goal.returns-in-Some-clause-some
 returns-in-Some-clause-some g c =
-    let said = c.hear_all.ensures in
-    let hears = c.in_default.ensures.ok in
-    listens (telling g.T.Port.offered g.T.Port.heard g.T.Port.held g.T.Port.quiet g.T.Port.faults g.T.Port.honest g.T.Port.prompt g.T.Port.start)
-    c.args.session.now c.hear_all.new.self hears.bytes hears.appended said.switch said.unsent said.count said.told said.still_honest said.still_prompt said.same_start said.by_rule said.in_order
+    let said = c.hear_all.ensures in record { switch = said.switch; goes_on = said.port; unsent = said.unsent }
 
 pub returns-in-None-clause-some : goal.returns-in-None-clause-some
 returns-in-None-clause-some g c =
-    let said = c.hear_all.ensures in
-    let hears = c.in_default.ensures.ok in
-    listens (telling g.T.Port.offered g.T.Port.heard g.T.Port.held g.T.Port.quiet g.T.Port.faults g.T.Port.honest g.T.Port.prompt g.T.Port.start)
-    c.args.session.now c.hear_all.new.self hears.bytes hears.appended said.switch said.unsent said.count said.told said.still_honest said.still_prompt said.same_start said.by_rule said.in_order
+    let said = c.hear_all.ensures in record { switch = said.switch; goes_on = said.port; unsent = said.unsent }
 
 pub returns-in-None-clause-ok : goal.returns-in-None-clause-ok
 returns-in-None-clause-ok g c =
-    let tell = (telling g.T.Port.offered g.T.Port.heard g.T.Port.held g.T.Port.quiet g.T.Port.faults g.T.Port.honest g.T.Port.prompt g.T.Port.start) in
+    let tell = g.T.Port.told in
     let apart = told_apart c.args.migration (tell c.args.session.now.port).heard (tell c.hear_all.new.self.port).heard c.args.session.now.stream c.hear_all.new.self.stream c.args.answers.now c.hear_all.new.answers None c.in_default.ensures.ok in (
       apart.0,
       apart.1,
@@ -48,11 +39,11 @@ returns-in-None-clause-ok g c =
         own = subst (λ w. All (IsOwn c.args.homes.now w) apart.0) (c.switch-switch.ensures ∙ c.hear_all.ensures.switch)
             (subst (λ xs. All (IsOwn c.args.homes.now c.switch-switch.result) xs)
             (tail_told c.args.answers.now apart.0 c.hear_all.new.answers c.as_slice-before.result.now c.as_slice.result.now c.as_slice-before.ensures c.as_slice.ensures apart.1) c.in-None.ensures.none);
-        live = c.in_default.ensures.still_live;
-        cut = c.hear_all.ensures.cut c.in_default.ensures.still_live;
+        live = c.in_default.ensures.done.live;
+        cut = c.hear_all.ensures.cut c.in_default.ensures.done.live;
         idle = λ none. (ap (view tell) (c.in_default.ensures.idle none).1, sym (behind c.args.answers.now apart.0 c.hear_all.new.answers apart.1) ∙ ap (drop (length c.args.answers.now)) (c.in_default.ensures.idle none).2 ∙ drop-length c.args.answers.now);
-        heard_out = c.in_default.ensures.heard_out;
-        comes = c.in_default.ensures.answers_or_quiet;
-        all_given = c.in_default.ensures.all_given;
+        heard_out = c.in_default.ensures.done.heard_out;
+        comes = c.in_default.ensures.done.comes;
+        all_given = c.in_default.ensures.done.all_given;
       },
     )

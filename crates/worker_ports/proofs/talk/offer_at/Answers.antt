@@ -1,15 +1,15 @@
 use Rattle.std.proofs.Common.{length, ap}
 use Rattle.worker_ports.specs.Offering.{Offers}
-use Rattle.worker_ports.specs.Views.{telling, view}
+use Rattle.worker_ports.specs.Views.{view}
 use Rattle.worker_ports.proofs.Told.{all_sent, offers, until_sent}
 use Rattle.worker_ports.proofs.talk.offer_at.Goals as goal
 
 pub returns-in-Ok-clause-some : goal.returns-in-Ok-clause-some
 returns-in-Ok-clause-some g c =
     let said = c.offer_all.ensures in
-    offers (telling g.T.Port.offered g.T.Port.heard g.T.Port.held g.T.Port.quiet g.T.Port.faults g.T.Port.honest g.T.Port.prompt g.T.Port.start)
+    offers g.T.Port.told
     c.args.migration c.args.commands.now c.args.session.now c.offer_all.new.self (length c.args.commands.now) c.in-Ok.ensures.awaits (all_sent _ _ _ c.in-Ok.ensures.all)
-    said.unheard said.no_hear said.count said.told said.still_honest said.still_prompt said.same_start said.by_rule said.in_order
+    said.unheard said.no_hear said.port
 
 pub returns-in-Ok-clause-all : goal.returns-in-Ok-clause-all
 returns-in-Ok-clause-all g c = record {
@@ -21,6 +21,6 @@ returns-in-Ok-clause-all g c = record {
 pub returns-in-Err-clause-some : goal.returns-in-Err-clause-some
 returns-in-Err-clause-some g c =
     let said = c.offer_all.ensures in
-    offers (telling g.T.Port.offered g.T.Port.heard g.T.Port.held g.T.Port.quiet g.T.Port.faults g.T.Port.honest g.T.Port.prompt g.T.Port.start)
+    offers g.T.Port.told
     c.args.migration c.args.commands.now c.args.session.now c.offer_all.new.self 0 c.in-Err.ensures.awaits_none (until_sent c.in-Err.fault _ _ _ c.in-Err.ensures.until)
-    said.unheard said.no_hear said.count said.told said.still_honest said.still_prompt said.same_start said.by_rule said.in_order
+    said.unheard said.no_hear said.port

@@ -15,10 +15,10 @@ returns-in_err-commit-clause-any_moment g c =
     let kept = where_set _ _ c.self.invariant.0 live in
     let fits : j.entries + length c.args.batch.now ≤ j.most = search rules in
     let is : c.as_slice.result.now ≡ batch_body (entry_rows c.args.batch.now) ++ 0 ∷ [] = search rules in
-    subst (λ (o : Opened _). IfSome (g.D.Disk.bytes o.disk) (λ image. LeavesOnly g.D.Disk.moment g.D.Disk.left_since o.disk c.commit.new.disk (IsBeforeOrAfter (journal_in image) (entry_rows c.args.batch.now))))
+    subst (λ (o : Opened _). IfSome (g.D.Disk.told o.disk).bytes (λ image. LeavesOnly g.D.Disk.told o.disk c.commit.new.disk (IsBeforeOrAfter (journal_in image) (entry_rows c.args.batch.now))))
     c.self.view_is
-    (at_home j.gate j.end j.entries j.most _ c.self.invariant.1 c.args.batch.now c.requires.some fits c.as_slice.result.now is (g.D.Disk.bytes j.disk) (g.D.Disk.may_leave j.disk)
-    (λ image rows. LeavesOnly g.D.Disk.moment g.D.Disk.left_since j.disk c.commit.new.disk (IsBeforeOrAfter (journal_in image) rows)) kept c.commit.ensures.any_moment)
+    (at_home j.gate j.end j.entries j.most _ c.self.invariant.1 c.args.batch.now c.requires.some fits c.as_slice.result.now is (g.D.Disk.told j.disk).bytes (g.D.Disk.told j.disk).may_leave
+    (λ image rows. LeavesOnly g.D.Disk.told j.disk c.commit.new.disk (IsBeforeOrAfter (journal_in image) rows)) kept c.commit.ensures.any_moment)
 
 pub invariant_of-self-2 : goal.invariant_of-self-2
 invariant_of-self-2 g c =
@@ -29,8 +29,8 @@ invariant_of-self-2 g c =
     let is : c.as_slice.result.now ≡ batch_body (entry_rows c.args.batch.now) ++ 0 ∷ [] = search rules in
     let long : length c.as_slice.result.now ≡ c.len.result = search rules in
     let room = HasRoom-grows _ _ _ _ _ _ (room_after j.gate j.end j.entries j.most _ c.self.invariant.1 c.args.batch.now c.requires.some fits c.as_slice.result.now is) c.fill.ensures.capacity in
-    let rest = kept_after j.gate j.end j.entries j.most _ c.self.invariant.1 c.args.batch.now c.requires.some fits c.as_slice.result.now is (g.D.Disk.bytes j.disk) (g.D.Disk.bytes c.commit.new.disk)
-    (g.D.Disk.may_leave j.disk) (g.D.Disk.may_leave c.commit.new.disk) kept c.commit.ensures.told c.in_ok-commit.ensures.durable c.in_ok-commit.ensures.done in
+    let rest = kept_after j.gate j.end j.entries j.most _ c.self.invariant.1 c.args.batch.now c.requires.some fits c.as_slice.result.now is (g.D.Disk.told j.disk).bytes (g.D.Disk.told c.commit.new.disk).bytes
+    (g.D.Disk.told j.disk).may_leave (g.D.Disk.told c.commit.new.disk).may_leave kept c.commit.ensures.told c.in_ok-commit.ensures.durable c.in_ok-commit.ensures.done in
     rw (← long) (rest, room)
 
 pub returns-clause-any_moment : goal.returns-clause-any_moment
@@ -40,10 +40,10 @@ returns-clause-any_moment g c =
     let kept = where_set _ _ c.self.invariant.0 live in
     let fits : j.entries + length c.args.batch.now ≤ j.most = search rules in
     let is : c.as_slice.result.now ≡ batch_body (entry_rows c.args.batch.now) ++ 0 ∷ [] = search rules in
-    subst (λ (o : Opened _). IfSome (g.D.Disk.bytes o.disk) (λ image. LeavesOnly g.D.Disk.moment g.D.Disk.left_since o.disk c.commit.new.disk (IsBeforeOrAfter (journal_in image) (entry_rows c.args.batch.now))))
+    subst (λ (o : Opened _). IfSome (g.D.Disk.told o.disk).bytes (λ image. LeavesOnly g.D.Disk.told o.disk c.commit.new.disk (IsBeforeOrAfter (journal_in image) (entry_rows c.args.batch.now))))
     c.self.view_is
-    (at_home j.gate j.end j.entries j.most _ c.self.invariant.1 c.args.batch.now c.requires.some fits c.as_slice.result.now is (g.D.Disk.bytes j.disk) (g.D.Disk.may_leave j.disk)
-    (λ image rows. LeavesOnly g.D.Disk.moment g.D.Disk.left_since j.disk c.commit.new.disk (IsBeforeOrAfter (journal_in image) rows)) kept c.commit.ensures.any_moment)
+    (at_home j.gate j.end j.entries j.most _ c.self.invariant.1 c.args.batch.now c.requires.some fits c.as_slice.result.now is (g.D.Disk.told j.disk).bytes (g.D.Disk.told j.disk).may_leave
+    (λ image rows. LeavesOnly g.D.Disk.told j.disk c.commit.new.disk (IsBeforeOrAfter (journal_in image) rows)) kept c.commit.ensures.any_moment)
 
 pub returns-clause-done : goal.returns-clause-done
 returns-clause-done g c =
@@ -52,7 +52,7 @@ returns-clause-done g c =
     let kept = where_set _ _ c.self.invariant.0 live in
     let fits : j.entries + length c.args.batch.now ≤ j.most = search rules in
     let is : c.as_slice.result.now ≡ batch_body (entry_rows c.args.batch.now) ++ 0 ∷ [] = search rules in
-    subst (λ (o : Opened _). IfSome (g.D.Disk.bytes o.disk) (λ image. HasAdded c.args.batch.now image (g.D.Disk.bytes c.commit.new.disk) (g.D.Disk.may_leave c.commit.new.disk)))
+    subst (λ (o : Opened _). IfSome (g.D.Disk.told o.disk).bytes (λ image. HasAdded c.args.batch.now image (g.D.Disk.told c.commit.new.disk).bytes (g.D.Disk.told c.commit.new.disk).may_leave))
     c.self.view_is
-    (added_after j.gate j.end j.entries j.most _ c.self.invariant.1 c.args.batch.now c.requires.some fits c.as_slice.result.now is (g.D.Disk.bytes j.disk) (g.D.Disk.bytes c.commit.new.disk)
-    (g.D.Disk.may_leave j.disk) (g.D.Disk.may_leave c.commit.new.disk) kept c.in_ok-commit.ensures.done)
+    (added_after j.gate j.end j.entries j.most _ c.self.invariant.1 c.args.batch.now c.requires.some fits c.as_slice.result.now is (g.D.Disk.told j.disk).bytes (g.D.Disk.told c.commit.new.disk).bytes
+    (g.D.Disk.told j.disk).may_leave (g.D.Disk.told c.commit.new.disk).may_leave kept c.in_ok-commit.ensures.done)

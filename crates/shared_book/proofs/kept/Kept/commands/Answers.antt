@@ -10,11 +10,11 @@ invariant_of-self-2 g c =
     let leaves = list-leaves _ _ _ _ _ _ _ _ _ _ (vec_capacity c.write_if.new.notes) _ c.args.seat c.args.call c.listed-reply.result c.noted.result (shared-at _ _ c.self.view_is c.self.invariant.0) c.requires.call c.listed-reply.ensures.told
     c.noted.ensures c.make_room.ensures.same c.write_if.ensures.written (search rules) in (
       leaves.shared,
-      images-of g.D.Disk.bytes g.D.Disk.may_leave g.D.Disk.moment g.D.Disk.left_since g.D.Disk.faults g.M.Marker.opening g.M.Marker.moment g.M.Marker.faults
+      images-of g.D.Disk.told g.M.Marker.opening g.M.Marker.moment g.M.Marker.faults
           c.self.inside.chronicle.value.disk _ _ leaves.noted
-          (list-images g.D.Disk.bytes g.D.Disk.may_leave g.D.Disk.moment g.D.Disk.left_since g.D.Disk.faults g.M.Marker.opening g.M.Marker.moment g.M.Marker.faults
+          (list-images g.D.Disk.told g.M.Marker.opening g.M.Marker.moment g.M.Marker.faults
           c.args.self.now.log c.self.inside.chronicle.value.disk
-          (images-at g.D.Disk.bytes g.D.Disk.may_leave g.D.Disk.moment g.D.Disk.left_since g.D.Disk.faults g.M.Marker.opening g.M.Marker.moment g.M.Marker.faults c.self.inside.chronicle.value.disk _ _ c.self.view_is c.self.invariant.1)
+          (images-at g.D.Disk.told g.M.Marker.opening g.M.Marker.moment g.M.Marker.faults c.self.inside.chronicle.value.disk _ _ c.self.view_is c.self.invariant.1)
           c.args.seat c.listed-reply.result),
     )
 

@@ -7,8 +7,8 @@ use Rattle.shared_book.proofs.kept.Kept.first.Goals as goal
 pub invariant_of-result : goal.invariant_of-result
 invariant_of-result g c =
     let opened =
-    subst (λ (b : Chronicled g.row.D.Denot). IsOpenedOn g.D.Disk.bytes g.D.Disk.may_leave g.D.Disk.moment g.D.Disk.faults g.M.Marker.opening g.M.Marker.moment g.M.Marker.faults b) (sym c.in-Ok.ensures.ok) c.requires.opened in (
+    subst (λ (b : Chronicled g.row.D.Denot). IsOpenedOn g.D.Disk.told g.M.Marker.opening g.M.Marker.moment g.M.Marker.faults b) (sym c.in-Ok.ensures.ok) c.requires.opened in (
       first-shares g.M.Marker.opening g.M.Marker.seats c.args.seats c.in-Ok.chronicle.value c.reserve.new.self.items (vec_capacity c.reserve.new.self) opened.opened c.requires.seats (search rules) (search rules),
-      first-images g.D.Disk.bytes g.D.Disk.may_leave g.D.Disk.moment g.D.Disk.left_since g.D.Disk.faults g.M.Marker.opening g.M.Marker.moment g.M.Marker.faults
+      first-images g.D.Disk.told g.M.Marker.opening g.M.Marker.moment g.M.Marker.faults
           c.in-Ok.chronicle.value c.reserve.new.self.items opened (search rules) (g.met.D.Disk.only_now c.in-Ok.chronicle.value.disk),
     )

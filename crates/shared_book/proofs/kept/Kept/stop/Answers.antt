@@ -25,11 +25,11 @@ invariant_of-self g c =
     let not_yet : has_asked c.args.seat c.args.self.now.log ≡ false = asked-is _ _ _ _ c.as_slice.result.now _ _ _ _ c.args.seat c.has_asked.result false s c.as_slice.ensures.value c.has_asked.ensures (search rules) in
     let leaves = stop-leaves _ _ _ _ _ _ _ _ _ (vec_capacity c.write.new.notes) _ c.args.seat c.args.call c.args.cause s c.requires.seat not_yet c.requires.call c.write.ensures.notes c.write.ensures.halted (let r = c.write.ensures.room in omega arith) in (
       leaves.shared,
-      images-of g.D.Disk.bytes g.D.Disk.may_leave g.D.Disk.moment g.D.Disk.left_since g.D.Disk.faults g.M.Marker.opening g.M.Marker.moment g.M.Marker.faults
+      images-of g.D.Disk.told g.M.Marker.opening g.M.Marker.moment g.M.Marker.faults
           c.self.inside.chronicle.value.disk _ _ leaves.noted
-          (stop-images g.D.Disk.bytes g.D.Disk.may_leave g.D.Disk.moment g.D.Disk.left_since g.D.Disk.faults g.M.Marker.opening g.M.Marker.moment g.M.Marker.faults
+          (stop-images g.D.Disk.told g.M.Marker.opening g.M.Marker.moment g.M.Marker.faults
           c.args.self.now.log c.self.inside.chronicle.value.disk
-          (images-at g.D.Disk.bytes g.D.Disk.may_leave g.D.Disk.moment g.D.Disk.left_since g.D.Disk.faults g.M.Marker.opening g.M.Marker.moment g.M.Marker.faults c.self.inside.chronicle.value.disk _ _ c.self.view_is c.self.invariant.1)
+          (images-at g.D.Disk.told g.M.Marker.opening g.M.Marker.moment g.M.Marker.faults c.self.inside.chronicle.value.disk _ _ c.self.view_is c.self.invariant.1)
           c.args.seat c.args.cause),
     )
 

@@ -1,12 +1,12 @@
 use Rattle.std.proofs.Common.{◌≡◌, ◌∙◌, length, map, sym, ap, arith}
 use Rattle.worker_ports.specs.Hearing.{Listens}
-use Rattle.worker_ports.specs.Views.{telling, view}
+use Rattle.worker_ports.specs.Views.{view}
 use Rattle.worker_ports.proofs.Rowed.{back, same_switches}
 use Rattle.worker_ports.proofs.ports.WorkerPorts.hear.Goals as goal
 
 pub invariant_of-self : goal.invariant_of-self
 invariant_of-self g c =
-    let tell = (telling g.T.Port.offered g.T.Port.heard g.T.Port.held g.T.Port.quiet g.T.Port.faults g.T.Port.honest g.T.Port.prompt g.T.Port.start) in
+    let tell = g.T.Port.told in
     let long : length c.hear_each.new.sessions ≡ c.self.inside.sessions.len = omega (arith, c.hear_each.auto.sessions, c.as_mut_slice.ensures.len) in
     c.self.invariant ∙ ap (map (λ s. s.switch)) (sym c.as_mut_slice.ensures.value)
     ∙ sym (same_switches (λ a b. Listens (view tell a) (view tell b)) (λ a b step. step.switch) c.as_mut_slice.result.now c.hear_each.new.sessions c.hear_each.ensures.each)

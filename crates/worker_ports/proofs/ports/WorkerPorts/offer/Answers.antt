@@ -2,13 +2,13 @@ use Rattle.std.proofs.Common.{◌≡◌, ◌∙◌, length, map, sym, ap, subst,
 use Rattle.std.specs.Prelude.{All, IsTrue}
 use Rattle.worker_ports.specs.Lots.{own}
 use Rattle.worker_ports.specs.Offering.{Offers}
-use Rattle.worker_ports.specs.Views.{telling, view}
+use Rattle.worker_ports.specs.Views.{view}
 use Rattle.worker_ports.proofs.Rowed.{back, same_live, same_switches}
 use Rattle.worker_ports.proofs.ports.WorkerPorts.offer.Goals as goal
 
 pub invariant_of-self : goal.invariant_of-self
 invariant_of-self g c =
-    let tell = (telling g.T.Port.offered g.T.Port.heard g.T.Port.held g.T.Port.quiet g.T.Port.faults g.T.Port.honest g.T.Port.prompt g.T.Port.start) in
+    let tell = g.T.Port.told in
     let long : length c.offer_each.new.sessions ≡ c.self.inside.sessions.len = omega (arith, c.offer_each.auto.sessions, c.as_mut_slice.ensures.len) in
     c.offer_each.ensures.switches ∙ c.self.invariant ∙ ap (map (λ s. s.switch)) (sym c.as_mut_slice.ensures.value)
     ∙ sym (same_switches (λ a b. Offers c.args.migration (own c.args.homes.now a.switch c.args.commands.now) (view tell a) (view tell b)) (λ a b step. step.switch) c.as_mut_slice.result.now c.offer_each.new.sessions c.offer_each.ensures.each)
@@ -16,7 +16,7 @@ invariant_of-self g c =
 
 pub returns-clause-live : goal.returns-clause-live
 returns-clause-live g c = λ live.
-    let tell = (telling g.T.Port.offered g.T.Port.heard g.T.Port.held g.T.Port.quiet g.T.Port.faults g.T.Port.honest g.T.Port.prompt g.T.Port.start) in
+    let tell = g.T.Port.told in
     let long : length c.offer_each.new.sessions ≡ c.self.inside.sessions.len = omega (arith, c.offer_each.auto.sessions, c.as_mut_slice.ensures.len) in
     subst (All (λ s. IsTrue s.stream.live)) (sym (back c.offer_each.new.sessions c.self.inside.sessions.items c.self.inside.sessions.len long))
     (same_live (λ a b. Offers c.args.migration (own c.args.homes.now a.switch c.args.commands.now) (view tell a) (view tell b)) (λ a b step. step.live) c.as_mut_slice.result.now c.offer_each.new.sessions c.offer_each.ensures.each

@@ -1,0 +1,203 @@
+-- How the bytes of whole answers are told from the front of one that hasn't ended.
+use Rattle.std.proofs.Common.{◌≡◌, ℕ, ◌+◌, ◌-◌, ◌≤◌, List, [], ◌∷◌, ◌++◌, length, take, drop, true, Option, None, Some, Result, Ok, Err, refl, sym, ap, subst, ◌∙◌, append_assoc, arith, inl, inr, length-drop}
+use Rattle.std.proofs.lemmas.Bool.{true≢false}
+use Rattle.std.proofs.lemmas.List.{append-nil, drop-drop, drop-take, drop_all, take-append-le, take-take, take_all, take_rest, take-append-drop, length-take-le}
+use Rattle.std.proofs.lemmas.Slice.{take-put_mid}
+use borrow.Rule.Slice.PartMut.{put_mid}
+use Rattle.std.proofs.Math.Seq.{take-add, take-append-add}
+use Rattle.std.proofs.lemmas.List.Elements.{All-append, All-cons, All-nil}
+use Rattle.std.proofs.lemmas.Grind.{flat_map-append}
+use Rattle.std.proofs.KnownBytes.{Consumes-trans, Keeps-refl}
+use Rattle.std.specs.Io.KnownBytes.{Consumes, Keeps}
+use Rattle.std.specs.List.{All, flat_map}
+use Rattle.std.specs.Prelude.{OnOk}
+use Rattle.std.specs.Result.{IsErr}
+use Rattle.wan_edge.specs.Frames.{AnswerFrame, HasOtherKind, IsAnswer, IsCutAnswer, answer_bytes, answer_kind}
+use Rattle.wire_frames.proofs.Cuts.{cut_no_answer}
+use Rattle.wire_frames.specs.Reading.{Ends, IsAnswerFault, Reader, ReadsAnswer}
+use Rattle.wire_frames.specs.declared.fault.FrameFault.{FrameFault}
+use Rattle.wire_frames.specs.declared.fault.FrameFault.TheVariants.{Count, Kind}
+use Rattle.host_edge.specs.Connections.{HearsOver, inbox_of}
+use Rattle.host_edge.specs.Inboxes.{GivesOn, Held, HoldsBack, is_empty_list, nothing_in}
+use Rattle.host_edge.specs.declared.connection.Connection.{Connection}
+
+abbrev pub held : List ℕ → List ℕ → Held
+held ready cut = record { ready = ready; cut = cut }
+
+-- bytes of whole answers alone
+pub record AreWhole (bytes : List ℕ) : Type 0 where
+  pub answers : List AnswerFrame
+  pub fit : All IsAnswer answers
+  pub parts : bytes ≡ flat_map answer_bytes answers
+
+pub none_whole : AreWhole []
+none_whole = record { answers = []; fit = All-nil IsAnswer; parts = refl }
+
+one_more : (bytes piece : List ℕ) (frame : AnswerFrame) → AreWhole bytes → IsAnswer frame → answer_bytes frame ≡ piece → AreWhole (bytes ++ piece)
+one_more bytes piece frame w fits is = record {
+  answers = w.answers ++ frame ∷ [];
+  fit = All-append IsAnswer w.answers (frame ∷ []) w.fit (All-cons IsAnswer frame [] fits (All-nil IsAnswer));
+  parts =
+      ap (λ (xs : List ℕ). xs ++ piece) w.parts ∙ ap (λ (xs : List ℕ). flat_map answer_bytes w.answers ++ xs) (sym is ∙ sym (append-nil (answer_bytes frame)))
+      ∙ sym (flat_map-append answer_bytes w.answers (frame ∷ []));
+}
+
+module _ (bytes : List ℕ) (done : ℕ) (within : done ≤ length bytes) (whole : AreWhole (take done bytes)) where
+  abbrev rest : List ℕ
+  rest = take (length bytes - done) (drop done bytes)
+
+  rest_is : rest ≡ drop done bytes
+  rest_is = take_rest bytes done
+
+  -- an answer ends in what is left
+  pub one_further : (n : ℕ) (frame : AnswerFrame) (now : Reader) → Ends answer_bytes IsAnswer IsAnswerFault [] rest n frame now → AreWhole (take (done + n) bytes)
+  one_further n frame now ends =
+      subst AreWhole (ap (λ (xs : List ℕ). take done bytes ++ take n xs) rest_is ∙ sym (take-add done n bytes)) (one_more (take done bytes) (take n rest) frame whole ends.fits ends.whole)
+
+  -- a byte with which no answer begins stands first in what is left
+  pub stops_alien : (byte : ℕ) → HasOtherKind answer_kind rest byte → HoldsBack bytes (held (take (length bytes) bytes) (drop (length bytes) bytes))
+  stops_alien byte other = record {
+    parts = sym (take-append-drop (length bytes) bytes);
+    answers = whole.answers;
+    behind = drop done bytes;
+    whole = record {
+      fit = whole.fit;
+      parts = take_all (length bytes) bytes (omega arith) ∙ sym (take-append-drop done bytes) ∙ ap (λ (xs : List ℕ). xs ++ drop done bytes) whole.parts;
+    };
+    begun = subst IsCutAnswer (sym (drop_all (length bytes) bytes (omega arith))) cut_no_answer;
+    all = inr (byte, subst (λ (xs : List ℕ). HasOtherKind answer_kind xs byte) rest_is other, drop_all (length bytes) bytes (omega arith));
+  }
+
+  -- what reading on from there says, where an answer was found
+  pub reads_answer : (kept : List ℕ) → kept ≡ [] → (n : ℕ) (found : Option AnswerFrame) (frame : AnswerFrame) (now : Reader) → found ≡ Some frame → ReadsAnswer kept rest (Ok (n, found)) now
+      → record { within : done + n ≤ length bytes; whole : AreWhole (take (done + n) bytes) }
+  reads_answer kept none n found frame now is read =
+      let ends : Ends answer_bytes IsAnswer IsAnswerFault [] rest n frame now =
+      subst (λ (given : Option AnswerFrame). ReadsAnswer [] rest (Ok (n, given)) now) is (subst (λ (front : List ℕ). ReadsAnswer front rest (Ok (n, found)) now) none read) in
+      record { within = omega (arith, within, ends.within, ap length rest_is, length-drop done bytes); whole = one_further n frame now ends }
+
+  -- where a byte was found with which no answer begins
+  pub reads_fault : (kept : List ℕ) → kept ≡ [] → (fault : FrameFault) (now : Reader) → ReadsAnswer kept rest (Err fault) now → HoldsBack bytes (held (take (length bytes) bytes) (drop (length bytes) bytes))
+  reads_fault kept none (Kind byte) now read = stops_alien byte (subst (λ (front : List ℕ). HasOtherKind answer_kind (front ++ rest) byte) none read.at_byte)
+  reads_fault kept none (Count byte) now read = absurd read.at_byte
+
+  -- nothing is left
+  pub stops_whole : length bytes ≤ done → HoldsBack bytes (held (take done bytes) (drop done bytes))
+  stops_whole all = record {
+    parts = sym (take-append-drop done bytes);
+    answers = whole.answers;
+    behind = [];
+    whole = record { fit = whole.fit; parts = whole.parts ∙ sym (append-nil (flat_map answer_bytes whole.answers)) };
+    begun = subst IsCutAnswer (sym (drop_all done bytes all)) cut_no_answer;
+    all = inl refl;
+  }
+
+-- where nothing came, nothing more is ready
+pub holds_nothing : (before : Held) → before.ready ≡ [] → IsCutAnswer before.cut → HoldsBack (before.cut ++ []) before
+holds_nothing before empty cut = record {
+  parts = append-nil before.cut ∙ ap (λ (xs : List ℕ). xs ++ before.cut) (sym empty);
+  answers = [];
+  behind = [];
+  whole = record { fit = All-nil IsAnswer; parts = empty };
+  begun = cut;
+  all = inl refl;
+}
+
+pub gives_nothing : (before : Held) → IsCutAnswer before.cut → GivesOn before [] [] before
+gives_nothing before cut = record {
+  whole = [];
+  sorted = record {
+    parts = append-nil before.cut;
+    answers = [];
+    behind = [];
+    whole = record { fit = All-nil IsAnswer; parts = refl };
+    begun = cut;
+    all = inl refl;
+  };
+  next = append-nil before.ready;
+}
+
+-- the next bytes were copied over the front of others
+pub given_front : (bytes into copied : List ℕ) (given whole n : ℕ) → n ≤ whole - given → length copied ≡ n → copied ≡ take n (drop given bytes)
+    → take (whole - given) (drop given bytes) ≡ take n (copied ++ drop n into) ++ take (whole - (given + n)) (drop (given + n) bytes)
+given_front bytes into copied given whole n few long is =
+    let m : ℕ = whole - (given + n) in
+    let total : n + m ≡ whole - given = omega (arith, few) in
+    ap (λ (k : ℕ). take k (drop given bytes)) (sym total) ∙ take-add n m (drop given bytes)
+    ∙ ap (λ (xs : List ℕ). xs ++ take m (drop n (drop given bytes))) (sym is ∙ sym (take_all n copied (omega (arith, long))) ∙ sym (take-append-le n copied (drop n into) (omega (arith, long))))
+    ∙ ap (λ (xs : List ℕ). take n (copied ++ drop n into) ++ take m xs) (drop-drop n given bytes)
+
+-- behind the bytes that were there stand those that came
+pub put_behind : (bytes into : List ℕ) (front room n : ℕ) → front ≤ length bytes → n ≤ length into → take (front + n) (put_mid front room bytes into) ≡ take front bytes ++ take n into
+put_behind bytes into front room n inside few =
+    sym (take-take (front + n) (front + length into) (put_mid front room bytes into) (omega (arith, few)))
+    ∙ ap (take (front + n)) (take-put_mid front room bytes into (front + length into) refl inside)
+    ∙ ap (λ (k : ℕ). take (k + n) (take front bytes ++ into)) (sym (length-take-le front bytes inside))
+    ∙ take-append-add (take front bytes) into n
+
+-- what is cut, by its place among all bytes
+pub cut_is : (bytes : List ℕ) (whole end : ℕ) → whole ≤ end → drop whole (take end bytes) ≡ take (end - whole) (drop whole bytes)
+cut_is bytes whole end within =
+    let far : end ≡ whole + (end - whole) = omega (arith, within) in
+    ap (λ (k : ℕ). drop whole (take k bytes)) far ∙ drop-take whole (end - whole) bytes
+
+-- what is ready, and what is cut, by their places among all bytes
+pub by_places : (bytes : List ℕ) (whole end : ℕ) → whole ≤ end → HoldsBack (take end bytes) (held (take whole (take end bytes)) (drop whole (take end bytes)))
+    → HoldsBack (take end bytes) (held (take (whole - 0) (drop 0 bytes)) (take (end - whole) (drop whole bytes)))
+by_places bytes whole end within sorted =
+    let same : whole ≡ whole - 0 = omega arith in
+    subst (λ (cut : List ℕ). HoldsBack (take end bytes) (held (take (whole - 0) (drop 0 bytes)) cut)) (cut_is bytes whole end within)
+    (subst (λ (ready : List ℕ). HoldsBack (take end bytes) (held ready (drop whole (take end bytes)))) (take-take whole end bytes within ∙ ap (λ (k : ℕ). take k (drop 0 bytes)) same) sorted)
+
+pub empty_list : (xs : List ℕ) → is_empty_list xs ≡ true → xs ≡ []
+empty_list [] is = refl
+empty_list (x ∷ xs) is = absurd (true≢false (sym is))
+
+pub cut_only : (before now : Held) (piece : List ℕ) → HoldsBack (before.cut ++ piece) now → now.ready ≡ [] → before.cut ++ piece ≡ now.cut
+cut_only before now piece sorted empty = sorted.parts ∙ ap (λ (xs : List ℕ). xs ++ now.cut) empty
+
+pub Keeps-consumes : (a b : Option (List ℕ)) → Keeps a b → Consumes a b []
+Keeps-consumes None b kept = tt
+Keeps-consumes (Some xs) None kept = absurd kept
+Keeps-consumes (Some xs) (Some ys) kept = sym kept
+
+pub err_is_not_ok : {X E : Type 0} → (P : Type 0) (answer : Result X E) → IsErr answer → OnOk answer P
+err_is_not_ok P (Ok x) err = absurd (true≢false (sym err))
+err_is_not_ok P (Err e) err = tt
+
+pub Keeps-same : {X : Type 0} → (known : X → Option (List ℕ)) (before now : X) → now ≡ before → Keeps (known before) (known now)
+Keeps-same known before now same = subst (λ x. Keeps (known before) (known x)) (sym same) (Keeps-refl (known before))
+
+-- nothing came
+pub reads_nothing : (a b : Option (List ℕ)) (before now : Held) → Keeps a b → now ≡ before → before.ready ≡ [] → IsCutAnswer before.cut → Consumes a b [] × HoldsBack (before.cut ++ []) now
+reads_nothing a b before now kept same empty cut = (Keeps-consumes a b kept, subst (HoldsBack (before.cut ++ [])) (sym same) (holds_nothing before empty cut))
+
+-- the bytes that came were the front of an answer all the time
+pub record CutSoFar (a b : Option (List ℕ)) (before now : Held) : Type 0 where
+  pub empty : now.ready ≡ []
+  pub begun : IsCutAnswer now.cut
+  pub piece : List ℕ
+  pub came : Consumes a b piece
+  pub cut : before.cut ++ piece ≡ now.cut
+
+pub cut_more : (a b c : Option (List ℕ)) (before mid now : Held) (more : List ℕ) → CutSoFar a b before mid → Consumes b c more → HoldsBack (mid.cut ++ more) now → now.ready ≡ [] → CutSoFar a c before now
+cut_more a b c before mid now more so then sorted empty = record {
+  empty = empty;
+  begun = sorted.begun;
+  piece = so.piece ++ more;
+  came = Consumes-trans a b c so.piece more so.came then;
+  cut = sym (append_assoc before.cut so.piece more) ∙ ap (λ (xs : List ℕ). xs ++ more) so.cut ∙ cut_only mid now more sorted empty;
+}
+
+module _ (S : Type 0) where
+  -- where nothing is held any more, nothing was given on
+  pub hears_none : (before now : Option (Connection S)) → inbox_of now ≡ nothing_in → HearsOver before [] now
+  hears_none before now none = record {
+    start = nothing_in;
+    from = inr refl;
+    piece = [];
+    given_on = subst (GivesOn nothing_in [] []) (sym none) (gives_nothing nothing_in cut_no_answer);
+  }
+
+  pub hears_nothing : (connection : Option (Connection S)) → connection ≡ None → HearsOver connection [] connection
+  hears_nothing connection is = hears_none connection connection (ap inbox_of is)

@@ -1,0 +1,150 @@
+ghost use Rattle.std.specs.Prelude.{◌≡◌, ◌+◌, ◌<◌, ◌≤◌, ◌++◌, [], List, ℕ, drop, length, take, IfOk, OnErr};
+ghost use Rattle.std.specs.Io.KnownBytes.{Consumes, Keeps};
+ghost use Rattle.wan_edge.specs.Frames.{IsCutAnswer};
+ghost use Rattle.host_edge.specs.Inboxes.{HoldsBack, is_empty_list, nothing_in};
+
+use crate::unbroken::read_some;
+use std::cmp::min;
+use std::io::{self, Read};
+use std::marker::Model;
+use wire_frames::AnswerReader;
+
+/// How many bytes there is room for.
+const ROOM: usize = 4_096;
+
+/// What came over one connection and wasn't given on: the bytes of whole answers, and behind them the front
+/// of the answer that hasn't ended, which is held back.
+#[derive(Drop)]
+pub(crate) struct Inbox {
+    bytes: [u8; ROOM],
+    given: usize,
+    whole: usize,
+    end: usize,
+}
+
+impl Model for Inbox {
+    ghost use Rattle.std.specs.Prelude.{◌≤◌, ◌-◌, drop, take};
+    ghost use Rattle.wan_edge.specs.Frames.{IsCutAnswer};
+    ghost use Rattle.host_edge.specs.Inboxes.{Held};
+
+    ghost Value = { Held };
+
+    ghost view = { λ b. record {
+      ready = take (b.whole - b.given) (drop b.given b.bytes);
+      cut = take (b.end - b.whole) (drop b.whole b.bytes);
+    } };
+
+    ghost invariant = { λ b. (b.given ≤ b.whole)
+        × (b.whole ≤ b.end)
+        × (b.end ≤ 4_096)
+        × IsCutAnswer (take (b.end - b.whole) (drop b.whole b.bytes)) };
+}
+
+impl Inbox {
+    pub(crate) fn new() -> Self
+        ensures { result ≡ nothing_in }
+    {
+        Inbox {
+            bytes: [0; ROOM],
+            given: 0,
+            whole: 0,
+            end: 0,
+        }
+    }
+
+    /// Whether no byte is to be given on.
+    pub(crate) fn is_empty(&self) -> bool
+        ensures empty { result ≡ is_empty_list self.now.ready }
+        ensures begun { IsCutAnswer self.now.cut }
+    {
+        self.given == self.whole
+    }
+
+    /// Reads once, behind the front of the answer that hasn't ended, and says how many bytes came.
+    pub(crate) fn fill<R: Read>(&mut self, reader: &mut R) -> io::Result<usize>
+        requires empty { self.old.ready ≡ [] }
+        ensures sorted { IfOk result
+            (λ n. (piece : List ℕ)
+            × (length piece ≡ n)
+            × Consumes (R.remaining reader.old) (R.remaining reader.new) piece
+            × HoldsBack (self.old.cut ++ piece) self.new) }
+        ensures same { OnErr result (self.new ≡ self.old) }
+        ensures unread { OnErr result (Keeps (R.remaining reader.old) (R.remaining reader.new)) }
+    {
+        let cut = self.end - self.whole;
+        let mut bytes = room_behind(&self.bytes[self.whole..self.end]);
+        let n = read_behind(reader, &mut bytes, cut)?;
+        *self = Inbox::sorted(bytes, cut + n);
+        Ok(n)
+    }
+
+    // What came, and goes up to a place, sorted into what is whole and what is cut.
+    fn sorted(bytes: [u8; ROOM], end: usize) -> Self
+        requires { end ≤ 4_096 }
+        ensures { HoldsBack (take end bytes) result }
+    {
+        let whole = whole_len(&bytes[..end]);
+        Inbox {
+            bytes,
+            given: 0,
+            whole,
+            end,
+        }
+    }
+
+    /// Gives the next bytes of whole answers into the front of `into`, and says how many.
+    pub(crate) fn give(&mut self, into: &mut [u8]) -> usize
+        ensures within { result ≤ length into.old }
+        ensures next { self.old.ready ≡ take result into.new ++ self.new.ready }
+        ensures cut { self.new.cut ≡ self.old.cut }
+        ensures some { 0 < length into.old → 0 < length self.old.ready → 0 < result }
+    {
+        let n = min(self.whole - self.given, into.len());
+        into[..n].copy_from_slice(&self.bytes[self.given..self.given + n]);
+        self.given += n;
+        n
+    }
+}
+
+// These bytes, and room for others behind them.
+fn room_behind(front: &[u8]) -> [u8; ROOM]
+    requires { length front.now ≤ 4_096 }
+    ensures { take (length front.now) result ≡ front.now }
+{
+    let mut bytes = [0; ROOM];
+    bytes[..front.len()].copy_from_slice(front);
+    bytes
+}
+
+// Reads once, into the places behind the first ones.
+fn read_behind<R: Read>(reader: &mut R, bytes: &mut [u8], front: usize) -> io::Result<usize>
+    requires { front ≤ length bytes.old }
+    ensures within { IfOk result (λ n. front + n ≤ length bytes.old) }
+    ensures taken { IfOk result
+        (λ n. (piece : List ℕ)
+        × (length piece ≡ n)
+        × Consumes (R.remaining reader.old) (R.remaining reader.new) piece
+        × (take (front + n) bytes.new ≡ take front bytes.old ++ piece)) }
+    ensures unread { OnErr result (Keeps (R.remaining reader.old) (R.remaining reader.new)) }
+{
+    let n = read_some(reader, &mut bytes[front..])?;
+    Ok(n)
+}
+
+// How many of the bytes are those of whole answers, one behind the other; all of them where one stands in an
+// answer's first place with which none begins.
+fn whole_len(bytes: &[u8]) -> usize
+    ensures within { result ≤ length bytes.now }
+    ensures sorted { HoldsBack bytes.now
+        (record { ready = take result bytes.now; cut = drop result bytes.now }) }
+{
+    let mut done = 0;
+    while done < bytes.len() {
+        match AnswerReader::new().feed(&bytes[done..]) {
+            Ok((n, Some(_))) => done += n,
+            Ok((_, None)) => return done,
+            Err(_) => return bytes.len(),
+        }
+    }
+    done
+}

@@ -1,0 +1,209 @@
+-- How the promise of the call follows from what a command brought about and from what was noted.
+use Rattle.std.proofs.Common.{◌≡◌, ℕ, Bool, List, drop, String, false, Option, Some, None, Result, Ok, Err, refl, sym, ap, ◌∙◌, subst}
+use Rattle.std.specs.declared.alloc.Global.{Global}
+use Rattle.rollout_rules.specs.declared.op.OpView.{OpView}
+use Rattle.agent_service.specs.Services.{Guests}
+use Rattle.rollout_ports.specs.Berths.{FleetPorts, ports_of}
+use Rattle.rollout_run.specs.declared.running.Limits.{Limits}
+use Rattle.sim_run.specs.declared.shape.Shape.{Shape}
+use Rattle.swanroll_top.specs.Agents.{service_answer}
+use Rattle.swanroll_top.specs.Endings.{status_of, tells_place}
+use Rattle.swanroll_top.specs.Program.{Streams}
+use Rattle.swanroll_top.specs.Promise.{Brings, EndsUnread, Keeps, Promise, Ran, StartPromise, ending_of_unread}
+use Rattle.swanroll_top.specs.ReportPromise.{BringsReport, ReportPromise}
+use Rattle.swanroll_top.specs.Reports.{RunsReport}
+use Rattle.swanroll_top.specs.Rollouts.{RollsAs, RunsRollout}
+use Rattle.swanroll_top.specs.RunPromise.{BringsRollout, RunPromise}
+use Rattle.swanroll_top.specs.Runs.{IsTold, Runs}
+use Rattle.swanroll_top.specs.TextPromise.{TextPromise}
+use Rattle.swanroll_top.specs.TrialPromise.{TrialPromise}
+use Rattle.swanroll_top.specs.Tries.{RunsTrial, tried}
+use Rattle.swanroll_top.specs.Views.{Objects, Outside, Views, left_at, outside, seen, streams, used, written_at}
+use Rattle.swanroll_top.specs.Words.{Asked, TextAsked, a_report, a_run, a_text, a_trial, an_agent, asked_by}
+use Rattle.swanroll_top.specs.declared.arguments.Unread.{Unread}
+use Rattle.swanroll_top.specs.declared.arguments.Unread.TheVariants as unread
+use Rattle.swanroll_top.specs.declared.ending.Ending.{Ending}
+use Rattle.swanroll_top.specs.declared.ending.Ending.TheVariants.{Usage, OutOfMemory}
+use Rattle.swanroll_top.proofs.Agents.{serves-as}
+use Rattle.swanroll_top.proofs.Leaving.{told-leaves}
+use Rattle.swanroll_top.proofs.Programs.{command-run, ended, follows-ends, follows-of, follows-unwritten, not-usage, report-unwritten, reports-of, rollout-unwritten, rollouts-of, text-unwritten, told-brings, usage-run}
+use Rattle.swanroll_top.proofs.Reaching.{rolls-safe, rolls-target}
+
+-- what is told alike is the same
+
+abbrev ports_with : {P : Type 0} → Option (ℕ → Option P) → (ℕ → Option P) → (ℕ → Bool) → FleetPorts P
+ports_with waiting kept lent = record { waiting = waiting; kept = kept; lent = lent }
+
+pub same-ports : {F P : Type 0} (waiting : F → Option (ℕ → Option P)) (kept : F → ℕ → Option P) (lent : F → ℕ → Bool) (before now : F) → waiting now ≡ waiting before → kept now ≡ kept before → lent now ≡ lent before
+    → ports_of waiting kept lent now ≡ ports_of waiting kept lent before
+same-ports waiting kept lent before now w k l =
+    ap (λ x. ports_with x (kept now) (lent now)) w ∙ (ap (λ x. ports_with (waiting before) x (lent now)) k ∙ ap (λ x. ports_with (waiting before) (kept before) x) l)
+
+abbrev guests_with : {G : Type 0} → Option (List G) → List G → Guests G
+guests_with coming served = record { coming = coming; served = served }
+
+pub same-guests : {G : Type 0} (before now : Guests G) → now.coming ≡ before.coming → now.served ≡ before.served → now ≡ before
+same-guests before now c s = ap (λ x. guests_with x now.served) c ∙ ap (λ x. guests_with before.coming x) s
+
+-- ---- by what is told of an ending
+
+-- `plan`, `check` and `sim`
+text-keeps : (what : TextAsked) (before after : Streams) (e : Ending) (status : ℕ) → Runs what before.left after.left e before.written after.written → IsTold e status before.noted after.noted before.notes_faults after.notes_faults
+    → TextPromise what before after status
+text-keeps what before after e status runs told =
+    let told_runs = told-brings (λ x. Runs what before.left after.left x before.written after.written) before.written after.written e told.told told.is runs
+    (text-unwritten what before.left after.left before.written after.written e runs) (λ same. same) in
+    record {
+      does = λ read memory. record {
+        ending = told.told;
+        is_status = told.is_status;
+        follows = follows-of what before.left after.left before.written after.written told.told told_runs (λ h. read (told.is_status ∙ h)) (λ h. memory (told.is_status ∙ h));
+        line = told.line;
+      };
+    }
+
+-- `trial`
+trial-keeps : (policy : OpView → ℕ) (shape : Shape) (before after : Streams) (e : Ending) (status : ℕ) → RunsTrial policy shape before.left after.left e before.written after.written
+    → IsTold e status before.noted after.noted before.notes_faults after.notes_faults → TrialPromise policy shape before after status
+trial-keeps policy shape before after e status runs told =
+    let told_runs = told-brings (λ x. RunsTrial policy shape before.left after.left x before.written after.written) before.written after.written e told.told told.is runs
+    (follows-unwritten (tried policy shape) e before.written after.written runs.follows) (λ same. record { unread = runs.unread; shape = runs.shape; follows = same }) in
+    record {
+      does = λ memory. record {
+        ending = told.told;
+        is_status = told.is_status;
+        follows = record {
+          unread = runs.unread;
+          shape = runs.shape;
+          answer = follows-ends (tried policy shape) told.told before.written after.written told_runs.follows (λ h. memory (told.is_status ∙ h));
+        };
+        line = told.line;
+      };
+    }
+
+module _ {S K D F P G : Type 0} (views : Views S K D F P G) where
+  -- `report`
+  report-keeps : (m : ℕ) (before after : Outside S K D F) (e : Ending) (status : ℕ) → BringsReport views m (used before) e (used after)
+      → IsTold e status (views.sink before.notes).written (views.sink after.notes).written (views.sink before.notes).faults (views.sink after.notes).faults → ReportPromise views m before status after
+  report-keeps m before after e status brings told =
+      let left = (views.source before.source).left in
+      let left_now = (views.source after.source).left in
+      let stored = (views.disk before.disk).bytes in
+      let out = (views.sink before.sink).written in
+      let out_now = (views.sink after.sink).written in
+      let told_runs = told-brings (λ x. RunsReport m left left_now stored x out out_now) out out_now e told.told told.is brings.runs (report-unwritten m left left_now stored out out_now e brings.runs) (λ same. same) in
+      record {
+        does = λ read device memory. record {
+          ending = told.told;
+          is_status = told.is_status;
+          follows = reports-of m left left_now stored out out_now told.told told_runs (λ h. read (told.is_status ∙ h)) (λ h. device (told.is_status ∙ h)) (λ h. memory (told.is_status ∙ h));
+          line = told.line;
+        };
+        leaves = told-leaves views.disk
+            before.disk after.disk m left e status _ _ _ _ told brings.leaves;
+      }
+
+  -- `run`
+  run-keeps : (limits : Limits) (policy : OpView → ℕ) (before after : Outside S K D F) (e : Ending) (status : ℕ) → BringsRollout views limits policy (used before) e (used after)
+      → IsTold e status (views.sink before.notes).written (views.sink after.notes).written (views.sink before.notes).faults (views.sink after.notes).faults → RunPromise views limits policy before status after
+  run-keeps limits policy before after e status brings told =
+      let left = (views.source before.source).left in
+      let left_now = (views.source after.source).left in
+      let out = (views.sink before.sink).written in
+      let out_now = (views.sink after.sink).written in
+      let fleet = seen (views.fleet before.fleet) in
+      let fleet_now = seen (views.fleet after.fleet) in
+      let told_runs = told-brings (λ x. RunsRollout left left_now x out out_now) out out_now e told.told told.is brings.runs (rollout-unwritten left left_now out out_now e brings.runs) (λ same. same) in
+      let rolls : RollsAs views.disk views.port
+      left limits policy before.disk after.disk fleet fleet_now status out out_now = record { ending = e; told = told.told; told_as = told.is; is_status = told.is_status; rolls = brings.rolls } in
+      record {
+        does = λ read memory. record {
+          ending = told.told;
+          is_status = told.is_status;
+          follows = rollouts-of left left_now out out_now told.told told_runs (λ h. read (told.is_status ∙ h)) (λ h. memory (told.is_status ∙ h));
+          line = told.line;
+        };
+        serves = brings.guests;
+        rolls = rolls;
+        safe = λ of.
+            rolls-safe views.disk views.port
+            left before.disk after.disk fleet fleet_now out out_now limits policy status rolls of;
+        target = λ zero.
+            rolls-target views.disk views.port
+            left before.disk after.disk fleet fleet_now out out_now limits policy status rolls zero;
+      }
+
+  -- each command
+  command-keeps : (c : Asked) (before after : Outside S K D F) (e : Ending) (status : ℕ) → Brings views c (used before) e (used after)
+      → IsTold e status (views.sink before.notes).written (views.sink after.notes).written (views.sink before.notes).faults (views.sink after.notes).faults → Keeps views (Some c) before status after
+  command-keeps (a_text what) before after e status brings told = text-keeps what (streams views before) (streams views after) e status brings told
+  command-keeps (a_report m) before after e status brings told = report-keeps m before after e status brings told
+  command-keeps (an_agent guests) before after e status brings told = record { serves = serves-as views.guest guests _ _ e status _ _ _ _ _ _ brings told }
+  command-keeps (a_trial shape policy) before after e status brings told = trial-keeps policy shape (streams views before) (streams views after) e status brings told
+  command-keeps (a_run limits policy) before after e status brings told = run-keeps limits policy before after e status brings told
+
+  -- nothing was written but a text, or a part of it
+  command-silent : (c : Asked) (before after : Objects S K D F) (e : Ending) → Brings views c before e after → (status_of e ≡ 0 → ⊥) → (status_of e ≡ 7 → ⊥) → written_at views after ≡ written_at views before
+  command-silent (a_text what) before after e brings done cut = text-unwritten what (left_at views before) (left_at views after) (written_at views before) (written_at views after) e brings done cut
+  command-silent (a_report m) before after e brings done cut = report-unwritten m (left_at views before) (left_at views after) (views.disk before.disk).bytes (written_at views before) (written_at views after) e brings.runs done cut
+  command-silent (an_agent guests) before after e brings done cut = follows-unwritten (service_answer brings.came) e (written_at views before) (written_at views after) brings.follows done cut
+  command-silent (a_trial shape policy) before after e brings done cut = follows-unwritten (tried policy shape) e (written_at views before) (written_at views after) brings.follows done cut
+  command-silent (a_run limits policy) before after e brings done cut = rollout-unwritten (left_at views before) (left_at views after) (written_at views before) (written_at views after) e brings.runs done cut
+
+  -- a command was done
+  pub promised : (asked : Option Asked) (c : Asked) (before after : Outside S K D F) (e : Ending) (status : ℕ) → asked ≡ Some c → Ran views c (used before) e (used after)
+      → IsTold e status (views.sink before.notes).written (views.sink after.notes).written (views.sink before.notes).faults (views.sink after.notes).faults
+      → (status ≡ 0 → after.notes ≡ before.notes) → Promise views asked before status after
+  promised asked c before after e status is ran told quiet =
+      subst (λ a. Promise views a before status after) (sym is) (record {
+        run = command-run (Some c) c (streams views before) (streams views after) e status refl (command-silent c (used before) (used after) e ran.brings)
+            ran.read_fault ran.write_fault ran.disk_fault ran.guest_fault ran.unfinished ran.ran told;
+        untouched = λ h. absurd (not-usage e status _ _ _ _ ran.ran told h);
+        quiet = quiet;
+        unnamed = ran.unnamed;
+        visiting = ran.visiting;
+        command = command-keeps c before after e status ran.brings told;
+      })
+
+  -- what was asked for is this command
+  pub ran-as : (asked c : Asked) (before after : Objects S K D F) (e : Ending) → asked ≡ c → Ran views c before e after → Ran views asked before e after
+  ran-as asked c before after e is ran = subst (λ a. Ran views a before e after) (sym is) ran
+
+  -- words that are no command line leave all but the notes as it was
+  pub usage-promised : (asked : Option Asked) (source : S) (sink : K) (notes notes_now : K) (disk : D) (fleet : F) (status : ℕ) → asked ≡ None
+      → IsTold Usage status (views.sink notes).written (views.sink notes_now).written (views.sink notes).faults (views.sink notes_now).faults
+      → (status ≡ 0 → notes_now ≡ notes) → Promise views asked (outside source sink notes disk fleet) status (outside source sink notes_now disk fleet)
+  usage-promised asked source sink notes notes_now disk fleet status is told quiet =
+      subst (λ a. Promise views a (outside source sink notes disk fleet) status (outside source sink notes_now disk fleet)) (sym is) (record {
+        run = usage-run None (streams views (outside source sink notes disk fleet)) (streams views (outside source sink notes_now disk fleet)) status refl refl refl told;
+        untouched = λ h. refl;
+        quiet = quiet;
+        unnamed = record { unread = refl; disk = refl; fleet = refl; ports = refl };
+        visiting = refl;
+        command = tt;
+      })
+
+  -- ---- from the arguments on
+
+  -- the line of such an ending takes no memory
+  unread-known : (why : Unread) → tells_place (ending_of_unread why) ≡ false
+  unread-known unread.NotText = refl
+  unread-known unread.Memory = refl
+
+  pub read-started : {A : Type 0} (policies : List (List ℕ × (OpView → ℕ))) (arguments : Result A Unread) (list : A → List (String Global)) (all : A) (words : List (String Global)) (before after : Outside S K D F) (status : ℕ)
+      → arguments ≡ Ok all → words ≡ drop 1 (list all) → Promise views (asked_by policies words) before status after → StartPromise views policies arguments list before status after
+  read-started policies arguments list all words before after status is words_are promise =
+      subst (λ r. StartPromise views policies r list before status after) (sym is) (record { read = subst (λ w. Promise views (asked_by policies w) before status after) words_are promise; unread = tt })
+
+  pub unread-started : {A : Type 0} (policies : List (List ℕ × (OpView → ℕ))) (arguments : Result A Unread) (list : A → List (String Global)) (why : Unread) (e : Ending)
+      (source : S) (sink : K) (notes notes_now : K) (disk : D) (fleet : F) (status : ℕ) → arguments ≡ Err why → e ≡ ending_of_unread why
+      → IsTold e status (views.sink notes).written (views.sink notes_now).written (views.sink notes).faults (views.sink notes_now).faults
+      → StartPromise views policies arguments list (outside source sink notes disk fleet) status (outside source sink notes_now disk fleet)
+  unread-started policies arguments list why e source sink notes notes_now disk fleet status is end told =
+      subst (λ r. StartPromise views policies r list (outside source sink notes disk fleet) status (outside source sink notes_now disk fleet)) (sym is) (record {
+        read = tt;
+        unread = subst (λ x. EndsUnread views x (outside source sink notes disk fleet) status (outside source sink notes_now disk fleet)) end (record {
+          ended = ended (streams views (outside source sink notes disk fleet)) (streams views (outside source sink notes_now disk fleet)) e status (ap tells_place end ∙ unread-known why) refl refl told;
+          untouched = refl;
+        });
+      })

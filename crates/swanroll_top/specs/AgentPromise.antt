@@ -1,0 +1,14 @@
+-- The promise of `agent`, which serves the guests of the fleet.
+use Rattle.std.specs.Prelude.{ℕ}
+use Rattle.swanroll_top.specs.Agents.{RunsAgent, ServesAs}
+use Rattle.swanroll_top.specs.Views.{Objects, Outside, Views, guests_of, used, written_at}
+use Rattle.swanroll_top.specs.declared.ending.Ending.{Ending}
+
+-- what an agent has brought about that ended so
+abbrev pub BringsService : {S K D F P G : Type 0} → Views S K D F P G → ℕ → Objects S K D F → Ending → Objects S K D F → Type 0
+BringsService views guests before ending after =
+    RunsAgent views.guest guests (guests_of (views.fleet before.fleet)) (guests_of (views.fleet after.fleet)) ending (written_at views before) (written_at views after)
+
+pub record AgentPromise {S K D F P G : Type 0} (views : Views S K D F P G) (guests : ℕ) (before : Outside S K D F) (status : ℕ) (after : Outside S K D F) : Type 0 where
+  -- one agent serves so many guests in turn, and gives each back; the line says what came of it
+  pub serves : ServesAs views.guest guests (guests_of (views.fleet before.fleet)) (guests_of (views.fleet after.fleet)) status (written_at views (used before)) (written_at views (used after))

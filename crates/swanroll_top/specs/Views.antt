@@ -1,0 +1,82 @@
+-- What the outside objects of the call tell, and these objects at a moment.
+use Rattle.std.specs.Prelude.{ℕ, List, Option}
+use Rattle.disk_model.specs.Traces.{DiskTrace}
+use Rattle.wan_edge.specs.Ports.{PortTrace}
+use Rattle.wan_edge.specs.Streams.{AsSink, AsSource}
+use Rattle.agent_service.specs.Services.{Guests, Tells}
+use Rattle.rollout_ports.specs.Berths.{FleetPorts}
+use Rattle.swanroll_top.specs.Program.{Streams}
+use Rattle.swanroll_top.specs.Rollouts.{FleetSeen}
+
+-- the guests of a fleet: those to come, where they are told, those given back, and how many are out
+pub record GuestsTrace (G : Type 0) : Type 0 where
+  pub coming : Option (List G)
+  pub served : List G
+  pub visiting : ℕ
+
+-- what a fleet tells: its ports, its guests, and how often it has failed
+pub record FleetTrace (P G : Type 0) : Type 0 where
+  pub ports : FleetPorts P
+  pub guests : GuestsTrace G
+  pub faults : ℕ
+
+-- what each of the outside objects tells
+pub record Views (S K D F P G : Type 0) : Type 1 where
+  pub source : S → AsSource
+  pub sink : K → AsSink
+  pub disk : D → DiskTrace
+  pub fleet : F → FleetTrace P G
+  pub port : P → PortTrace
+  pub guest : Tells G
+
+-- what a command may use
+pub record Objects (S K D F : Type 0) : Type 0 where
+  pub source : S
+  pub sink : K
+  pub disk : D
+  pub fleet : F
+
+abbrev pub objects : {S K D F : Type 0} → S → K → D → F → Objects S K D F
+objects source sink disk fleet = record { source = source; sink = sink; disk = disk; fleet = fleet }
+
+-- these, and the notes
+pub record Outside (S K D F : Type 0) : Type 0 where
+  pub source : S
+  pub sink : K
+  pub notes : K
+  pub disk : D
+  pub fleet : F
+
+abbrev pub outside : {S K D F : Type 0} → S → K → K → D → F → Outside S K D F
+outside source sink notes disk fleet = record { source = source; sink = sink; notes = notes; disk = disk; fleet = fleet }
+
+abbrev pub used : {S K D F : Type 0} → Outside S K D F → Objects S K D F
+used o = objects o.source o.sink o.disk o.fleet
+
+-- what is told of a fleet's ports and faults, and of its guests
+abbrev pub seen : {P G : Type 0} → FleetTrace P G → FleetSeen P
+seen fleet = record { ports = fleet.ports; faults = fleet.faults }
+
+abbrev pub guests_of : {P G : Type 0} → FleetTrace P G → Guests G
+guests_of fleet = record { coming = fleet.guests.coming; served = fleet.guests.served }
+
+-- what is told of the bytes read, written, noted and stored, and of faults
+abbrev pub streams : {S K D F P G : Type 0} → Views S K D F P G → Outside S K D F → Streams
+streams views o = record {
+  left = (views.source o.source).left;
+  written = (views.sink o.sink).written;
+  noted = (views.sink o.notes).written;
+  stored = (views.disk o.disk).bytes;
+  source_faults = (views.source o.source).faults;
+  sink_faults = (views.sink o.sink).faults;
+  notes_faults = (views.sink o.notes).faults;
+  disk_faults = (views.disk o.disk).faults;
+  fleet_faults = (views.fleet o.fleet).faults;
+}
+
+-- the bytes that the source has left, and those written to the sink
+abbrev pub left_at : {S K D F P G : Type 0} → Views S K D F P G → Objects S K D F → Option (List ℕ)
+left_at views o = (views.source o.source).left
+
+abbrev pub written_at : {S K D F P G : Type 0} → Views S K D F P G → Objects S K D F → Option (List ℕ)
+written_at views o = (views.sink o.sink).written
