@@ -1,21 +1,32 @@
 """The command `agent` over loopback: controllers connect to the built program one after the other, send commands cut anywhere, and read the
-answers. Without a reference these are worked cases, the words, and addresses at which nothing can listen; with one, drawn guests, of which
-answers, the line at the end and the status are compared with it.
+answers. Without a reference these are worked cases, the agent rule, commands cut at each byte, what begins no command, the longest guest, the words,
+and addresses at which nothing can listen; with one, drawn guests, of which answers, the line at the end and the status are compared with it.
 
     python3 tests/agents.py PROGRAM [REFERENCE]
 """
 
+import contextlib
 import os
 import random
 import socket
 import subprocess
 import sys
+import threading
 import time
 
+from switches import ANSWER_BYTES, answer
+
 sys.path.insert(0, os.path.join(os.path.dirname(os.path.abspath(__file__)), "..", "bench"))
-from agent_streams import command, commands, ending, ENDS  # noqa: E402
+from agent_streams import command, commands, ending, ENDS, LONG, MOST_RATES  # noqa: E402
 
 PAUSE, PATIENCE, RUNS = 0.02, 120, 40
+# By item, the migrations and the numbers of commands in a row, and the pair that is held behind each.
+RULE = {
+    1: [((0, 1), (0, 1)), ((0, 1), (0, 1)), ((0, 3), (0, 1)), ((0, 2), (0, 2)), ((0, 0), (0, 2))],
+    2: [((1, 1), (1, 1)), ((2, 1), (2, 1)), ((1, 2), (2, 1)), ((1, 1), (2, 1))],
+    3: [((2, 0), (0, 0)), ((2, 4), (2, 4)), ((1, 5), (2, 4)), ((3, 0), (2, 4)), ((3, 1), (3, 1))],
+    2 ** 32 - 1: [((2 ** 32 - 1, 2 ** 32 - 1), (2 ** 32 - 1, 2 ** 32 - 1)), ((2 ** 32 - 1, 0), (2 ** 32 - 1, 2 ** 32 - 1))],
+}
 
 
 def held_port():
@@ -59,20 +70,32 @@ def exchange(rng, guest, data):
     return answers
 
 
-def served(program, guests, words=(), seed=0):
-    """The answers to each guest's bytes, and how the agent ended."""
+@contextlib.contextmanager
+def started(program, words=()):
+    """A place, and the agent that listens there."""
     with held_port() as held:
-        environment, rng = dict(os.environ, SWANROLL_LISTEN="127.0.0.1:%d" % held.getsockname()[1]), random.Random(seed)
+        environment = dict(os.environ, SWANROLL_LISTEN="127.0.0.1:%d" % held.getsockname()[1])
         agent = subprocess.Popen([program, "agent", *words], env=environment, stdin=subprocess.DEVNULL, stdout=subprocess.PIPE, stderr=subprocess.PIPE)
         try:
-            answers = []
-            for data in guests:
-                with connected(held, agent) as guest:
-                    answers.append(exchange(rng, guest, data))
-            out, notes = agent.communicate(timeout=PATIENCE)
-            return answers, (agent.returncode, out.decode(), notes.decode())
+            yield held, agent
         finally:
             agent.kill()
+
+
+def ended(agent):
+    out, notes = agent.communicate(timeout=PATIENCE)
+    return agent.returncode, out.decode(), notes.decode()
+
+
+def served(program, guests, words=(), seed=0):
+    """The answers to each guest's bytes, and how the agent ended."""
+    rng = random.Random(seed)
+    with started(program, words) as (held, agent):
+        answers = []
+        for data in guests:
+            with connected(held, agent) as guest:
+                answers.append(exchange(rng, guest, data))
+        return answers, ended(agent)
 
 
 def worked(program):
@@ -82,6 +105,59 @@ def worked(program):
     yield "two guests", [len(one) for one in answers] == [26, 13] and end == (0, "agent: guests 2, commands 3, refused 1\n", "")
     yield "what is held stays", answers[1][-4:] == b"\0\0\0\2"
     yield "one guest", served(program, [b""])[1] == (0, "agent: guests 1, commands 0, refused 0\n", "")
+
+
+def ruled(program):
+    """A switch takes the next number of the migration that it holds, any number but 0 of a later one, and nothing else: each item's commands in a row, and
+    those of all items in turn."""
+    rows = [[(command(*asked[:1], item, asked[1], 1, [6]), answer(held[0], item, held[1])) for asked, held in row] for item, row in RULE.items()]
+    turns = [row[at] for at in range(max(map(len, rows))) for row in rows if at < len(row)]
+    for name, talk in (("in a row", sum(rows, [])), ("in turn", turns)):
+        answers, end = served(program, [b"".join(said for said, _ in talk)])
+        yield f"items {name}", answers == [b"".join(told for _, told in talk)] and end[0] == 0
+
+
+def cut(program):
+    """A command of 1, 2 or 16 rates in two pieces, cut at each byte: it is answered before anything more is said."""
+    with started(program) as (held, agent):
+        with connected(held, agent) as guest:
+            guest.setsockopt(socket.IPPROTO_TCP, socket.TCP_NODELAY, 1)
+            guest.settimeout(PATIENCE)
+            for count in (1, 2, MOST_RATES):
+                for at in range(1, len(command(1, count, 1, 1, [1] * count))):
+                    said = command(at, count, 1, 65536, [2 ** 64 - 1 - rate for rate in range(count)])
+                    guest.sendall(said[:at])
+                    time.sleep(0.001)
+                    guest.sendall(said[at:])
+                    yield f"{count} rates, cut at {at}", guest.recv(ANSWER_BYTES, socket.MSG_WAITALL) == answer(at, count, 1)
+        yield "all that were cut", ended(agent) == (0, f"agent: guests 1, commands {25 + 33 + 145}, refused 0\n", "")
+
+
+def frames(program):
+    """What begins no command, or has another count of rates, ends its guest, who has the answers to what came before."""
+    good, told = command(0, 3, 1, 1, [6]), answer(0, 3, 1)
+    ends = [bytes([kind]) for kind in (0, 0x41, 0x43, 0x44, 0x4E, 0xFF)] + [command(0, 3, 2, 1, [5], count=count) for count in (0, 17, 255)]
+    answers, end = served(program, [good + end + good for end in ends], ("--guests", str(len(ends))))
+    for end_bytes, found in zip(ends, answers):
+        yield f"a guest that ends with {end_bytes.hex()}", found == told
+    yield "all of them", end == (0, f"agent: guests {len(ends)}, commands {len(ends)}, refused {len(ends)}\n", "")
+
+
+def long(program):
+    """A guest is refused once it has said a hundred million bytes, whatever they are; one that says one byte less is served to its end."""
+    whole = command(1, 1, 1, 1, [1] * MOST_RATES)
+    data = (whole * (LONG // len(whole) + 1))[:LONG]
+    with started(program, ("--guests", "2")) as (held, agent):
+        for said in (data[:-1], data):
+            heard = []
+            with connected(held, agent) as guest:
+                hearing = threading.Thread(target=lambda: heard.append(sum(iter(lambda: len(guest.recv(1 << 16)), 0))))
+                hearing.start()
+                guest.sendall(said)
+                guest.shutdown(socket.SHUT_WR)
+                hearing.join(PATIENCE)
+            yield f"{len(said)} bytes", heard == [LONG // len(whole) * ANSWER_BYTES]
+        yield "the line behind them", ended(agent) == (0, f"agent: guests 2, commands {2 * 684931}, refused 1\n", "")
 
 
 def without_guests(program):
@@ -117,15 +193,13 @@ def drawn(program, reference):
         guests = [commands(rng)[0] + ending(rng, rng.choice(ENDS)) for _ in range(rng.choice((1, 2, 3, 8)))]
         wanted, line = agent.serve_guests(guests, plain)
         answers, end = served(program, guests, ("--guests", str(len(guests))), run)
-        # where a guest is refused its connection is cut, and answers on their way may be lost
-        cut = [agent.serve(agent.Agent(), data, plain)[2] is not None for data in guests]
-        same = all(found == one or (short and one.startswith(found)) for found, one, short in zip(answers, wanted, cut))
-        yield f"drawn {run}", same and end == (0, line, "")
+        # also where a guest is refused, the answers to what it sent before reach it
+        yield f"drawn {run}", answers == wanted and end == (0, line, "")
 
 
 def main():
     program = sys.argv[1]
-    kinds = [drawn(program, sys.argv[2])] if len(sys.argv) > 2 else [worked(program), without_guests(program), words(program)]
+    kinds = [drawn(program, sys.argv[2])] if len(sys.argv) > 2 else [kind(program) for kind in (worked, ruled, cut, frames, long, without_guests, words)]
     cases = [case for kind in kinds for case in kind]
     wrong = [name for name, right in cases if not right]
     print(f"agents: {len(cases)} cases, {len(wrong)} wrong")

@@ -150,7 +150,7 @@ def texts(program, refusing):
     with open(os.path.join(EXAMPLES, "three-steps.json"), "rb") as file:
         problem = file.read()
     small = ["trial", "--switches", "4", "--flows", "3", "--events", "20"]
-    for words, text in ((["plan"], problem), (["check"], ONE.encode()), (["sim"], script), (small, b""), (["plan"], b"[1"), (["check"], problem)):
+    for words, text in ((["plan"], problem), (["check"], ONE.encode()), (["loads"], ONE.encode()), (["sim"], script), (small, b""), (["plan"], b"[1"), (["check"], problem), (["loads"], problem)):
         whole = ended(program, words, text, refusing.environment(0))
         for refused in range(1, refusing.count() + 1):
             yield f"allocation {refused} of {words[0]}", wrong_end(ended(program, words, text, refusing.environment(refused)), whole)

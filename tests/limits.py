@@ -105,14 +105,16 @@ def cases():
     yield "4097 tunnels", over_three(full + "," + flow(tunnel(), "last")), "flows[256].tunnels: 4097 above 4096"
     for count, told in ((1024, PLANNED), (1025, "1025 above 1024")):
         switches = ",".join(f'{{"name":"s{number}","table":1}}' for number in range(count))
-        yield f"{count} switches", problem(switches), at("switches", told)
+        link, last = f'{{"from":"s0","to":"s{count - 1}","capacity":1}}', flow(tunnel(f'["s0","s{count - 1}"]'))
+        yield f"{count} switches, and a tunnel to the last", problem(switches, link, last), at("switches", told)
         flows = ",".join(flow("", f"f{number}") for number in range(count))
         yield f"{count} flows", over_three(flows), at("flows", told)
     pairs = [(a, b) for a in range(46) for b in range(46)]
     for count, told in ((2048, PLANNED), (2049, "2049 above 2048")):
         switches = ",".join(f'{{"name":"s{number}","table":1}}' for number in range(46))
         links = ",".join(f'{{"from":"s{a}","to":"s{b}","capacity":1}}' for a, b in pairs[:count])
-        yield f"{count} links", problem(switches, links), at("links", told)
+        last = flow(tunnel(json.dumps([f"s{end}" for end in pairs[count - 1]])))
+        yield f"{count} links, and a tunnel over the last", problem(switches, links, last), at("links", told)
 
 
 def at(place, told):

@@ -1,4 +1,5 @@
-"""The names of commands, of their options, of the environment and of crates are the same in the code, in the launcher's help and in the documents.
+"""The names of commands, of their options, of the environment and of crates are the same in the code, in the launcher's help and in the documents;
+each name and file that a document cites is there, each page of docs/ says whom it is for, and each test stands in docs/TESTED.md.
 
     python3 tests/names.py
 """
@@ -9,7 +10,11 @@ import re
 from outcomes import report
 
 TOP = os.path.join(os.path.dirname(os.path.abspath(__file__)), "..")
-DOCUMENTS = ["README.md", "docs/TEXTS.md", "bin/help.txt"]
+DOCUMENTS = ["docs/COMMANDS.md", "docs/TEXTS.md", "bin/help.txt"]
+
+# Names that stand for others in a document, and those of other people's protocols and of the toolchain's modules.
+PLACEHOLDERS = {"NAME", "BringsNAME", "NAMEPromise", "Enum", "Variant", "Pn", "add_", "rows_below"}
+FOREIGN = {"Lts", "DATAPLANE_ATOMIC", "FIB_PROGRAMMED", "RIB_AND_FIB_ACK", "RIB_PROGRAMMED"}
 
 
 def text(*path):
@@ -26,9 +31,20 @@ def options():
     return sorted(set(re.findall(r'"(--[a-z]+)"', text("crates/swanroll_top/src/words.rt"))))
 
 
-def lab_options():
-    """Those of the lab, which README tells of as well."""
-    return sorted(set(re.findall(r'add_argument\("(--[a-z]+)', text("examples/linux/lab"))))
+def options_of():
+    """The options that each command takes, by its word."""
+    code = text("crates/swanroll_top/src/words.rt")
+    body = re.search(r"^fn takes\(.*?^}", code, re.M | re.S).group()
+    numbers = re.findall(r'"(--[a-z]+)"', re.search(r"^fn names_a_number\(.*?^}", code, re.M | re.S).group())
+    arms = re.findall(r"((?:Kind::\w+(?: \| )?)+) => (.*?),\n", body)
+    taken = {kind.lower(): re.findall(r'"(--[a-z]+)"', arm) + ("names_a_number" in arm) * numbers for kinds, arm in arms for kind in re.findall(r"Kind::(\w+)", kinds)}
+    return {command: sorted(names) for command, names in taken.items()}
+
+
+def script_options():
+    """Those of the scripts that documents tell of as well: of `./build`, `bin/why` and the lab."""
+    words = re.findall(r'add_argument\("(--[a-z]+)', text("examples/linux/lab") + text("bin/why"))
+    return sorted(set(words + re.findall(r"(?<![-\w])--[a-z]+\b", text("build"))))
 
 
 def variables():
@@ -45,6 +61,63 @@ def crates():
     return re.findall(r"^([a-z_0-9]+):", text("crates.txt"), re.M)
 
 
+def statuses():
+    """The exit statuses of the code."""
+    bodies = [re.search(r"pub fn status\(.*?\n    }\n", text(f"crates/swanroll_top/src/{name}.rt"), re.S).group() for name in ("ending", "unfinished")]
+    return sorted(set(map(int, re.findall(r"=> (\d+),", "".join(bodies)))))
+
+
+def names_in(cell):
+    """The names between back quotes."""
+    return re.findall(r"`([a-z_0-9]+)`", cell)
+
+
+def rows_of(document, head, whole=False):
+    """The rows of the table whose first column has this head: what stands between the first cell's back quotes, or all of it, and the cells beside."""
+    table = re.search(rf"^\| {head} \|.*\n\|[-|]+\n((?:\|.*\n)*)", text(document), re.M)
+    rows = [[cell.strip() for cell in row.strip("|").split(" |")] for row in table.group(1).splitlines()]
+    return {row[0] if whole else row[0].strip("`"): row[1:] for row in rows}
+
+
+def scripts_of_tests():
+    """The Python scripts that ./test runs."""
+    return sorted(set(re.findall(r"(?:tests|bench)/(\w+\.py)", text("test"))))
+
+
+def same(found, wanted):
+    return None if found == wanted else f"{found}, and not {wanted}"
+
+
+def documents():
+    return ["README.md"] + sorted(f"docs/{name}" for name in os.listdir(os.path.join(TOP, "docs")) if name.endswith(".md"))
+
+
+def names_of_code():
+    """Each word of the sources, specs, proofs and scripts, and the names of their files and folders."""
+    words = set()
+    for folder, below, files in os.walk(TOP):
+        below[:] = [name for name in below if name not in ("out", ".git", "docs", "wip", "__pycache__")]
+        words.add(os.path.basename(folder))
+        for name in files:
+            words.add(name.rsplit(".", 1)[0])
+            if not name.endswith(".md"):
+                with open(os.path.join(folder, name), encoding="utf-8", errors="replace") as file:
+                    words.update(re.findall(r"[A-Za-z_][A-Za-z_0-9]*", file.read()))
+    return words
+
+
+def names_cited(document):
+    """What looks like a name of the code between a document's back quotes: `like_this`, `LikeThis`, `This`."""
+    prose = re.sub(r"```.*?```", "", text(document), flags=re.S)
+    cited = " ".join(re.findall(r"`([^`\n]+)`", prose))
+    return {name for name in re.findall(r"[A-Za-z_][A-Za-z_0-9]*", cited) if re.search(r"[a-z][A-Z]|_|^[A-Z][a-z]+$", name)}
+
+
+def paths_cited(document):
+    """The files and folders of the repository that a document names, from the top or beside it."""
+    return set(re.findall(r"`(?:\./)?((?:agents|bench|crates|docs|examples|packaging|tests)/[^`\s]*|[A-Z-]+\.md)[^`\n]*`", text(document)))
+
+
 def outcomes():
     help_text = text("bin/help.txt")
     told = parts(help_text)
@@ -54,23 +127,44 @@ def outcomes():
         yield f"{command} in help", None if named else "it isn't told with its own line and call"
         for document in DOCUMENTS[:2]:
             yield f"{command} in {document}", None if f"`{command}`" in text(document) else "it isn't named"
-    for document in DOCUMENTS:
+        rows = rows_of("docs/COMMANDS.md", "Command")
+        yield f"{command} in the table of commands", None if command in rows else "it has no row"
+        yield f"a section on {command}", None if f"\n## swanroll {command}\n" in text("docs/COMMANDS.md") else "there is none"
+    yield "the commands whose options are known", same(sorted(options_of()), sorted(commands()))
+    yield "the options of all commands", same(sorted(set(sum(options_of().values(), []))), options())
+    for command, names in options_of().items():
+        yield f"the options of {command} in help", same(sorted(set(re.findall(r"(?<![-\w])--[a-z]+\b", told.get(command, "")))), names)
+        takers = [name for name, row in rows_of("docs/COMMANDS.md", "Option").items() if f"`{command}`" in row[0]]
+        yield f"the options of {command} in docs/COMMANDS.md", same(sorted(name.split()[0] for name in takers), names)
+    for document in DOCUMENTS + ["README.md"]:
         words = text(document)
-        for name in options():
+        for name in options() if document != "README.md" else []:
             yield f"{name} in {document}", None if re.search(rf"{name}\b", words) else "it isn't named"
-        known = set(options()) | {"--help", "--proved", "--NAME"} | set(lab_options() if document == "README.md" else [])
+        known = set(options()) | {"--help", "--NAME"} | set(script_options() if document.endswith(".md") else [])
         unknown = sorted(set(re.findall(r"(?<![-\w])--[a-z]+\b", words)) - known)
         yield f"the options in {document}", None if not unknown else f"no command takes {unknown}"
+    yield "the table of the environment", same(sorted(rows_of("docs/COMMANDS.md", "Variable")), variables())
     for name in variables():
-        for document in ("README.md", "bin/help.txt"):
-            yield f"{name} in {document}", None if name in text(document) else "it isn't named"
+        yield f"{name} in bin/help.txt", None if name in text("bin/help.txt") else "it isn't named"
+    yield "the table of statuses", same(sorted(map(int, rows_of("docs/COMMANDS.md", "Status"))), statuses())
+    yield "the table of crates", same(sorted(sum(map(names_in, rows_of("docs/PROVED.md", "Crate", whole=True)), [])), sorted(crates()))
+    sections = sum(map(names_in, re.findall(r"^### (.*)$", text("docs/PROVED.md"), re.M)), [])
+    yield "the sections on crates", same(sorted(sections), sorted(crates()))
     for name in crates():
-        for document in ("README.md", "docs/ARCHITECTURE.md"):
-            yield f"{name} in {document}", None if re.search(rf"\b{name}\b", text(document)) else "it isn't named"
-    for document in ["README.md"] + sorted(f"docs/{name}" for name in os.listdir(os.path.join(TOP, "docs"))):
+        yield f"{name} in docs/ARCHITECTURE.md", None if re.search(rf"\b{name}\b", text("docs/ARCHITECTURE.md")) else "it isn't named"
+    for name in scripts_of_tests():
+        yield f"{name} in docs/TESTED.md", None if re.search(rf"`(tests/|bench/)?{name}`", text("docs/TESTED.md")) else "it isn't named"
+    for document in documents()[1:]:
+        yield f"whom {document} is for", None if re.match(r"# .*\n\nFor ", text(document)) else "its first line doesn't say"
+    known_names = names_of_code() | PLACEHOLDERS | FOREIGN
+    for document in documents():
+        unknown = sorted(names_cited(document) - known_names)
+        yield f"the names in {document}", None if not unknown else f"nothing has the names {unknown}"
         cited = set(re.findall(r"`crates/([a-z_0-9]+)", text(document)))
         gone = sorted(cited - set(crates()))
         yield f"the crates in {document}", None if not gone else f"there are no {gone}"
+        gone = sorted(path for path in paths_cited(document) if not any(os.path.exists(os.path.join(TOP, folder, path)) for folder in (".", "docs")))
+        yield f"the files in {document}", None if not gone else f"there are no {gone}"
 
 
 if __name__ == "__main__":

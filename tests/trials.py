@@ -27,7 +27,7 @@ fullest link: "s3">"s5" 1643 of 1867
 finished
 """),
 ]
-# The trial with all its defaults, as the README has it.
+# The trial with all its defaults, as docs/COMMANDS.md has it.
 DEFAULTS = """trial: switches 24, links 48, flows 24, tunnels 48, k 4, seed 1
 plan: steps 5, rate steps 3, scale 3
 events: 1000, skipped 5, drain 4
@@ -36,6 +36,8 @@ fullest link: "s6">"s8" 8193 of 8337
 finished
 """
 LARGE = "--k 4 --switches 200 --flows 200 --seed 7 --events 20000"
+# The one with most switches, flows and shares of a link.
+LARGEST = "--k 64 --switches 1024 --flows 1024 --events 0"
 # A trial of 31 operations in three steps, and at which ceilings some are left.
 HELD = "--switches 9 --flows 6 --events 60 --seed 3 --policy freeze"
 CEILINGS = [("0", 31), ("1", 25), ("2", 23), ("3", 0), ("257", 0), ("", 0)]
@@ -74,6 +76,14 @@ def large(program):
     return None
 
 
+def largest(program):
+    """What was wrong with the largest network, or None: it is drawn whole, has a plan, and its rollout ends finished."""
+    status, out, notes = run(program, LARGEST.split())
+    first = "trial: switches 1024, links 2048, flows 1024, tunnels 2048, k 64, seed 1\n"
+    right = (status, notes) == (0, "") and out.startswith(first) and out.endswith("\nfinished\n")
+    return None if right else f"status {status}, {out!r}, {notes!r}"
+
+
 def held(program, ceiling, left):
     """What was wrong with a trial of which so many operations are left: its drain has a turn for each operation and one more, or, where none
     is left, the trial is that of the policy by chains."""
@@ -99,6 +109,7 @@ def cases(program):
         yield name, told(program, words.split(), text)
     yield "all defaults", told(program, [], DEFAULTS)
     yield "200 switches", large(program)
+    yield "1024 switches and flows", largest(program)
     for ceiling, left in CEILINGS:
         yield f"a ceiling of {ceiling!r}", held(program, ceiling, left)
     for name, low, high in RANGES:

@@ -5,6 +5,7 @@ use Rattle.std.specs.List.{All, flat_map}
 use Rattle.std.proofs.lemmas.List.{append-nil}
 use Rattle.std.proofs.lemmas.List.Elements.{All-nil, All-cons, All-append}
 use Rattle.wan_edge.specs.Frames.{CommandFrame, command_bytes, command_head}
+use Rattle.wan_edge.specs.Streams.{SourceTrace}
 use Rattle.switch_agent.specs.Items.{Items}
 use Rattle.switch_agent.specs.Serving.{ReadsSo, ServesGuest}
 use Rattle.switch_agent.specs.declared.serve_fault.ServeFault.{ServeFault}
@@ -31,10 +32,10 @@ few_bytes (Some Write) count left so_many = so_many
 few_bytes (Some Long) count left so_many = omega (arith, so_many)
 few_bytes (Some Memory) count left so_many = so_many
 
-pub few : (items now : Items) (left left_now : Option (List ℕ)) (served : Served) (written written_now : Option (List ℕ)) → ServesGuest items now left left_now served written written_now → served.commands ≤ most
-few items now left left_now served written written_now is =
+pub few : (items now : Items) (source source_now : SourceTrace) (served : Served) (written written_now : Option (List ℕ)) → ServesGuest items now source source_now served written written_now → served.commands ≤ most
+few items now source source_now served written written_now is =
     let commands = is.carried.commands in
-    omega (arith, is.carried.counted, few_commands commands, ap length is.carried.whole.parts, length-append (flat_map command_bytes commands) is.carried.rest, few_bytes served.fault (length is.bytes) left_now is.so_many)
+    omega (arith, is.carried.counted, few_commands commands, ap length is.carried.whole.parts, length-append (flat_map command_bytes commands) is.carried.rest, few_bytes served.fault (length is.bytes) source_now.left is.so_many)
 
 InTurn-more : {G : Type 0} (tells : Tells G) (items a : Items) (coming b : Option (List G)) (visits : List (Visit G)) (visit : Visit G) → InTurn tells items coming visits a b → IsVisit tells a b visit → InTurn tells items coming (visits ++ visit ∷ []) visit.items visit.coming
 InTurn-more tells items a coming b [] visit row next = (subst (λ (i : Items). IsVisit tells i coming visit) row.0 (subst (λ (c : Option (List _)). IsVisit tells a c visit) row.1 next), (refl, refl))

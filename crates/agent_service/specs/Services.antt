@@ -1,7 +1,7 @@
 -- What the serving of guests by one agent comes to.
 use Rattle.std.specs.Prelude.{◌≡◌, ◌≢◌, ◌⊎◌, ℕ, ◌+◌, ◌<◌, List, [], ◌∷◌, ◌++◌, length, map, All, Option, Some, None, IfSome, Result, Ok, Err}
 use Rattle.wan_edge.specs.Fleets.{GivesGuest}
-use Rattle.wan_edge.specs.Streams.{Rose}
+use Rattle.wan_edge.specs.Streams.{Rose, SinkTrace, SourceTrace}
 use Rattle.wan_edge.specs.declared.stream.Failed.{Failed}
 use Rattle.switch_agent.specs.Items.{Items}
 use Rattle.switch_agent.specs.Serving.{ServesGuest, most as most_bytes}
@@ -15,12 +15,10 @@ use Rattle.agent_service.specs.declared.service.ServiceFault.TheVariants.{Fleet,
 abbrev pub most : ℕ
 most = most_bytes
 
--- what guests tell: the bytes not yet read, those written, and how often each has failed, as a source and as a sink
+-- what guests tell, as sources and as sinks
 pub record Tells (G : Type 0) : Type 0 where
-  pub left : G → Option (List ℕ)
-  pub written : G → Option (List ℕ)
-  pub read_faults : G → ℕ
-  pub write_faults : G → ℕ
+  pub source : G → SourceTrace
+  pub sink : G → SinkTrace
 
 -- the guests of a fleet: those to come, where they are told, and those given back
 pub record Guests (G : Type 0) : Type 0 where
@@ -38,10 +36,10 @@ pub record Visit (G : Type 0) : Type 0 where
 -- The guest was the first to come. Its bytes were read, and the commands in them carried out and answered by what was held before it. Its serving
 -- ended in a fault of reading or of writing only where the count of these rose.
 pub record IsVisit {G : Type 0} (tells : Tells G) (items : Items) (coming : Option (List G)) (visit : Visit G) : Type 0 where
-  pub given : GivesGuest tells.read_faults tells.write_faults coming visit.came visit.coming
-  pub serves : ServesGuest items visit.items (tells.left visit.came) (tells.left visit.back) visit.served (tells.written visit.came) (tells.written visit.back)
-  pub read_cause : visit.served.fault ≡ Some Read → Rose (tells.read_faults visit.came) (tells.read_faults visit.back)
-  pub write_cause : visit.served.fault ≡ Some Write → Rose (tells.write_faults visit.came) (tells.write_faults visit.back)
+  pub given : GivesGuest tells.source tells.sink coming visit.came visit.coming
+  pub serves : ServesGuest items visit.items (tells.source visit.came) (tells.source visit.back) visit.served (tells.sink visit.came).written (tells.sink visit.back).written
+  pub read_cause : visit.served.fault ≡ Some Read → Rose (tells.source visit.came).faults (tells.source visit.back).faults
+  pub write_cause : visit.served.fault ≡ Some Write → Rose (tells.sink visit.came).faults (tells.sink visit.back).faults
 
 -- each guest behind the one before it: what is held and who is to come goes on from there
 abbrev pub InTurn : {G : Type 0} → Tells G → Items → Option (List G) → List (Visit G) → Items → Option (List G) → Type 0

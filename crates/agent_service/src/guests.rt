@@ -17,10 +17,8 @@ pub fn serve_guests<F: Fleet>(
     guests: u32,
 ) -> Result<Service, ServiceFault>
     ensures served { Serves (record {
-      left = F.Guest.left;
-      written = F.Guest.written;
-      read_faults = F.Guest.Source.faults;
-      write_faults = F.Guest.Sink.faults;
+      source = F.Guest.Source.told;
+      sink = F.Guest.Sink.told;
     })
         (record { coming = F.coming fleet.old; served = F.served fleet.old })
         (record { coming = F.coming fleet.new; served = F.served fleet.new }) guests result }
@@ -53,10 +51,8 @@ pub fn serve_guests<F: Fleet>(
 // Serves the next guest to its end and gives it back, or says that no more will come.
 fn serve_next<F: Fleet>(agent: &mut Agent, fleet: &mut F) -> Result<Option<Served>, Failed>
     ensures served { ServesNext (record {
-      left = F.Guest.left;
-      written = F.Guest.written;
-      read_faults = F.Guest.Source.faults;
-      write_faults = F.Guest.Sink.faults;
+      source = F.Guest.Source.told;
+      sink = F.Guest.Sink.told;
     }) agent.old
         (record { coming = F.coming fleet.old; served = F.served fleet.old }) result agent.new
         (record { coming = F.coming fleet.new; served = F.served fleet.new }) }

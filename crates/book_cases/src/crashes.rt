@@ -2,7 +2,7 @@
 ghost use Rattle.std.specs.Prelude.{◌≡◌, []};
 ghost use Rattle.rollout_rules.specs.History.{from_nothing};
 
-use crate::books::{SWITCHES, TABLES, answers_to, digest, disk_of, graph_of, opened};
+use crate::books::{SWITCHES, answers_to, digest, disk_behind, disk_of, graph_of, opened, tables};
 use dependency_graph::Graph;
 use disk_model::{Disk, MemoryDisk};
 use intent_journal::{JournalFault, Unopened};
@@ -79,7 +79,7 @@ fn taken_apart<D: Disk + Drop>(
     lists: Result<Lists, Memory>,
 ) -> Result<Rolled<D>, Fail> {
     let finished = book.live() && book.finished();
-    let (_graph, disk) = book.into_parts();
+    let disk = disk_behind(book);
     match lists {
         Ok(lists) => Ok(Rolled {
             lists,
@@ -108,7 +108,7 @@ fn unopened_of<D: Drop>(alloc: Global, unopened: Unopened<D>) -> Result<Rolled<D
 
 // Opens the book of a rollout on a disk, and rolls on.
 fn rolled_over<D: Disk + Drop>(alloc: Global, policy: &Policy, disk: D) -> Result<Rolled<D>, Fail> {
-    rolled_from(alloc, graph_of(alloc, TABLES)?, policy, disk)
+    rolled_from(alloc, graph_of(alloc, tables())?, policy, disk)
 }
 
 fn rolled_from<D: Disk + Drop>(
@@ -136,16 +136,29 @@ fn begins_with(all: &[Entry], front: &[Entry]) -> bool {
     front.len() <= all.len() && &all[..front.len()] == front
 }
 
+// A disk without a byte that stops at this call.
+fn stopping(alloc: Global, call: u64) -> Result<MemoryDisk, Memory> {
+    let mut disk = disk_of(alloc, &[])?;
+    disk.stop_at(call);
+    Ok(disk)
+}
+
 // Whether the rollout goes on from either image that is left where its disk stops at this call; and whether
 // it stopped at all.
 fn stopped_at(alloc: Global, policy: &Policy, call: u64) -> Result<(bool, bool), Fail> {
-    let mut disk = disk_of(alloc, &[])?;
-    disk.stop_at(call);
-    let first = rolled_over(alloc, policy, disk)?;
+    let first = rolled_over(alloc, policy, stopping(alloc, call)?)?;
+    goes_on_behind(alloc, policy, &first)
+}
+
+fn goes_on_behind(
+    alloc: Global,
+    policy: &Policy,
+    first: &Rolled<MemoryDisk>,
+) -> Result<(bool, bool), Fail> {
     let entries = first.lists.entries.as_slice();
-    let goes_on = goes_on(alloc, policy, first.disk.left(false)?, entries)?
-        && goes_on(alloc, policy, first.disk.left(true)?, entries)?;
-    Ok((goes_on, first.disk.failures() > 0))
+    let lost = goes_on(alloc, policy, first.disk.left(false)?, entries)?;
+    let kept = goes_on(alloc, policy, first.disk.left(true)?, entries)?;
+    Ok((lost && kept, first.disk.failures() > 0))
 }
 
 fn stopped_ranked(alloc: Global, call: u64) -> Result<(bool, bool), Fail> {

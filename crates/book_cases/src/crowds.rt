@@ -2,10 +2,13 @@
 ghost use Rattle.std.specs.Prelude.{◌≡◌, []};
 ghost use Rattle.rollout_rules.specs.History.{from_nothing};
 
-use crate::books::{CALLS_TO_OPEN, LATE, ONE, TABLES, digest, disk_of, graph_of, opened};
+use crate::books::{
+    CALLS_TO_OPEN, digest, disk_behind, disk_of, graph_of, late, one, opened, tables,
+};
 use crate::histories::{are_answered, are_stopped, are_told, before_the_fault, counts_up};
 use crate::many::CALLS;
-use crate::sharing::{ALIKE, Done, Task, share_ranked};
+use crate::sharing::{ALIKE, Done, SEATS, Task, share_ranked};
+use crate::threads::Part;
 use dependency_graph::Graph;
 use disk_model::{Disk, MemoryDisk};
 use lists::Memory;
@@ -25,40 +28,29 @@ fn answers_alike<D: Disk + Drop>(
     graph: Graph,
     policy: &Policy,
     disk: D,
-    seats: u32,
     notes: &[Note],
 ) -> bool
     requires empty { graph.history ≡ from_nothing graph.rollout.problem [] }
 {
     match opened(alloc, graph, &digest(), policy, disk) {
-        Ok(book) => book_answers_alike(alloc, book, seats, notes),
+        Ok(book) => book_answers_alike(alloc, book, notes),
         Err(_) => false,
     }
 }
 
-fn book_answers_alike<D: Disk + Drop>(
-    alloc: Global,
-    book: Book<'_, D>,
-    seats: u32,
-    notes: &[Note],
-) -> bool {
+fn book_answers_alike<D: Disk + Drop>(alloc: Global, book: Book<'_, D>, notes: &[Note]) -> bool {
     let mut book = book;
-    let answered = are_answered(alloc, &mut book, seats, notes);
+    let answered = are_answered(alloc, &mut book, SEATS, notes);
     is_alike(book, answered)
 }
 
 // Lets the book go.
 fn is_alike<D: Disk + Drop>(book: Book<'_, D>, answered: Result<bool, Memory>) -> bool {
-    let (_graph, _disk) = book.into_parts();
+    let _disk = disk_behind(book);
     matches!(answered, Ok(true))
 }
 
-fn answers_alike_ranked(
-    alloc: Global,
-    text: &str,
-    seats: u32,
-    notes: &[Note],
-) -> Result<bool, Fail> {
+fn answers_alike_ranked(alloc: Global, text: &str, notes: &[Note]) -> Result<bool, Fail> {
     let alike: Box<dyn Fn(OpView) -> u64 + Send + Sync> = Box::new(
         alloc,
         |_view: OpView| -> u64
@@ -67,13 +59,13 @@ fn answers_alike_ranked(
     )?;
     let policy = Policy::holding(alike);
     let disk = disk_of(alloc, &[])?;
-    Ok(answers_alike(alloc, graph_of(alloc, text)?, &policy, disk, seats, notes))
+    Ok(answers_alike(alloc, graph_of(alloc, text)?, &policy, disk, notes))
 }
 
-// Whether the notes are those of all calls of so many seats, each of which was told its own.
-fn are_all(done: &Done<MemoryDisk>, threads: u32) -> bool {
+// Whether the notes are those of all calls of all seats, each of which was told its own.
+fn are_all(done: &Done<MemoryDisk>) -> bool {
     let notes = done.notes.as_slice();
-    for seat in 0..threads {
+    for seat in 0..SEATS {
         if !counts_up(notes, seat, CALLS) {
             return false;
         }
@@ -103,56 +95,47 @@ fn halt_of(note: Note) -> Halt {
 
 // Whether the notes of threads are those of one history, which ends by the rule and is a book's alone up to a
 // fault.
-fn is_one_history(
-    alloc: Global,
-    text: &str,
-    threads: u32,
-    done: &Done<MemoryDisk>,
-) -> Result<bool, Fail> {
+fn is_one_history(alloc: Global, text: &str, done: &Done<MemoryDisk>) -> Result<bool, Fail> {
     let notes = done.notes.as_slice();
     let before = &notes[..before_the_fault(notes)];
-    Ok(
-        are_all(done, threads)
-            && ends_by_the_rule(done)
-            && answers_alike_ranked(alloc, text, threads, before)?,
-    )
+    Ok(are_all(done) && ends_by_the_rule(done) && answers_alike_ranked(alloc, text, before)?)
 }
 
-// What threads make of a rollout whose disk fails at these calls.
-fn done_over<R: Abort + Threads + Wait + Sync>(
+// What four threads make of a rollout whose disk fails at these calls: whether its book was opened, and whether
+// all else is as it should be.
+fn crowd_over<R: Abort + Threads + Wait + Sync>(
     rt: &R,
     alloc: Global,
     text: &str,
     fails: &[u64],
-    task: Task<'_>,
-) -> Result<Done<MemoryDisk>, Fail> {
-    let disk = disk_of(alloc, fails)?;
-    share_ranked(rt, alloc, text, ALIKE, disk, task)
+) -> Result<[bool; 2], Fail> {
+    let task = Task::Threads(&[], Part::Calls, Part::Calls);
+    let done = share_ranked(rt, alloc, text, ALIKE, disk_of(alloc, fails)?, task)?;
+    told_of(alloc, text, &done)
+}
+
+fn told_of(alloc: Global, text: &str, done: &Done<MemoryDisk>) -> Result<[bool; 2], Fail> {
+    let is_right = if done.opened {
+        is_one_history(alloc, text, done)?
+    } else {
+        done.disk.failures() == 1
+    };
+    Ok([done.opened, is_right])
 }
 
 #[test]
 fn the_calls_of_all_threads_are_those_of_one_book(rt: HostRuntime) -> Result<(), Fail> {
-    for text in [ONE, LATE, TABLES] {
-        for (task, threads) in [(Task::Two, 2), (Task::Four, 4)] {
-            let done = done_over(&rt, rt.alloc(), text, &[], task)?;
-            let is_legal = is_one_history(rt.alloc(), text, threads, &done)?;
-            assert!(rt; is_legal, "{threads} threads");
-        }
+    for text in [one(), late(), tables()] {
+        assert_eq!(rt; crowd_over(&rt, rt.alloc(), text, &[])?, [true, true]);
     }
     Ok(())
 }
 
 #[test]
-fn a_disk_that_fails_at_any_call_stops_two_threads(rt: HostRuntime) -> Result<(), Fail> {
+fn a_disk_that_fails_at_any_call_stops_all_threads(rt: HostRuntime) -> Result<(), Fail> {
     for call in 0..24 {
-        let done = done_over(&rt, rt.alloc(), LATE, &[call], Task::Two)?;
-        assert!(rt; done.opened == (call >= CALLS_TO_OPEN), "at call {call}");
-        if done.opened {
-            let is_legal = is_one_history(rt.alloc(), LATE, 2, &done)?;
-            assert!(rt; is_legal, "at call {call}");
-        } else {
-            assert!(rt; done.disk.failures() == 1, "at call {call}");
-        }
+        let found = crowd_over(&rt, rt.alloc(), late(), &[call])?;
+        assert_eq!(rt; found, [call >= CALLS_TO_OPEN, true], "at call {call}");
     }
     Ok(())
 }

@@ -20,8 +20,8 @@ pub trait Job {
         ensures { may_leave self result };
 }
 
-/// Two jobs, each in a thread of its own.
-pub fn two_jobs<R: Threads + Sync, J: Job + Drop + Send>(
+// Two jobs, each in a thread of its own.
+fn two_jobs<R: Threads + Sync, J: Job + Drop + Send>(
     rt: &R,
     one: J,
     other: J,
@@ -46,7 +46,7 @@ where
     )
 }
 
-/// Four jobs.
+/// Four jobs, each in a thread of its own.
 pub fn four_jobs<R: Threads + Sync, J: Job + Drop + Send>(
     rt: &R,
     first: J,

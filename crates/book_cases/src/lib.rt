@@ -1,5 +1,5 @@
-//! Tests of a rollout's book over disks in memory, by one worker and by several: what no clause says. They
-//! stand apart, since a crate with tests is proved twice.
+//! Tests of a rollout's book over disks in memory, by one worker and by several, and of its graph at a start: what no
+//! clause says. They stand apart, since a crate with tests is proved twice.
 #![tactic(auto)]
 
 #[cfg(test)]
@@ -20,6 +20,8 @@ mod rows;
 mod seats;
 #[cfg(test)]
 mod sharing;
+#[cfg(test)]
+mod starts;
 #[cfg(test)]
 mod threads;
 #[cfg(test)]

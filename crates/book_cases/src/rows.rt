@@ -5,10 +5,10 @@ ghost use Rattle.turn_lock.specs.Passes.{IsFirstPass};
 ghost use Rattle.shared_book.specs.Homes.{homes_of};
 ghost use Rattle.book_cases.specs.Seats.{AllAreIn, HasCalled, MayCall};
 
-use crate::books::{CALLS_TO_OPEN, ONE, disk_of};
+use crate::books::{CALLS_TO_OPEN, one};
 use crate::seats::{Call, Told, make_call};
-use crate::sharing::{ALIKE, HELD, Task, share_ranked};
-use disk_model::{Disk, MemoryDisk};
+use crate::sharing::{ALIKE, HELD, Task, notes_over};
+use disk_model::Disk;
 use rollout_book::{BookFault, Turn};
 use rollout_rules::Op;
 use shared_book::{BookPass, CallPass, Kept, Marker, RoundReply, SharedBook};
@@ -176,18 +176,17 @@ fn notes_of<R: Abort + Threads + Wait + Sync>(
     rt: &R,
     alloc: Global,
     rank: u64,
-    disk: MemoryDisk,
+    fails: &[u64],
     rows: &[Row],
 ) -> Result<NoteList, Fail>
     requires { rank ≤ 4294967296 }
 {
-    Ok(share_ranked(rt, alloc, ONE, rank, disk, Task::Rows(rows))?.notes)
+    notes_over(rt, alloc, one(), rank, fails, Task::Rows(rows))
 }
 
 #[test]
 fn a_stop_of_one_seat_is_told_to_the_other(rt: HostRuntime) -> Result<(), Fail> {
-    let disk = disk_of(rt.alloc(), &[])?;
-    let notes = notes_of(&rt, rt.alloc(), ALIKE, disk, &A_STOP)?;
+    let notes = notes_of(&rt, rt.alloc(), ALIKE, &[], &A_STOP)?;
     assert_eq!(rt; notes.as_slice(), NOTES_OF_A_STOP.as_slice());
     Ok(())
 }
@@ -229,8 +228,7 @@ const A_FAILURE: [Row; 5] = [
 
 #[test]
 fn a_disk_that_fails_in_a_round_stops_all(rt: HostRuntime) -> Result<(), Fail> {
-    let disk = disk_of(rt.alloc(), &[CALLS_TO_OPEN])?;
-    let notes = notes_of(&rt, rt.alloc(), ALIKE, disk, &A_FAILURE)?;
+    let notes = notes_of(&rt, rt.alloc(), ALIKE, &[CALLS_TO_OPEN], &A_FAILURE)?;
     assert_eq!(rt; notes.as_slice().len(), A_FAILURE.len());
     Ok(())
 }
@@ -272,8 +270,7 @@ const AN_END: [Row; 5] = [
 
 #[test]
 fn who_waits_is_told_of_work_and_then_of_the_end(rt: HostRuntime) -> Result<(), Fail> {
-    let disk = disk_of(rt.alloc(), &[])?;
-    let notes = notes_of(&rt, rt.alloc(), ALIKE, disk, &AN_END)?;
+    let notes = notes_of(&rt, rt.alloc(), ALIKE, &[], &AN_END)?;
     assert_eq!(rt; notes.as_slice().len(), AN_END.len());
     Ok(())
 }
@@ -326,8 +323,36 @@ const A_HOLD: [Row; 5] = [
 
 #[test]
 fn who_waits_is_told_that_all_is_held_and_of_an_alien_answer(rt: HostRuntime) -> Result<(), Fail> {
-    let disk = disk_of(rt.alloc(), &[])?;
-    let notes = notes_of(&rt, rt.alloc(), HELD, disk, &A_HOLD)?;
+    let notes = notes_of(&rt, rt.alloc(), HELD, &[], &A_HOLD)?;
     assert_eq!(rt; notes.as_slice().len(), A_HOLD.len());
+    Ok(())
+}
+
+// The first seat asks for the switch of an item.
+fn asks(item: u32, switch: Option<u32>) -> Row {
+    Row {
+        seat: 0,
+        call: Call::Home(item),
+        told: Told::Home(switch),
+    }
+}
+
+// The flow belongs to the first switch on its paths, A; the entries to their own, A and B, and then A, C and B.
+fn homes() -> [Row; 7] {
+    [
+        asks(0, Some(0)),
+        asks(1, Some(0)),
+        asks(2, Some(1)),
+        asks(3, Some(0)),
+        asks(4, Some(2)),
+        asks(5, Some(1)),
+        asks(6, None),
+    ]
+}
+
+#[test]
+fn each_item_belongs_to_a_switch(rt: HostRuntime) -> Result<(), Fail> {
+    let notes = notes_of(&rt, rt.alloc(), ALIKE, &[], &homes())?;
+    assert!(rt; notes.as_slice().is_empty());
     Ok(())
 }

@@ -13,13 +13,14 @@ use std::sync::Wait;
 use wire_frames::Answer;
 
 /// A call of a seat: a round with at most one answer, the listing of a switch's commands, waiting for work of
-/// a switch, and asking that all stop.
+/// a switch, asking that all stop, and asking for the switch of an item, of which no note is made.
 #[derive(Clone, Copy, Debug)]
 pub enum Call {
     Round(Option<Answer>),
     List(u32),
     Await(u32),
     Stop(Cause),
+    Home(u32),
 }
 
 /// What a call was told, and of a listing how many commands came.
@@ -29,6 +30,7 @@ pub enum Told {
     List(ListReply, usize),
     Awake(Wake),
     Halt(Halt),
+    Home(Option<u32>),
 }
 
 /// Makes a call.
@@ -49,6 +51,7 @@ pub fn make_call<D: Disk, M: Marker, R: Wait>(
         Call::List(switch) => list(rt, alloc, book, pass, switch),
         Call::Await(switch) => await_work(rt, book, pass, switch),
         Call::Stop(cause) => stop(rt, book, pass, cause),
+        Call::Home(item) => home(book, pass, item),
     }
 }
 
@@ -109,4 +112,17 @@ fn stop<D: Disk, M: Marker, R: Wait>(
 {
     let (pass, halt) = book.stop(rt, pass, cause);
     (pass, Told::Halt(halt))
+}
+
+fn home<D: Disk, M: Marker>(
+    book: &SharedBook<'_, D, M>,
+    pass: BookPass<D, M>,
+    item: u32,
+) -> (BookPass<D, M>, Told)
+    requires homes { book.now.homes ≡ homes_of M.opening.rollout.problem }
+    requires may { MayCall book.now.lock M.seats pass.pass pass.calls }
+    ensures called { HasCalled book.now.lock pass.pass result.0.pass result.0.calls }
+{
+    let switch = book.home(item);
+    (pass, Told::Home(switch))
 }

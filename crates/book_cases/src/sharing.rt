@@ -8,9 +8,9 @@ ghost use Rattle.shared_book.specs.Homes.{homes_of};
 ghost use Rattle.shared_book.specs.Opened.{IsOpened, IsOpenedOn, opening_of};
 ghost use Rattle.book_cases.specs.Seats.{AllAreIn, MayCall};
 
-use crate::books::{digest, graph_of, opened};
+use crate::books::{digest, disk_behind, disk_of, graph_of, opened};
 use crate::rows::{Row, two_seats};
-use crate::threads::{four_threads, one_is_woken, two_threads};
+use crate::threads::{Part, four_threads};
 use dependency_graph::Graph;
 use disk_model::Disk;
 use intent_journal::Unopened;
@@ -31,24 +31,20 @@ pub const ALIKE: u64 = 0;
 
 pub const HELD: u64 = 4_294_967_296;
 
-// How many seats a book has.
-const SEATS: u32 = 4;
+/// How many seats a book has.
+pub const SEATS: u32 = 4;
 
 /// What seats do with a book that they share.
 #[derive(Clone, Copy)]
 pub enum Task<'a> {
     /// Two seats make these calls in one thread.
     Rows(&'a [Row]),
-    /// Behind these calls one of two threads waits for what the other begins.
-    Waiting(&'a [Row]),
-    /// Two seats make many calls, each in a thread of its own.
-    Two,
-    /// Four seats do.
-    Four,
+    /// Behind these calls each of four seats does its part in a thread of its own: the first one this, the
+    /// others that.
+    Threads(&'a [Row], Part, Part),
 }
 
 /// What is left of a book that was shared: the book, what a crowd was told, the notes, and the first stop.
-#[derive(Drop)]
 struct Left<'d, D: Disk> {
     book: Book<'d, D>,
     told: NoteList,
@@ -85,12 +81,7 @@ fn work<R: Abort + Threads + Wait + Sync, D: Disk + Drop + Send, M: Marker + Sen
 {
     match task {
         Task::Rows(rows) => (two_seats(rt, alloc, book, pass, rows), NoteList::new(alloc)),
-        Task::Waiting(rows) => (
-            one_is_woken(rt, alloc, book, pass, rows),
-            NoteList::new(alloc),
-        ),
-        Task::Two => two_threads(rt, alloc, book, pass),
-        Task::Four => four_threads(rt, alloc, book, pass),
+        Task::Threads(rows, own, others) => four_threads(rt, alloc, book, pass, rows, own, others),
     }
 }
 
@@ -149,7 +140,7 @@ fn taken_apart<D: Disk>(left: Left<'_, D>) -> Done<D> {
         halt,
     } = left;
     let finished = book.finished();
-    let (_graph, disk) = book.into_parts();
+    let disk = disk_behind(book);
     Done {
         opened: true,
         told,
@@ -219,4 +210,18 @@ pub fn share_ranked<R: Abort + Threads + Wait + Sync, D: Disk + Drop + Send>(
     )?;
     let policy = Policy::holding(alike);
     share(rt, alloc, text, &policy, disk, task)
+}
+
+/// The notes that are left where the disk fails at these calls.
+pub fn notes_over<R: Abort + Threads + Wait + Sync>(
+    rt: &R,
+    alloc: Global,
+    text: &str,
+    rank: u64,
+    fails: &[u64],
+    task: Task<'_>,
+) -> Result<NoteList, Fail>
+    requires { rank ≤ 4294967296 }
+{
+    Ok(share_ranked(rt, alloc, text, rank, disk_of(alloc, fails)?, task)?.notes)
 }

@@ -5,7 +5,7 @@ ghost use Rattle.turn_lock.specs.Passes.{IsFirstPass};
 ghost use Rattle.shared_book.specs.Homes.{homes_of};
 ghost use Rattle.book_cases.specs.Seats.{AllAreIn, HasCalled, MayCall};
 
-use crate::jobs::{Job, four_jobs, two_jobs};
+use crate::jobs::{Job, four_jobs};
 use crate::many::many_calls;
 use crate::rows::{Row, Seats, all_calls};
 use crate::seats::{Call, Told, make_call};
@@ -23,7 +23,7 @@ use wire_frames::Answer;
 
 /// What a seat does in its thread.
 #[derive(Clone, Copy)]
-enum Part {
+pub enum Part {
     /// It makes many calls.
     Calls,
     /// It waits for work of the first switch, which it is told of.
@@ -133,98 +133,16 @@ fn begun<R: Abort + Wait, D: Disk, M: Marker>(
     Back { pass, told }
 }
 
-// Two seats do their parts side by side.
-fn two_parts<R: Abort + Threads + Wait + Sync, D: Disk + Drop + Send, M: Marker + Send>(
-    rt: &R,
-    alloc: Global,
-    book: &SharedBook<'_, D, M>,
-    one: (BookPass<D, M>, Part),
-    other: (BookPass<D, M>, Part),
-) -> (Back<Kept<D, M>>, Back<Kept<D, M>>)
-    requires homes { book.now.homes ≡ homes_of M.opening.rollout.problem }
-    requires policy { M.opening.policy ≡ rank_by book.now.policy.now.answers }
-    requires one { MayCall book.now.lock M.seats one.0.pass one.0.calls }
-    requires other { MayCall book.now.lock M.seats other.0.pass other.0.calls }
-    ensures one { HasCalled book.now.lock one.0.pass result.0.pass.pass result.0.pass.calls }
-    ensures other { HasCalled book.now.lock other.0.pass result.1.pass.pass result.1.pass.calls }
-{
-    let one = Duty {
-        rt,
-        alloc,
-        book,
-        pass: one.0,
-        part: one.1,
-    };
-    let other = Duty {
-        rt,
-        alloc,
-        book,
-        pass: other.0,
-        part: other.1,
-    };
-    two_jobs(rt, one, other)
-}
-
-/// Two seats make these calls. Behind them the second waits for what the first begins.
-pub fn one_is_woken<R: Abort + Threads + Wait + Sync, D: Disk + Drop + Send, M: Marker + Send>(
-    rt: &R,
-    alloc: Global,
-    book: &SharedBook<'_, D, M>,
-    pass: BookPass<D, M>,
-    rows: &[Row],
-) -> BookPass<D, M>
-    requires homes { book.now.homes ≡ homes_of M.opening.rollout.problem }
-    requires policy { M.opening.policy ≡ rank_by book.now.policy.now.answers }
-    requires may { MayCall book.now.lock M.seats pass.pass pass.calls }
-    requires first { IsFirstPass pass.pass }
-    requires seats { M.seats ≡ 4 }
-    ensures ended { AllAreIn book.now.lock result.pass }
-{
-    let (first, second) = book.split(pass);
-    let Seats { first, second } = all_calls(rt, alloc, book, Seats { first, second }, rows);
-    let (first, second) = two_parts(
-        rt,
-        alloc,
-        book,
-        (first, Part::Begins),
-        (second, Part::Waits),
-    );
-    book.join(first.pass, second.pass)
-}
-
-/// Two seats make many calls. All notes on them come back.
-pub fn two_threads<R: Abort + Threads + Wait + Sync, D: Disk + Drop + Send, M: Marker + Send>(
-    rt: &R,
-    alloc: Global,
-    book: &SharedBook<'_, D, M>,
-    pass: BookPass<D, M>,
-) -> (BookPass<D, M>, NoteList)
-    requires homes { book.now.homes ≡ homes_of M.opening.rollout.problem }
-    requires policy { M.opening.policy ≡ rank_by book.now.policy.now.answers }
-    requires may { MayCall book.now.lock M.seats pass.pass pass.calls }
-    requires first { IsFirstPass pass.pass }
-    requires seats { M.seats ≡ 4 }
-    ensures ended { AllAreIn book.now.lock result.0.pass }
-{
-    let (first, second) = book.split(pass);
-    let (first, second) = two_parts(rt, alloc, book, (first, Part::Calls), (second, Part::Calls));
-    let pass = book.join(first.pass, second.pass);
-    (pass, both(first.told, &second.told))
-}
-
-// The notes of both; where memory runs out those of the one.
-fn both(told: NoteList, other: &NoteList) -> NoteList {
-    let mut told = told;
-    let _ = told.extend_from_slice(other.as_slice());
-    told
-}
-
-/// Four seats make many calls. All notes on them come back.
+/// Two seats make these calls. Behind them four seats do their parts, each in a thread of its own: the first one
+/// this, the others that. All notes on many calls come back.
 pub fn four_threads<R: Abort + Threads + Wait + Sync, D: Disk + Drop + Send, M: Marker + Send>(
     rt: &R,
     alloc: Global,
     book: &SharedBook<'_, D, M>,
     pass: BookPass<D, M>,
+    rows: &[Row],
+    own: Part,
+    others: Part,
 ) -> (BookPass<D, M>, NoteList)
     requires homes { book.now.homes ≡ homes_of M.opening.rollout.problem }
     requires policy { M.opening.policy ≡ rank_by book.now.policy.now.answers }
@@ -236,7 +154,10 @@ pub fn four_threads<R: Abort + Threads + Wait + Sync, D: Disk + Drop + Send, M: 
     let (first, second) = book.split(pass);
     let (first, third) = book.split(first);
     let (first, fourth) = book.split(first);
-    let (of_two, of_others) = four_parts(rt, alloc, book, first, second, third, fourth);
+    let Seats { first, second } = all_calls(rt, alloc, book, Seats { first, second }, rows);
+    let (of_two, of_others) = four_parts(
+        rt, alloc, book, first, second, third, fourth, own, others,
+    );
     let (first, second) = of_two;
     let (third, fourth) = of_others;
     let pass = book.join(
@@ -255,6 +176,8 @@ fn four_parts<R: Abort + Threads + Wait + Sync, D: Disk + Drop + Send, M: Marker
     second: BookPass<D, M>,
     third: BookPass<D, M>,
     fourth: BookPass<D, M>,
+    own: Part,
+    others: Part,
 ) -> (
     (Back<Kept<D, M>>, Back<Kept<D, M>>),
     (Back<Kept<D, M>>, Back<Kept<D, M>>),
@@ -277,28 +200,35 @@ fn four_parts<R: Abort + Threads + Wait + Sync, D: Disk + Drop + Send, M: Marker
         alloc,
         book,
         pass: first,
-        part: Part::Calls,
+        part: own,
     };
     let second = Duty {
         rt,
         alloc,
         book,
         pass: second,
-        part: Part::Calls,
+        part: others,
     };
     let third = Duty {
         rt,
         alloc,
         book,
         pass: third,
-        part: Part::Calls,
+        part: others,
     };
     let fourth = Duty {
         rt,
         alloc,
         book,
         pass: fourth,
-        part: Part::Calls,
+        part: others,
     };
     four_jobs(rt, first, second, third, fourth)
+}
+
+// The notes of both; where memory runs out those of the one.
+fn both(told: NoteList, other: &NoteList) -> NoteList {
+    let mut told = told;
+    let _ = told.extend_from_slice(other.as_slice());
+    told
 }

@@ -1,9 +1,10 @@
-//! Two threads at one book, of which one sleeps.
+//! Threads at one book, of which all but one sleep.
 
-use crate::books::{TABLES, disk_of};
+use crate::books::tables;
 use crate::rows::Row;
 use crate::seats::{Call, Told};
-use crate::sharing::{ALIKE, Task, share_ranked};
+use crate::sharing::{ALIKE, Task, notes_over};
+use crate::threads::Part;
 use rollout_book::Turn;
 use shared_book::RoundReply;
 use shared_history::{Note, What};
@@ -71,29 +72,38 @@ fn behind(notes: &[Note], count: usize) -> &[Note] {
     }
 }
 
-// Whether the waiting thread looks ahead of the other's round, and sleeps, or behind it: it is told of the work.
-#[test]
-fn who_waits_is_woken_by_the_round_of_another(rt: HostRuntime) -> Result<(), Fail> {
-    let disk = disk_of(rt.alloc(), &[])?;
-    let done = share_ranked(&rt, rt.alloc(), TABLES, ALIKE, disk, Task::Waiting(&BEFORE))?;
-    let wanted = [
-        Note {
-            seat: 0,
-            call: 6,
-            what: What::Turned {
-                dones: 1,
-                begins: 1,
-            },
-        },
-        Note {
-            seat: 1,
+// What the round that begins the work is told.
+const BEGUN: Note = Note {
+    seat: 0,
+    call: 6,
+    what: What::Turned {
+        dones: 1,
+        begins: 1,
+    },
+};
+
+// Whether each of the other seats was told of work, once.
+fn are_woken(notes: &[Note]) -> bool {
+    for seat in 1..4 {
+        let woken = Note {
+            seat,
             call: 0,
             what: What::Work,
-        },
-    ];
-    assert_eq!(rt;
-        behind(done.notes.as_slice(), BEFORE.len()),
-        wanted.as_slice()
-    );
+        };
+        if !notes.contains(&woken) {
+            return false;
+        }
+    }
+    notes.len() == 3
+}
+
+// Whether a waiting thread looks ahead of the first one's round, and sleeps, or behind it: it is told of the work.
+#[test]
+fn all_that_wait_are_woken_by_the_round_of_another(rt: HostRuntime) -> Result<(), Fail> {
+    let task = Task::Threads(&BEFORE, Part::Begins, Part::Waits);
+    let all = notes_over(&rt, rt.alloc(), tables(), ALIKE, &[], task)?;
+    let notes = behind(all.as_slice(), BEFORE.len());
+    assert_eq!(rt; notes.first(), Some(&BEGUN));
+    assert!(rt; are_woken(behind(notes, 1)));
     Ok(())
 }

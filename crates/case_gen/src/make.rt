@@ -1,14 +1,15 @@
-ghost use Rattle.std.specs.Prelude.{◌≡◌, ◌≤◌, IfOk, IsTrue, OnOk};
+ghost use Rattle.std.specs.Prelude.{◌≡◌, ℕ, ◌<◌, ◌≤◌, IfOk, IsTrue, OnOk, length, slice_index};
 ghost use Rattle.rollout_rules.specs.Slack.{has_slack, has_table_room};
-ghost use Rattle.rollout_rules.specs.declared.limits.TheConstants.{MOST_FLOWS, MOST_SWITCHES};
-ghost use Rattle.case_gen.specs.Cases.{after_case, bare_ring, case, fitted_ring};
-ghost use Rattle.case_gen.specs.Conditions.{AreTrips};
+ghost use Rattle.rollout_rules.specs.declared.limits.TheConstants.{LARGEST_CAPACITY, LARGEST_TABLE, MOST_FLOWS, MOST_SWITCHES};
+ghost use Rattle.rollout_rules.specs.Sums.{list_below};
+ghost use Rattle.case_gen.specs.Cases.{after_case, bare_ring, capacity_for, case, fitted_ring, table_for};
+ghost use Rattle.case_gen.specs.Conditions.{AreTrips, HasSmallRates};
 
 use crate::draws::Draws;
 use crate::needs::{capacities_for, tables_for};
 use crate::ring::network;
 use crate::trip::{Trip, draw_trips};
-use lists::Memory;
+use lists::{Memory, Nums};
 use std::alloc::Global;
 use wan_model::Problem;
 
@@ -45,9 +46,53 @@ fn fitted_ring(alloc: Global, k: u32, switches: u32, trips: &[Trip]) -> Result<P
     ensures { IfOk result (λ problem. problem ≡ fitted_ring k switches trips.now) }
 {
     let bare = bare_ring(alloc, switches, trips)?;
-    let tables = tables_for(alloc, &bare)?;
-    let capacities = capacities_for(alloc, k, &bare)?;
-    network(alloc, tables.as_slice(), capacities.as_slice(), trips)
+    match needs_of(alloc, k, &bare) {
+        Ok(needs) => {
+            drop(bare);
+            network(
+                alloc,
+                needs.tables.as_slice(),
+                needs.capacities.as_slice(),
+                trips,
+            )
+        }
+        Err(refused) => {
+            drop(bare);
+            Err(refused)
+        }
+    }
+}
+
+// The tables and the capacities that a ring's trips need.
+#[derive(Drop)]
+struct Needs {
+    tables: Vec<u32>,
+    capacities: Nums,
+}
+
+fn needs_of(alloc: Global, k: u32, problem: &Problem) -> Result<Needs, Memory>
+    requires least { 2 ≤ k }
+    requires most { k ≤ 64 }
+    requires rates { HasSmallRates problem.now }
+    requires plain { problem.now.format ≡ 1 }
+    ensures tables { IfOk result
+        (λ needs. needs.tables.items
+        ≡ list_below (length problem.now.switches) (table_for problem.now)) }
+    ensures tables_fit { IfOk result
+        (λ needs. (w : ℕ)
+        → w < length needs.tables.items
+        → slice_index needs.tables.items w ≤ LARGEST_TABLE) }
+    ensures capacities { IfOk result
+        (λ needs. needs.capacities
+        ≡ list_below (length problem.now.links) (capacity_for k problem.now)) }
+    ensures capacities_fit { IfOk result
+        (λ needs. (l : ℕ)
+        → l < length needs.capacities
+        → slice_index needs.capacities l ≤ LARGEST_CAPACITY) }
+{
+    let tables = tables_for(alloc, problem)?;
+    let capacities = capacities_for(alloc, k, problem)?;
+    Ok(Needs { tables, capacities })
 }
 
 // The ring on which trips are made, without capacities and tables.

@@ -24,10 +24,33 @@ pub(crate) fn network(
         (λ p. p ≡ network (length tables.now) tables.now capacities.now trips.now) }
 {
     let mut problem = Problem::new(alloc);
-    add_switches(alloc, &mut problem, tables)?;
-    add_links(&mut problem, tables.len() as u32, capacities)?;
-    add_flows(alloc, &mut problem, tables.len() as u32, trips)?;
-    Ok(problem)
+    match fill(alloc, &mut problem, tables, capacities, trips) {
+        Ok(()) => Ok(problem),
+        Err(refused) => {
+            drop(problem);
+            Err(refused)
+        }
+    }
+}
+
+fn fill(
+    alloc: Global,
+    problem: &mut Problem,
+    tables: &[u32],
+    capacities: &[u64],
+    trips: &[Trip],
+) -> Result<(), Memory>
+    requires empty { problem.old ≡ no_problem }
+    requires tables { AreTables tables.now }
+    requires capacities { AreCapacities (length tables.now) capacities.now }
+    requires trips { AreTrips (length tables.now) trips.now }
+    ensures { OnOk result
+        (problem.new ≡ network (length tables.now) tables.now capacities.now trips.now) }
+{
+    add_switches(alloc, problem, tables)?;
+    add_links(problem, tables.len() as u32, capacities)?;
+    add_flows(alloc, problem, tables.len() as u32, trips)?;
+    Ok(())
 }
 
 fn add_switches(alloc: Global, problem: &mut Problem, tables: &[u32]) -> Result<(), Memory>

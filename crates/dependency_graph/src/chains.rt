@@ -1,14 +1,15 @@
-ghost use Rattle.std.specs.Prelude.{◌≡◌, ◌+◌, ◌-◌, ◌<◌, [], length, slice_index, slice_index_or, IfOk, OnOk, IsTrue};
+ghost use Rattle.std.specs.Prelude.{◌≡◌, ◌+◌, ◌-◌, ◌<◌, [], ◌∷◌, ◌++◌, length, slice_index, slice_index_or, IfOk, OnOk, IsTrue};
 ghost use Rattle.rollout_rules.specs.Wan.{last_stage};
 ghost use Rattle.rollout_rules.specs.Items.{is_item};
 ghost use Rattle.rollout_rules.specs.Release.{chain};
 ghost use Rattle.dependency_graph.specs.Chains.{AreAllChains, AreChainsFrom};
 
-use crate::longest::{Ahead, at, flows_at, tunnels_at};
+use crate::longest::{Ahead, FlowsAt, TunnelsAt, at, flows_at, tunnels_at};
 use lists::{Ids, Many, Memory};
 use rollout_rules::Item;
 use std::alloc::Global;
 use std::marker::Model;
+use std::mem::replace;
 use std::snapshot::Snapshot;
 use wan_model::CheckedPlan;
 
@@ -78,6 +79,41 @@ struct Rows {
     ahead: Ahead,
 }
 
+impl Rows {
+    /// Puts the rows of a stage behind those so far, and what is ahead of that stage in place of what was.
+    fn put(&mut self, flows: FlowsAt, tunnels: TunnelsAt) -> Result<(), Memory>
+        ensures flows { OnOk result (self.new.flows ≡ self.old.flows ++ (flows.chains ∷ [])) }
+        ensures tunnels { OnOk result
+            (self.new.tunnels ≡ self.old.tunnels ++ (tunnels.chains ∷ [])) }
+        ensures ahead { OnOk result
+            (self.new.ahead
+            ≡ record {
+              flows = flows.own;
+              own = tunnels.own;
+              departures = tunnels.departures;
+              arrivals = tunnels.arrivals;
+            }) }
+    {
+        let ahead = Ahead {
+            flows: flows.own,
+            own: tunnels.own,
+            departures: tunnels.departures,
+            arrivals: tunnels.arrivals,
+        };
+        self.add(flows.chains, tunnels.chains, ahead)
+    }
+
+    fn add(&mut self, flows: Ids, tunnels: Ids, ahead: Ahead) -> Result<(), Memory>
+        ensures flows { OnOk result (self.new.flows ≡ self.old.flows ++ (flows ∷ [])) }
+        ensures tunnels { OnOk result (self.new.tunnels ≡ self.old.tunnels ++ (tunnels ∷ [])) }
+        ensures ahead { OnOk result (self.new.ahead ≡ ahead) }
+    {
+        drop(replace(&mut self.ahead, ahead));
+        self.flows.push(flows)?;
+        self.tunnels.push(tunnels)
+    }
+}
+
 fn all_rows(alloc: Global, plan: &CheckedPlan) -> Result<Rows, Memory>
     ensures { IfOk result (λ rows. AreAllChains plan.now rows.flows rows.tunnels) }
 {
@@ -86,10 +122,24 @@ fn all_rows(alloc: Global, plan: &CheckedPlan) -> Result<Rows, Memory>
         tunnels: Many::new(alloc),
         ahead: Ahead::of_the_last(alloc, plan)?,
     };
-    for turn in 0..plan.last_stage() {
-        add_stage(alloc, &mut rows, plan, turn)?;
+    match add_stages(alloc, &mut rows, plan) {
+        Ok(()) => Ok(rows),
+        Err(refused) => {
+            drop(rows);
+            Err(refused)
+        }
     }
-    Ok(rows)
+}
+
+fn add_stages(alloc: Global, rows: &mut Rows, plan: &CheckedPlan) -> Result<(), Memory>
+    requires { AreChainsFrom plan.now.problem plan.now.plan 0 rows.old.flows rows.old.tunnels
+        rows.old.ahead.flows rows.old.ahead.own rows.old.ahead.departures rows.old.ahead.arrivals }
+    ensures { OnOk result (AreAllChains plan.now rows.new.flows rows.new.tunnels) }
+{
+    for turn in 0..plan.last_stage() {
+        add_stage(alloc, rows, plan, turn)?;
+    }
+    Ok(())
 }
 
 /// The rows of the stage at that many turns before the last.
@@ -104,14 +154,11 @@ fn add_stage(alloc: Global, rows: &mut Rows, plan: &CheckedPlan, turn: usize) ->
 {
     let s = plan.last_stage() - 1 - turn;
     let flows = flows_at(alloc, plan, s, &rows.ahead)?;
-    let tunnels = tunnels_at(alloc, plan, s, &rows.ahead, &flows.steps)?;
-    rows.flows.push(flows.chains)?;
-    rows.tunnels.push(tunnels.chains)?;
-    rows.ahead = Ahead {
-        flows: flows.own,
-        own: tunnels.own,
-        departures: tunnels.departures,
-        arrivals: tunnels.arrivals,
-    };
-    Ok(())
+    match tunnels_at(alloc, plan, s, &rows.ahead, &flows.steps) {
+        Ok(tunnels) => rows.put(flows, tunnels),
+        Err(refused) => {
+            drop(flows);
+            Err(refused)
+        }
+    }
 }

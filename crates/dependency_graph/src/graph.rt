@@ -427,15 +427,44 @@ fn parts_at(alloc: Global, plan: &CheckedPlan, start: &[u32]) -> Result<Parts, M
         parts.wakes) }
 {
     let course = Course::new(alloc, plan, start)?;
+    match sides_of(alloc, plan, &course) {
+        Ok(sides) => Ok(Parts {
+            course,
+            touched: sides.touched,
+            chains: sides.chains,
+            cells: sides.cells,
+            wakes: sides.wakes,
+        }),
+        Err(refused) => {
+            drop(course);
+            Err(refused)
+        }
+    }
+}
+
+/// What a graph has beside its course.
+#[derive(Drop)]
+struct Sides {
+    touched: Touched,
+    chains: Chains,
+    cells: Cells,
+    wakes: Wakes,
+}
+
+fn sides_of(alloc: Global, plan: &CheckedPlan, course: &Course) -> Result<Sides, Memory>
+    requires { course.now.rollout ≡ plan.now }
+    ensures { IfOk result
+        (λ sides. IsWakefulGraph plan.now sides.touched sides.chains course.now sides.cells
+        sides.wakes) }
+{
     let touched = Touched::new(alloc, plan, course.lookup())?;
     let chains = Chains::new(alloc, plan)?;
     let mut cells = Cells::new(alloc, plan)?;
     course.fill(&mut cells, plan);
     let resources = plan.problem().links().len() + plan.problem().switches().len();
     let mut wakes = Wakes::new(alloc, course.item_count(), resources as u32)?;
-    rouse_each(&mut wakes, &course);
-    Ok(Parts {
-        course,
+    rouse_each(&mut wakes, course);
+    Ok(Sides {
         touched,
         chains,
         cells,

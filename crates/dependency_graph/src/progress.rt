@@ -11,7 +11,7 @@ ghost use Rattle.dependency_graph.specs.Ahead.{places_with};
 ghost use Rattle.dependency_graph.specs.Ahead as places;
 ghost use Rattle.dependency_graph.specs.Cells.{resource_count, resource_at};
 ghost use Rattle.dependency_graph.specs.Fits.{least_stand};
-ghost use Rattle.dependency_graph.specs.StageCounts.{AreStands};
+ghost use Rattle.dependency_graph.specs.StageCounts.{AreStands, IsProgress};
 ghost use Rattle.dependency_graph.specs.Graph as graph;
 
 pub mod ahead;
@@ -69,16 +69,13 @@ impl Progress {
         ensures counts { IfOk result (λ progress. AreCountsOf progress (started start.now)) }
     {
         let index = Index::new(alloc, plan)?;
-        let stages = first_stages(alloc, plan, &index, start)?;
-        let stands = Stands::new(alloc, plan.last_stage() as u32, stages)?;
-        let settled = copied(alloc, start)?;
-        let begun = copied(alloc, start)?;
-        Ok(Progress {
-            index: Arc::new(alloc, index)?,
-            settled,
-            begun,
-            stands,
-        })
+        match counted_at(alloc, plan, &index, start) {
+            Ok(counted) => of_counted(alloc, index, counted),
+            Err(refused) => {
+                drop(index);
+                Err(refused)
+            }
+        }
     }
 
     /// Puts what was settled at another start in place of what is counted. It takes no memory.
@@ -268,6 +265,62 @@ impl Progress {
             }
         }
     }
+}
+
+/// What is counted, and where items stand by it.
+#[derive(Drop)]
+struct Counted {
+    settled: Vec<u32>,
+    begun: Vec<u32>,
+    stands: Stands,
+}
+
+fn counted_at(
+    alloc: Global,
+    plan: &CheckedPlan,
+    index: &Index,
+    start: &[u32],
+) -> Result<Counted, Memory>
+    requires own { index.now ≡ plan.now }
+    requires numbers { length start.now ≡ item_count plan.now.problem }
+    ensures progress { IfOk result
+        (λ c. IsProgress plan.now c.settled.items c.begun.items c.stands) }
+    ensures counts { IfOk result
+        (λ c. AreCountsOf (record {
+          rollout = plan.now;
+          settled = c.settled.items;
+          begun = c.begun.items;
+        })
+        (started start.now)) }
+{
+    checked_plan_is_valid(plan);
+    let stages = first_stages(alloc, plan, index, start)?;
+    let stands = Stands::new(alloc, plan.last_stage() as u32, stages)?;
+    let settled = copied(alloc, start)?;
+    let begun = copied(alloc, start)?;
+    Ok(Counted {
+        settled,
+        begun,
+        stands,
+    })
+}
+
+fn of_counted(alloc: Global, index: Index, counted: Counted) -> Result<Progress, Memory>
+    requires { IsProgress index counted.settled.items counted.begun.items counted.stands }
+    ensures { IfOk result
+        (λ progress. progress
+        ≡ record {
+          rollout = index;
+          settled = counted.settled.items;
+          begun = counted.begun.items;
+        }) }
+{
+    Ok(Progress {
+        index: Arc::new(alloc, index)?,
+        settled: counted.settled,
+        begun: counted.begun,
+        stands: counted.stands,
+    })
 }
 
 fn first_stages(

@@ -7,18 +7,19 @@ use wan_model::{CheckedPlan, Plan, Problem, Stage};
 
 // The plan of no step for a network of nothing.
 fn plan_of_nothing(alloc: Global) -> Result<CheckedPlan, Memory> {
-    let problem = Problem::new(alloc);
     let mut plan = Plan::new(alloc, 1);
     plan.add_stage(Stage {
         rates: Nums::new(alloc),
         installed: Marks::new(alloc),
     })?;
-    Ok(CheckedPlan::seal(problem, plan))
+    Ok(CheckedPlan::seal(Problem::new(alloc), plan))
 }
 
 fn report_of_nothing(alloc: Global) -> Result<Text, Memory> {
     let plan = plan_of_nothing(alloc)?;
-    report(alloc, &plan, &History::new(&[], &[]))
+    let text = report(alloc, &plan, &History::new(&[], &[]));
+    drop(plan);
+    text
 }
 
 #[test]

@@ -10,14 +10,16 @@ use Rattle.std.proofs.lemmas.Grind.{flat_map-append}
 use Rattle.std.proofs.KnownBytes.{Consumes-trans, Keeps-refl}
 use Rattle.std.specs.Io.KnownBytes.{Consumes, Keeps}
 use Rattle.std.specs.List.{All, flat_map}
-use Rattle.std.specs.Prelude.{OnOk}
+use Rattle.std.specs.Prelude.{IfSome, OnOk}
 use Rattle.std.specs.Result.{IsErr}
 use Rattle.wan_edge.specs.Frames.{AnswerFrame, HasOtherKind, IsAnswer, IsCutAnswer, answer_bytes, answer_kind}
 use Rattle.wire_frames.proofs.Cuts.{cut_no_answer}
 use Rattle.wire_frames.specs.Reading.{Ends, IsAnswerFault, Reader, ReadsAnswer}
 use Rattle.wire_frames.specs.declared.fault.FrameFault.{FrameFault}
 use Rattle.wire_frames.specs.declared.fault.FrameFault.TheVariants.{Count, Kind}
-use Rattle.host_edge.specs.Connections.{HearsOver, inbox_of}
+use Rattle.host_edge.proofs.Noting.{added_further}
+use Rattle.host_edge.specs.Connections.{HearsOver, IsFresh, OffersOver, came_over, inbox_of, outbox_of}
+use Rattle.host_edge.specs.Outboxes.{Offers}
 use Rattle.host_edge.specs.Inboxes.{GivesOn, Held, HoldsBack, is_empty_list, nothing_in}
 use Rattle.host_edge.specs.declared.connection.Connection.{Connection}
 
@@ -172,32 +174,45 @@ Keeps-same known before now same = subst (λ x. Keeps (known before) (known x)) 
 pub reads_nothing : (a b : Option (List ℕ)) (before now : Held) → Keeps a b → now ≡ before → before.ready ≡ [] → IsCutAnswer before.cut → Consumes a b [] × HoldsBack (before.cut ++ []) now
 reads_nothing a b before now kept same empty cut = (Keeps-consumes a b kept, subst (HoldsBack (before.cut ++ [])) (sym same) (holds_nothing before empty cut))
 
--- the bytes that came were the front of an answer all the time
-pub record CutSoFar (a b : Option (List ℕ)) (before now : Held) : Type 0 where
+-- the bytes that came, and were noted, were the front of an answer all the time
+pub record CutSoFar (a b : Option (List ℕ)) (before now : Held) (came came_now : List ℕ) : Type 0 where
   pub empty : now.ready ≡ []
   pub begun : IsCutAnswer now.cut
   pub piece : List ℕ
-  pub came : Consumes a b piece
+  pub consumed : Consumes a b piece
   pub cut : before.cut ++ piece ≡ now.cut
+  pub noted : came_now ≡ came ++ piece
 
-pub cut_more : (a b c : Option (List ℕ)) (before mid now : Held) (more : List ℕ) → CutSoFar a b before mid → Consumes b c more → HoldsBack (mid.cut ++ more) now → now.ready ≡ [] → CutSoFar a c before now
-cut_more a b c before mid now more so then sorted empty = record {
+pub cut_more : (a b c : Option (List ℕ)) (before mid now : Held) (came came_mid came_now more : List ℕ) → CutSoFar a b before mid came came_mid → Consumes b c more → HoldsBack (mid.cut ++ more) now
+    → came_now ≡ came_mid ++ more → now.ready ≡ [] → CutSoFar a c before now came came_now
+cut_more a b c before mid now came came_mid came_now more so then sorted noted empty = record {
   empty = empty;
   begun = sorted.begun;
   piece = so.piece ++ more;
-  came = Consumes-trans a b c so.piece more so.came then;
+  consumed = Consumes-trans a b c so.piece more so.consumed then;
   cut = sym (append_assoc before.cut so.piece more) ∙ ap (λ (xs : List ℕ). xs ++ more) so.cut ∙ cut_only mid now more sorted empty;
+  noted = added_further came came_mid came_now so.piece more (so.piece ++ more) so.noted noted refl;
 }
 
 module _ (S : Type 0) where
   -- where nothing is held any more, nothing was given on
-  pub hears_none : (before now : Option (Connection S)) → inbox_of now ≡ nothing_in → HearsOver before [] now
+  pub hears_none : (before now : Option (Connection S)) → IsFresh now → HearsOver before [] now
   hears_none before now none = record {
     start = nothing_in;
-    from = inr refl;
+    earlier = [];
+    from = inr (refl, refl);
     piece = [];
-    given_on = subst (GivesOn nothing_in [] []) (sym none) (gives_nothing nothing_in cut_no_answer);
+    came = none.came;
+    given_on = subst (GivesOn nothing_in [] []) (sym none.inbox) (gives_nothing nothing_in cut_no_answer);
   }
 
   pub hears_nothing : (connection : Option (Connection S)) → connection ≡ None → HearsOver connection [] connection
-  hears_nothing connection is = hears_none connection connection (ap inbox_of is)
+  hears_nothing connection is = hears_none connection connection (record { inbox = ap inbox_of is; came = ap came_over is; outbox = ap outbox_of is })
+
+  -- without a connection what is offered is lost
+  pub offers_nothing : (connection : Option (Connection S)) (bytes : List ℕ) → connection ≡ None → OffersOver connection bytes connection
+  offers_nothing connection bytes is = record {
+    start = outbox_of connection;
+    from = inl refl;
+    offered = subst (λ c. IfSome c (λ there. Offers bytes (outbox_of connection) there.outbox)) (sym is) tt;
+  }

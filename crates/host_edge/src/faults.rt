@@ -1,7 +1,8 @@
-ghost use Rattle.std.specs.Prelude.{◌≡◌, ◌≤◌, Ok, IfOk, OnErr};
+ghost use Rattle.std.specs.Prelude.{◌≡◌, ◌≢◌, ◌≤◌, Ok, IfErr, IfOk, IsErr, OnErr};
+ghost use Rattle.std.specs.IoError.{error_kind};
 ghost use Rattle.wan_edge.specs.Streams.{Rose};
 
-use std::io;
+use std::io::{self, ErrorKind};
 use std::marker::Model;
 use wan_edge::Failed;
 
@@ -29,6 +30,7 @@ impl Faults {
     /// The system's answer as an adapter's, a failure counted.
     pub(crate) fn counted<T>(&mut self, answer: io::Result<T>) -> Result<T, Failed>
         ensures value { IfOk result (λ x. answer ≡ Ok x) }
+        ensures failed { OnErr result (IsErr answer) }
         ensures cause { OnErr result (Rose self.old self.new) }
         ensures count { self.old ≤ self.new }
     {
@@ -39,5 +41,40 @@ impl Faults {
                 Err(Failed)
             }
         }
+    }
+}
+
+/// How often a standard stream has failed. One that isn't ready yet hasn't failed.
+#[derive(Drop)]
+pub(crate) struct StreamFaults {
+    faults: Faults,
+}
+
+impl Model for StreamFaults {
+    ghost use Rattle.std.specs.Prelude.{ℕ};
+
+    ghost Value = { ℕ };
+
+    ghost view = { λ f. f.faults };
+}
+
+impl StreamFaults {
+    pub(crate) fn new() -> Self
+        ensures { result ≡ 0 }
+    {
+        StreamFaults {
+            faults: Faults::new(),
+        }
+    }
+
+    /// The system's answer as an adapter's, a failure counted.
+    pub(crate) fn counted<T>(&mut self, answer: io::Result<T>) -> Result<T, Failed>
+        requires awaited { IfErr answer (λ error. error_kind error ≢ ErrorKind.WouldBlock) }
+        ensures value { IfOk result (λ x. answer ≡ Ok x) }
+        ensures failed { OnErr result (IsErr answer) }
+        ensures cause { OnErr result (Rose self.old self.new) }
+        ensures count { self.old ≤ self.new }
+    {
+        self.faults.counted(answer)
     }
 }

@@ -3,7 +3,8 @@ ghost use Rattle.std.specs.Io.KnownBytes.{Consumes, Keeps};
 ghost use Rattle.wan_edge.specs.Frames.{IsCutAnswer};
 ghost use Rattle.host_edge.specs.Inboxes.{HoldsBack, is_empty_list, nothing_in};
 
-use crate::unbroken::read_some;
+use crate::history::History;
+use crate::unbroken::read_noted;
 use std::cmp::min;
 use std::io::{self, Read};
 use std::marker::Model;
@@ -60,20 +61,23 @@ impl Inbox {
         self.given == self.whole
     }
 
-    /// Reads once, behind the front of the answer that hasn't ended, and says how many bytes came.
-    pub(crate) fn fill<R: Read>(&mut self, reader: &mut R) -> io::Result<usize>
+    /// Reads once, behind the front of the answer that hasn't ended, and says how many bytes came, which are
+    /// noted.
+    pub(crate) fn fill<R: Read>(&mut self, reader: &mut R, came: &mut History) -> io::Result<usize>
         requires empty { self.old.ready ≡ [] }
         ensures sorted { IfOk result
             (λ n. (piece : List ℕ)
             × (length piece ≡ n)
             × Consumes (R.remaining reader.old) (R.remaining reader.new) piece
-            × HoldsBack (self.old.cut ++ piece) self.new) }
+            × HoldsBack (self.old.cut ++ piece) self.new
+            × (came.new ≡ came.old ++ piece)) }
         ensures same { OnErr result (self.new ≡ self.old) }
         ensures unread { OnErr result (Keeps (R.remaining reader.old) (R.remaining reader.new)) }
+        ensures unnoted { OnErr result (came.new ≡ came.old) }
     {
         let cut = self.end - self.whole;
         let mut bytes = room_behind(&self.bytes[self.whole..self.end]);
-        let n = read_behind(reader, &mut bytes, cut)?;
+        let n = read_behind(reader, &mut bytes, cut, came)?;
         *self = Inbox::sorted(bytes, cut + n);
         Ok(n)
     }
@@ -116,18 +120,25 @@ fn room_behind(front: &[u8]) -> [u8; ROOM]
     bytes
 }
 
-// Reads once, into the places behind the first ones.
-fn read_behind<R: Read>(reader: &mut R, bytes: &mut [u8], front: usize) -> io::Result<usize>
+// Reads once, into the places behind the first ones, and notes what came.
+fn read_behind<R: Read>(
+    reader: &mut R,
+    bytes: &mut [u8],
+    front: usize,
+    came: &mut History,
+) -> io::Result<usize>
     requires { front ≤ length bytes.old }
     ensures within { IfOk result (λ n. front + n ≤ length bytes.old) }
     ensures taken { IfOk result
         (λ n. (piece : List ℕ)
         × (length piece ≡ n)
         × Consumes (R.remaining reader.old) (R.remaining reader.new) piece
-        × (take (front + n) bytes.new ≡ take front bytes.old ++ piece)) }
+        × (take (front + n) bytes.new ≡ take front bytes.old ++ piece)
+        × (came.new ≡ came.old ++ piece)) }
     ensures unread { OnErr result (Keeps (R.remaining reader.old) (R.remaining reader.new)) }
+    ensures unnoted { OnErr result (came.new ≡ came.old) }
 {
-    let n = read_some(reader, &mut bytes[front..])?;
+    let n = read_noted(reader, &mut bytes[front..], came)?;
     Ok(n)
 }
 

@@ -1,23 +1,23 @@
-ghost use Rattle.std.specs.Prelude.{◌≡◌, ◌≤◌, length, IfOk, IsSome, None, OnOk};
+ghost use Rattle.std.specs.Prelude.{◌≡◌, ◌<◌, ◌≤◌, length, take, true, IfOk, IfSome, IsNone, IsSome, OnOk};
+ghost use Rattle.host_edge.specs.Places.{StandsAt, WritesAt};
 
-use std::fs::{self, File, OpenOptions};
+use crate::placed_file::PlacedFile;
+use std::fs::{self, File};
 use std::io::{self, ErrorKind};
-use std::os::fd::AsRawFd;
-use std::os::unix::fs::FileExt;
 use std::rt::Files;
 
 /// A file that the first call opens, or makes, and locks. One that couldn't be opened is tried again by
 /// the next call.
 #[derive(Drop)]
-pub(crate) struct LockedFile<R> {
+pub(crate) struct LockedFile<R, F> {
     rt: R,
     path: String,
-    file: Option<File>,
+    file: Option<F>,
     folder_synced: bool,
     sync_failed: bool,
 }
 
-impl<R> LockedFile<R> {
+impl<R, F> LockedFile<R, F> {
     pub(crate) fn new(rt: R, path: String) -> Self {
         LockedFile {
             rt,
@@ -29,30 +29,33 @@ impl<R> LockedFile<R> {
     }
 }
 
-impl<R: Files<File = File> + Alloc> LockedFile<R> {
+impl<R: Files<File = File> + Alloc, F: PlacedFile> LockedFile<R, F> {
     pub(crate) fn len(&mut self) -> io::Result<u64> {
         self.open()?;
-        let file = self.file.as_ref().unwrap();
-        Ok(file.metadata()?.len())
+        self.file.as_ref().unwrap().size()
     }
 
     /// Some of the bytes from a place on; none only at the end or past it.
     pub(crate) fn read_at(&mut self, at: u64, into: &mut [u8]) -> io::Result<usize>
         ensures within { IfOk result (λ n. n ≤ length into.old) }
+        ensures given { IfOk result (λ n. StandsAt F.bytes self.new.file at n (take n into.new)) }
     {
         self.open()?;
         let file = self.file.as_ref().unwrap();
-        read_some_at(file, at, into)
+        file.read_from(at, into)
     }
 
     /// All the bytes from a place on. A gap before it reads as zeros.
-    pub(crate) fn write_at(&mut self, at: u64, from: &[u8]) -> io::Result<()> {
+    pub(crate) fn write_at(&mut self, at: u64, from: &[u8]) -> io::Result<()>
+        ensures { OnOk result
+            (0 < length from.now → WritesAt F.bytes self.old.file at from.now self.new.file) }
+    {
         self.open()?;
-        let file = self.file.as_ref().unwrap();
-        if from.is_empty() && file.metadata()?.len() < at {
-            return file.set_len(at);
+        let file = self.file.as_mut().unwrap();
+        if from.is_empty() && file.size()? < at {
+            return file.end_at(at);
         }
-        file.write_all_at(from, at)
+        file.write_from(at, from)
     }
 
     /// To the device, with the folder where it wasn't synced since the file was opened. After a sync that
@@ -68,8 +71,7 @@ impl<R: Files<File = File> + Alloc> LockedFile<R> {
 
     fn sync_both(&mut self) -> io::Result<()> {
         self.open()?;
-        let file = self.file.as_ref().unwrap();
-        file.sync_data()?;
+        self.file.as_ref().unwrap().sync()?;
         if !self.folder_synced {
             sync_folder(&self.rt, self.path.as_str())?;
             self.folder_synced = true;
@@ -78,7 +80,10 @@ impl<R: Files<File = File> + Alloc> LockedFile<R> {
     }
 
     fn open(&mut self) -> io::Result<()>
-        ensures { OnOk result (IsSome self.new.file) }
+        ensures there { OnOk result (IsSome self.new.file) }
+        ensures same { IsSome self.old.file → self.new.file ≡ self.old.file }
+        ensures locked { IsNone self.old.file → IfSome self.new.file
+            (λ file. IfSome (F.locked file) (λ held. held ≡ true)) }
     {
         if self.file.is_none() {
             self.file = Some(open_locked(&self.rt, self.path.as_str())?);
@@ -87,34 +92,11 @@ impl<R: Files<File = File> + Alloc> LockedFile<R> {
     }
 }
 
-fn read_some_at(file: &File, at: u64, into: &mut [u8]) -> io::Result<usize>
-    ensures within { IfOk result (λ n. n ≤ length into.old) }
+fn open_locked<R: Files<File = File>, F: PlacedFile>(rt: &R, path: &str) -> io::Result<F>
+    ensures { IfOk result (λ file. IfSome (F.locked file) (λ held. held ≡ true)) }
 {
-    for _ in 0..u64::MAX {
-        match file.read_at(into, at) {
-            Ok(n) => return Ok(n),
-            Err(error) if error.kind() == ErrorKind::Interrupted => {}
-            Err(error) => return Err(error),
-        }
-    }
-    Err(ErrorKind::Interrupted.into())
-}
-
-// A regular file alone: the length of a device isn't that of its bytes.
-fn open_locked<R: Files<File = File>>(rt: &R, path: &str) -> io::Result<File> {
-    let mut file = OpenOptions::new()
-        .read(true)
-        .write(true)
-        .create(true)
-        .open(rt, path)?;
-    // What is meant for a standard stream that was closed must not land in the file.
-    if file.as_raw_fd() <= 2 {
-        file = file.try_clone()?;
-    }
-    if !file.metadata()?.is_file() {
-        return Err(ErrorKind::Unsupported.into());
-    }
-    file.try_lock()?;
+    let mut file = F::open_at(rt, path)?;
+    file.take_lock()?;
     Ok(file)
 }
 

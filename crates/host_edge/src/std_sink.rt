@@ -1,56 +1,64 @@
-ghost use Rattle.std.specs.Prelude.{◌≡◌};
+ghost use Rattle.std.specs.Prelude.{◌≡◌, []};
+ghost use Rattle.host_edge.specs.Sinks.{written_to};
 
-use crate::faults::Faults;
-use crate::unbroken::write_some;
+use crate::faults::StreamFaults;
+use crate::pen::Pen;
 use std::io::{Stderr, Stdout};
+use std::time::Clock;
 use wan_edge::{Failed, Sink};
 
 #[derive(Drop)]
-enum Stream {
-    Output(Stdout),
-    Error(Stderr),
+pub(crate) enum Stream {
+    Output(Pen<Stdout>),
+    Error(Pen<Stderr>),
 }
 
-/// Standard output or standard error as a sink, which tells nothing of what was written.
+/// Standard output or standard error as a sink, which tells what was written: the bytes that the system says
+/// it took. Where it doesn't block, room that isn't there yet is waited for.
 #[derive(Drop)]
-pub struct StdSink {
+pub struct StdSink<R> {
+    rt: R,
     stream: Stream,
-    faults: Faults,
+    faults: StreamFaults,
 }
 
-impl StdSink {
-    /// Standard output, of which no call has failed.
-    pub fn output(stream: Stdout) -> Self
-        ensures { result.faults ≡ 0 }
+impl<R> StdSink<R> {
+    /// Standard output, to which nothing was written, and of which no call has failed. It is waited for on the
+    /// clock of the runtime.
+    pub fn output(rt: R, stream: Stdout) -> Self
+        ensures written { written_to result.stream ≡ [] }
+        ensures faults { result.faults ≡ 0 }
     {
         StdSink {
-            stream: Stream::Output(stream),
-            faults: Faults::new(),
+            rt,
+            stream: Stream::Output(Pen::new(stream)),
+            faults: StreamFaults::new(),
         }
     }
 
-    /// Standard error, of which no call has failed.
-    pub fn error(stream: Stderr) -> Self
-        ensures { result.faults ≡ 0 }
+    /// Standard error, likewise.
+    pub fn error(rt: R, stream: Stderr) -> Self
+        ensures written { written_to result.stream ≡ [] }
+        ensures faults { result.faults ≡ 0 }
     {
         StdSink {
-            stream: Stream::Error(stream),
-            faults: Faults::new(),
+            rt,
+            stream: Stream::Error(Pen::new(stream)),
+            faults: StreamFaults::new(),
         }
     }
 }
 
-impl Sink for StdSink {
-    ghost use Rattle.std.specs.Prelude.{None};
+impl<R: Clock> Sink for StdSink<R> {
+    ghost use Rattle.std.specs.Prelude.{Some};
+    ghost use Rattle.host_edge.specs.Sinks.{written_to};
 
-    ghost written = { λ _. None };
-
-    ghost faults = { λ s. s.faults };
+    ghost told = { λ s. record { written = Some (written_to s.stream); faults = s.faults } };
 
     fn write(&mut self, from: &[u8]) -> Result<usize, Failed> {
         let answer = match &mut self.stream {
-            Stream::Output(stream) => write_some(stream, from),
-            Stream::Error(stream) => write_some(stream, from),
+            Stream::Output(pen) => pen.write(&self.rt, from),
+            Stream::Error(pen) => pen.write(&self.rt, from),
         };
         self.faults.counted(answer)
     }

@@ -1,4 +1,4 @@
-ghost use Rattle.std.specs.Prelude.{◌≡◌, None, IsSome, OnOk};
+ghost use Rattle.std.specs.Prelude.{◌≡◌, [], None, IfOk, IsSome, OnOk};
 ghost use Rattle.host_edge.specs.Ledgers.{kept_in, lent_in, served_in, visiting_in};
 
 use crate::dialer::Dialer;
@@ -99,8 +99,9 @@ impl<R: Net + Files<File = File> + Clock + Copy> Fleet for TcpFleet<R> {
         Ok(Some(TcpGuest::new(stream)))
     }
 
-    fn keep_guest(&mut self, guest: TcpGuest<R::Stream>) {
+    fn keep_guest(&mut self, mut guest: TcpGuest<R::Stream>) {
         self.visits = self.visits.back(&guest);
+        guest.take_leave(&self.rt, self.limit);
     }
 }
 
@@ -111,7 +112,10 @@ fn open_port<R: Net + Files<File = File> + Clock + Copy>(
     switches: &mut Switchboard,
     name: &str,
     limit: TimeLimit,
-) -> io::Result<TcpPort<R>> {
+) -> io::Result<TcpPort<R>>
+    ensures offered { IfOk result (λ port. port.offered ≡ []) }
+    ensures heard { IfOk result (λ port. port.heard ≡ []) }
+{
     let path = String::from_str(alloc, switches.path())?;
     let dialer = Dialer::new(alloc, *rt, path, String::from_str(alloc, name)?, limit);
     let address = switches.address(rt, name)?;

@@ -1,9 +1,11 @@
-ghost use Rattle.std.specs.Prelude.{◌≡◌, ◌≤◌, [], length, take, IfOk, IsOk, OnErr};
-ghost use Rattle.host_edge.specs.Inboxes.{nothing_in};
-ghost use Rattle.host_edge.specs.Connections.{HearsOver, StaysOrIsNew, inbox_of};
+ghost use Rattle.std.specs.Prelude.{◌≡◌, ◌<◌, ◌≤◌, [], length, take, IfOk, IsOk, OnErr, OnOk};
+ghost use Rattle.host_edge.specs.Connections.{HearsOver, IsFresh, OffersOver, StaysOrIsNew};
+ghost use Rattle.wan_edge.specs.Ports.{IsOneMore};
+ghost use Rattle.wan_edge.specs.Streams.{Appends};
 
 use crate::connection::{Connection, is_late};
 use crate::dialer::Dialer;
+use crate::history::{Count, History};
 use std::fs::File;
 use std::io::{self, ErrorKind};
 use std::net::{Net, TcpStream};
@@ -12,35 +14,53 @@ use std::thread;
 use std::time::{Clock, Duration, Instant};
 use wan_edge::{Failed, Port};
 
-/// The way to a switch as a port, which tells nothing of its bytes and never fails.
+/// The way to a switch as a port, which never fails. It tells what was offered, what was heard and how often
+/// nothing was.
 ///
 /// Where its connection couldn't be made, or ends, another one is begun, at most once in each time limit.
 /// Meanwhile what is offered is lost, and nothing is heard. What comes back is given on in whole answers:
 /// one that is cut when its connection ends is dropped. A hear waits until the time limit has passed since
 /// the last offer.
+///
+/// So what was offered is all that was handed over. The first of each offer was sent over the connection
+/// that there was: all of it or none, but for the last one there, of which a part may have gone. What was
+/// heard is what was given on, and came over that connection. What a connection carried is noted for as long
+/// as it is there: a new one begins with nothing.
 #[derive(Drop)]
 pub struct TcpPort<R> {
     dialer: Dialer<R>,
     connection: Option<Connection<TcpStream>>,
-    offered: Option<Instant>,
+    last: Option<Instant>,
+    offered: History,
+    heard: History,
+    quiet: Count,
 }
 
 impl<R: Net + Files<File = File> + Clock> TcpPort<R> {
     /// A port to this address, to which a connection is begun.
     pub(crate) fn new(mut dialer: Dialer<R>, address: &str) -> Self
-        ensures { inbox_of result.connection ≡ nothing_in }
+        ensures connection { IsFresh result.connection }
+        ensures offered { result.offered ≡ [] }
+        ensures heard { result.heard ≡ [] }
+        ensures quiet { result.quiet ≡ 0 }
     {
         let connection = connection_of(dialer.dial(address));
         TcpPort {
             dialer,
             connection,
-            offered: None,
+            last: None,
+            offered: History::new(),
+            heard: History::new(),
+            quiet: Count::new(),
         }
     }
 
     // Begins another connection where there is none, or the last one wasn't made in its time.
     fn look_after(&mut self)
-        ensures { StaysOrIsNew self.old.connection self.new.connection }
+        ensures connection { StaysOrIsNew self.old.connection self.new.connection }
+        ensures offered { self.new.offered ≡ self.old.offered }
+        ensures heard { self.new.heard ≡ self.old.heard }
+        ensures quiet { self.new.quiet ≡ self.old.quiet }
     {
         if let Some(connection) = &mut self.connection {
             if connection.is_up() {
@@ -54,7 +74,10 @@ impl<R: Net + Files<File = File> + Clock> TcpPort<R> {
 
     // How long the bytes that are offered may wait for room, or for their connection.
     fn patience(&mut self) -> Duration
-        ensures { StaysOrIsNew self.old.connection self.new.connection }
+        ensures connection { StaysOrIsNew self.old.connection self.new.connection }
+        ensures offered { self.new.offered ≡ self.old.offered }
+        ensures heard { self.new.heard ≡ self.old.heard }
+        ensures quiet { self.new.quiet ≡ self.old.quiet }
     {
         if let Some(connection) = &mut self.connection {
             if connection.is_up() {
@@ -64,41 +87,80 @@ impl<R: Net + Files<File = File> + Clock> TcpPort<R> {
         self.dialer.patience()
     }
 
+    // Sends over the connection that there is.
+    fn send(&mut self, from: &[u8], patience: Duration)
+        ensures sent { OffersOver self.old.connection from.now self.new.connection }
+        ensures offered { self.new.offered ≡ self.old.offered }
+        ensures heard { self.new.heard ≡ self.old.heard }
+        ensures quiet { self.new.quiet ≡ self.old.quiet }
+    {
+        let limit = self.dialer.limit();
+        match &mut self.connection {
+            Some(connection) => connection.offer(from, patience, limit),
+            None => {}
+        }
+    }
+
     // What comes over the connection within the rest of the time limit.
     fn listen(&mut self, into: &mut [u8]) -> io::Result<usize>
         ensures within { IfOk result (λ n. n ≤ length into.old) }
         ensures given { IfOk result
             (λ n. HearsOver self.old.connection (take n into.new) self.new.connection) }
         ensures none { OnErr result (HearsOver self.old.connection [] self.new.connection) }
+        ensures offered { self.new.offered ≡ self.old.offered }
+        ensures heard { self.new.heard ≡ self.old.heard }
+        ensures quiet { self.new.quiet ≡ self.old.quiet }
     {
         let limit = self.dialer.limit();
         match &mut self.connection {
-            Some(connection) => connection.hear(self.dialer.rt(), into, limit, self.offered),
+            Some(connection) => connection.hear(self.dialer.rt(), into, limit, self.last),
             None => Err(ErrorKind::NotConnected.into()),
         }
     }
 
     // Gives the connection up. Where it is too soon for another one, waits for the rest of the time limit.
     fn hang_up(&mut self)
-        ensures { inbox_of self.new.connection ≡ nothing_in }
+        ensures connection { IsFresh self.new.connection }
+        ensures offered { self.new.offered ≡ self.old.offered }
+        ensures heard { self.new.heard ≡ self.old.heard }
+        ensures quiet { self.new.quiet ≡ self.old.quiet }
     {
         self.connection = None;
         if !self.dialer.is_due() {
-            let left = self.dialer.limit().left(self.dialer.rt(), self.offered);
+            let left = self.dialer.limit().left(self.dialer.rt(), self.last);
             thread::sleep(self.dialer.rt(), left);
+        }
+    }
+
+    // What comes now, over the connection that there is or another one, which is given up where it has ended.
+    fn next(&mut self, into: &mut [u8]) -> usize
+        ensures within { result ≤ length into.old }
+        ensures told { HearsOver self.old.connection (take result into.new) self.new.connection }
+        ensures offered { self.new.offered ≡ self.old.offered }
+        ensures heard { self.new.heard ≡ self.old.heard }
+        ensures quiet { self.new.quiet ≡ self.old.quiet }
+    {
+        self.look_after();
+        match self.listen(into) {
+            Ok(n) => n,
+            Err(error) if is_late(&error) => 0,
+            Err(_) => {
+                self.hang_up();
+                0
+            }
         }
     }
 }
 
 impl<R: Net + Files<File = File> + Clock> Port for TcpPort<R> {
-    ghost use Rattle.std.specs.Prelude.{None, false};
+    ghost use Rattle.std.specs.Prelude.{None, Some, false};
     ghost use Rattle.wan_edge.specs.Switches.{holding_nothing};
 
-    ghost told = { λ _. record {
-      offered = None;
-      heard = None;
+    ghost told = { λ p. record {
+      offered = Some p.offered;
+      heard = Some p.heard;
       held = None;
-      quiet = None;
+      quiet = Some p.quiet;
       faults = 0;
       honest = false;
       prompt = false;
@@ -107,38 +169,47 @@ impl<R: Net + Files<File = File> + Clock> Port for TcpPort<R> {
 
     fn offer(&mut self, from: &[u8]) -> Result<(), Failed>
         ensures goes_on { IsOk result }
+        ensures all { OnOk result
+            (Appends (Some self.old.offered) from.now (Some self.new.offered)) }
+        ensures sent { OffersOver self.old.connection from.now self.new.connection }
+        ensures unheard { Some self.new.heard ≡ Some self.old.heard }
+        ensures no_hear { Some self.new.quiet ≡ Some self.old.quiet }
     {
         self.look_after();
-        self.offered = Instant::now(self.dialer.rt()).ok();
-        let (patience, limit) = (self.patience(), self.dialer.limit());
-        if let Some(connection) = &mut self.connection {
-            connection.offer(from, patience, limit);
-        }
+        self.last = Instant::now(self.dialer.rt()).ok();
+        let patience = self.patience();
+        self.send(from, patience);
+        self.offered.add(from);
         Ok(())
     }
 
+    #[tactic(auto, using(crate::proofs::Noting::one_more))]
     fn hear(&mut self, into: &mut [u8]) -> Result<usize, Failed>
         ensures goes_on { IsOk result }
         ensures within { IfOk result (λ n. n ≤ length into.old) }
         ensures told { IfOk result
             (λ n. HearsOver self.old.connection (take n into.new) self.new.connection) }
+        ensures given { IfOk result
+            (λ n. Appends (Some self.old.heard) (take n into.new) (Some self.new.heard)) }
+        ensures unsent { Some self.new.offered ≡ Some self.old.offered }
+        ensures quieter { IfOk result
+            (λ n. n ≡ 0 → IsOneMore (Some self.old.quiet) (Some self.new.quiet)) }
+        ensures as_quiet { IfOk result (λ n. 0 < n → Some self.new.quiet ≡ Some self.old.quiet) }
     {
-        self.look_after();
-        match self.listen(into) {
-            Ok(n) => Ok(n),
-            Err(error) if is_late(&error) => Ok(0),
-            Err(_) => {
-                self.hang_up();
-                Ok(0)
-            }
+        let n = self.next(into);
+        if n == 0 {
+            self.quiet.raise();
+            return Ok(n);
         }
+        self.heard.add(&into[..n]);
+        Ok(n)
     }
 
     ghost prompt_is_honest = { λ _ prompt. prompt };
 }
 
 fn connection_of(stream: io::Result<TcpStream>) -> Option<Connection<TcpStream>>
-    ensures { inbox_of result ≡ nothing_in }
+    ensures { IsFresh result }
 {
     match stream {
         Ok(stream) => Some(Connection::new(stream)),

@@ -35,9 +35,11 @@ impl MemoryGuest {
 }
 
 impl Source for MemoryGuest {
-    ghost left = { λ g. Some g.reading.left };
-
-    ghost faults = { λ g. g.reading.turns.failures };
+    ghost told = { λ g. record {
+      left = Some g.reading.left;
+      taken = Some g.reading.taken;
+      faults = g.reading.turns.failures;
+    } };
 
     ghost as_sink = { λ g. record {
       written = Some g.writing.written;
@@ -49,9 +51,12 @@ impl Source for MemoryGuest {
         ensures fails { is_err result ≡ fails_now self.old.reading.turns }
         ensures answer { IfOk result
             (λ n. n ≡ min (length into.old) (length self.old.reading.left)) }
-        ensures taken { IfOk result
+        ensures left { IfOk result
             (λ n. self.old.reading.left ≡ take n into.new ++ self.new.reading.left) }
+        ensures taken { IfOk result
+            (λ n. self.new.reading.taken ≡ self.old.reading.taken ++ take n into.new) }
         ensures unread { OnErr result (self.new.reading.left ≡ self.old.reading.left) }
+        ensures untaken { OnErr result (self.new.reading.taken ≡ self.old.reading.taken) }
         ensures turns { self.new.reading.turns ≡ after_call self.old.reading.turns (is_err result) }
         ensures unwritten { self.new.writing ≡ self.old.writing }
     {
@@ -60,12 +65,14 @@ impl Source for MemoryGuest {
 }
 
 impl Sink for MemoryGuest {
-    ghost written = { λ g. Some g.writing.written };
-
-    ghost faults = { λ g. g.writing.turns.failures };
+    ghost told = { λ g. record {
+      written = Some g.writing.written;
+      faults = g.writing.turns.failures;
+    } };
 
     ghost as_source = { λ g. record {
       left = Some g.reading.left;
+      taken = Some g.reading.taken;
       faults = g.reading.turns.failures;
     } };
 

@@ -35,7 +35,9 @@ fn answer_over(rt: &HostRuntime, case: &Case, graph: Graph) -> Result<()>
     requires empty { graph.history ≡ from_nothing graph.rollout.problem [] }
 {
     let mut graph = graph;
-    answer_case(rt, case, &mut graph)
+    let answered = answer_case(rt, case, &mut graph);
+    drop(graph);
+    answered
 }
 
 fn answer_case(rt: &HostRuntime, case: &Case, graph: &mut Graph) -> Result<()>

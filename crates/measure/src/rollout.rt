@@ -23,7 +23,10 @@ pub(crate) fn graph_of(alloc: Global, plan: CheckedPlan) -> Result<Graph>
 {
     match Graph::new(alloc, plan) {
         Ok(graph) => Ok(graph),
-        Err(_) => bail!("memory is short"),
+        Err(plan) => {
+            drop(plan);
+            bail!("memory is short")
+        }
     }
 }
 
@@ -34,7 +37,10 @@ pub(crate) fn plan(alloc: Global, document: &[u8]) -> Result<CheckedPlan> {
     };
     match check_plan(alloc, &document.problem, &document.plan) {
         Ok(()) => Ok(CheckedPlan::seal(document.problem, document.plan)),
-        Err(_) => bail!("no valid plan"),
+        Err(_) => {
+            drop(document);
+            bail!("no valid plan")
+        }
     }
 }
 

@@ -172,12 +172,8 @@ fn dones_of<R: Wait, D: Disk + Drop>(
         Guard::Alone => roll_alone(alloc, book, work),
         Guard::Shared => roll_opened(rt, alloc, book, work),
     };
-    let_go(book);
+    drop(book);
     Ok(dones)
-}
-
-pub(crate) fn let_go<D: Disk + Drop>(book: Book<'_, D>) {
-    let (_graph, _disk) = book.into_parts();
 }
 
 fn roll_alone<'d, D: Disk>(alloc: Global, book: Book<'d, D>, work: Work<'_>) -> (Book<'d, D>, u64) {

@@ -21,7 +21,9 @@ pub(crate) fn measure(rt: &HostRuntime, times: u32) -> Result<()> {
 
 fn try_over(rt: &HostRuntime, graph: Graph, times: u32) -> Result<()> {
     let mut graph = graph;
-    try_releases(rt, &mut graph, times)
+    let tried = try_releases(rt, &mut graph, times);
+    drop(graph);
+    tried
 }
 
 // Releases by item, whose policy ranks all alike.

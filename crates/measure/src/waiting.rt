@@ -11,7 +11,7 @@ ghost use Rattle.shared_book.specs.Opened.{IsOpened, IsOpenedOn, opening_of};
 
 use crate::jobs::{Job, two_jobs};
 use crate::rollout;
-use crate::rounds::{let_go, opened};
+use crate::rounds::opened;
 use anyhow::{Result, bail};
 use dependency_graph::Graph;
 use disk_model::{Disk, MemoryDisk};
@@ -186,7 +186,7 @@ fn wake_of<R: Threads + Wait + Sync + Clock, D: Disk + Drop + Send>(
         (D.told book.chronicle.disk).may_leave) }
 {
     let (book, wake) = wait_opened(rt, alloc, book, milliseconds);
-    let_go(book);
+    drop(book);
     wake
 }
 

@@ -54,7 +54,9 @@ pub(crate) fn measure<R: Threads + Wait + Sync + Clock + AllocGlobal + Print>(
     crew: Crew,
 ) -> Result<()> {
     let rolled = rolled_ranked(rt, rt.alloc(), plan, crew)?;
-    print(rt, &rolled)
+    let printed = print(rt, &rolled);
+    drop(rolled);
+    printed
 }
 
 fn print<R: Print>(rt: &R, rolled: &Rolled) -> Result<()> {
@@ -95,13 +97,37 @@ fn rolled_by<R: Threads + Wait + Sync + Clock>(
 ) -> Result<Rolled> {
     let switches = plan.problem().switches().len() as u32;
     match crew.pace {
-        Pace::AtOnce => {
-            let mut fleet = fleet_of(alloc, switches)?;
-            Ok(rolled_over(rt, alloc, plan, policy, crew, &mut fleet))
+        Pace::AtOnce => rolled_with(rt, alloc, plan, policy, crew, fleet_of(alloc, switches)),
+        Pace::Slow => rolled_with(
+            rt,
+            alloc,
+            plan,
+            policy,
+            crew,
+            slow_fleet_of(rt, alloc, switches),
+        ),
+    }
+}
+
+// Over the fleet, where there is one.
+fn rolled_with<R: Threads + Wait + Sync, P: Port + Drop + Send>(
+    rt: &R,
+    alloc: Global,
+    plan: CheckedPlan,
+    policy: &Policy,
+    crew: Crew,
+    fleet: Result<MemoryFleet<P>>,
+) -> Result<Rolled> {
+    match fleet {
+        Ok(fleet) => {
+            let mut fleet = fleet;
+            let rolled = rolled_over(rt, alloc, plan, policy, crew, &mut fleet);
+            drop(fleet);
+            Ok(rolled)
         }
-        Pace::Slow => {
-            let mut fleet = slow_fleet_of(rt, alloc, switches)?;
-            Ok(rolled_over(rt, alloc, plan, policy, crew, &mut fleet))
+        Err(error) => {
+            drop(plan);
+            Err(error)
         }
     }
 }

@@ -1,3 +1,7 @@
+ghost use Rattle.std.specs.Fmt.{WritesOnOk};
+ghost use Rattle.problem_json.specs.Faults.{above_text, fault_text, wrong_at};
+ghost use Rattle.problem_json.specs.declared.fault.InputFault.TheVariants as faults;
+
 use crate::key::Key;
 use crate::place::Place;
 use lists::Memory as OutOfMemory;
@@ -59,27 +63,63 @@ impl fmt::Display for InputFault {
 
     fn fmt<W: fmt::Write>(&self, f: &mut fmt::Formatter<W>) -> fmt::Result {
         match *self {
-            InputFault::NotJson => write!(f, "input: not JSON"),
-            InputFault::Missing(place, key) => write!(f, "input: {place}: missing \"{key}\""),
-            InputFault::WrongKind(place) => write!(f, "input: {place}: wrong kind"),
-            InputFault::NotWhole(place) => write!(f, "input: {place}: not a whole number"),
-            InputFault::TooMany(place, found, limit) => {
-                write!(f, "input: {place}: {found} above {limit}")
-            }
-            InputFault::TooLarge(place, found, limit) => {
-                write!(f, "input: {place}: {found} above {limit}")
-            }
-            InputFault::NameTwice(place) => write!(f, "input: {place}: name twice"),
-            InputFault::UnknownSwitch(place) => write!(f, "input: {place}: unknown switch"),
-            InputFault::LinkTwice(place) => write!(f, "input: {place}: link twice"),
-            InputFault::NoSuchLink(place) => write!(f, "input: {place}: no such link"),
-            InputFault::SwitchTwice(place) => write!(f, "input: {place}: switch twice"),
-            InputFault::EndsDiffer(place) => write!(f, "input: {place}: ends differ"),
-            InputFault::ShortPath(place, count) => write!(f, "input: {place}: {count} below 2"),
-            InputFault::Memory => write!(f, "out of memory"),
-            InputFault::BadEvent(place) => write!(f, "input: {place}: no event"),
-            InputFault::BadFormat(place, format) => write!(f, "input: {place}: format {format}"),
-            InputFault::WidthZero(place) => write!(f, "input: {place}: width 0"),
+            InputFault::NotJson => f.write_str("input: not JSON"),
+            InputFault::Missing(place, key) => write_missing(f, place, key),
+            InputFault::WrongKind(place) => write_wrong(f, place, "wrong kind"),
+            InputFault::NotWhole(place) => write_wrong(f, place, "not a whole number"),
+            InputFault::TooMany(place, found, limit) => write_above(f, place, found, limit),
+            InputFault::TooLarge(place, found, limit) => write_above(f, place, found, limit),
+            InputFault::NameTwice(place) => write_wrong(f, place, "name twice"),
+            InputFault::UnknownSwitch(place) => write_wrong(f, place, "unknown switch"),
+            InputFault::LinkTwice(place) => write_wrong(f, place, "link twice"),
+            InputFault::NoSuchLink(place) => write_wrong(f, place, "no such link"),
+            InputFault::SwitchTwice(place) => write_wrong(f, place, "switch twice"),
+            InputFault::EndsDiffer(place) => write_wrong(f, place, "ends differ"),
+            InputFault::ShortPath(place, count) => write_short(f, place, count),
+            InputFault::Memory => f.write_str("out of memory"),
+            InputFault::BadEvent(place) => write_wrong(f, place, "no event"),
+            InputFault::BadFormat(place, format) => write_format(f, place, format),
+            InputFault::WidthZero(place) => write_wrong(f, place, "width 0"),
         }
     }
+}
+
+// What is wrong at a place.
+fn write_wrong<W: fmt::Write>(f: &mut fmt::Formatter<W>, place: Place, what: &str) -> fmt::Result
+    ensures { WritesOnOk W.write_str_gives f.old result (wrong_at place what.now) f.new }
+{
+    write!(f, "input: {place}: {what}")
+}
+
+fn write_missing<W: fmt::Write>(f: &mut fmt::Formatter<W>, place: Place, key: Key) -> fmt::Result
+    ensures { WritesOnOk W.write_str_gives f.old result
+        (fault_text (faults.Missing place key)) f.new }
+{
+    write!(f, "input: {place}: missing \"{key}\"")
+}
+
+fn write_above<W: fmt::Write>(
+    f: &mut fmt::Formatter<W>,
+    place: Place,
+    found: u64,
+    limit: u64,
+) -> fmt::Result
+    ensures { WritesOnOk W.write_str_gives f.old result
+        (wrong_at place (above_text found limit)) f.new }
+{
+    write!(f, "input: {place}: {found} above {limit}")
+}
+
+fn write_short<W: fmt::Write>(f: &mut fmt::Formatter<W>, place: Place, count: u64) -> fmt::Result
+    ensures { WritesOnOk W.write_str_gives f.old result
+        (fault_text (faults.ShortPath place count)) f.new }
+{
+    write!(f, "input: {place}: {count} below 2")
+}
+
+fn write_format<W: fmt::Write>(f: &mut fmt::Formatter<W>, place: Place, format: u64) -> fmt::Result
+    ensures { WritesOnOk W.write_str_gives f.old result
+        (fault_text (faults.BadFormat place format)) f.new }
+{
+    write!(f, "input: {place}: format {format}")
 }

@@ -1,14 +1,15 @@
-ghost use Rattle.std.specs.Prelude.{◌≡◌};
+ghost use Rattle.std.specs.Prelude.{◌≡◌, ◌++◌, decimal};
+ghost use Rattle.std.specs.Fmt.{WritesOnOk};
 ghost use Rattle.problem_json.specs.Places.{place_of, place_at, place_in, place_along};
 
 mod installed;
 mod stage;
 mod tunnel;
 
-use installed::InstalledPlace;
-use stage::StagePlace;
+use installed::{write_installed, write_mark};
+use stage::{write_rate, write_rates, write_stage};
 use std::fmt;
-use tunnel::TunnelPlace;
+use tunnel::{write_hop, write_in_tunnel, write_tunnel};
 
 /// What stands at a place of an input.
 #[derive(Clone, Copy, Debug, Drop, PartialEq, Eq)]
@@ -105,42 +106,52 @@ impl fmt::Display for Place {
 
     fn fmt<W: fmt::Write>(&self, f: &mut fmt::Formatter<W>) -> fmt::Result {
         let Place { part, a, b, c } = *self;
-        let tunnel = TunnelPlace { flow: a, number: b };
-        let stage = StagePlace { number: a };
-        let installed = InstalledPlace { stage: a };
         match part {
-            Part::Top => write!(f, "top"),
-            Part::Problem => write!(f, "problem"),
-            Part::Format => write!(f, "format"),
-            Part::Switches => write!(f, "switches"),
-            Part::Switch => write!(f, "switches[{a}]"),
-            Part::SwitchName => write!(f, "switches[{a}].name"),
-            Part::SwitchTable => write!(f, "switches[{a}].table"),
-            Part::Links => write!(f, "links"),
-            Part::Link => write!(f, "links[{a}]"),
-            Part::LinkFrom => write!(f, "links[{a}].from"),
-            Part::LinkTo => write!(f, "links[{a}].to"),
-            Part::LinkCapacity => write!(f, "links[{a}].capacity"),
-            Part::Flows => write!(f, "flows"),
-            Part::Flow => write!(f, "flows[{a}]"),
-            Part::FlowName => write!(f, "flows[{a}].name"),
-            Part::Tunnels => write!(f, "flows[{a}].tunnels"),
-            Part::Tunnel => write!(f, "{tunnel}"),
-            Part::Path => write!(f, "{tunnel}.path"),
-            Part::PathName => write!(f, "{tunnel}.path[{c}]"),
-            Part::Old => write!(f, "{tunnel}.old"),
-            Part::New => write!(f, "{tunnel}.new"),
-            Part::Width => write!(f, "{tunnel}.width"),
-            Part::PlanTop => write!(f, "plan"),
-            Part::Scale => write!(f, "plan.scale"),
-            Part::Stages => write!(f, "plan.stages"),
-            Part::Stage => write!(f, "{stage}"),
-            Part::Rates => write!(f, "{stage}.rates"),
-            Part::Rate => write!(f, "{stage}.rates[{b}]"),
-            Part::Installed => write!(f, "{installed}"),
-            Part::Mark => write!(f, "{installed}[{b}]"),
-            Part::ScriptTop => write!(f, "script"),
-            Part::Event => write!(f, "script[{a}]"),
+            Part::Top => f.write_str("top"),
+            Part::Problem => f.write_str("problem"),
+            Part::Format => f.write_str("format"),
+            Part::Switches => f.write_str("switches"),
+            Part::Switch => write_element(f, "switches[", a, "]"),
+            Part::SwitchName => write_element(f, "switches[", a, "].name"),
+            Part::SwitchTable => write_element(f, "switches[", a, "].table"),
+            Part::Links => f.write_str("links"),
+            Part::Link => write_element(f, "links[", a, "]"),
+            Part::LinkFrom => write_element(f, "links[", a, "].from"),
+            Part::LinkTo => write_element(f, "links[", a, "].to"),
+            Part::LinkCapacity => write_element(f, "links[", a, "].capacity"),
+            Part::Flows => f.write_str("flows"),
+            Part::Flow => write_element(f, "flows[", a, "]"),
+            Part::FlowName => write_element(f, "flows[", a, "].name"),
+            Part::Tunnels => write_element(f, "flows[", a, "].tunnels"),
+            Part::Tunnel => write_tunnel(f, a, b),
+            Part::Path => write_in_tunnel(f, a, b, ".path"),
+            Part::PathName => write_hop(f, a, b, c),
+            Part::Old => write_in_tunnel(f, a, b, ".old"),
+            Part::New => write_in_tunnel(f, a, b, ".new"),
+            Part::Width => write_in_tunnel(f, a, b, ".width"),
+            Part::PlanTop => f.write_str("plan"),
+            Part::Scale => f.write_str("plan.scale"),
+            Part::Stages => f.write_str("plan.stages"),
+            Part::Stage => write_stage(f, a),
+            Part::Rates => write_rates(f, a),
+            Part::Rate => write_rate(f, a, b),
+            Part::Installed => write_installed(f, a),
+            Part::Mark => write_mark(f, a, b),
+            Part::ScriptTop => f.write_str("script"),
+            Part::Event => write_element(f, "script[", a, "]"),
         }
     }
+}
+
+// An element of a list, or what stands in it, by its number.
+fn write_element<W: fmt::Write>(
+    f: &mut fmt::Formatter<W>,
+    before: &str,
+    number: u32,
+    behind: &str,
+) -> fmt::Result
+    ensures { WritesOnOk W.write_str_gives f.old result (before.now ++ decimal number ++ behind.now)
+        f.new }
+{
+    write!(f, "{before}{number}{behind}")
 }

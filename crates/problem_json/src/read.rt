@@ -1,4 +1,4 @@
-ghost use Rattle.std.specs.Prelude.{◌≡◌, ◌+◌, ◌≤◌, length, IfOk, OnOk};
+ghost use Rattle.std.specs.Prelude.{◌≡◌, ◌+◌, ◌≤◌, length, IfOk, OnOk, Ok};
 ghost use Rattle.serde_json.specs.Events.{items_len};
 ghost use Rattle.json_data.specs.View.{data_of, view, items_view};
 ghost use Rattle.rollout_rules.specs.declared.limits.TheConstants.{MOST_SWITCHES, MOST_LINKS, MOST_FLOWS};
@@ -66,10 +66,32 @@ fn problem_of(alloc: Global, object: Place, value: &Element<'_, '_>) -> Result<P
     ensures { Reads result (problem_of object (view value.now)) }
 {
     let mut problem = empty_of(alloc, value)?;
-    read_switches(&mut problem, object, value)?;
-    read_links(&mut problem, object, value)?;
-    read_flows(alloc, &mut problem, object, value)?;
-    Ok(problem)
+    match read_parts(alloc, &mut problem, object, value) {
+        Ok(()) => Ok(problem),
+        Err(fault) => {
+            drop(problem);
+            Err(fault)
+        }
+    }
+}
+
+/// Adds the switches, links and flows of an object to the problem without them.
+#[tactic(auto, using(crate::proofs::Steps::steps), unfolding(crate::specs::Grammar::problem_of))]
+fn read_parts(
+    alloc: Global,
+    problem: &mut Problem,
+    object: Place,
+    value: &Element<'_, '_>,
+) -> Result<(), InputFault>
+    requires empty { empty_of (view value.now) ≡ Ok problem.old }
+    requires switches { length problem.old.switches ≡ 0 }
+    requires links { length problem.old.links ≡ 0 }
+    requires flows { length problem.old.flows ≡ 0 }
+    ensures { Leaves result problem.new (problem_of object (view value.now)) }
+{
+    read_switches(problem, object, value)?;
+    read_links(problem, object, value)?;
+    read_flows(alloc, problem, object, value)
 }
 
 /// The problem without switches, links and flows, in the format that an object names, or in format 1.

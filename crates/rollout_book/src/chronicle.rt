@@ -84,7 +84,10 @@ impl<D: Disk> Chronicle<D> {
         let mut graph = graph;
         match find(alloc, &mut graph, digest, disk) {
             Ok(found) => of_found(alloc, graph, found),
-            Err(unopened) => Err(unopened),
+            Err(unopened) => {
+                drop(graph);
+                Err(unopened)
+            }
         }
     }
 

@@ -64,15 +64,48 @@ impl Parts {
         ensures room { IfOk result
             (λ parts. 2 * op_total graph.rollout ≤ vec_capacity parts.entries) }
     {
-        let entries = room_for(alloc, &graph, list)?;
-        let items = items(alloc, graph.plan())?;
-        let rounds = rounds_of(alloc, graph)?;
-        Ok(Parts {
-            rounds,
-            items,
-            entries,
-        })
+        match rows_for(alloc, &graph, list) {
+            Ok(rows) => with_rounds(alloc, graph, rows),
+            Err(refused) => {
+                drop(graph);
+                Err(refused)
+            }
+        }
     }
+}
+
+// What a book has of a graph that is only read.
+#[derive(Drop)]
+struct Rows {
+    items: Many<Item>,
+    entries: Vec<Entry>,
+}
+
+fn rows_for(alloc: Global, graph: &Graph, list: &[Entry]) -> Result<Rows, Memory>
+    ensures items { IfOk result
+        (λ rows. AreItems graph.now.rollout.problem (item_count graph.now.rollout.problem)
+        rows.items) }
+    ensures list { IfOk result (λ rows. rows.entries.items ≡ list.now) }
+    ensures room { IfOk result
+        (λ rows. 2 * op_total graph.now.rollout ≤ vec_capacity rows.entries) }
+{
+    let entries = room_for(alloc, graph, list)?;
+    let items = items(alloc, graph.plan())?;
+    Ok(Rows { items, entries })
+}
+
+fn with_rounds(alloc: Global, graph: Graph, rows: Rows) -> Result<Parts, Memory>
+    ensures rounds { IfOk result (λ parts. parts.rounds ≡ first_turn graph) }
+    ensures items { IfOk result (λ parts. parts.items ≡ rows.items) }
+    ensures entries { IfOk result (λ parts. parts.entries ≡ rows.entries) }
+{
+    let Rows { items, entries } = rows;
+    let rounds = rounds_of(alloc, graph)?;
+    Ok(Parts {
+        rounds,
+        items,
+        entries,
+    })
 }
 
 // A list with room for two entries of each operation.
@@ -91,7 +124,10 @@ fn rounds_of(alloc: Global, graph: Graph) -> Result<Rounds, Memory>
     see_legal(&graph);
     match Rounds::new(alloc, graph) {
         Ok(rounds) => Ok(rounds),
-        Err(_) => Err(AllocError),
+        Err(graph) => {
+            drop(graph);
+            Err(AllocError)
+        }
     }
 }
 

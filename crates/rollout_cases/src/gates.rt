@@ -5,7 +5,7 @@ use disk_model::MemoryDisk;
 use lossy_link::{Gate, GatedPort, MemoryFleet};
 use order_policy::Policy;
 use plan_check::check_plan;
-use problem_json::{Document, read_document};
+use problem_json::read_document;
 use rollout_run::Limits;
 use rollout_service::{Outcome, RunAnswer, run_rollout};
 use std::alloc::Global;
@@ -15,8 +15,8 @@ use std::thread::Threads;
 use wan_edge::{Nums8, Turns};
 use wan_model::{CheckedPlan, OpView};
 
-// Two flows at two switches, which each move 3 of their 4 at once.
-fn two() -> &'static str {
+/// Two flows at two switches, which each move 3 of their 4 at once.
+pub fn two() -> &'static str {
     "{\"plan\":{\"scale\":1,\"stages\":[{\"installed\":[true,true,true,true],\"rates\":[4,0,4,0]},{\"installed\":[true,true,true,true],\"rates\":[1,3,1,3]}]},\"problem\":{\"flows\":[{\"name\":\"f\",\"tunnels\":[{\"new\":1,\"old\":4,\"path\":[\"A\",\"X\"]},{\"new\":3,\"old\":0,\"path\":[\"A\",\"Y\",\"X\"]}]},{\"name\":\"g\",\"tunnels\":[{\"new\":1,\"old\":4,\"path\":[\"B\",\"X\"]},{\"new\":3,\"old\":0,\"path\":[\"B\",\"Y\",\"X\"]}]}],\"links\":[{\"capacity\":10,\"from\":\"A\",\"to\":\"X\"},{\"capacity\":10,\"from\":\"A\",\"to\":\"Y\"},{\"capacity\":10,\"from\":\"Y\",\"to\":\"X\"},{\"capacity\":10,\"from\":\"B\",\"to\":\"X\"},{\"capacity\":10,\"from\":\"B\",\"to\":\"Y\"}],\"switches\":[{\"name\":\"A\",\"table\":8},{\"name\":\"B\",\"table\":8},{\"name\":\"X\",\"table\":8},{\"name\":\"Y\",\"table\":8}]}}"
 }
 
@@ -31,10 +31,16 @@ const MANY_ROUNDS: u32 = 1000;
 
 const FEW_ROUNDS: u32 = 3;
 
-fn planned(alloc: Global, text: &str) -> Result<CheckedPlan, Fail> {
-    let Document { problem, plan } = read_document(alloc, text.as_bytes())?;
-    check_plan(alloc, &problem, &plan)?;
-    Ok(CheckedPlan::seal(problem, plan))
+/// The plan of a document. Fails where the document or its plan is refused.
+pub fn planned(alloc: Global, text: &str) -> Result<CheckedPlan, Fail> {
+    let document = read_document(alloc, text.as_bytes())?;
+    match check_plan(alloc, &document.problem, &document.plan) {
+        Ok(()) => Ok(CheckedPlan::seal(document.problem, document.plan)),
+        Err(fault) => {
+            drop(document);
+            Err(Fail::from(fault))
+        }
+    }
 }
 
 // Puts the ports of the two halves of a gate where these switches wait.
@@ -69,53 +75,77 @@ fn rolled_out<R: Wait + Threads + Sync>(
         rounds,
         migration: 0,
     };
-    let disk = MemoryDisk::new(alloc, Nums8::new(alloc), Turns::new(alloc));
     let policy = Policy::new(by_item);
     let plan = planned(alloc, text)?;
-    let Outcome { answer, .. } = run_rollout(rt, alloc, plan, &policy, limits, disk, fleet);
+    let disk = MemoryDisk::new(alloc, Nums8::new(alloc), Turns::new(alloc));
+    let Outcome { answer, disk } = run_rollout(rt, alloc, plan, &policy, limits, disk, fleet);
+    drop(disk);
     Ok(answer)
+}
+
+// The same over ports of which the two of each of these pairs wait at a gate.
+fn met<R: Wait + Threads + Sync>(
+    rt: &R,
+    alloc: Global,
+    text: &str,
+    workers: u32,
+    rounds: u32,
+    gates: &[[u32; 2]],
+) -> Result<RunAnswer, Fail> {
+    let mut fleet = MemoryFleet::new(alloc);
+    let answer = met_over(rt, alloc, text, workers, rounds, gates, &mut fleet);
+    drop(fleet);
+    answer
+}
+
+fn met_over<R: Wait + Threads + Sync>(
+    rt: &R,
+    alloc: Global,
+    text: &str,
+    workers: u32,
+    rounds: u32,
+    gates: &[[u32; 2]],
+    fleet: &mut MemoryFleet<GatedPort>,
+) -> Result<RunAnswer, Fail> {
+    for gate in gates {
+        put_gate(alloc, fleet, *gate)?;
+    }
+    rolled_out(rt, alloc, text, workers, rounds, fleet)
+}
+
+// Whether a rollout without a journal has settled so many operations.
+fn has_finished(answer: RunAnswer, count: u32) -> bool {
+    let has_finished = match answer {
+        RunAnswer::Finished { operations, found } => operations == count && found == 0,
+        _ => false,
+    };
+    drop(answer);
+    has_finished
+}
+
+fn has_stopped(answer: RunAnswer) -> bool {
+    let has_stopped = matches!(answer, RunAnswer::Stopped(..));
+    drop(answer);
+    has_stopped
 }
 
 #[test]
 fn two_workers_meet_at_a_gate(rt: HostRuntime) -> Result<(), Fail> {
-    let mut fleet = MemoryFleet::new(rt.alloc());
-    put_gate(rt.alloc(), &mut fleet, [0, 1])?;
-    let answer = rolled_out(&rt, rt.alloc(), two(), 2, MANY_ROUNDS, &mut fleet)?;
-    assert!(rt;
-        matches!(
-            answer,
-            RunAnswer::Finished {
-                operations: 2,
-                found: 0
-            }
-        )
-    );
+    let answer = met(&rt, rt.alloc(), two(), 2, MANY_ROUNDS, &[[0, 1]])?;
+    assert!(rt; has_finished(answer, 2));
     Ok(())
 }
 
 #[test]
 fn one_worker_is_alone_at_a_gate_and_spends_its_rounds(rt: HostRuntime) -> Result<(), Fail> {
-    let mut fleet = MemoryFleet::new(rt.alloc());
-    put_gate(rt.alloc(), &mut fleet, [0, 1])?;
-    let answer = rolled_out(&rt, rt.alloc(), two(), 1, FEW_ROUNDS, &mut fleet)?;
-    assert!(rt; matches!(answer, RunAnswer::Stopped(..)));
+    let answer = met(&rt, rt.alloc(), two(), 1, FEW_ROUNDS, &[[0, 1]])?;
+    assert!(rt; has_stopped(answer));
     Ok(())
 }
 
 #[test]
 fn four_workers_meet_at_two_gates(rt: HostRuntime) -> Result<(), Fail> {
-    let mut fleet = MemoryFleet::new(rt.alloc());
-    put_gate(rt.alloc(), &mut fleet, [0, 1])?;
-    put_gate(rt.alloc(), &mut fleet, [2, 3])?;
-    let answer = rolled_out(&rt, rt.alloc(), four(), 4, MANY_ROUNDS, &mut fleet)?;
-    assert!(rt;
-        matches!(
-            answer,
-            RunAnswer::Finished {
-                operations: 4,
-                found: 0
-            }
-        )
-    );
+    let answer = met(&rt, rt.alloc(), four(), 4, MANY_ROUNDS, &[[0, 1], [2, 3]])?;
+    assert!(rt; has_finished(answer, 4));
     Ok(())
 }

@@ -55,14 +55,19 @@ impl<'p> History<'p> {
     {
         let numbers = copied(alloc, start)?;
         let progress = Progress::new(alloc, plan, start)?;
-        let flights = Flights::new(alloc, progress.item_count())?;
-        Ok(History {
-            plan,
-            start: numbers,
-            entries: EntryList::new(alloc),
-            progress,
-            flights,
-        })
+        match Flights::new(alloc, progress.item_count()) {
+            Ok(flights) => Ok(History {
+                plan,
+                start: numbers,
+                entries: EntryList::new(alloc),
+                progress,
+                flights,
+            }),
+            Err(refused) => {
+                drop(progress);
+                Err(refused)
+            }
+        }
     }
 
     /// How many items there are.

@@ -1,4 +1,4 @@
-ghost use Rattle.std.specs.Prelude.{◌≡◌, IfOk, IsTrue, length};
+ghost use Rattle.std.specs.Prelude.{◌≡◌, IfOk, OnOk, IsTrue, length};
 ghost use Rattle.rollout_rules.specs.Items.{item_count};
 ghost use Rattle.rollout_rules.specs.Legal.{is_sound};
 ghost use Rattle.rollout_rules.specs.World.{first_world, are_first_pairs, after_events};
@@ -39,12 +39,29 @@ pub fn any_rollout<'p>(
 {
     checked_plan_is_valid(plan);
     let mut world = World::new(alloc, plan, start, migration, first)?;
-    for event in events.as_slice() {
+    match follow(alloc, &mut world, events.as_slice()) {
+        Ok(()) => Ok(world),
+        Err(refused) => {
+            drop(world);
+            Err(refused)
+        }
+    }
+}
+
+/// Makes the events happen in order; those that aren't allowed are passed over.
+fn follow(alloc: Global, world: &mut World<'_>, events: &[Event]) -> Result<(), Memory>
+    ensures rollout { OnOk result (world.new.rollout ≡ world.old.rollout) }
+    ensures world { OnOk result
+        (world.new.world
+        ≡ after_events world.old.rollout.problem world.old.rollout.plan world.old.world
+        events.now) }
+{
+    for event in events {
         if world.allows(event) {
             world.step(copied(alloc, event)?)?;
         }
     }
-    Ok(world)
+    Ok(())
 }
 
 fn copied(alloc: Global, event: &Event) -> Result<Event, Memory>

@@ -66,9 +66,9 @@ impl<'p> World<'p> {
               world = first_world plan.now.problem plan.now.plan start.now migration first.now;
             }) }
     {
-        let history = History::new(alloc, plan, start)?;
         let first = copied(alloc, first)?;
         let held = copied(alloc, &first)?;
+        let history = History::new(alloc, plan, start)?;
         Ok(World {
             migration,
             first,

@@ -1,15 +1,15 @@
 -- What becomes of a fleet's ports where those of some switches are opened.
 use Rattle.std.specs.Prelude.{◌≡◌, ℕ, false, List, ◌∷◌, ◌++◌, Option, None, Some, IfSome}
 use Rattle.std.specs.List.{AllByRecursion}
-use Rattle.wan_edge.specs.Ports.{PortTrace}
+use Rattle.wan_edge.specs.Ports.{IsNew, PortTrace}
 use Rattle.worker_ports.specs.declared.ports.Berth.{Berth}
 use Rattle.rollout_ports.specs.Berths.{FleetPorts, after_opening, marked_each, switches_of, with_each}
 use Rattle.rollout_ports.specs.declared.opening.NotOpened.{NotOpened}
 use Rattle.rollout_ports.specs.declared.opening.NotOpened.TheVariants as why
 
--- The port is the one that waited for the switch. Where it is not told what waits, it has not failed yet.
+-- The port is the one that waited for the switch. Where it is not told what waits, it is new.
 abbrev pub IsGiven : {P : Type 0} → (P → PortTrace) → Option (ℕ → Option P) → Berth P → Type 0
-IsGiven tell None berth = (tell berth.port).faults ≡ 0
+IsGiven tell None berth = IsNew (tell berth.port)
 IsGiven tell (Some waiting) berth = waiting berth.switch ≡ Some berth.port
 
 abbrev pub AreGiven : {P : Type 0} → (P → PortTrace) → Option (ℕ → Option P) → List (Berth P) → Type 0

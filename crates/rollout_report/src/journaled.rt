@@ -63,7 +63,9 @@ fn report_known<D: Disk>(alloc: Global, known: KnownPlan, disk: D) -> Reported<D
 {
     let KnownPlan { graph, digest } = known;
     let mut graph = graph;
-    follow(alloc, &mut graph, &digest, disk)
+    let reported = follow(alloc, &mut graph, &digest, disk);
+    drop(graph);
+    reported
 }
 
 /// Brings a graph without entries to the journal on a disk, and reports it.

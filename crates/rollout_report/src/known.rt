@@ -26,7 +26,10 @@ pub fn known_plan(alloc: Global, plan: CheckedPlan, migration: u32) -> Result<Kn
     let digest = digest_with(alloc, &plan, migration)?;
     match Graph::new(alloc, plan) {
         Ok(graph) => Ok(KnownPlan { graph, digest }),
-        Err(_) => Err(AllocError),
+        Err(plan) => {
+            drop(plan);
+            Err(AllocError)
+        }
     }
 }
 

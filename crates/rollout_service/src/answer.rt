@@ -30,15 +30,21 @@ pub(crate) fn answer_behind(graph: Graph, found: u32, end: RunEnd) -> RunAnswer
     ensures { result ≡ answer_for graph.rollout found graph.history end }
 {
     match end {
-        RunEnd::Finished => RunAnswer::Finished {
-            operations: graph.op_total(),
-            found,
-        },
-        RunEnd::Held => RunAnswer::Held {
-            left: graph.unsettled(),
-        },
+        RunEnd::Finished => {
+            let operations = graph.op_total();
+            drop(graph);
+            RunAnswer::Finished { operations, found }
+        }
+        RunEnd::Held => {
+            let left = graph.unsettled();
+            drop(graph);
+            RunAnswer::Held { left }
+        }
         RunEnd::Stopped(halt) => RunAnswer::Stopped(graph.into_plan(), halt),
         RunEnd::NoPort(switch) => RunAnswer::NoPort(graph.into_plan(), switch),
-        RunEnd::Memory => RunAnswer::Memory,
+        RunEnd::Memory => {
+            drop(graph);
+            RunAnswer::Memory
+        }
     }
 }

@@ -1,4 +1,4 @@
-ghost use Rattle.std.specs.Prelude.{◌≡◌, ℕ, ◌+◌, ◌<◌, [], ◌∷◌, ◌++◌, true, IsTrue, IsFalse, IfOk, OnOk, length, nat_le, slice_index_or};
+ghost use Rattle.std.specs.Prelude.{◌≡◌, ℕ, ◌+◌, ◌<◌, [], ◌∷◌, ◌++◌, true, IsTrue, IsFalse, IfOk, OnOk, length, nat_le, replicate, slice_index_or};
 ghost use Rattle.rollout_rules.specs.Items.{item_count};
 ghost use Rattle.rollout_rules.specs.History.{from_nothing};
 ghost use Rattle.rollout_rules.specs.History as history;
@@ -60,14 +60,13 @@ impl Rehearsal {
               live = true;
             }) }
     {
-        checked_plan_is_valid(&plan);
-        let items = item_count(plan.problem());
-        let network = Network::new(alloc, items)?;
-        let controller = Controller::new(alloc, plan)?;
-        Ok(Rehearsal {
-            controller,
-            network,
-        })
+        match first_network(alloc, &plan) {
+            Ok(network) => booked(alloc, plan, network),
+            Err(refused) => {
+                drop(plan);
+                Err(refused)
+            }
+        }
     }
 
     /// Its controller has no book, so that its starts cost nothing.
@@ -80,14 +79,13 @@ impl Rehearsal {
               live = true;
             }) }
     {
-        checked_plan_is_valid(&plan);
-        let items = item_count(plan.problem());
-        let network = Network::new(alloc, items)?;
-        let controller = Controller::without_book(alloc, plan)?;
-        Ok(Rehearsal {
-            controller,
-            network,
-        })
+        match first_network(alloc, &plan) {
+            Ok(network) => bookless(alloc, plan, network),
+            Err(refused) => {
+                drop(plan);
+                Err(refused)
+            }
+        }
     }
 
     fn can_happen(&self, act: Act) -> bool
@@ -416,11 +414,67 @@ impl Rehearsal {
     {
         push_outcome_of(alloc, self.graph(), self.controller.entries(), text)
     }
+}
 
-    /// Lets go of the controller and of the network.
-    pub(crate) fn end(self) {
-        self.controller.end();
-    }
+/// The network of a plan, on which nothing has passed.
+fn first_network(alloc: Global, plan: &CheckedPlan) -> Result<Network, Memory>
+    ensures { IfOk result
+        (λ n. n
+        ≡ record {
+          sent = [];
+          given = [];
+          applied = replicate (item_count plan.now.problem) 0;
+        }) }
+{
+    Network::new(alloc, item_count(plan.problem()))
+}
+
+/// A first rehearsal whose controller has a book.
+fn booked(alloc: Global, plan: CheckedPlan, network: Network) -> Result<Rehearsal, Memory>
+    requires { network
+        ≡ record {
+          sent = [];
+          given = [];
+          applied = replicate (item_count plan.problem) 0;
+        } }
+    ensures { IfOk result
+        (λ r. r
+        ≡ record {
+          rollout = plan;
+          state = first_rehearsal plan.problem plan.plan;
+          live = true;
+        }) }
+{
+    checked_plan_is_valid(&plan);
+    let controller = Controller::new(alloc, plan)?;
+    Ok(Rehearsal {
+        controller,
+        network,
+    })
+}
+
+/// A first rehearsal whose controller has none.
+fn bookless(alloc: Global, plan: CheckedPlan, network: Network) -> Result<Rehearsal, Memory>
+    requires { network
+        ≡ record {
+          sent = [];
+          given = [];
+          applied = replicate (item_count plan.problem) 0;
+        } }
+    ensures { IfOk result
+        (λ r. r
+        ≡ record {
+          rollout = plan;
+          state = first_rehearsal plan.problem plan.plan;
+          live = true;
+        }) }
+{
+    checked_plan_is_valid(&plan);
+    let controller = Controller::without_book(alloc, plan)?;
+    Ok(Rehearsal {
+        controller,
+        network,
+    })
 }
 
 /// Adds what is told behind the rollout of a graph, of which nothing was settled before these entries.

@@ -161,11 +161,6 @@ impl Controller {
         self.is_up = true;
         Ok(found)
     }
-
-    /// Lets go of what it has.
-    pub(crate) fn end(self) {
-        self.keeper.end();
-    }
 }
 
 /// A controller that starts for the first time.
@@ -262,7 +257,10 @@ fn first_book(alloc: Global, plan: CheckedPlan) -> Result<Chronicle<MemoryDisk>,
 {
     match first_disk(alloc) {
         Ok(disk) => opened_for(alloc, plan, disk),
-        Err(error) => Err(error),
+        Err(error) => {
+            drop(plan);
+            Err(error)
+        }
     }
 }
 
@@ -277,7 +275,11 @@ fn opened_for(
 {
     match Graph::new(alloc, plan) {
         Ok(graph) => opened(alloc, graph, disk),
-        Err(_plan) => Err(AllocError),
+        Err(plan) => {
+            drop(plan);
+            drop(disk);
+            Err(AllocError)
+        }
     }
 }
 
@@ -294,7 +296,11 @@ fn opened(alloc: Global, graph: Graph, disk: MemoryDisk) -> Result<Chronicle<Mem
     };
     match Chronicle::open(alloc, graph, &digest, disk) {
         Ok(book) => Ok(book),
-        Err(unopened) => Err(want_of_memory(unopened.cause)),
+        Err(unopened) => {
+            let cause = unopened.cause;
+            drop(unopened);
+            Err(want_of_memory(cause))
+        }
     }
 }
 
@@ -335,7 +341,8 @@ fn reopen(alloc: Global, seat: &mut Option<Chronicle<MemoryDisk>>) -> Result<u32
 fn put(seat: &mut Option<Chronicle<MemoryDisk>>, book: Chronicle<MemoryDisk>)
     ensures { seat.new ≡ Some book }
 {
-    *seat = Some(book);
+    let past = seat.replace(book);
+    drop(past);
 }
 
 /// The book that a start makes of what a crash leaves of another one's disk.
@@ -345,7 +352,9 @@ fn reopened(alloc: Global, book: Chronicle<MemoryDisk>) -> Result<Chronicle<Memo
 {
     is_found_again(&book);
     let (graph, disk) = book.into_parts();
-    opened_over(alloc, graph, &disk)
+    let again = opened_over(alloc, graph, &disk);
+    drop(disk);
+    again
 }
 
 /// Opens the book of a graph's plan over what a crash leaves of a disk.
@@ -361,7 +370,10 @@ fn opened_over(
 {
     match left_of(alloc, disk) {
         Ok(left) => opened_for(alloc, graph.into_plan(), left),
-        Err(error) => Err(error),
+        Err(error) => {
+            drop(graph);
+            Err(error)
+        }
     }
 }
 

@@ -1,5 +1,4 @@
 use crate::plain::Plain;
-use dependency_graph::Graph;
 use disk_model::MemoryDisk;
 use rollout_book::Chronicle;
 
@@ -10,22 +9,3 @@ pub(crate) enum Keeper {
     Book(Option<Chronicle<MemoryDisk>>),
     Plain(Plain),
 }
-
-impl Keeper {
-    /// Lets go of what it is, each kind in a call of its own.
-    pub(crate) fn end(self) {
-        match self {
-            Keeper::Book(seat) => end_book(seat),
-            Keeper::Plain(plain) => plain.end(),
-        }
-    }
-}
-
-fn end_book(seat: Option<Chronicle<MemoryDisk>>) {
-    if let Some(book) = seat {
-        let (graph, _disk) = book.into_parts();
-        end_graph(graph);
-    }
-}
-
-pub(crate) fn end_graph(_graph: Graph) {}

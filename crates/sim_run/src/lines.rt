@@ -46,7 +46,9 @@ fn push_line(text: &mut Text, line: &ActLine) -> Result<(), Memory>
 /// Adds how many entries of a round's batch are Done, and how many are Begin.
 fn push_counts(text: &mut Text, dones: u32, begins: u32) -> Result<(), Memory>
     ensures { OnOk result
-        (text.new ≡ text.old ++ (codes "round: dones " ++ decimal dones ++ codes ", begins " ++ decimal begins)) }
+        (text.new
+        ≡ text.old
+        ++ (codes "round: dones " ++ decimal dones ++ codes ", begins " ++ decimal begins)) }
 {
     push_count(text, "round: dones ", dones as usize)?;
     push_count(text, ", begins ", begins as usize)

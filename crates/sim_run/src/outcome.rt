@@ -58,7 +58,12 @@ fn push_fullest(
 ) -> Result<(), Memory>
     requires { IsTrue (is_legal plan.now.problem plan.now.plan history.now) }
     ensures { OnOk result
-        (text.new ≡ text.old ++ (telling.fullest_text plan.now.problem plan.now.plan history.now (telling.fullest plan.now.problem plan.now.plan history.now (length plan.now.problem.links)) ++ codes "\n")) }
+        (text.new
+        ≡ text.old
+        ++ (telling.fullest_text plan.now.problem plan.now.plan history.now
+        (telling.fullest plan.now.problem plan.now.plan history.now
+        (length plan.now.problem.links))
+        ++ codes "\n")) }
 {
     let peaks = Peaks::over(alloc, plan, history)?;
     let peaks = peaks.links();
@@ -78,7 +83,9 @@ fn push_fullness(
 ) -> Result<(), Memory>
     requires { link < length plan.now.problem.links }
     ensures { OnOk result
-        (text.new ≡ text.old ++ (telling.fullness_text plan.now.problem plan.now.plan link peak ++ codes "\n")) }
+        (text.new
+        ≡ text.old
+        ++ (telling.fullness_text plan.now.problem plan.now.plan link peak ++ codes "\n")) }
 {
     let room = room_of(plan, link);
     push_link(alloc, text, plan.problem(), link)?;

@@ -10,7 +10,6 @@ ghost use Rattle.rollout_rounds.specs.Rounds.{first_turn};
 ghost use Rattle.intent_journal.specs.Openings.{unbegun};
 ghost use Rattle.sim_run.specs.Controlling.{MayTell, batch_over, graph_with};
 
-use crate::keeper::end_graph;
 use dependency_graph::{Graph, checked_plan_is_valid};
 use lists::Memory;
 use order_policy::Policy;
@@ -106,11 +105,6 @@ impl Plain {
             begins: self.rounds.begins(),
         })
     }
-
-    /// Lets go of the graph and of the list.
-    pub(crate) fn end(self) {
-        end_graph(self.rounds.into_graph());
-    }
 }
 
 /// Hears answers, of items that exist.
@@ -134,7 +128,10 @@ fn first_rounds(alloc: Global, plan: CheckedPlan) -> Result<Rounds, Memory>
     checked_plan_is_valid(&plan);
     match Graph::new(alloc, plan) {
         Ok(graph) => rounds_of(alloc, graph),
-        Err(_plan) => Err(AllocError),
+        Err(plan) => {
+            drop(plan);
+            Err(AllocError)
+        }
     }
 }
 
@@ -145,6 +142,9 @@ fn rounds_of(alloc: Global, graph: Graph) -> Result<Rounds, Memory>
 {
     match Rounds::new(alloc, graph) {
         Ok(rounds) => Ok(rounds),
-        Err(_graph) => Err(AllocError),
+        Err(graph) => {
+            drop(graph);
+            Err(AllocError)
+        }
     }
 }

@@ -61,7 +61,7 @@ fn of_rehearsal(
         (λ text. text ≡ text_from rehearsal (rank_by policy.now.answers) script.now) }
 {
     let text = text_of(alloc, &mut rehearsal, policy, script);
-    rehearsal.end();
+    drop(rehearsal);
     text
 }
 

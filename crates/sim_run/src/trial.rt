@@ -58,7 +58,7 @@ fn of_rehearsal(
         (rank_by policy.now.answers) shape.now draws.old) }
 {
     let text = text_of(alloc, &mut rehearsal, rate_steps, policy, shape, draws);
-    rehearsal.end();
+    drop(rehearsal);
     text
 }
 

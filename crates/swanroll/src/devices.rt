@@ -3,6 +3,7 @@
 ghost use Rattle.std.specs.Prelude.{◌≡◌};
 ghost use Rattle.swanroll.specs.Limits.{limit_in, ceiling_in, IsSaid};
 
+use disk_mirror::Mirror;
 use host_edge::{FileDisk, TcpFleet};
 use rollout_rules::MOST_STAGES;
 use std::env;
@@ -11,14 +12,19 @@ use swanroll_top::number_in;
 /// How long connecting, hearing and writing may take, in milliseconds, where the environment doesn't say.
 const USUAL: u64 = 1_000;
 
+/// The longest journal that is read, in bytes: a gibibyte. One of the largest plan takes less than a
+/// quarter of it.
+const MOST_JOURNAL: u64 = 1_073_741_824;
+
 /// The most digits of a time limit.
 const MOST_DIGITS: usize = 7;
 
-/// The journal's file: `SWANROLL_JOURNAL`.
-pub fn journal(rt: HostRuntime) -> FileDisk<HostRuntime>
+/// The journal's file, `SWANROLL_JOURNAL`, as a disk that reads it when it is opened.
+pub fn journal(rt: HostRuntime) -> Mirror<FileDisk<HostRuntime>>
     ensures { result.faults ≡ 0 }
 {
-    FileDisk::new(rt, named(rt, "SWANROLL_JOURNAL"))
+    let file = FileDisk::new(rt, named(rt, "SWANROLL_JOURNAL"));
+    Mirror::new(rt.alloc(), file, MOST_JOURNAL)
 }
 
 /// The switches of the file that `SWANROLL_FLEET` names, and the guests that come to the address

@@ -24,9 +24,9 @@ mod devices;
 mod policies;
 
 fn main(rt: HostRuntime) -> ExitCode {
-    let mut source = StdSource::new(rt.stdin());
-    let mut sink = StdSink::output(rt.stdout());
-    let mut notes = StdSink::error(rt.stderr());
+    let mut source = StdSource::new(rt, rt.stdin());
+    let mut sink = StdSink::output(rt, rt.stdout());
+    let mut notes = StdSink::error(rt, rt.stderr());
     match run(&rt, rt, &mut source, &mut sink, &mut notes) {
         Ok(status) => ExitCode::from(status),
         Err(_) => ExitCode::from(
@@ -51,9 +51,9 @@ fn main(rt: HostRuntime) -> ExitCode {
 fn run(
     wait: &(impl Wait + Threads + Sync),
     rt: HostRuntime,
-    source: &mut StdSource,
-    sink: &mut StdSink,
-    notes: &mut StdSink,
+    source: &mut StdSource<HostRuntime>,
+    sink: &mut StdSink<HostRuntime>,
+    notes: &mut StdSink<HostRuntime>,
 ) -> Result<u8, Memory> {
     let by_chain: Box<dyn Fn(OpView) -> u64 + Send + Sync> = Box::new(
         rt.alloc(),

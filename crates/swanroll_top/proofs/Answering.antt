@@ -5,19 +5,20 @@ use Rattle.rollout_rules.specs.declared.op.OpView.{OpView}
 use Rattle.plan_check.specs.FirstBroken.{first_broken}
 use Rattle.plan_check.specs.declared.broken.Broken.{Broken}
 use Rattle.plan_choose.specs.Choice.{Choice, chosen}
+use Rattle.plan_texts.specs.Loads.{loads_text}
 use Rattle.scratch_plan.specs.declared.no_plan.NoPlan.{NoPlan as Cause}
 use Rattle.scratch_plan.specs.declared.no_plan.NoPlan.TheVariants as cause
 use Rattle.problem_json.specs.Grammar.{problem_in}
 use Rattle.problem_json.specs.GrammarDocuments.{DocumentRead, ScriptedRead, document_in, scripted_in}
 use Rattle.problem_json.specs.declared.fault.InputFault.{InputFault}
 use Rattle.sim_run.specs.Script.{script_text}
-use Rattle.swanroll_top.specs.Answers.{◌>>=◌, or_ending, with_choice, planned, checked, valid_line, judged, rehearsed, answer_in}
+use Rattle.swanroll_top.specs.Answers.{◌>>=◌, or_ending, with_choice, planned, checked, valid_line, judged, loaded, rehearsed, answer_in}
 use Rattle.swanroll_top.specs.Endings.{ending_of}
 use Rattle.swanroll_top.specs.Reports.{rollout_in}
 use Rattle.swanroll_top.specs.Runs.{EndsWith, Follows, Gives}
 use Rattle.swanroll_top.specs.declared.ending.Ending.{Ending}
 use Rattle.swanroll_top.specs.declared.ending.Ending.TheVariants.{Done, Usage, AboveLimit, Input, NotValid, NoPlan, ReadFault, WriteFault, DiskFault, GuestFault, Refused, NotFinished, OutOfMemory}
-use Rattle.swanroll_top.specs.Words.{TextAsked, a_plan, a_check, a_rehearsal}
+use Rattle.swanroll_top.specs.Words.{TextAsked, a_plan, a_check, the_loads, a_rehearsal}
 use Rattle.swanroll_top.proofs.Documents.{as_rollout, checked-by}
 use Rattle.swanroll_top.proofs.Steps.{fault-ends}
 use Rattle.swanroll_top.specs.declared.unfinished.Unfinished.{Unfinished}
@@ -64,6 +65,10 @@ judged-answers : (d : DocumentRead) → HasAnswer (judged d)
 unfolding judged
 judged-answers d = checked-step-by d (λ o. Ok (valid_line o.plan)) (first_broken d.problem d.plan) refl (λ o. tt)
 
+loaded-answers : (d : DocumentRead) → HasAnswer (loaded d)
+unfolding loaded
+loaded-answers d = checked-step-by d (λ o. Ok (loads_text o.problem o.plan)) (first_broken d.problem d.plan) refl (λ o. tt)
+
 rehearsed-answers : (policy : OpView → ℕ) (s : ScriptedRead) → HasAnswer (rehearsed policy s)
 unfolding rehearsed
 rehearsed-answers policy s = checked-step-by s.document (λ o. Ok (script_text o.problem o.plan policy s.script)) (first_broken s.document.problem s.document.plan) refl (λ o. tt)
@@ -72,6 +77,7 @@ pub command-answers : (c : TextAsked) (input : List ℕ) → HasAnswer (answer_i
 unfolding answer_in
 command-answers a_plan input = step-answers (problem_in input) planned planned-answers
 command-answers a_check input = step-answers (document_in input) judged judged-answers
+command-answers the_loads input = step-answers (document_in input) loaded loaded-answers
 command-answers (a_rehearsal policy) input = step-answers (scripted_in input) (rehearsed policy) (rehearsed-answers policy)
 
 ends-only : (answer : Result (List ℕ) Ending) (e : Ending) (out now : Option (List ℕ)) → HasAnswer answer → EndsWith answer e out now → (e ≡ Done) ⊎ ((e ≡ WriteFault) ⊎ (is_answer e ≡ true))

@@ -8,8 +8,9 @@ use Rattle.rollout_rules.specs.Network.{IsNetwork}
 use Rattle.rollout_rules.specs.Valid.{is_valid_plan}
 use Rattle.rollout_rules.specs.declared.op.OpView.{OpView}
 use Rattle.disk_model.specs.Traces.{DiskTrace}
+use Rattle.disk_mirror.specs.Openings.{Opens}
 use Rattle.wan_edge.specs.Ports.{PortTrace}
-use Rattle.wan_edge.specs.Streams.{Rose}
+use Rattle.wan_edge.specs.Streams.{Rose, SourceTrace}
 use Rattle.intent_journal.specs.Recovered.{IsCause}
 use Rattle.intent_journal.specs.Verdicts.{NoJournal, NoStart, NotLegal, OfAnother, Verdict, verdict}
 use Rattle.intent_journal.specs.declared.fault.JournalFault.{JournalFault}
@@ -43,10 +44,12 @@ use Rattle.completion_laws.proofs.Finished.{wants}
 use Rattle.swanroll_top.specs.Endings.{ending_of_journal, status_of}
 use Rattle.swanroll_top.specs.Ready.{CountsNoFault, GoesOnFrom, IsReadyFor, WaitsReady}
 use Rattle.swanroll_top.specs.Reports.{rollout_to}
-use Rattle.swanroll_top.specs.Rollouts.{FleetSeen, IsUnbegun, RefusesAs, Rolls, RollsAs, RollsOut, ending_of_stop, line_or_ending}
-use Rattle.swanroll_top.specs.Runs.{EndsWith}
+use Rattle.swanroll_top.specs.Rollouts.{FleetSeen, IsUnbegun, OpensAndRolls, RefusesAs, Rolls, RollsAs, ending_of_stop, line_or_ending}
+use Rattle.swanroll_top.specs.Runs.{EndsWith, IsInput}
 use Rattle.swanroll_top.specs.declared.ending.Ending.{Ending}
 use Rattle.swanroll_top.specs.declared.ending.Ending.TheVariants.{Done, Usage, AboveLimit, Input, NotValid, NoPlan, ReadFault, WriteFault, DiskFault, GuestFault, Refused, NotFinished, OutOfMemory}
+use Rattle.swanroll_top.proofs.Inputs.{told-within}
+use Rattle.swanroll_top.proofs.Reporting.{rolled-within}
 use Rattle.swanroll_top.proofs.Outcomes.{rose-later}
 use Rattle.swanroll_top.proofs.Programs.{follows-ends, told-same}
 
@@ -76,8 +79,8 @@ module _ {P : Type 0} (tell : P → PortTrace) (r : Rollout) (migration : ℕ) (
 -- ---- a rollout that was run
 
 module _ {D P : Type 0} (trace : D → DiskTrace) (tell : P → PortTrace)
-    (limits : Limits) (policy : OpView → ℕ) (left : Option (List ℕ)) (disk disk_now : D) (before now : FleetSeen P) (out out_now : Option (List ℕ)) (r : Rollout) (found : History)
-    (goes : GoesOnFrom limits.migration left (trace disk).bytes r found) (ready : IsReadyFor tell limits policy before.ports.waiting r found) where
+    (limits : Limits) (policy : OpView → ℕ) (source source_now : SourceTrace) (disk disk_now : D) (before now : FleetSeen P) (out out_now : Option (List ℕ)) (r : Rollout) (found : History)
+    (goes : GoesOnFrom limits.migration source source_now (trace disk).bytes r found) (ready : IsReadyFor tell limits policy before.ports.waiting r found) where
   module _ (network : IsNetwork r.problem) (valid : is_valid_plan r.problem r.plan ≡ true) (small : limits.migration < 2 ^ 32) (a : RunAnswer)
       (has : HasRolled trace tell r (digest_for r limits.migration) policy limits.rounds disk before.ports now.ports disk_now a) where
     abbrev Begun : RunEnd → Type 0
@@ -176,34 +179,10 @@ module _ {D P : Type 0} (trace : D → DiskTrace) (tell : P → PortTrace)
   unopened-ends fault.Disk e told is device memory = device refl (ap status_of is)
   unopened-ends fault.Memory e told is device memory = memory (ap status_of is)
 
-  refused-never : (e : Ending) → RefusesAs left e → ⊥
-  refused-never e refuses =
-      let same : goes.input ≡ refuses.input = of-some (λ all. all ≡ refuses.input) goes.input left goes.read refuses.whole in
-      let both : Ok r ≡ Err e = sym goes.is ∙ (ap rollout_to same ∙ refuses.refused) in
-      cc
-
-  unbegun-ends : (e : Ending) → IsUnbegun left e → (status_of e ≡ 6 → ⊥) → (status_of e ≡ 12 → ⊥) → ⊥
-  unbegun-ends Done why read memory = refused-never Done why
-  unbegun-ends Usage why read memory = refused-never Usage why
-  unbegun-ends AboveLimit why read memory = refused-never AboveLimit why
-  unbegun-ends (Input f) why read memory = refused-never (Input f) why
-  unbegun-ends (NotValid p b) why read memory = refused-never (NotValid p b) why
-  unbegun-ends (NoPlan u) why read memory = refused-never (NoPlan u) why
-  unbegun-ends ReadFault why read memory = read refl
-  unbegun-ends WriteFault why read memory = refused-never WriteFault why
-  unbegun-ends DiskFault why read memory = refused-never DiskFault why
-  unbegun-ends GuestFault why read memory = refused-never GuestFault why
-  unbegun-ends (Refused f) why read memory = refused-never (Refused f) why
-  unbegun-ends (NotFinished u) why read memory = refused-never (NotFinished u) why
-  unbegun-ends OutOfMemory why read memory = memory refl
-
   -- ---- how it ends
 
   abbrev HasRolledTo : RunAnswer → Type 0
   HasRolledTo a = HasRolled trace tell r (digest_for r limits.migration) policy limits.rounds disk before.ports now.ports disk_now a
-
-  abbrev RollsTo : Ending → Type 0
-  RollsTo e = Rolls trace tell left limits policy disk disk_now before now e out out_now
 
   -- by what is known of the cause of a stop
   module _ (Stops : Cause → Type 0)
@@ -224,18 +203,75 @@ module _ {D P : Type 0} (trace : D → DiskTrace) (tell : P → PortTrace)
         let told = of-some (λ image. IsCause why (digest_for r limits.migration) (verdict r (digest_for r limits.migration) image)) goes.image (trace disk).bytes goes.told unopened.0.refusal in
         absurd (unopened-ends why e told ends.0 (λ is. device (unopened.0.failed is)) memory)
 
+-- ---- by the disk as it was at first
+
+module _ {D P : Type 0} (trace : D → DiskTrace) (tell : P → PortTrace)
+    (limits : Limits) (policy : OpView → ℕ) (source source_now : SourceTrace) (disk disk_now : D) (before now : FleetSeen P) (out out_now : Option (List ℕ)) (r : Rollout) (found : History)
+    (goes : GoesOnFrom limits.migration source source_now (trace disk).bytes r found) (ready : IsReadyFor tell limits policy before.ports.waiting r found) where
+  -- what it told it tells once it is opened
+  goes-opened : (opened : D) → Opens (trace disk) (trace opened) → GoesOnFrom limits.migration source source_now (trace opened).bytes r found
+  goes-opened opened opens = record {
+    input = goes.input;
+    told_input = goes.told_input;
+    is = goes.is;
+    image = goes.image;
+    told = of-some (λ all. (trace opened).bytes ≡ Some all) goes.image (trace disk).bytes goes.told opens.same;
+    begins = goes.begins;
+  }
+
+  later-rose : (opened : D) → Opens (trace disk) (trace opened) → Rose (trace opened).faults (trace disk_now).faults → Rose (trace disk).faults (trace disk_now).faults
+  later-rose opened opens rose = rose-later (trace disk).faults (trace opened).faults (trace disk_now).faults opens.count rose
+
+  refused-never : (e : Ending) → RefusesAs (IsInput source source_now) e → ⊥
+  refused-never e refuses =
+      let same : goes.input ≡ refuses.input = told-within source source_now refuses.input goes.input refuses.given (rolled-within goes.input r goes.is) goes.told_input in
+      let both : Ok r ≡ Err e = sym goes.is ∙ (ap rollout_to same ∙ refuses.refused) in
+      cc
+
+  unbegun-ends : (e : Ending) → IsUnbegun (IsInput source source_now) e → (status_of e ≡ 6 → ⊥) → (status_of e ≡ 12 → ⊥) → ⊥
+  unbegun-ends Done why read memory = refused-never Done why
+  unbegun-ends Usage why read memory = refused-never Usage why
+  unbegun-ends AboveLimit why read memory = refused-never AboveLimit why
+  unbegun-ends (Input f) why read memory = refused-never (Input f) why
+  unbegun-ends (NotValid p b) why read memory = refused-never (NotValid p b) why
+  unbegun-ends (NoPlan u) why read memory = refused-never (NoPlan u) why
+  unbegun-ends ReadFault why read memory = read refl
+  unbegun-ends WriteFault why read memory = refused-never WriteFault why
+  unbegun-ends DiskFault why read memory = refused-never DiskFault why
+  unbegun-ends GuestFault why read memory = refused-never GuestFault why
+  unbegun-ends (Refused f) why read memory = refused-never (Refused f) why
+  unbegun-ends (NotFinished u) why read memory = refused-never (NotFinished u) why
+  unbegun-ends OutOfMemory why read memory = memory refl
+
+  abbrev RollsTo : Ending → Type 0
+  RollsTo e = Rolls trace tell (IsInput source source_now) limits policy disk disk_now before now e out out_now
+
+  abbrev HasRolledFrom : D → RunAnswer → Type 0
+  HasRolledFrom opened a = HasRolled trace tell r (digest_for r limits.migration) policy limits.rounds opened before.ports now.ports disk_now a
+
+  -- by what is known of the cause of a stop
+  module _ (Stops : Cause → Type 0)
+      (stops : (opened : D) → Opens (trace disk) (trace opened) → IsNetwork r.problem → is_valid_plan r.problem r.plan ≡ true → limits.migration < 2 ^ 32 → (a : RunAnswer) → HasRolledFrom opened a → (other : Rollout) (halt : Halt) → outcome.Stopped other halt ≡ a → Stops halt.cause)
+      (e : Ending) (read : status_of e ≡ 6 → ⊥) (sink : status_of e ≡ 7 → ⊥) (memory : status_of e ≡ 12 → ⊥) (device : Rose (trace disk).faults (trace disk_now).faults → status_of e ≡ 8 → ⊥) (fleet : Rose before.faults now.faults → status_of e ≡ 9 → ⊥)
+      (stopped : (other : Rollout) (why : Cause) → e ≡ ending_of_stop other why → Stops why → status_of e ≡ 0) where
+    opened-well : OpensAndRolls trace tell r limits policy disk disk_now before now e out out_now → status_of e ≡ 0
+    opened-well (inl fails) = absurd (device fails.failed (ap status_of fails.is))
+    opened-well (inr begun) =
+        let rolls = begun.rolls in
+        answered-well trace tell limits policy source source_now begun.opened disk_now before now out out_now r found (goes-opened begun.opened begun.opens) ready
+        Stops (stops begun.opened begun.opens) e read sink memory (λ rose. device (later-rose begun.opened begun.opens rose)) fleet stopped
+        rolls.network rolls.valid rolls.small rolls.answer rolls.rolled rolls.unopened rolls.no_port (follows-ends (line_or_ending rolls.answer) e out out_now rolls.follows memory)
+
     rolled-well : RollsTo e → status_of e ≡ 0
     rolled-well (inl none) = absurd (unbegun-ends e none.why read memory)
     rolled-well (inr rolled) =
-        let told : goes.input ≡ rolled.input = of-some (λ all. all ≡ rolled.input) goes.input left goes.read rolled.whole in
+        let told : goes.input ≡ rolled.input = told-within source source_now rolled.input goes.input rolled.given (rolled-within goes.input r goes.is) goes.told_input in
         let both : Ok r ≡ Ok rolled.r = sym goes.is ∙ (ap rollout_to told ∙ rolled.is) in
         let same : rolled.r ≡ r = sym (cc both) in
-        let rolls : RollsOut trace tell r limits policy disk disk_now before now e out out_now =
-        subst (λ (x : Rollout). RollsOut trace tell x limits policy disk disk_now before now e out out_now) same rolled.rolls in
-        answered-well rolls.network rolls.valid rolls.small rolls.answer rolls.rolled rolls.unopened rolls.no_port (follows-ends (line_or_ending rolls.answer) e out out_now rolls.follows memory)
+        opened-well (subst (λ (x : Rollout). OpensAndRolls trace tell x limits policy disk disk_now before now e out out_now) same rolled.rolls)
 
   -- by the status of an ending that is told by itself
-  by-ending : (status : ℕ) → RollsAs trace tell left limits policy disk disk_now before now status out out_now → status ≢ 12
+  by-ending : (status : ℕ) → RollsAs trace tell (IsInput source source_now) limits policy disk disk_now before now status out out_now → status ≢ 12
       → ((e : Ending) → RollsTo e → ((n : ℕ) → status ≢ n → status_of e ≡ n → ⊥) → status_of e ≡ 0) → status ≡ 0
   by-ending status rolls memory well =
       let told : (n : ℕ) → status ≢ n → status_of rolls.told ≡ n → ⊥ = λ n other is. other (rolls.is_status ∙ is) in
@@ -260,19 +296,24 @@ module _ {D P : Type 0} (trace : D → DiskTrace) (tell : P → PortTrace)
   wanting-well e memory other cause.Disk is want = absurd want
   wanting-well e memory other cause.Memory is want = absurd (memory (ap status_of is))
 
-  pub ready-ends-well : (status : ℕ) → RollsAs trace tell left limits policy disk disk_now before now status out out_now
+  pub ready-ends-well : (status : ℕ) → RollsAs trace tell (IsInput source source_now) limits policy disk disk_now before now status out out_now
       → status ≢ 6 → status ≢ 7 → status ≢ 8 → status ≢ 9 → status ≢ 12 → status ≡ 0
   ready-ends-well status rolls read sink device fleet memory =
       by-ending status rolls memory
       (λ e to over. rolled-well IsExcused
-      (λ network valid small a has other halt is. stop-excused network valid small a has other halt has.run.end (is ∙ has.run.tells) (ended-is network valid small a has))
+      (λ opened opens network valid small a has other halt is.
+      stop-excused trace tell limits policy source source_now opened disk_now before now out out_now r found (goes-opened opened opens) ready network valid small a has other halt has.run.end (is ∙ has.run.tells)
+      (ended-is trace tell limits policy source source_now opened disk_now before now out out_now r found (goes-opened opened opens) ready network valid small a has))
       e (over 6 read) (over 7 sink) (over 12 memory) (λ rose. over 8 device) (λ rose. over 9 fleet) (excused-well e (over 8 device) (over 9 fleet) (over 12 memory)) to)
 
   pub unfailing-ends-well : CountsNoFault tell (trace disk).faults (trace disk_now).faults before now
-      → (status : ℕ) → RollsAs trace tell left limits policy disk disk_now before now status out out_now
+      → (status : ℕ) → RollsAs trace tell (IsInput source source_now) limits policy disk disk_now before now status out out_now
       → status ≢ 6 → status ≢ 7 → status ≢ 12 → status ≡ 0
   unfailing-ends-well counts status rolls read sink memory =
       by-ending status rolls memory
       (λ e to over. rolled-well IsWant
-      (λ network valid small a has other halt is. stop-wants network valid small a has counts other halt has.run.end (is ∙ has.run.tells) (ended-is network valid small a has))
+      (λ opened opens network valid small a has other halt is.
+      stop-wants trace tell limits policy source source_now opened disk_now before now out out_now r found (goes-opened opened opens) ready network valid small a has
+      (record { disk = λ rose. counts.disk (later-rose opened opens rose); fleet = counts.fleet; ports = counts.ports }) other halt has.run.end (is ∙ has.run.tells)
+      (ended-is trace tell limits policy source source_now opened disk_now before now out out_now r found (goes-opened opened opens) ready network valid small a has))
       e (over 6 read) (over 7 sink) (over 12 memory) (λ rose eight. counts.disk rose) (λ rose nine. counts.fleet rose) (wanting-well e (over 12 memory)) to)

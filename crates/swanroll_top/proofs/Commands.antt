@@ -7,13 +7,13 @@ use Rattle.problem_json.specs.GrammarDocuments.{DocumentRead, ScriptedRead, docu
 use Rattle.problem_json.specs.GrammarResults as grammar
 use Rattle.problem_json.specs.declared.fault.InputFault.{InputFault}
 use Rattle.sim_run.specs.Rehearsed.{IsSafeRehearsal}
-use Rattle.swanroll_top.specs.Answers.{planned, judged, rehearsed, checked, answer_in}
+use Rattle.swanroll_top.specs.Answers.{planned, judged, loaded, rehearsed, checked, answer_in}
 use Rattle.swanroll_top.specs.Endings.{ending_of}
 use Rattle.swanroll_top.specs.Reports.{rollout_in}
 use Rattle.swanroll_top.specs.Runs.{Gives}
-use Rattle.swanroll_top.specs.Safety.{IsPlanned, PlansSafely, ChecksValid, RehearsesSafely, IsValid}
+use Rattle.swanroll_top.specs.Safety.{IsPlanned, PlansSafely, ChecksValid, LoadsSafely, RehearsesSafely, IsLoaded, IsValid}
 use Rattle.swanroll_top.specs.declared.ending.Ending.{Ending}
-use Rattle.swanroll_top.specs.Words.{a_plan, a_check, a_rehearsal}
+use Rattle.swanroll_top.specs.Words.{a_plan, a_check, the_loads, a_rehearsal}
 use Rattle.swanroll_top.proofs.Steps.{fault-gives, next-is}
 
 pub plan-refuses : (input : List ℕ) (e : InputFault) → grammar.Refuses e (problem_in input) → Gives {A = List ℕ} (Err (ending_of e)) (answer_in a_plan input)
@@ -32,6 +32,14 @@ pub check-answers : (input : List ℕ) (d : DocumentRead) → document_in input 
 unfolding answer_in
 check-answers input d h = next-is (document_in input) d judged h
 
+pub loads-refuses : (input : List ℕ) (e : InputFault) → grammar.Refuses e (document_in input) → Gives {A = List ℕ} (Err (ending_of e)) (answer_in the_loads input)
+unfolding answer_in
+loads-refuses input e h = fault-gives e (document_in input) loaded h
+
+pub loads-answers : (input : List ℕ) (d : DocumentRead) → document_in input ≡ Ok d → answer_in the_loads input ≡ loaded d
+unfolding answer_in
+loads-answers input d h = next-is (document_in input) d loaded h
+
 pub sim-refuses : (policy : OpView → ℕ) (input : List ℕ) (e : InputFault) → grammar.Refuses e (scripted_in input) → Gives {A = List ℕ} (Err (ending_of e)) (answer_in (a_rehearsal policy) input)
 unfolding answer_in
 sim-refuses policy input e h = fault-gives e (scripted_in input) (rehearsed policy) h
@@ -49,6 +57,10 @@ read-plans-safely input p (Err e) read planned = tt
 pub read-checks-valid : {A : Type 0} (input : List ℕ) (d : DocumentRead) (answer : Result A Ending) → document_in input ≡ Ok d → IfOk answer (λ text. IsValid d.problem d.plan) → IfOk answer (λ text. ChecksValid input)
 read-checks-valid input d (Ok text) read valid = record { document = d; read = read; valid = valid }
 read-checks-valid input d (Err e) read valid = tt
+
+pub read-loads-safely : {A : Type 0} (input : List ℕ) (d : DocumentRead) (answer : Result A Ending) → document_in input ≡ Ok d → IfOk answer (λ text. IsLoaded d.problem d.plan) → IfOk answer (λ text. LoadsSafely input)
+read-loads-safely input d (Ok text) read is = record { document = d; read = read; loaded = is }
+read-loads-safely input d (Err e) read is = tt
 
 pub read-rehearses-safely : {A : Type 0} (policy : OpView → ℕ) (input : List ℕ) (s : ScriptedRead) (answer : Result A Ending) → scripted_in input ≡ Ok s
     → IfOk answer (λ text. IsSafeRehearsal s.document.problem s.document.plan policy s.script) → IfOk answer (λ text. RehearsesSafely policy input)

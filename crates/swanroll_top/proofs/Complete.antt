@@ -1,5 +1,5 @@
 -- What is enough for an answer, and that an answer is written.
-use Rattle.std.proofs.Common.{◌≡◌, ◌≢◌, ℕ, ◌≤◌, List, length, true, false, Option, Some, None, Result, Ok, Err, IsOk, IfSome, refl, sym, subst, ap, ◌∙◌, inl, inr}
+use Rattle.std.proofs.Common.{◌≡◌, ◌≢◌, ℕ, ◌≤◌, List, length, true, false, Option, Some, None, Result, Ok, Err, IsOk, refl, sym, subst, ap, ◌∙◌, inl, inr}
 use Rattle.rollout_rules.specs.Wan.{Problem, Rollout}
 use Rattle.rollout_rules.specs.declared.limits.TheConstants.{MOST_INPUT}
 use Rattle.rollout_rules.specs.declared.op.OpView.{OpView}
@@ -13,29 +13,31 @@ use Rattle.intent_journal.specs.declared.fault.JournalFault.{JournalFault}
 use Rattle.rollout_report.specs.Journals.{journal_report}
 use Rattle.scratch_plan.specs.declared.no_plan.NoPlan.{NoPlan as Cause}
 use Rattle.plan_choose.specs.Choice.{Choice, chosen}
+use Rattle.plan_texts.specs.Loads.{loads_text}
 use Rattle.sim_run.specs.declared.shape.Shape.{Shape}
 use Rattle.agent_service.specs.Services.{Guests, Tells}
 use Rattle.agent_service.specs.declared.service.Service.{Service}
 use Rattle.agent_service.specs.declared.service.ServiceFault.{ServiceFault}
 use Rattle.agent_service.specs.declared.service.ServiceFault.TheVariants as service
 use Rattle.swanroll_top.specs.Agents.{ServesAs, service_answer}
-use Rattle.swanroll_top.specs.Answers.{◌>>=◌, with_choice, planned, checked, valid_line, judged, rehearsed, answer_to}
+use Rattle.swanroll_top.specs.Answers.{◌>>=◌, with_choice, planned, checked, valid_line, judged, loaded, rehearsed, answer_to}
 use Rattle.swanroll_top.specs.Endings.{status_of}
 use Rattle.swanroll_top.specs.Program.{Streams}
 use Rattle.swanroll_top.specs.ReportPromise.{ReportsAndNotes, ReportsBy}
 use Rattle.swanroll_top.specs.TextPromise.{RunsAndNotes, TextPromise}
 use Rattle.swanroll_top.specs.TrialPromise.{TrialPromise, TriesAndNotes}
 use Rattle.swanroll_top.specs.Reports.{EndsReport, or_journal, rollout_to}
-use Rattle.swanroll_top.specs.Runs.{EndsWith}
+use Rattle.swanroll_top.specs.Runs.{EndsWith, TellsInput}
 use Rattle.swanroll_top.specs.Safety.{IsValid}
 use Rattle.swanroll_top.specs.Tries.{IsShape, tried}
 use Rattle.swanroll_top.specs.Taken.{IsValidDocument, IsValidScript}
 use Rattle.swanroll_top.specs.declared.ending.Ending.{Ending}
-use Rattle.swanroll_top.specs.Words.{TextAsked, a_plan, a_check, a_rehearsal}
-use Rattle.swanroll_top.proofs.Commands.{plan-answers, check-answers, sim-answers}
+use Rattle.swanroll_top.specs.Words.{TextAsked, a_plan, a_check, the_loads, a_rehearsal}
+use Rattle.swanroll_top.proofs.Commands.{plan-answers, check-answers, loads-answers, sim-answers}
 use Rattle.swanroll_top.proofs.Documents.{checked-by}
-use Rattle.swanroll_top.proofs.Inputs.{short-answered}
+use Rattle.swanroll_top.proofs.Inputs.{answered-within, short-answered, told-within}
 use Rattle.swanroll_top.proofs.Programs.{follows-ends}
+use Rattle.swanroll_top.proofs.Reporting.{rolled-within}
 use Rattle.swanroll_top.proofs.Tried.{is-tried}
 
 choice-answers : (p : Problem) (found : Result Choice Cause) → IsOk found → IsOk (with_choice p found)
@@ -59,12 +61,19 @@ valid-judged : (d : DocumentRead) → IsValid d.problem d.plan → IsOk (judged 
 unfolding judged
 valid-judged d valid = valid-goes-on d (λ o. valid_line o.plan) (first_broken d.problem d.plan) refl valid
 
+valid-loaded : (d : DocumentRead) → IsValid d.problem d.plan → IsOk (loaded d)
+unfolding loaded
+valid-loaded d valid = valid-goes-on d (λ o. loads_text o.problem o.plan) (first_broken d.problem d.plan) refl valid
+
 valid-rehearsed : (policy : OpView → ℕ) (s : ScriptedRead) → IsValid s.document.problem s.document.plan → IsOk (rehearsed policy s)
 unfolding rehearsed
 valid-rehearsed policy s valid = valid-goes-on s.document (λ o. script_text o.problem o.plan policy s.script) (first_broken s.document.problem s.document.plan) refl valid
 
 pub valid-document-answers : (input : List ℕ) → IsValidDocument input → IsOk (answer_to a_check input)
 valid-document-answers input t = subst (λ r. IsOk r) (sym (short-answered a_check input t.within ∙ check-answers input t.document t.read)) (valid-judged t.document t.valid)
+
+pub valid-document-loads : (input : List ℕ) → IsValidDocument input → IsOk (answer_to the_loads input)
+valid-document-loads input t = subst (λ r. IsOk r) (sym (short-answered the_loads input t.within ∙ loads-answers input t.document t.read)) (valid-loaded t.document t.valid)
 
 pub valid-script-answers : (policy : OpView → ℕ) (input : List ℕ) → IsValidScript input → IsOk (answer_to (a_rehearsal policy) input)
 valid-script-answers policy input t = subst (λ r. IsOk r) (sym (short-answered (a_rehearsal policy) input t.within ∙ sim-answers policy input t.scripted t.read)) (valid-rehearsed policy t.scripted t.valid)
@@ -76,43 +85,38 @@ ends-well (Ok text) e out now ok (inl done) cut = ap status_of done.0
 ends-well (Ok text) e out now ok (inr part) cut = absurd (cut (ap status_of part.0))
 ends-well (Err x) e out now ok h cut = absurd cc
 
-told-whole : (left : Option (List ℕ)) (input read : List ℕ) → left ≡ Some input → IfSome left (λ all. all ≡ read) → input ≡ read
-told-whole left input read is whole = subst (λ l. IfSome l (λ all. all ≡ read)) is whole
-
 module _ (asked : TextAsked) (before after : Streams) (status : ℕ) (input : List ℕ) where
-  well : RunsAndNotes asked before after status → before.left ≡ Some input → IsOk (answer_to asked input) → (status ≡ 7 → ⊥) → status ≡ 0
+  well : RunsAndNotes asked before after status → TellsInput before.source after.source input → IsOk (answer_to asked input) → (status ≡ 7 → ⊥) → status ≡ 0
   well r told ok cut =
-      r.is_status ∙ ends-well (answer_to asked r.follows.input) r.ending before.written after.written
-      (subst (λ i. IsOk (answer_to asked i)) (told-whole before.left input r.follows.input told r.follows.read.whole) ok)
+      r.is_status ∙ ends-well (answer_to asked r.follows.input) r.ending before.sink.written after.sink.written
+      (subst (λ i. IsOk (answer_to asked i)) (told-within before.source after.source r.follows.input input r.follows.read (answered-within asked input ok) told) ok)
       r.follows.answer (λ e. cut (r.is_status ∙ e))
 
-  pub answer-written : TextPromise asked before after status → before.left ≡ Some input → IsOk (answer_to asked input) → status ≢ 6 → status ≢ 7 → status ≢ 12 → status ≡ 0
+  pub answer-written : TextPromise asked before after status → TellsInput before.source after.source input → IsOk (answer_to asked input) → status ≢ 6 → status ≢ 7 → status ≢ 12 → status ≡ 0
   answer-written promise told ok source sink memory = well (promise.does source memory) told ok sink
 
 -- ---- a report with a text
 
 module _ (m : ℕ) (before after : Streams) (status : ℕ) (input image : List ℕ) (o : Rollout) where
-  answered : (told : Option (List ℕ)) (answer : Result (List ℕ) Ending) → told ≡ Some image → IfSome told (λ all. or_journal (journal_report o m all) ≡ answer) → or_journal (journal_report o m image) ≡ answer
-  answered None answer told is = absurd (cc told)
-  answered (Some all) answer told is = let same : all ≡ image = cc told in subst (λ x. or_journal (journal_report o m x) ≡ answer) same is
-
   ok-journal : (r : Result (List ℕ) JournalFault) → IsOk r → IsOk (or_journal r)
   ok-journal (Ok text) ok = refl
   ok-journal (Err e) ok = absurd cc
 
-  reported : (r : Result Rollout Ending) (e : Ending) → r ≡ Ok o → before.stored ≡ Some image → IsOk (journal_report o m image) → EndsReport m r before.stored e before.written after.written → (status_of e ≡ 7 → ⊥) → status_of e ≡ 0
+  reported : (r : Result Rollout Ending) (e : Ending) → r ≡ Ok o → before.stored ≡ Some image → IsOk (journal_report o m image) → EndsReport m r before.stored e before.sink.written after.sink.written → (status_of e ≡ 7 → ⊥) → status_of e ≡ 0
   reported (Err x) e is stored ok ends cut = absurd (cc is)
   reported (Ok other) e is stored ok ends cut =
       let same : other ≡ o = cc is in
-      let told : IfSome before.stored (λ all. or_journal (journal_report o m all) ≡ ends.answer) = subst (λ x. IfSome before.stored (λ all. or_journal (journal_report x m all) ≡ ends.answer)) same ends.is in
-      ends-well ends.answer e before.written after.written (subst (λ r. IsOk r) (answered before.stored ends.answer stored told) (ok-journal (journal_report o m image) ok)) ends.ends cut
+      let both : Some ends.image ≡ Some image = sym ends.stored ∙ stored in
+      let read : ends.image ≡ image = cc both in
+      let told : or_journal (journal_report o m image) ≡ ends.answer = subst (λ x. or_journal (journal_report o m x) ≡ ends.answer) read (subst (λ x. or_journal (journal_report x m ends.image) ≡ ends.answer) same ends.is) in
+      ends-well ends.answer e before.sink.written after.sink.written (subst (λ r. IsOk r) told (ok-journal (journal_report o m image) ok)) ends.ends cut
 
-  report-well : ReportsAndNotes m before after status → before.left ≡ Some input → before.stored ≡ Some image → rollout_to input ≡ Ok o → IsOk (journal_report o m image) → (status ≡ 7 → ⊥) → status ≡ 0
+  report-well : ReportsAndNotes m before after status → TellsInput before.source after.source input → before.stored ≡ Some image → rollout_to input ≡ Ok o → IsOk (journal_report o m image) → (status ≡ 7 → ⊥) → status ≡ 0
   report-well r told stored is ok cut =
-      r.is_status ∙ reported (rollout_to r.follows.input) r.ending (subst (λ i. rollout_to i ≡ Ok o) (told-whole before.left input r.follows.input told r.follows.read.whole) is) stored ok r.follows.ends
+      r.is_status ∙ reported (rollout_to r.follows.input) r.ending (subst (λ i. rollout_to i ≡ Ok o) (told-within before.source after.source r.follows.input input r.follows.read (rolled-within input o is) told) is) stored ok r.follows.ends
       (λ e. cut (r.is_status ∙ e))
 
-  pub report-written : ReportsBy m before after status → before.left ≡ Some input → before.stored ≡ Some image → rollout_to input ≡ Ok o → IsOk (journal_report o m image)
+  pub report-written : ReportsBy m before after status → TellsInput before.source after.source input → before.stored ≡ Some image → rollout_to input ≡ Ok o → IsOk (journal_report o m image)
       → status ≢ 6 → status ≢ 7 → status ≢ 8 → status ≢ 12 → status ≡ 0
   report-written does told stored is ok source sink disk memory = report-well (does source disk memory) told stored is ok sink
 
@@ -124,7 +128,7 @@ module _ (policy : OpView → ℕ) (shape : Shape) where
 
   trial-well : (before after : Streams) (status : ℕ) → TriesAndNotes policy shape before after status → (status ≡ 7 → ⊥) → status ≡ 0
   trial-well before after status r cut =
-      r.is_status ∙ ends-well (tried policy shape) r.ending before.written after.written (trial-answers r.follows.shape) r.follows.answer (λ e. cut (r.is_status ∙ e))
+      r.is_status ∙ ends-well (tried policy shape) r.ending before.sink.written after.sink.written (trial-answers r.follows.shape) r.follows.answer (λ e. cut (r.is_status ∙ e))
 
   pub trial-written : (before after : Streams) (status : ℕ) → TrialPromise policy shape before after status → status ≢ 6 → status ≢ 7 → status ≢ 12 → status ≡ 0
   trial-written before after status promise source sink memory = trial-well before after status (promise.does memory) sink

@@ -4,6 +4,7 @@ use Rattle.rollout_rules.specs.Wan.{Problem, Plan, Rollout, last_stage}
 use Rattle.rollout_rules.specs.Valid.{is_valid_plan}
 use Rattle.rollout_rules.specs.declared.op.OpView.{OpView}
 use Rattle.plan_check.specs.FirstBroken.{first_broken}
+use Rattle.plan_texts.specs.Loads.{loads_text}
 use Rattle.plan_check.specs.Verdict.{IsVerdict}
 use Rattle.plan_check.specs.declared.broken.Broken.{Broken}
 use Rattle.plan_check.specs.declared.fault.PlanFault.{PlanFault}
@@ -11,9 +12,9 @@ use Rattle.plan_check.specs.declared.fault.PlanFault.TheVariants as plan_fault
 use Rattle.problem_json.specs.GrammarDocuments.{DocumentRead, ScriptedRead}
 use Rattle.sim_run.specs.Rehearsed.{IsSafeRehearsal}
 use Rattle.sim_run.specs.Script.{script_text}
-use Rattle.swanroll_top.specs.Answers.{◌>>=◌, unless_broken, checked, valid_text, valid_line, judged, rehearsed}
+use Rattle.swanroll_top.specs.Answers.{◌>>=◌, unless_broken, checked, valid_text, valid_line, judged, loaded, rehearsed}
 use Rattle.swanroll_top.specs.Runs.{Gives}
-use Rattle.swanroll_top.specs.Safety.{IsSealed}
+use Rattle.swanroll_top.specs.Safety.{HoldsItsLoads, IsLoaded, IsSealed}
 use Rattle.swanroll_top.specs.declared.ending.Ending.{Ending}
 use Rattle.swanroll_top.specs.declared.ending.Ending.TheVariants.{NotValid}
 use Rattle.swanroll_top.proofs.Steps.{step-gives}
@@ -51,6 +52,20 @@ pub refused-judged : (d : DocumentRead) (e : Ending) → Gives {A = Rollout} (Er
 unfolding judged
 refused-judged d e h = step-gives e (checked d) (λ o. Ok (valid_line o.plan)) h
 
+-- ---- the loads of a valid plan
+
+pub checked-loaded : (d : DocumentRead) (o : Rollout) (text : List ℕ) → checked d ≡ Ok o → text ≡ loads_text o.problem o.plan → loaded d ≡ Ok text
+unfolding loaded
+checked-loaded d o text e is = ap (λ r. r >>= λ o. Ok (loads_text o.problem o.plan)) e ∙ sym (ap Ok is)
+
+pub refused-loaded : (d : DocumentRead) (e : Ending) → Gives {A = Rollout} (Err e) (checked d) → Gives {A = List ℕ} (Err e) (loaded d)
+unfolding loaded
+refused-loaded d e h = step-gives e (checked d) (λ o. Ok (loads_text o.problem o.plan)) h
+
+-- what the rollout that was sealed holds, the document's holds
+pub sealed-loads : (d : DocumentRead) (o : Rollout) → IsSealed d o → HoldsItsLoads o.problem o.plan → IsLoaded d.problem d.plan
+sealed-loads d o sealed holds = record { valid = sealed.valid; holds = subst (λ r. HoldsItsLoads r.problem r.plan) sealed.same holds }
+
 -- ---- the text of a script over a valid plan
 
 pub checked-rehearsed : (policy : OpView → ℕ) (s : ScriptedRead) (o : Rollout) (text : List ℕ) → checked s.document ≡ Ok o → text ≡ script_text o.problem o.plan policy s.script → rehearsed policy s ≡ Ok text
@@ -68,5 +83,7 @@ sealed-rehearsal policy s o sealed safe = rw sealed.same at safe
 pub ruleset checking = (unbroken-checked, valid-sealed)
 
 pub ruleset judging = (checked-judged, refused-judged)
+
+pub ruleset loading = (checked-loaded, refused-loaded, sealed-loads)
 
 pub ruleset rehearsing = (checked-rehearsed, refused-rehearsed, sealed-rehearsal)

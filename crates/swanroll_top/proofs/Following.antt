@@ -1,5 +1,6 @@
 -- How a run follows from reading its source.
 use Rattle.std.proofs.Common.{◌≡◌, ℕ, List, Option, refl, subst}
+use Rattle.wan_edge.specs.Streams.{SourceTrace}
 use Rattle.swanroll_top.specs.Answers.{answer_in}
 use Rattle.swanroll_top.specs.Reading.{IsShortInput, IsCut}
 use Rattle.swanroll_top.specs.Runs.{EndsWith, Follows, FollowsInput, Runs}
@@ -13,8 +14,8 @@ use Rattle.swanroll_top.proofs.Answering.{no-read-fault}
 use Rattle.swanroll_top.proofs.Inputs.{beyond-follows, short-answered}
 use Rattle.swanroll_top.proofs.Refused.{answer-judged, refused-exactly}
 
-short-follows : (c : TextAsked) (left now out out_now : Option (List ℕ)) (bytes : List ℕ) (e : Ending) → IsShortInput left now bytes → EndsWith (answer_in c bytes) e out out_now → (e ≡ OutOfMemory → ⊥) → (e ≡ Done → DoesSafely c bytes) → FollowsInput c left now e out out_now
-short-follows c left now out out_now bytes e s h some safe = record {
+short-follows : (c : TextAsked) (source source_now : SourceTrace) (out out_now : Option (List ℕ)) (bytes : List ℕ) (e : Ending) → IsShortInput source source_now bytes → EndsWith (answer_in c bytes) e out out_now → (e ≡ OutOfMemory → ⊥) → (e ≡ Done → DoesSafely c bytes) → FollowsInput c source source_now e out out_now
+short-follows c source source_now out out_now bytes e s h some safe = record {
   input = bytes;
   read = s.input;
   answer = rw (short-answered c bytes s.within) h;
@@ -22,36 +23,36 @@ short-follows c left now out out_now bytes e s h some safe = record {
   safe = safe;
 }
 
-pub short-runs : (c : TextAsked) (left now out out_now : Option (List ℕ)) (bytes : List ℕ) (e : Ending) → IsShortInput left now bytes → Follows (answer_in c bytes) e out out_now → (e ≡ Done → DoesSafely c bytes) → Runs c left now e out out_now
-short-runs c left now out out_now bytes Done s h safe = short-follows c left now out out_now bytes _ s h (λ m. cc) safe
-short-runs c left now out out_now bytes Usage s h safe = short-follows c left now out out_now bytes _ s h (λ m. cc) safe
-short-runs c left now out out_now bytes AboveLimit s h safe = short-follows c left now out out_now bytes _ s h (λ m. cc) safe
-short-runs c left now out out_now bytes (Input f) s h safe = short-follows c left now out out_now bytes _ s h (λ m. cc) safe
-short-runs c left now out out_now bytes (NotValid p b) s h safe = short-follows c left now out out_now bytes _ s h (λ m. cc) safe
-short-runs c left now out out_now bytes (NoPlan u) s h safe = short-follows c left now out out_now bytes _ s h (λ m. cc) safe
-short-runs c left now out out_now bytes ReadFault s h safe = absurd (no-read-fault c bytes out out_now h)
-short-runs c left now out out_now bytes WriteFault s h safe = short-follows c left now out out_now bytes _ s h (λ m. cc) safe
-short-runs c left now out out_now bytes DiskFault s h safe = short-follows c left now out out_now bytes _ s h (λ m. cc) safe
-short-runs c left now out out_now bytes GuestFault s h safe = short-follows c left now out out_now bytes _ s h (λ m. cc) safe
-short-runs c left now out out_now bytes (Refused f) s h safe = short-follows c left now out out_now bytes _ s h (λ m. cc) safe
-short-runs c left now out out_now bytes (NotFinished u) s h safe = short-follows c left now out out_now bytes _ s h (λ m. cc) safe
-short-runs c left now out out_now bytes OutOfMemory s h safe = h
+pub short-runs : (c : TextAsked) (source source_now : SourceTrace) (out out_now : Option (List ℕ)) (bytes : List ℕ) (e : Ending) → IsShortInput source source_now bytes → Follows (answer_in c bytes) e out out_now → (e ≡ Done → DoesSafely c bytes) → Runs c source source_now e out out_now
+short-runs c source source_now out out_now bytes Done s h safe = short-follows c source source_now out out_now bytes _ s h (λ m. cc) safe
+short-runs c source source_now out out_now bytes Usage s h safe = short-follows c source source_now out out_now bytes _ s h (λ m. cc) safe
+short-runs c source source_now out out_now bytes AboveLimit s h safe = short-follows c source source_now out out_now bytes _ s h (λ m. cc) safe
+short-runs c source source_now out out_now bytes (Input f) s h safe = short-follows c source source_now out out_now bytes _ s h (λ m. cc) safe
+short-runs c source source_now out out_now bytes (NotValid p b) s h safe = short-follows c source source_now out out_now bytes _ s h (λ m. cc) safe
+short-runs c source source_now out out_now bytes (NoPlan u) s h safe = short-follows c source source_now out out_now bytes _ s h (λ m. cc) safe
+short-runs c source source_now out out_now bytes ReadFault s h safe = absurd (no-read-fault c bytes out out_now h)
+short-runs c source source_now out out_now bytes WriteFault s h safe = short-follows c source source_now out out_now bytes _ s h (λ m. cc) safe
+short-runs c source source_now out out_now bytes DiskFault s h safe = short-follows c source source_now out out_now bytes _ s h (λ m. cc) safe
+short-runs c source source_now out out_now bytes GuestFault s h safe = short-follows c source source_now out out_now bytes _ s h (λ m. cc) safe
+short-runs c source source_now out out_now bytes (Refused f) s h safe = short-follows c source source_now out out_now bytes _ s h (λ m. cc) safe
+short-runs c source source_now out out_now bytes (NotFinished u) s h safe = short-follows c source source_now out out_now bytes _ s h (λ m. cc) safe
+short-runs c source source_now out out_now bytes OutOfMemory s h safe = h
 
-pub cut-runs : (c : TextAsked) (left now out : Option (List ℕ)) (e : Ending) → IsCut left e now → Runs c left now e out out
-cut-runs c left now out Done r = absurd r
-cut-runs c left now out Usage r = absurd r
-cut-runs c left now out AboveLimit r = beyond-follows c left now out r
-cut-runs c left now out (Input f) r = absurd r
-cut-runs c left now out (NotValid p b) r = absurd r
-cut-runs c left now out (NoPlan u) r = absurd r
-cut-runs c left now out ReadFault r = refl
-cut-runs c left now out WriteFault r = absurd r
-cut-runs c left now out DiskFault r = absurd r
-cut-runs c left now out GuestFault r = absurd r
-cut-runs c left now out (Refused f) r = absurd r
-cut-runs c left now out (NotFinished u) r = absurd r
-cut-runs c left now out OutOfMemory r = refl
+pub cut-runs : (c : TextAsked) (source source_now : SourceTrace) (out : Option (List ℕ)) (e : Ending) → IsCut source e source_now → Runs c source source_now e out out
+cut-runs c source source_now out Done r = absurd r
+cut-runs c source source_now out Usage r = absurd r
+cut-runs c source source_now out AboveLimit r = beyond-follows c source source_now out r
+cut-runs c source source_now out (Input f) r = absurd r
+cut-runs c source source_now out (NotValid p b) r = absurd r
+cut-runs c source source_now out (NoPlan u) r = absurd r
+cut-runs c source source_now out ReadFault r = refl
+cut-runs c source source_now out WriteFault r = absurd r
+cut-runs c source source_now out DiskFault r = absurd r
+cut-runs c source source_now out GuestFault r = absurd r
+cut-runs c source source_now out (Refused f) r = absurd r
+cut-runs c source source_now out (NotFinished u) r = absurd r
+cut-runs c source source_now out OutOfMemory r = refl
 
 -- no reading ends as a rollout does
-pub cut-rollout : (left now : Option (List ℕ)) (e : Ending) (u : Unfinished) → IsCut left e now → e ≡ NotFinished u → ⊥
-cut-rollout left now e u cut is = subst (λ x. IsCut left x now) is cut
+pub cut-rollout : (source source_now : SourceTrace) (e : Ending) (u : Unfinished) → IsCut source e source_now → e ≡ NotFinished u → ⊥
+cut-rollout source source_now e u cut is = subst (λ x. IsCut source x source_now) is cut

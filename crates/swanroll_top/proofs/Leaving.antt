@@ -5,7 +5,7 @@ use Rattle.rollout_rules.specs.Wan.{Rollout}
 use Rattle.disk_model.specs.Traces.{DiskTrace}
 use Rattle.disk_model.specs.Crashes.{Within}
 use Rattle.disk_model.specs.Moments.{LeavesOnly}
-use Rattle.wan_edge.specs.Streams.{Rose}
+use Rattle.wan_edge.specs.Streams.{Rose, SourceTrace}
 use Rattle.intent_journal.specs.declared.digest.Digest.{Digest}
 use Rattle.intent_journal.specs.declared.fault.JournalFault.{JournalFault}
 use Rattle.intent_journal.specs.declared.fault.JournalFault.TheVariants as journal
@@ -21,6 +21,7 @@ use Rattle.swanroll_top.specs.Reports.{EndsJournal, rollout_in, rollout_to}
 use Rattle.swanroll_top.specs.Runs.{EndsWith, Gives, IsTold}
 use Rattle.swanroll_top.specs.declared.ending.Ending.{Ending}
 use Rattle.swanroll_top.specs.declared.ending.Ending.TheVariants.{Done, Usage, AboveLimit, Input, NotValid, NoPlan, ReadFault, WriteFault, DiskFault, GuestFault, Refused, NotFinished, OutOfMemory}
+use Rattle.swanroll_top.proofs.Inputs.{told-short}
 use Rattle.swanroll_top.proofs.Reporting.{short-rollout}
 
 -- ---- which statuses speak of the journal
@@ -55,20 +56,20 @@ on-refusal (journal.OtherPlan kept wanted) U h holds = holds
 on-refusal (journal.Illegal place) U h holds = holds
 on-refusal journal.BadStart U h holds = holds
 
-cut-silent : (left now : Option (List ℕ)) (e : Ending) → IsCut left e now → IsSilent (status_of e)
-cut-silent left now Done r = absurd r
-cut-silent left now Usage r = absurd r
-cut-silent left now AboveLimit r = (λ h. omega (arith, h), (λ h. omega (arith, h), λ h. omega (arith, h)))
-cut-silent left now (Input f) r = absurd r
-cut-silent left now (NotValid p b) r = absurd r
-cut-silent left now (NoPlan u) r = absurd r
-cut-silent left now ReadFault r = (λ h. omega (arith, h), (λ h. omega (arith, h), λ h. omega (arith, h)))
-cut-silent left now WriteFault r = absurd r
-cut-silent left now DiskFault r = absurd r
-cut-silent left now GuestFault r = absurd r
-cut-silent left now (Refused f) r = absurd r
-cut-silent left now (NotFinished u) r = absurd r
-cut-silent left now OutOfMemory r = (λ h. omega (arith, h), (λ h. omega (arith, h), λ h. omega (arith, h)))
+cut-silent : (source source_now : SourceTrace) (e : Ending) → IsCut source e source_now → IsSilent (status_of e)
+cut-silent source source_now Done r = absurd r
+cut-silent source source_now Usage r = absurd r
+cut-silent source source_now AboveLimit r = (λ h. omega (arith, h), (λ h. omega (arith, h), λ h. omega (arith, h)))
+cut-silent source source_now (Input f) r = absurd r
+cut-silent source source_now (NotValid p b) r = absurd r
+cut-silent source source_now (NoPlan u) r = absurd r
+cut-silent source source_now ReadFault r = (λ h. omega (arith, h), (λ h. omega (arith, h), λ h. omega (arith, h)))
+cut-silent source source_now WriteFault r = absurd r
+cut-silent source source_now DiskFault r = absurd r
+cut-silent source source_now GuestFault r = absurd r
+cut-silent source source_now (Refused f) r = absurd r
+cut-silent source source_now (NotFinished u) r = absurd r
+cut-silent source source_now OutOfMemory r = (λ h. omega (arith, h), (λ h. omega (arith, h), λ h. omega (arith, h)))
 
 memory-silent : IsSilent 12
 memory-silent = (λ h. omega (arith, h), (λ h. omega (arith, h), λ h. omega (arith, h)))
@@ -90,6 +91,13 @@ some-each (Some bytes) P each = each bytes
 some-more : (told : Option (List ℕ)) (P Q : List ℕ → Type 0) → ((bytes : List ℕ) → P bytes → Q bytes) → IfSome told P → IfSome told Q
 some-more None P Q more h = tt
 some-more (Some bytes) P Q more h = more bytes h
+
+-- the status that is told
+pub told-status : (e : Ending) (status : ℕ) (before now : Option (List ℕ)) (faults faults_now : ℕ) → IsTold e status before now faults faults_now → (n : ℕ) → (n ≡ 12 → ⊥) → status ≡ n → status_of e ≡ n
+told-status e status before now faults faults_now told n other is = elim told.is [
+  | inl same ↦ ap status_of (sym same) ∙ (sym told.is_status ∙ is)
+  | inr memory ↦ absurd (other (sym is ∙ (told.is_status ∙ ap status_of memory.0)))
+]
 
 -- ---- the disk
 
@@ -113,24 +121,23 @@ module _ {D : Type 0} (trace : D → DiskTrace) (old new : D) where
   }
 
   -- a disk that is as it was, and a status that says nothing of it
-  untouched : (m : ℕ) (r : Result Rollout Ending) (status : ℕ) → ((c : List ℕ) → (trace old).left_since (trace old).moment c → (trace old).may_leave c) → new ≡ old → IsSilent status
+  pub untouched-leaves : (m : ℕ) (r : Result Rollout Ending) (status : ℕ) → ((c : List ℕ) → (trace old).left_since (trace old).moment c → (trace old).may_leave c) → new ≡ old → IsSilent status
       → LeavesReported trace m r status old new
-  untouched m r status only same silent = ok-each r _ (λ o. some-each (trace old).bytes _ (λ image. record {
+  untouched-leaves m r status only same silent = ok-each r _ (λ o. some-each (trace old).bytes _ (λ image. record {
     any_moment = still_each trace o (digest_for o m) (Some image) old new only same;
     reported = λ h. absurd (elim h [ inl zero ↦ silent.0 zero | inr seven ↦ silent.1.0 seven ]);
     refused = λ h. absurd (silent.1.1 h);
   }))
 
-  pub input-leaves : (m : ℕ) (left now : Option (List ℕ)) (input : List ℕ) (status : ℕ) → IsShortInput left now input → LeavesReported trace m (rollout_in input) status old new
-      → IfSome left (λ x. LeavesReported trace m (rollout_to x) status old new)
-  input-leaves m None now input status s h = tt
-  input-leaves m (Some left) now input status s h =
+  pub input-leaves : (m : ℕ) (source source_now : SourceTrace) (input : List ℕ) (status : ℕ) → IsShortInput source source_now input → LeavesReported trace m (rollout_in input) status old new
+      → LeavesRead trace m source source_now status old new
+  input-leaves m source source_now input status s h told tells =
       let short = subst (λ r. LeavesReported trace m r status old new) (sym (short-rollout input s.within)) h in
-      subst (λ x. LeavesReported trace m (rollout_to x) status old new) (sym s.input.whole) short
+      subst (λ x. LeavesReported trace m (rollout_to x) status old new) (sym (told-short source source_now input told s.input s.within tells)) short
 
-  pub cut-leaves : (m : ℕ) (left now : Option (List ℕ)) (e : Ending) → IsCut left e now → ((c : List ℕ) → (trace old).left_since (trace old).moment c → (trace old).may_leave c) → new ≡ old
-      → IfSome left (λ x. LeavesReported trace m (rollout_to x) (status_of e) old new)
-  cut-leaves m left now e cut only same = some-each left _ (λ x. untouched m (rollout_to x) (status_of e) only same (cut-silent left now e cut))
+  pub cut-leaves : (m : ℕ) (source source_now : SourceTrace) (e : Ending) → IsCut source e source_now → ((c : List ℕ) → (trace old).left_since (trace old).moment c → (trace old).may_leave c) → new ≡ old
+      → LeavesRead trace m source source_now (status_of e) old new
+  cut-leaves m source source_now e cut only same told tells = untouched-leaves m (rollout_to told) (status_of e) only same (cut-silent source source_now e cut)
 
   refused-leaves : (m : ℕ) (r : Result Rollout Ending) (e : Ending) → r ≡ Err e → LeavesReported trace m r (status_of e) old new
   refused-leaves m r e is = subst (λ x. LeavesReported trace m x (status_of e) old new) (sym is) tt
@@ -149,30 +156,23 @@ module _ {D : Type 0} (trace : D → DiskTrace) (old new : D) where
   unread-leaves m r GuestFault g only same = refused-leaves m r GuestFault g
   unread-leaves m r (Refused f) g only same = refused-leaves m r (Refused f) g
   unread-leaves m r (NotFinished u) g only same = refused-leaves m r (NotFinished u) g
-  unread-leaves m r OutOfMemory g only same = untouched m r 12 only same memory-silent
+  unread-leaves m r OutOfMemory g only same = untouched-leaves m r 12 only same memory-silent
 
   pub read-leaves : (m : ℕ) (r : Result Rollout Ending) (o : Rollout) (status : ℕ) → r ≡ Ok o
       → IfSome (trace old).bytes (λ image. LeavesJournal trace o (digest_for o m) image status old new) → LeavesReported trace m r status old new
   read-leaves m r o status is h = subst (λ x. LeavesReported trace m x status old new) (sym is) h
 
-  -- the status that is told
-  told-status : (e : Ending) (status : ℕ) (before now : Option (List ℕ)) (faults faults_now : ℕ) → IsTold e status before now faults faults_now → (n : ℕ) → (n ≡ 12 → ⊥) → status ≡ n → status_of e ≡ n
-  told-status e status before now faults faults_now told n other is = elim told.is [
-    | inl same ↦ ap status_of (sym same) ∙ (sym told.is_status ∙ is)
-    | inr memory ↦ absurd (other (sym is ∙ (told.is_status ∙ ap status_of memory.0)))
-  ]
-
-  pub told-leaves : (m : ℕ) (left : Option (List ℕ)) (e : Ending) (status : ℕ) (before now : Option (List ℕ)) (faults faults_now : ℕ) → IsTold e status before now faults faults_now
-      → LeavesRead trace m left (status_of e) old new → LeavesRead trace m left status old new
-  told-leaves m left e status before now faults faults_now told h =
-      some-more left _ _ (λ input. ok-more (rollout_to input) _ _ (λ o. some-more (trace old).bytes _ _ (λ image j. record {
+  pub told-leaves : (m : ℕ) (source source_now : SourceTrace) (e : Ending) (status : ℕ) (before now : Option (List ℕ)) (faults faults_now : ℕ) → IsTold e status before now faults faults_now
+      → LeavesRead trace m source source_now (status_of e) old new → LeavesRead trace m source source_now status old new
+  told-leaves m source source_now e status before now faults faults_now told h input tells =
+      ok-more (rollout_to input) _ _ (λ o. some-more (trace old).bytes _ _ (λ image j. record {
         any_moment = j.any_moment;
         reported = λ s. j.reported (elim s [
           | inl zero ↦ inl (told-status e status before now faults faults_now told 0 (λ n. omega (arith, n)) zero)
           | inr seven ↦ inr (told-status e status before now faults faults_now told 7 (λ n. omega (arith, n)) seven)
         ]);
         refused = λ s. j.refused (told-status e status before now faults faults_now told 10 (λ n. omega (arith, n)) s);
-      }))) h
+      })) (h input tells)
 
 module _ {D : Type 0} (trace : D → DiskTrace) (old new : D) where
   pub journal-leaves : (o : Rollout) (m : ℕ) (answer : Result (List ℕ) JournalFault) (e : Ending) (out now : Option (List ℕ)) → EndsJournal answer e out now

@@ -1,4 +1,5 @@
 pub mod Steps
+pub mod Opening
 pub mod Planned
 pub mod Documents
 pub mod Commands

@@ -1,6 +1,6 @@
 -- A whole run, from its ending and what was noted.
 use Rattle.std.proofs.Common.{◌≡◌, ℕ, List, [], true, false, Option, Some, None, Result, Ok, Err, IsTrue, refl, sym, ap, ◌∙◌, subst, inl, inr, arith, append-nil}
-use Rattle.wan_edge.specs.Streams.{Appends, Rose}
+use Rattle.wan_edge.specs.Streams.{Appends, Rose, SourceTrace}
 use Rattle.swanroll_top.specs.Endings.{status_of, tells_place}
 use Rattle.swanroll_top.specs.Lines.{IsLineOf, IsToldAs}
 use Rattle.swanroll_top.specs.Program.{Streams, IsStatus, IsRun, IsEnded, NotesLine, IsUnfinished}
@@ -54,8 +54,8 @@ follows-ends answer (Refused f) out now h memory = h
 follows-ends answer (NotFinished u) out now h memory = h
 follows-ends answer OutOfMemory out now h memory = absurd (memory refl)
 
-module _ (c : TextAsked) (left left_now out out_now : Option (List ℕ)) where
-  pub follows-of : (t : Ending) → Runs c left left_now t out out_now → (status_of t ≡ 6 → ⊥) → (status_of t ≡ 12 → ⊥) → FollowsInput c left left_now t out out_now
+module _ (c : TextAsked) (source source_now : SourceTrace) (out out_now : Option (List ℕ)) where
+  pub follows-of : (t : Ending) → Runs c source source_now t out out_now → (status_of t ≡ 6 → ⊥) → (status_of t ≡ 12 → ⊥) → FollowsInput c source source_now t out out_now
   follows-of Done r read memory = r
   follows-of Usage r read memory = r
   follows-of AboveLimit r read memory = r
@@ -70,7 +70,7 @@ module _ (c : TextAsked) (left left_now out out_now : Option (List ℕ)) where
   follows-of (NotFinished u) r read memory = r
   follows-of OutOfMemory r read memory = absurd (memory refl)
 
-  pub text-unwritten : (t : Ending) → Runs c left left_now t out out_now → (status_of t ≡ 0 → ⊥) → (status_of t ≡ 7 → ⊥) → out_now ≡ out
+  pub text-unwritten : (t : Ending) → Runs c source source_now t out out_now → (status_of t ≡ 0 → ⊥) → (status_of t ≡ 7 → ⊥) → out_now ≡ out
   text-unwritten Done r done cut = absurd (done refl)
   text-unwritten Usage r done cut = ends-unwritten _ _ out out_now r.answer (λ e. cc) (λ e. cc)
   text-unwritten AboveLimit r done cut = ends-unwritten _ _ out out_now r.answer (λ e. cc) (λ e. cc)
@@ -85,9 +85,9 @@ module _ (c : TextAsked) (left left_now out out_now : Option (List ℕ)) where
   text-unwritten (NotFinished u) r done cut = ends-unwritten _ _ out out_now r.answer (λ e. cc) (λ e. cc)
   text-unwritten OutOfMemory r done cut = r
 
-module _ (m : ℕ) (left left_now stored out out_now : Option (List ℕ)) where
-  pub reports-of : (t : Ending) → RunsReport m left left_now stored t out out_now → (status_of t ≡ 6 → ⊥) → (status_of t ≡ 8 → ⊥) → (status_of t ≡ 12 → ⊥)
-      → FollowsReport m left left_now stored t out out_now
+module _ (m : ℕ) (source source_now : SourceTrace) (stored out out_now : Option (List ℕ)) where
+  pub reports-of : (t : Ending) → RunsReport m source source_now stored t out out_now → (status_of t ≡ 6 → ⊥) → (status_of t ≡ 8 → ⊥) → (status_of t ≡ 12 → ⊥)
+      → FollowsReport m source source_now stored t out out_now
   reports-of Done r read disk memory = r
   reports-of Usage r read disk memory = r
   reports-of AboveLimit r read disk memory = r
@@ -102,7 +102,7 @@ module _ (m : ℕ) (left left_now stored out out_now : Option (List ℕ)) where
   reports-of (NotFinished u) r read disk memory = r
   reports-of OutOfMemory r read disk memory = absurd (memory refl)
 
-  pub report-unwritten : (t : Ending) → RunsReport m left left_now stored t out out_now → (status_of t ≡ 0 → ⊥) → (status_of t ≡ 7 → ⊥) → out_now ≡ out
+  pub report-unwritten : (t : Ending) → RunsReport m source source_now stored t out out_now → (status_of t ≡ 0 → ⊥) → (status_of t ≡ 7 → ⊥) → out_now ≡ out
   report-unwritten Done r done cut = r.silent done cut
   report-unwritten Usage r done cut = r.silent done cut
   report-unwritten AboveLimit r done cut = r.silent done cut
@@ -117,8 +117,8 @@ module _ (m : ℕ) (left left_now stored out out_now : Option (List ℕ)) where
   report-unwritten (NotFinished u) r done cut = r.silent done cut
   report-unwritten OutOfMemory r done cut = r
 
-module _ (left left_now out out_now : Option (List ℕ)) where
-  pub rollouts-of : (t : Ending) → RunsRollout left left_now t out out_now → (status_of t ≡ 6 → ⊥) → (status_of t ≡ 12 → ⊥) → FollowsRollout left left_now t out out_now
+module _ (source source_now : SourceTrace) (out out_now : Option (List ℕ)) where
+  pub rollouts-of : (t : Ending) → RunsRollout source source_now t out out_now → (status_of t ≡ 6 → ⊥) → (status_of t ≡ 12 → ⊥) → FollowsRollout source source_now t out out_now
   rollouts-of Done r read memory = r
   rollouts-of Usage r read memory = r
   rollouts-of AboveLimit r read memory = r
@@ -133,7 +133,7 @@ module _ (left left_now out out_now : Option (List ℕ)) where
   rollouts-of (NotFinished u) r read memory = r
   rollouts-of OutOfMemory r read memory = absurd (memory refl)
 
-  pub rollout-unwritten : (t : Ending) → RunsRollout left left_now t out out_now → (status_of t ≡ 0 → ⊥) → (status_of t ≡ 7 → ⊥) → out_now ≡ out
+  pub rollout-unwritten : (t : Ending) → RunsRollout source source_now t out out_now → (status_of t ≡ 0 → ⊥) → (status_of t ≡ 7 → ⊥) → out_now ≡ out
   rollout-unwritten Done r done cut = r.silent done cut
   rollout-unwritten Usage r done cut = r.silent done cut
   rollout-unwritten AboveLimit r done cut = r.silent done cut
@@ -196,12 +196,12 @@ not-usage e status before now faults faults_now ran told h =
 
 -- a run of a command
 pub command-run : (asked : Option Asked) (c : Asked) (before after : Streams) (e : Ending) (status : ℕ) → asked ≡ Some c
-    → ((status_of e ≡ 0 → ⊥) → (status_of e ≡ 7 → ⊥) → after.written ≡ before.written)
-    → (e ≡ ReadFault → Rose before.source_faults after.source_faults) → (e ≡ WriteFault → Rose before.sink_faults after.sink_faults)
+    → ((status_of e ≡ 0 → ⊥) → (status_of e ≡ 7 → ⊥) → after.sink.written ≡ before.sink.written)
+    → (e ≡ ReadFault → Rose before.source.faults after.source.faults) → (e ≡ WriteFault → Rose before.sink.faults after.sink.faults)
     → (e ≡ DiskFault → IsTrue (uses_of (Some c)).journal × Rose before.disk_faults after.disk_faults)
     → (e ≡ GuestFault → IsTrue (uses_of (Some c)).guests × Rose before.fleet_faults after.fleet_faults)
     → ((u : Unfinished) → e ≡ NotFinished u → IsTrue (uses_of (Some c)).ports) → (e ≡ Usage → ⊥)
-    → IsTold e status before.noted after.noted before.notes_faults after.notes_faults → IsRun asked before after status
+    → IsTold e status before.notes.written after.notes.written before.notes.faults after.notes.faults → IsRun asked before after status
 command-run asked c before after e status is silent read write disk guest unfinished ran told =
     let t = told.told in
     let was : (x : Ending) → (x ≡ OutOfMemory → ⊥) → t ≡ x → e ≡ x = λ x other same. told-same e t told.is (λ m. other (sym same ∙ m)) ∙ same in
@@ -216,7 +216,7 @@ command-run asked c before after e status is silent read write disk guest unfini
         | inr more ↦ inr (subst (λ a. IsTrue (uses_of a).ports) (sym is) (unfinished more.0 (was (NotFinished more.0) (λ m. cc) more.1)))
       ];
       unfinished = λ h. let more = is-unfinished t (subst IsUnfinished told.is_status h) in subst (λ a. IsTrue (uses_of a).ports) (sym is) (unfinished more.0 (was (NotFinished more.0) (λ m. cc) more.1));
-      silent = λ done cut. told-silent before.written after.written e t told.is silent (λ h. done (told.is_status ∙ h)) (λ h. cut (told.is_status ∙ h));
+      silent = λ done cut. told-silent before.sink.written after.sink.written e t told.is silent (λ h. done (told.is_status ∙ h)) (λ h. cut (told.is_status ∙ h));
       noted = record { ending = t; is_status = told.is_status; line = told.line };
     }
 
@@ -226,22 +226,22 @@ known-told e t known (inl same) = same
 known-told e t known (inr memory) = absurd (let no : true ≡ false = sym memory.1 ∙ known in cc)
 
 -- an ending before anything was read
-pub ended : (before after : Streams) (e : Ending) (status : ℕ) → tells_place e ≡ false → after.left ≡ before.left → after.written ≡ before.written
-    → IsTold e status before.noted after.noted before.notes_faults after.notes_faults → IsEnded e before after status
-ended before after e status known left written told =
+pub ended : (before after : Streams) (e : Ending) (status : ℕ) → tells_place e ≡ false → after.source ≡ before.source → after.sink.written ≡ before.sink.written
+    → IsTold e status before.notes.written after.notes.written before.notes.faults after.notes.faults → IsEnded e before after status
+ended before after e status known source written told =
     let same = known-told e told.told known told.is in
     record {
       is_status = told.is_status ∙ ap status_of same;
       line = rw (sym same) told.line;
-      unread = left;
+      unread = source;
       unwritten = written;
     }
 
 -- a run whose words are no command line
-pub usage-run : (asked : Option Asked) (before after : Streams) (status : ℕ) → asked ≡ None → after.left ≡ before.left → after.written ≡ before.written
-    → IsTold Usage status before.noted after.noted before.notes_faults after.notes_faults → IsRun asked before after status
-usage-run asked before after status is left written told =
-    let e = ended before after Usage status refl left written told in
+pub usage-run : (asked : Option Asked) (before after : Streams) (status : ℕ) → asked ≡ None → after.source ≡ before.source → after.sink.written ≡ before.sink.written
+    → IsTold Usage status before.notes.written after.notes.written before.notes.faults after.notes.faults → IsRun asked before after status
+usage-run asked before after status is source written told =
+    let e = ended before after Usage status refl source written told in
     let two : status ≡ 2 = e.is_status in
     record {
       statuses = subst IsStatus (sym e.is_status) refl;

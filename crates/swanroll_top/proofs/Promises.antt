@@ -1,5 +1,5 @@
 -- How the promise of the call follows from what a command brought about and from what was noted.
-use Rattle.std.proofs.Common.{◌≡◌, ℕ, Bool, List, drop, String, false, Option, Some, None, Result, Ok, Err, refl, sym, ap, ◌∙◌, subst}
+use Rattle.std.proofs.Common.{◌≡◌, ℕ, Bool, List, drop, String, false, Option, Some, None, Result, Ok, Err, refl, sym, ap, ◌∙◌, subst, arith}
 use Rattle.std.specs.declared.alloc.Global.{Global}
 use Rattle.rollout_rules.specs.declared.op.OpView.{OpView}
 use Rattle.agent_service.specs.Services.{Guests}
@@ -14,18 +14,18 @@ use Rattle.swanroll_top.specs.ReportPromise.{BringsReport, ReportPromise}
 use Rattle.swanroll_top.specs.Reports.{RunsReport}
 use Rattle.swanroll_top.specs.Rollouts.{RollsAs, RunsRollout}
 use Rattle.swanroll_top.specs.RunPromise.{BringsRollout, RunPromise}
-use Rattle.swanroll_top.specs.Runs.{IsTold, Runs}
+use Rattle.swanroll_top.specs.Runs.{IsInput, IsTold, Runs}
 use Rattle.swanroll_top.specs.TextPromise.{TextPromise}
 use Rattle.swanroll_top.specs.TrialPromise.{TrialPromise}
 use Rattle.swanroll_top.specs.Tries.{RunsTrial, tried}
-use Rattle.swanroll_top.specs.Views.{Objects, Outside, Views, left_at, outside, seen, streams, used, written_at}
+use Rattle.swanroll_top.specs.Views.{Objects, Outside, Views, outside, seen, source_at, streams, used, written_at}
 use Rattle.swanroll_top.specs.Words.{Asked, TextAsked, a_report, a_run, a_text, a_trial, an_agent, asked_by}
 use Rattle.swanroll_top.specs.declared.arguments.Unread.{Unread}
 use Rattle.swanroll_top.specs.declared.arguments.Unread.TheVariants as unread
 use Rattle.swanroll_top.specs.declared.ending.Ending.{Ending}
 use Rattle.swanroll_top.specs.declared.ending.Ending.TheVariants.{Usage, OutOfMemory}
 use Rattle.swanroll_top.proofs.Agents.{serves-as}
-use Rattle.swanroll_top.proofs.Leaving.{told-leaves}
+use Rattle.swanroll_top.proofs.Leaving.{told-leaves, told-status}
 use Rattle.swanroll_top.proofs.Programs.{command-run, ended, follows-ends, follows-of, follows-unwritten, not-usage, report-unwritten, reports-of, rollout-unwritten, rollouts-of, text-unwritten, told-brings, usage-run}
 use Rattle.swanroll_top.proofs.Reaching.{rolls-safe, rolls-target}
 
@@ -48,26 +48,26 @@ same-guests before now c s = ap (λ x. guests_with x now.served) c ∙ ap (λ x.
 -- ---- by what is told of an ending
 
 -- `plan`, `check` and `sim`
-text-keeps : (what : TextAsked) (before after : Streams) (e : Ending) (status : ℕ) → Runs what before.left after.left e before.written after.written → IsTold e status before.noted after.noted before.notes_faults after.notes_faults
+text-keeps : (what : TextAsked) (before after : Streams) (e : Ending) (status : ℕ) → Runs what before.source after.source e before.sink.written after.sink.written → IsTold e status before.notes.written after.notes.written before.notes.faults after.notes.faults
     → TextPromise what before after status
 text-keeps what before after e status runs told =
-    let told_runs = told-brings (λ x. Runs what before.left after.left x before.written after.written) before.written after.written e told.told told.is runs
-    (text-unwritten what before.left after.left before.written after.written e runs) (λ same. same) in
+    let told_runs = told-brings (λ x. Runs what before.source after.source x before.sink.written after.sink.written) before.sink.written after.sink.written e told.told told.is runs
+    (text-unwritten what before.source after.source before.sink.written after.sink.written e runs) (λ same. same) in
     record {
       does = λ read memory. record {
         ending = told.told;
         is_status = told.is_status;
-        follows = follows-of what before.left after.left before.written after.written told.told told_runs (λ h. read (told.is_status ∙ h)) (λ h. memory (told.is_status ∙ h));
+        follows = follows-of what before.source after.source before.sink.written after.sink.written told.told told_runs (λ h. read (told.is_status ∙ h)) (λ h. memory (told.is_status ∙ h));
         line = told.line;
       };
     }
 
 -- `trial`
-trial-keeps : (policy : OpView → ℕ) (shape : Shape) (before after : Streams) (e : Ending) (status : ℕ) → RunsTrial policy shape before.left after.left e before.written after.written
-    → IsTold e status before.noted after.noted before.notes_faults after.notes_faults → TrialPromise policy shape before after status
+trial-keeps : (policy : OpView → ℕ) (shape : Shape) (before after : Streams) (e : Ending) (status : ℕ) → RunsTrial policy shape before.source after.source e before.sink.written after.sink.written
+    → IsTold e status before.notes.written after.notes.written before.notes.faults after.notes.faults → TrialPromise policy shape before after status
 trial-keeps policy shape before after e status runs told =
-    let told_runs = told-brings (λ x. RunsTrial policy shape before.left after.left x before.written after.written) before.written after.written e told.told told.is runs
-    (follows-unwritten (tried policy shape) e before.written after.written runs.follows) (λ same. record { unread = runs.unread; shape = runs.shape; follows = same }) in
+    let told_runs = told-brings (λ x. RunsTrial policy shape before.source after.source x before.sink.written after.sink.written) before.sink.written after.sink.written e told.told told.is runs
+    (follows-unwritten (tried policy shape) e before.sink.written after.sink.written runs.follows) (λ same. record { unread = runs.unread; shape = runs.shape; follows = same }) in
     record {
       does = λ memory. record {
         ending = told.told;
@@ -75,7 +75,7 @@ trial-keeps policy shape before after e status runs told =
         follows = record {
           unread = runs.unread;
           shape = runs.shape;
-          answer = follows-ends (tried policy shape) told.told before.written after.written told_runs.follows (λ h. memory (told.is_status ∙ h));
+          answer = follows-ends (tried policy shape) told.told before.sink.written after.sink.written told_runs.follows (λ h. memory (told.is_status ∙ h));
         };
         line = told.line;
       };
@@ -86,51 +86,54 @@ module _ {S K D F P G : Type 0} (views : Views S K D F P G) where
   report-keeps : (m : ℕ) (before after : Outside S K D F) (e : Ending) (status : ℕ) → BringsReport views m (used before) e (used after)
       → IsTold e status (views.sink before.notes).written (views.sink after.notes).written (views.sink before.notes).faults (views.sink after.notes).faults → ReportPromise views m before status after
   report-keeps m before after e status brings told =
-      let left = (views.source before.source).left in
-      let left_now = (views.source after.source).left in
-      let stored = (views.disk before.disk).bytes in
+      let source = views.source before.source in
+      let source_now = views.source after.source in
+      let stored = (views.disk brings.opened).bytes in
       let out = (views.sink before.sink).written in
       let out_now = (views.sink after.sink).written in
-      let told_runs = told-brings (λ x. RunsReport m left left_now stored x out out_now) out out_now e told.told told.is brings.runs (report-unwritten m left left_now stored out out_now e brings.runs) (λ same. same) in
+      let told_runs = told-brings (λ x. RunsReport m source source_now stored x out out_now) out out_now e told.told told.is brings.runs (report-unwritten m source source_now stored out out_now e brings.runs) (λ same. same) in
       record {
+        opened = brings.opened;
+        opens = brings.opens;
         does = λ read device memory. record {
           ending = told.told;
           is_status = told.is_status;
-          follows = reports-of m left left_now stored out out_now told.told told_runs (λ h. read (told.is_status ∙ h)) (λ h. device (told.is_status ∙ h)) (λ h. memory (told.is_status ∙ h));
+          follows = reports-of m source source_now stored out out_now told.told told_runs (λ h. read (told.is_status ∙ h)) (λ h. device (told.is_status ∙ h)) (λ h. memory (told.is_status ∙ h));
           line = told.line;
         };
         leaves = told-leaves views.disk
-            before.disk after.disk m left e status _ _ _ _ told brings.leaves;
+            brings.opened after.disk m source source_now e status _ _ _ _ told brings.leaves;
+        untouched = λ three. brings.untouched (told-status e status _ _ _ _ told 3 (λ n. omega (arith, n)) three);
       }
 
   -- `run`
   run-keeps : (limits : Limits) (policy : OpView → ℕ) (before after : Outside S K D F) (e : Ending) (status : ℕ) → BringsRollout views limits policy (used before) e (used after)
       → IsTold e status (views.sink before.notes).written (views.sink after.notes).written (views.sink before.notes).faults (views.sink after.notes).faults → RunPromise views limits policy before status after
   run-keeps limits policy before after e status brings told =
-      let left = (views.source before.source).left in
-      let left_now = (views.source after.source).left in
+      let source = views.source before.source in
+      let source_now = views.source after.source in
       let out = (views.sink before.sink).written in
       let out_now = (views.sink after.sink).written in
       let fleet = seen (views.fleet before.fleet) in
       let fleet_now = seen (views.fleet after.fleet) in
-      let told_runs = told-brings (λ x. RunsRollout left left_now x out out_now) out out_now e told.told told.is brings.runs (rollout-unwritten left left_now out out_now e brings.runs) (λ same. same) in
+      let told_runs = told-brings (λ x. RunsRollout source source_now x out out_now) out out_now e told.told told.is brings.runs (rollout-unwritten source source_now out out_now e brings.runs) (λ same. same) in
       let rolls : RollsAs views.disk views.port
-      left limits policy before.disk after.disk fleet fleet_now status out out_now = record { ending = e; told = told.told; told_as = told.is; is_status = told.is_status; rolls = brings.rolls } in
+      (IsInput source source_now) limits policy before.disk after.disk fleet fleet_now status out out_now = record { ending = e; told = told.told; told_as = told.is; is_status = told.is_status; rolls = brings.rolls } in
       record {
         does = λ read memory. record {
           ending = told.told;
           is_status = told.is_status;
-          follows = rollouts-of left left_now out out_now told.told told_runs (λ h. read (told.is_status ∙ h)) (λ h. memory (told.is_status ∙ h));
+          follows = rollouts-of source source_now out out_now told.told told_runs (λ h. read (told.is_status ∙ h)) (λ h. memory (told.is_status ∙ h));
           line = told.line;
         };
         serves = brings.guests;
         rolls = rolls;
         safe = λ of.
             rolls-safe views.disk views.port
-            left before.disk after.disk fleet fleet_now out out_now limits policy status rolls of;
+            (IsInput source source_now) before.disk after.disk fleet fleet_now out out_now limits policy status rolls of;
         target = λ zero.
             rolls-target views.disk views.port
-            left before.disk after.disk fleet fleet_now out out_now limits policy status rolls zero;
+            (IsInput source source_now) before.disk after.disk fleet fleet_now out out_now limits policy status rolls zero;
       }
 
   -- each command
@@ -144,11 +147,11 @@ module _ {S K D F P G : Type 0} (views : Views S K D F P G) where
 
   -- nothing was written but a text, or a part of it
   command-silent : (c : Asked) (before after : Objects S K D F) (e : Ending) → Brings views c before e after → (status_of e ≡ 0 → ⊥) → (status_of e ≡ 7 → ⊥) → written_at views after ≡ written_at views before
-  command-silent (a_text what) before after e brings done cut = text-unwritten what (left_at views before) (left_at views after) (written_at views before) (written_at views after) e brings done cut
-  command-silent (a_report m) before after e brings done cut = report-unwritten m (left_at views before) (left_at views after) (views.disk before.disk).bytes (written_at views before) (written_at views after) e brings.runs done cut
+  command-silent (a_text what) before after e brings done cut = text-unwritten what (source_at views before) (source_at views after) (written_at views before) (written_at views after) e brings done cut
+  command-silent (a_report m) before after e brings done cut = report-unwritten m (source_at views before) (source_at views after) (views.disk brings.opened).bytes (written_at views before) (written_at views after) e brings.runs done cut
   command-silent (an_agent guests) before after e brings done cut = follows-unwritten (service_answer brings.came) e (written_at views before) (written_at views after) brings.follows done cut
   command-silent (a_trial shape policy) before after e brings done cut = follows-unwritten (tried policy shape) e (written_at views before) (written_at views after) brings.follows done cut
-  command-silent (a_run limits policy) before after e brings done cut = rollout-unwritten (left_at views before) (left_at views after) (written_at views before) (written_at views after) e brings.runs done cut
+  command-silent (a_run limits policy) before after e brings done cut = rollout-unwritten (source_at views before) (source_at views after) (written_at views before) (written_at views after) e brings.runs done cut
 
   -- a command was done
   pub promised : (asked : Option Asked) (c : Asked) (before after : Outside S K D F) (e : Ending) (status : ℕ) → asked ≡ Some c → Ran views c (used before) e (used after)

@@ -10,6 +10,7 @@ use Rattle.rollout_rules.specs.Valid.{is_valid_plan}
 use Rattle.rollout_rules.specs.declared.limits.TheConstants.{MOST_INPUT}
 use Rattle.rollout_rules.specs.declared.op.OpView.{OpView}
 use Rattle.disk_model.specs.Traces.{DiskTrace}
+use Rattle.disk_mirror.specs.Openings.{IsTold, Opens}
 use Rattle.wan_edge.specs.Ports.{PortTrace}
 use Rattle.wan_edge.specs.Streams.{Appends}
 use Rattle.dependency_graph.specs.Graph.{op_total}
@@ -33,6 +34,7 @@ use Rattle.rollout_ports.specs.Homes.{working_homes}
 use Rattle.rollout_ports.specs.Opening.{IsGiven}
 use Rattle.rollout_laws.proofs.Within.{held-safe}
 use Rattle.switch_laws.proofs.Stands.{held_at_end, held_stands}
+use Rattle.holding_laws.proofs.Each.{each_at_end, each_stands}
 use Rattle.rollout_report.specs.Journals.{digest_for}
 use Rattle.rollout_run.specs.PortRuns.{IsBack}
 use Rattle.rollout_run.specs.Ran.{EndsRun, Ran}
@@ -48,7 +50,7 @@ use Rattle.rollout_service.specs.declared.answer.RunAnswer.TheVariants as outcom
 use Rattle.swanroll_top.specs.Endings.{ending_of_journal, status_of}
 use Rattle.swanroll_top.specs.Lines.{IsToldAs}
 use Rattle.swanroll_top.specs.Reports.{rollout_in, rollout_to}
-use Rattle.swanroll_top.specs.Rollouts.{FleetSeen, IsUnbegun, Rolls, RollsAs, RollsOutOf, ending_of_stop, finished_line, line_or_ending}
+use Rattle.swanroll_top.specs.Rollouts.{FleetSeen, IsUnbegun, Rolls, RollsAs, RollsOut, RollsOutOf, ending_of_stop, finished_line, line_or_ending}
 use Rattle.swanroll_top.specs.Program.{IsUnfinished}
 use Rattle.swanroll_top.specs.Runs.{EndsWith, Follows}
 use Rattle.swanroll_top.specs.Targets.{EndsAtTarget, EndsWithin, IsOfBegun, ReachesTarget, RestsHeld, StaysSafe}
@@ -148,20 +150,20 @@ journal-begun fault.BadStart = refl
 journal-begun fault.Disk = refl
 journal-begun fault.Memory = refl
 
-unbegun-refused : (left : Option (List ℕ)) (e : Ending) → is_of_begun e ≡ true → IsUnbegun left e → ⊥
-unbegun-refused left Done begun h = to-begun h.input Done refl h.refused
-unbegun-refused left Usage begun h = absurd cc
-unbegun-refused left AboveLimit begun h = absurd cc
-unbegun-refused left (Input f) begun h = absurd cc
-unbegun-refused left (NotValid p b) begun h = absurd cc
-unbegun-refused left (NoPlan u) begun h = absurd cc
-unbegun-refused left ReadFault begun h = absurd cc
-unbegun-refused left WriteFault begun h = to-begun h.input WriteFault refl h.refused
-unbegun-refused left DiskFault begun h = absurd cc
-unbegun-refused left GuestFault begun h = absurd cc
-unbegun-refused left (Refused f) begun h = absurd cc
-unbegun-refused left (NotFinished u) begun h = to-begun h.input (NotFinished u) begun h.refused
-unbegun-refused left OutOfMemory begun h = absurd cc
+unbegun-refused : (Given : List ℕ → Type 0) (e : Ending) → is_of_begun e ≡ true → IsUnbegun Given e → ⊥
+unbegun-refused Given Done begun h = to-begun h.input Done refl h.refused
+unbegun-refused Given Usage begun h = absurd cc
+unbegun-refused Given AboveLimit begun h = absurd cc
+unbegun-refused Given (Input f) begun h = absurd cc
+unbegun-refused Given (NotValid p b) begun h = absurd cc
+unbegun-refused Given (NoPlan u) begun h = absurd cc
+unbegun-refused Given ReadFault begun h = absurd cc
+unbegun-refused Given WriteFault begun h = to-begun h.input WriteFault refl h.refused
+unbegun-refused Given DiskFault begun h = absurd cc
+unbegun-refused Given GuestFault begun h = absurd cc
+unbegun-refused Given (Refused f) begun h = absurd cc
+unbegun-refused Given (NotFinished u) begun h = to-begun h.input (NotFinished u) begun h.refused
+unbegun-refused Given OutOfMemory begun h = absurd cc
 
 -- ---- an answer behind a run that was begun
 
@@ -225,6 +227,7 @@ module _ {P : Type 0} (tell : P → PortTrace) (o : Opening) (migration : ℕ) (
           back = back.now.port;
           kept = back.is_kept;
           holds = λ starts. held_stands o.rollout migration (homes_of o.rollout.problem) o.found (added log) back.run.sent _ _ net valid (list-is_legal o log legal) small (runs_at o migration (homes_of o.rollout.problem) log _ _ back.run starts);
+          each = each_stands o migration (homes_of o.rollout.problem) log _ _ net valid legal small back.run;
         },
         berths-within bs given.1 (All-tail (IsBack tell o migration (homes_of o.rollout.problem) log now.kept) (first_talk b.switch b.port) (first_talks bs) all),
       )
@@ -239,16 +242,54 @@ module _ {P : Type 0} (tell : P → PortTrace) (o : Opening) (migration : ℕ) (
           back = back.now.port;
           kept = back.is_kept;
           holds = λ starts. held_at_end o.rollout migration (homes_of o.rollout.problem) o.found (added log) back.run.sent _ _ net valid (list-is_legal o log legal) small finished (runs_at o migration (homes_of o.rollout.problem) log _ _ back.run starts);
+          each = each_at_end o migration (homes_of o.rollout.problem) log _ _ net valid legal small finished back.run;
         },
         berths-end finished bs given.1 (All-tail (IsBack tell o migration (homes_of o.rollout.problem) log now.kept) (first_talk b.switch b.port) (first_talks bs) all),
       )
 
+-- ---- a disk that was opened
+
+is-told : (told : Option (List ℕ)) → IsTold told → (image : List ℕ) × (told ≡ Some image)
+is-told None h = absurd (cc h)
+is-told (Some image) h = (image, refl)
+
+-- the input is a rollout, and it was run from the image that its disk told
+record RunsFrom {D P : Type 0} (trace : D → DiskTrace) (tell : P → PortTrace)
+    (Given : List ℕ → Type 0) (limits : Limits) (policy : OpView → ℕ) (disk disk_now : D) (before now : FleetSeen P) (e : Ending) (out out_now : Option (List ℕ)) : Type 0 where
+  pub input : List ℕ
+  pub given : Given input
+  pub r : Rollout
+  pub is : rollout_to input ≡ Ok r
+  pub opened : D
+  pub opens : Opens (trace disk) (trace opened)
+  pub image : List ℕ
+  pub stored : (trace opened).bytes ≡ Some image
+  pub rolls : RollsOut trace tell r limits policy opened disk_now before now e out out_now
+
+module _ {D P : Type 0} (trace : D → DiskTrace) (tell : P → PortTrace)
+    (Given : List ℕ → Type 0) (disk disk_now : D) (before now : FleetSeen P) (limits : Limits) (policy : OpView → ℕ) (e : Ending) (out out_now : Option (List ℕ)) where
+  runs-from : (e ≡ DiskFault → ⊥) → RollsOutOf trace tell Given limits policy disk disk_now before now e out out_now → RunsFrom trace tell Given limits policy disk disk_now before now e out out_now
+  runs-from unlike rolled = elim rolled.rolls [
+    | inl fails ↦ absurd (unlike fails.is)
+    | inr begun ↦ record {
+      input = rolled.input;
+      given = rolled.given;
+      r = rolled.r;
+      is = rolled.is;
+      opened = begun.opened;
+      opens = begun.opens;
+      image = (is-told (trace begun.opened).bytes begun.told).0;
+      stored = (is-told (trace begun.opened).bytes begun.told).1;
+      rolls = begun.rolls;
+    }
+  ]
+
 -- ---- a rollout that was run
 
 module _ {D P : Type 0} (trace : D → DiskTrace) (tell : P → PortTrace)
-    (left : Option (List ℕ)) (disk disk_now : D) (before now : FleetSeen P) (limits : Limits) (policy : OpView → ℕ) (e : Ending) (out out_now : Option (List ℕ))
-    (rolled : RollsOutOf trace tell left limits policy disk disk_now before now e out out_now) (a : RunAnswer)
-    (has : HasRolled trace tell rolled.r (digest_for rolled.r limits.migration) policy limits.rounds disk before.ports now.ports disk_now a) where
+    (Given : List ℕ → Type 0) (disk disk_now : D) (before now : FleetSeen P) (limits : Limits) (policy : OpView → ℕ) (e : Ending) (out out_now : Option (List ℕ))
+    (rolled : RunsFrom trace tell Given limits policy disk disk_now before now e out out_now) (a : RunAnswer)
+    (has : HasRolled trace tell rolled.r (digest_for rolled.r limits.migration) policy limits.rounds rolled.opened before.ports now.ports disk_now a) where
   abbrev Begun : RunEnd → Type 0
   Begun end = Ran trace tell (opening_of has.book policy) (trace has.book.disk).moment (trace has.book.disk).faults limits.migration limits.rounds
       (working_homes has.book.rollout.problem has.book.rollout.plan) before.ports end has.run.closed now.ports
@@ -265,14 +306,19 @@ module _ {D P : Type 0} (trace : D → DiskTrace) (tell : P → PortTrace)
       ran-begun tell (working_homes has.book.rollout.problem has.book.rollout.plan) has.book has.run.closed before.ports now.ports
       has.book.rollout (length has.book.history.entries) has.run.closed.history Begun has.run.end (sym (ap is_ran has.run.tells) ∙ is) has.run.ran
 
-  stays-safe : (end : RunEnd) → Begun end → StaysSafe trace tell limits left disk before.ports now.ports
+  stays-safe : (end : RunEnd) → Begun end → StaysSafe trace tell limits Given disk before.ports now.ports
   stays-safe end ran = record {
     input = rolled.input;
-    whole = rolled.whole;
+    given = rolled.given;
     r = has.book.rollout;
     is = rolled.is ∙ ap Ok (sym has.opened.rollout);
+    opened = rolled.opened;
+    opens = rolled.opens;
+    image = rolled.image;
+    stored = rolled.stored;
     found = has.book.history;
-    begins = subst (λ (r : Rollout). IfSome (trace disk).bytes (λ image. found_by r (verdict r (digest_for r limits.migration) image) ≡ Some has.book.history)) (sym has.opened.rollout) has.opened.found;
+    begins = subst (λ (r : Rollout). found_by r (verdict r (digest_for r limits.migration) rolled.image) ≡ Some has.book.history) (sym has.opened.rollout)
+        (subst (λ (told : Option (List ℕ)). IfSome told (λ image. found_by rolled.r (verdict rolled.r (digest_for rolled.r limits.migration) image) ≡ Some has.book.history)) rolled.stored has.opened.found);
     added = added ran.log;
     legal = list-is_legal (opening_of has.book policy) ran.log ran.legal;
     safe = λ held within. held-safe has.book.rollout.problem has.book.rollout.plan (history_of (opening_of has.book policy) ran.log) held net valid (list-is_legal (opening_of has.book policy) ran.log ran.legal) within;
@@ -281,7 +327,7 @@ module _ {D P : Type 0} (trace : D → DiskTrace) (tell : P → PortTrace)
     ports = berths-within tell (opening_of has.book policy) limits.migration ran.log before.ports now.ports net valid ran.legal rolled.rolls.small ran.berths ran.given ran.ports;
   }
 
-  reaches : (operations count : ℕ) → a ≡ outcome.Finished operations count → Appends out (finished_line operations count) out_now → ReachesTarget trace tell limits left disk before.ports now.ports out out_now
+  reaches : (operations count : ℕ) → a ≡ outcome.Finished operations count → Appends out (finished_line operations count) out_now → ReachesTarget trace tell limits Given disk before.ports now.ports out out_now
   unfolding stays-safe
   reaches operations count is line =
       let end = finished-end has.book.rollout (length has.book.history.entries) has.run.closed.history has.run.end operations count (sym is ∙ has.run.tells) in
@@ -293,7 +339,7 @@ module _ {D P : Type 0} (trace : D → DiskTrace) (tell : P → PortTrace)
         line = subst (λ (text : List ℕ). Appends out text out_now) (ap (λ n. finished_line n count) end.operations_is ∙ ap (finished_line (op_total has.book.rollout)) end.count_is) line;
       }
 
-  rests : (count : ℕ) → a ≡ outcome.Held count → RestsHeld trace tell limits policy left disk before.ports now.ports
+  rests : (count : ℕ) → a ≡ outcome.Held count → RestsHeld trace tell limits policy Given disk before.ports now.ports
   unfolding stays-safe
   rests count is =
       let end = held-end has.book.rollout (length has.book.history.entries) has.run.closed.history has.run.end count (sym is ∙ has.run.tells) in
@@ -307,31 +353,32 @@ module _ {D P : Type 0} (trace : D → DiskTrace) (tell : P → PortTrace)
       }
 
 module _ {D P : Type 0} (trace : D → DiskTrace) (tell : P → PortTrace)
-    (left : Option (List ℕ)) (disk disk_now : D) (before now : FleetSeen P) (limits : Limits) (policy : OpView → ℕ) (out out_now : Option (List ℕ)) where
-  rolled-if : (r : Rollout) (a : RunAnswer) → is_ran a ≡ true → IfRolled a (HasRolled trace tell r (digest_for r limits.migration) policy limits.rounds disk before.ports now.ports disk_now a)
-      → HasRolled trace tell r (digest_for r limits.migration) policy limits.rounds disk before.ports now.ports disk_now a
-  rolled-if r (outcome.Finished operations found) is has = has
-  rolled-if r (outcome.Held left) is has = has
-  rolled-if r (outcome.Stopped other halt) is has = has
-  rolled-if r (outcome.NoPort other switch) is has = has
-  rolled-if r outcome.Memory is has = has
-  rolled-if r (outcome.Unopened why) is has = absurd cc
+    (Given : List ℕ → Type 0) (disk disk_now : D) (before now : FleetSeen P) (limits : Limits) (policy : OpView → ℕ) (out out_now : Option (List ℕ)) where
+  rolled-if : (r : Rollout) (opened : D) (a : RunAnswer) → is_ran a ≡ true → IfRolled a (HasRolled trace tell r (digest_for r limits.migration) policy limits.rounds opened before.ports now.ports disk_now a)
+      → HasRolled trace tell r (digest_for r limits.migration) policy limits.rounds opened before.ports now.ports disk_now a
+  rolled-if r opened (outcome.Finished operations found) is has = has
+  rolled-if r opened (outcome.Held left) is has = has
+  rolled-if r opened (outcome.Stopped other halt) is has = has
+  rolled-if r opened (outcome.NoPort other switch) is has = has
+  rolled-if r opened outcome.Memory is has = has
+  rolled-if r opened (outcome.Unopened why) is has = absurd cc
 
-  begun-safe : (e : Ending) → is_of_begun e ≡ true → Rolls trace tell left limits policy disk disk_now before now e out out_now
-      → StaysSafe trace tell limits left disk before.ports now.ports
-  begun-safe e begun (inl none) = absurd (unbegun-refused left e begun none.why)
-  begun-safe e begun (inr rolled) =
+  begun-safe : (e : Ending) → is_of_begun e ≡ true → Rolls trace tell Given limits policy disk disk_now before now e out out_now
+      → StaysSafe trace tell limits Given disk before.ports now.ports
+  begun-safe e begun (inl none) = absurd (unbegun-refused Given e begun none.why)
+  begun-safe e begun (inr way) =
+      let rolled = runs-from trace tell Given disk disk_now before now limits policy e out out_now (λ is. not-begun e DiskFault begun is refl) way in
       let a = rolled.rolls.answer in
       let is : is_ran a ≡ true = ends-ran a e out out_now begun (begun-ends (line_or_ending a) e out out_now begun rolled.rolls.follows) in
-      let has = rolled-if rolled.r a is rolled.rolls.rolled in
-      stays-safe trace tell left disk disk_now before now limits policy e out out_now rolled a has has.run.end
-      (has-run trace tell left disk disk_now before now limits policy e out out_now rolled a has is)
+      let has = rolled-if rolled.r rolled.opened a is rolled.rolls.rolled in
+      stays-safe trace tell Given disk disk_now before now limits policy e out out_now rolled a has has.run.end
+      (has-run trace tell Given disk disk_now before now limits policy e out out_now rolled a has is)
 
-  answer-reaches : (rolled : RollsOutOf trace tell left limits policy disk disk_now before now Done out out_now) (a : RunAnswer)
-      → IfRolled a (HasRolled trace tell rolled.r (digest_for rolled.r limits.migration) policy limits.rounds disk before.ports now.ports disk_now a)
-      → Follows (line_or_ending a) Done out out_now → ReachesTarget trace tell limits left disk before.ports now.ports out out_now
+  answer-reaches : (rolled : RunsFrom trace tell Given limits policy disk disk_now before now Done out out_now) (a : RunAnswer)
+      → IfRolled a (HasRolled trace tell rolled.r (digest_for rolled.r limits.migration) policy limits.rounds rolled.opened before.ports now.ports disk_now a)
+      → Follows (line_or_ending a) Done out out_now → ReachesTarget trace tell limits Given disk before.ports now.ports out out_now
   answer-reaches rolled (outcome.Finished operations count) has (inl done) =
-      reaches trace tell left disk disk_now before now limits policy Done out out_now rolled (outcome.Finished operations count) has operations count refl done.1
+      reaches trace tell Given disk disk_now before now limits policy Done out out_now rolled (outcome.Finished operations count) has operations count refl done.1
   answer-reaches rolled (outcome.Finished operations count) has (inr cut) = absurd (cc (cut.0))
   answer-reaches rolled (outcome.Held held) has ends = absurd (cc (ends.0))
   answer-reaches rolled (outcome.Stopped r halt) has ends = absurd (stop-done r halt.cause ends.0)
@@ -348,19 +395,21 @@ module _ {D P : Type 0} (trace : D → DiskTrace) (tell : P → PortTrace)
   answer-reaches rolled outcome.Memory has ends = absurd (cc (ends.0))
   answer-reaches rolled (outcome.Unopened why) has ends = absurd (not-begun Done (ending_of_journal why) refl ends.0 (journal-begun why))
 
-  done-reaches : Rolls trace tell left limits policy disk disk_now before now Done out out_now → ReachesTarget trace tell limits left disk before.ports now.ports out out_now
-  done-reaches (inl none) = absurd (unbegun-refused left Done refl none.why)
-  done-reaches (inr rolled) = answer-reaches rolled rolled.rolls.answer rolled.rolls.rolled rolled.rolls.follows
+  done-reaches : Rolls trace tell Given limits policy disk disk_now before now Done out out_now → ReachesTarget trace tell limits Given disk before.ports now.ports out out_now
+  done-reaches (inl none) = absurd (unbegun-refused Given Done refl none.why)
+  done-reaches (inr way) =
+      let rolled = runs-from trace tell Given disk disk_now before now limits policy Done out out_now (λ is. cc) way in
+      answer-reaches rolled rolled.rolls.answer rolled.rolls.rolled rolled.rolls.follows
 
   -- by the answer of a run that says held
   module _ (count : ℕ) where
-    answer-rests : (rolled : RollsOutOf trace tell left limits policy disk disk_now before now (NotFinished (Held count)) out out_now) (a : RunAnswer)
-        → IfRolled a (HasRolled trace tell rolled.r (digest_for rolled.r limits.migration) policy limits.rounds disk before.ports now.ports disk_now a)
-        → Follows (line_or_ending a) (NotFinished (Held count)) out out_now → RestsHeld trace tell limits policy left disk before.ports now.ports
+    answer-rests : (rolled : RunsFrom trace tell Given limits policy disk disk_now before now (NotFinished (Held count)) out out_now) (a : RunAnswer)
+        → IfRolled a (HasRolled trace tell rolled.r (digest_for rolled.r limits.migration) policy limits.rounds rolled.opened before.ports now.ports disk_now a)
+        → Follows (line_or_ending a) (NotFinished (Held count)) out out_now → RestsHeld trace tell limits policy Given disk before.ports now.ports
     answer-rests rolled (outcome.Finished operations found) has (inl done) = absurd (cc (done.0))
     answer-rests rolled (outcome.Finished operations found) has (inr cut) = absurd (cc (cut.0))
     answer-rests rolled (outcome.Held held) has ends =
-        rests trace tell left disk disk_now before now limits policy (NotFinished (Held count)) out out_now rolled (outcome.Held held) has held refl
+        rests trace tell Given disk disk_now before now limits policy (NotFinished (Held count)) out out_now rolled (outcome.Held held) has held refl
     answer-rests rolled (outcome.Stopped r halt) has ends = absurd (stop-held r halt.cause ends.0)
       where
         stop-held : (r : Rollout) (why : Cause) → NotFinished (Held count) ≡ ending_of_stop r why → ⊥
@@ -375,9 +424,11 @@ module _ {D P : Type 0} (trace : D → DiskTrace) (tell : P → PortTrace)
     answer-rests rolled outcome.Memory has ends = absurd (cc (ends.0))
     answer-rests rolled (outcome.Unopened why) has ends = absurd (not-begun (NotFinished (Held count)) (ending_of_journal why) refl ends.0 (journal-begun why))
 
-    held-rests-by : Rolls trace tell left limits policy disk disk_now before now (NotFinished (Held count)) out out_now → RestsHeld trace tell limits policy left disk before.ports now.ports
-    held-rests-by (inl none) = absurd (unbegun-refused left (NotFinished (Held count)) refl none.why)
-    held-rests-by (inr rolled) = answer-rests rolled rolled.rolls.answer rolled.rolls.rolled rolled.rolls.follows
+    held-rests-by : Rolls trace tell Given limits policy disk disk_now before now (NotFinished (Held count)) out out_now → RestsHeld trace tell limits policy Given disk before.ports now.ports
+    held-rests-by (inl none) = absurd (unbegun-refused Given (NotFinished (Held count)) refl none.why)
+    held-rests-by (inr way) =
+        let rolled = runs-from trace tell Given disk disk_now before now limits policy (NotFinished (Held count)) out out_now (λ is. cc) way in
+        answer-rests rolled rolled.rolls.answer rolled.rolls.rolled rolled.rolls.follows
 
 -- ---- by the status
 
@@ -393,29 +444,29 @@ begun-told : (e told : Ending) → IsToldAs e told → is_of_begun told ≡ true
 begun-told e told by begun = told-same e told by (λ m. not-begun told OutOfMemory begun m refl)
 
 module _ {D P : Type 0} (trace : D → DiskTrace) (tell : P → PortTrace)
-    (left : Option (List ℕ)) (disk disk_now : D) (before now : FleetSeen P) (out out_now : Option (List ℕ)) where
-  pub rolls-safe : (limits : Limits) (policy : OpView → ℕ) (status : ℕ) → RollsAs trace tell left limits policy disk disk_now before now status out out_now → IsOfBegun status
-      → StaysSafe trace tell limits left disk before.ports now.ports
+    (Given : List ℕ → Type 0) (disk disk_now : D) (before now : FleetSeen P) (out out_now : Option (List ℕ)) where
+  pub rolls-safe : (limits : Limits) (policy : OpView → ℕ) (status : ℕ) → RollsAs trace tell Given limits policy disk disk_now before now status out out_now → IsOfBegun status
+      → StaysSafe trace tell limits Given disk before.ports now.ports
   rolls-safe limits policy status rolls of =
       let begun : is_of_begun rolls.told ≡ true = of-begun rolls.told (subst IsOfBegun rolls.is_status of) in
       let same : rolls.ending ≡ rolls.told = begun-told rolls.ending rolls.told rolls.told_as begun in
-      begun-safe trace tell left disk disk_now before now limits policy out out_now rolls.ending (ap is_of_begun same ∙ begun) rolls.rolls
+      begun-safe trace tell Given disk disk_now before now limits policy out out_now rolls.ending (ap is_of_begun same ∙ begun) rolls.rolls
 
-  pub rolls-target : (limits : Limits) (policy : OpView → ℕ) (status : ℕ) → RollsAs trace tell left limits policy disk disk_now before now status out out_now → status ≡ 0
-      → ReachesTarget trace tell limits left disk before.ports now.ports out out_now
+  pub rolls-target : (limits : Limits) (policy : OpView → ℕ) (status : ℕ) → RollsAs trace tell Given limits policy disk disk_now before now status out out_now → status ≡ 0
+      → ReachesTarget trace tell limits Given disk before.ports now.ports out out_now
   rolls-target limits policy status rolls zero =
       let told : rolls.told ≡ Done = is-done rolls.told (sym rolls.is_status ∙ zero) in
       let done : rolls.ending ≡ Done = begun-told rolls.ending rolls.told rolls.told_as (ap is_of_begun told) ∙ told in
-      done-reaches trace tell left disk disk_now before now limits policy out out_now
-      (subst (λ (e : Ending). Rolls trace tell left limits policy disk disk_now before now e out out_now) done rolls.rolls)
+      done-reaches trace tell Given disk disk_now before now limits policy out out_now
+      (subst (λ (e : Ending). Rolls trace tell Given limits policy disk disk_now before now e out out_now) done rolls.rolls)
 
-  pub held-rest : (limits : Limits) (policy : OpView → ℕ) (status : ℕ) → RollsAs trace tell left limits policy disk disk_now before now status out out_now → status ≡ 14
-      → RestsHeld trace tell limits policy left disk before.ports now.ports
+  pub held-rest : (limits : Limits) (policy : OpView → ℕ) (status : ℕ) → RollsAs trace tell Given limits policy disk disk_now before now status out out_now → status ≡ 14
+      → RestsHeld trace tell limits policy Given disk before.ports now.ports
   held-rest limits policy status rolls is =
       let fourteen : status_of rolls.told ≡ 14 = sym rolls.is_status ∙ is in
       let unfinished = is-unfinished rolls.told (subst IsUnfinished (sym fourteen) refl) in
       let count = is-held unfinished.0 (sym (ap status_of unfinished.1) ∙ fourteen) in
       let told : rolls.told ≡ NotFinished (Held count.0) = unfinished.1 ∙ ap NotFinished count.1 in
       let held : rolls.ending ≡ NotFinished (Held count.0) = begun-told rolls.ending rolls.told rolls.told_as (ap is_of_begun told) ∙ told in
-      held-rests-by trace tell left disk disk_now before now limits policy out out_now count.0
-      (subst (λ (e : Ending). Rolls trace tell left limits policy disk disk_now before now e out out_now) held rolls.rolls)
+      held-rests-by trace tell Given disk disk_now before now limits policy out out_now count.0
+      (subst (λ (e : Ending). Rolls trace tell Given limits policy disk disk_now before now e out out_now) held rolls.rolls)

@@ -8,20 +8,21 @@ use Rattle.plan_check.specs.FirstBroken.{first_broken}
 use Rattle.plan_check.specs.declared.broken.Broken.{Broken}
 use Rattle.plan_check.proofs.Firsts.{unbroken-valid, broken-invalid}
 use Rattle.plan_choose.specs.Choice.{Choice, chosen}
+use Rattle.plan_texts.specs.Loads.{loads_text}
 use Rattle.scratch_plan.specs.declared.no_plan.NoPlan.{NoPlan as Cause}
 use Rattle.scratch_plan.specs.declared.no_plan.NoPlan.TheVariants as cause
 use Rattle.problem_json.specs.Grammar.{problem_in}
 use Rattle.problem_json.specs.GrammarDocuments.{DocumentRead, ScriptedRead, document_in, scripted_in}
 use Rattle.problem_json.specs.declared.fault.InputFault.{InputFault}
 use Rattle.sim_run.specs.Script.{script_text}
-use Rattle.swanroll_top.specs.Answers.{◌>>=◌, or_ending, with_choice, planned, checked, valid_line, judged, rehearsed, answer_in}
+use Rattle.swanroll_top.specs.Answers.{◌>>=◌, or_ending, with_choice, planned, checked, valid_line, judged, loaded, rehearsed, answer_in}
 use Rattle.swanroll_top.specs.Endings.{ending_of, status_of}
 use Rattle.swanroll_top.specs.Runs.{EndsWith}
 use Rattle.swanroll_top.specs.Safety.{IsValid}
-use Rattle.swanroll_top.specs.Taken.{IsTaken, IsValidScript}
+use Rattle.swanroll_top.specs.Taken.{IsTaken, IsValidDocument, IsValidScript}
 use Rattle.swanroll_top.specs.declared.ending.Ending.{Ending}
 use Rattle.swanroll_top.specs.declared.ending.Ending.TheVariants.{OutOfMemory}
-use Rattle.swanroll_top.specs.Words.{TextAsked, a_plan, a_check, a_rehearsal}
+use Rattle.swanroll_top.specs.Words.{TextAsked, a_plan, a_check, the_loads, a_rehearsal}
 use Rattle.swanroll_top.proofs.Documents.{checked-by}
 use Rattle.swanroll_top.proofs.Steps.{fault-ends}
 
@@ -64,7 +65,7 @@ checked-judging : (taken : Type 0) (d : DocumentRead) (next : Rollout → List �
 checked-judging taken d next None e to from = rw (checked-by d None e) (inl (to (unbroken-valid d.problem d.plan e), refl))
 checked-judging taken d next (Some b) e to from = rw (checked-by d (Some b) e) (inr (inl (λ t. let both : true ≡ false = sym (from t) ∙ broken-invalid d.problem d.plan b e in cc, refl)))
 
-same-document : (input : List ℕ) (d : DocumentRead) → document_in input ≡ Ok d → IsTaken a_check input → IsValid d.problem d.plan
+same-document : (input : List ℕ) (d : DocumentRead) → document_in input ≡ Ok d → IsValidDocument input → IsValid d.problem d.plan
 same-document input d is t =
     let same : t.document ≡ d = cc (is, t.read) in
     subst (λ x. IsValid x.problem x.plan) same t.valid
@@ -76,6 +77,17 @@ check-judged input (Ok d) is within =
     (λ valid. record { within = within; document = d; read = is; valid = valid })
     (same-document input d is)
 check-judged input (Err e) is within = fault-judged (IsTaken a_check input) e (λ t. elim_read is t.read)
+  where
+    elim_read : {d : DocumentRead} → document_in input ≡ Err e → document_in input ≡ Ok d → ⊥
+    elim_read a b = cc
+
+loads-judged : (input : List ℕ) (read : Result DocumentRead InputFault) → document_in input ≡ read → length input ≤ MOST_INPUT → IsJudged (IsTaken the_loads input) (or_ending read >>= loaded)
+unfolding loaded
+loads-judged input (Ok d) is within =
+    checked-judging (IsTaken the_loads input) d (λ o. loads_text o.problem o.plan) (first_broken d.problem d.plan) refl
+    (λ valid. record { within = within; document = d; read = is; valid = valid })
+    (same-document input d is)
+loads-judged input (Err e) is within = fault-judged (IsTaken the_loads input) e (λ t. elim_read is t.read)
   where
     elim_read : {d : DocumentRead} → document_in input ≡ Err e → document_in input ≡ Ok d → ⊥
     elim_read a b = cc
@@ -100,6 +112,7 @@ pub answer-judged : (c : TextAsked) (input : List ℕ) → length input ≤ MOST
 unfolding answer_in
 answer-judged a_plan input within = plan-judged input (problem_in input) refl within
 answer-judged a_check input within = check-judged input (document_in input) refl within
+answer-judged the_loads input within = loads-judged input (document_in input) refl within
 answer-judged (a_rehearsal policy) input within = sim-judged policy input (scripted_in input) refl within
 
 -- ---- the status of a run

@@ -1,10 +1,11 @@
 -- How a report follows from its input and from the journal.
 use Rattle.std.proofs.Common.{◌≡◌, ◌⊎◌, ℕ, ◌<◌, ◌≤◌, List, ◌++◌, length, true, false, Option, Some, None, IfSome, Result, Ok, Err, refl, sym, ap, ◌∙◌, subst, inl, inr, arith}
-use Rattle.std.proofs.lemmas.Bool.{lt-ltb, le-ltb}
-use Rattle.std.proofs.lemmas.List.{length-append}
+use Rattle.std.proofs.lemmas.Bool.{cases_lt, le-ltb, lt-ltb}
+use Rattle.wan_edge.specs.Streams.{SourceTrace}
 use Rattle.rollout_rules.specs.Wan.{Rollout}
 use Rattle.rollout_rules.specs.declared.limits.TheConstants.{MOST_INPUT}
 use Rattle.wan_edge.specs.ReadAll.{GoesBeyond}
+use Rattle.disk_mirror.specs.Openings.{IsTold}
 use Rattle.plan_check.specs.FirstBroken.{first_broken}
 use Rattle.plan_check.specs.declared.broken.Broken.{Broken}
 use Rattle.plan_check.proofs.Firsts.{unbroken-valid, broken-invalid}
@@ -24,6 +25,7 @@ use Rattle.swanroll_top.specs.declared.ending.Ending.{Ending}
 use Rattle.swanroll_top.specs.declared.ending.Ending.TheVariants.{Done, Usage, AboveLimit, Input, NotValid, NoPlan, ReadFault, WriteFault, DiskFault, GuestFault, Refused, NotFinished, OutOfMemory}
 use Rattle.swanroll_top.proofs.Answering.{is_answer, rollout-answers, rollout-gives}
 use Rattle.swanroll_top.proofs.Documents.{checked-by}
+use Rattle.swanroll_top.proofs.Inputs.{beyond-input}
 use Rattle.swanroll_top.proofs.Steps.{fault-ends}
 use Rattle.swanroll_top.specs.declared.unfinished.Unfinished.{Unfinished}
 use Rattle.swanroll_top.proofs.Statuses.{not-status}
@@ -103,10 +105,17 @@ module _ (m : ℕ) (told out out_now : Option (List ℕ)) (input : List ℕ) (e 
   ends-silent (Ok o) ends zero seven = unwritten ends.answer e out out_now ends.ends zero seven
   ends-silent (Err x) ends zero seven = ends.1
 
+-- the input of a rollout is within the limit
+pub rolled-within : (input : List ℕ) (o : Rollout) → rollout_to input ≡ Ok o → length input ≤ MOST_INPUT
+rolled-within input o is = elim (cases_lt MOST_INPUT (length input)) [
+  | inr within ↦ within
+  | inl long ↦ absurd (let no : Err AboveLimit ≡ Ok o = sym (long-rollout input long) ∙ is in cc)
+]
+
 -- ---- a source that was read to its end, and one that wasn't
 
-module _ (m : ℕ) (left now told out out_now : Option (List ℕ)) (input : List ℕ) where
-  follows-report : (e : Ending) → IsShortInput left now input → EndsReport m (rollout_in input) told e out out_now → (e ≡ OutOfMemory → ⊥) → FollowsReport m left now told e out out_now
+module _ (m : ℕ) (source source_now : SourceTrace) (told out out_now : Option (List ℕ)) (input : List ℕ) where
+  follows-report : (e : Ending) → IsShortInput source source_now input → EndsReport m (rollout_in input) told e out out_now → (e ≡ OutOfMemory → ⊥) → FollowsReport m source source_now told e out out_now
   follows-report e s ends some = record {
     input = input;
     read = s.input;
@@ -115,7 +124,7 @@ module _ (m : ℕ) (left now told out out_now : Option (List ℕ)) (input : List
     silent = ends-silent m told out out_now input e (rollout_in input) ends;
   }
 
-  pub short-reports : (e : Ending) → IsShortInput left now input → FollowsReported m (rollout_in input) told e out out_now → RunsReport m left now told e out out_now
+  pub short-reports : (e : Ending) → IsShortInput source source_now input → FollowsReported m (rollout_in input) told e out out_now → RunsReport m source source_now told e out out_now
   short-reports Done s h = follows-report Done s h (λ e. cc)
   short-reports Usage s h = follows-report Usage s h (λ e. cc)
   short-reports AboveLimit s h = follows-report AboveLimit s h (λ e. cc)
@@ -130,7 +139,7 @@ module _ (m : ℕ) (left now told out out_now : Option (List ℕ)) (input : List
   short-reports (NotFinished u) s h = follows-report (NotFinished u) s h (λ e. cc)
   short-reports OutOfMemory s h = h
 
-long-reports : (m : ℕ) (before now told out : Option (List ℕ)) (input : List ℕ) → IsInput before now input → MOST_INPUT < length input → FollowsReport m before now told AboveLimit out out
+long-reports : (m : ℕ) (before now : SourceTrace) (told out : Option (List ℕ)) (input : List ℕ) → IsInput before now input → MOST_INPUT < length input → FollowsReport m before now told AboveLimit out out
 long-reports m before now told out input read long = record {
   input = input;
   read = read;
@@ -139,61 +148,72 @@ long-reports m before now told out input read long = record {
   silent = λ zero seven. refl;
 }
 
-pub beyond-reports : (m : ℕ) (before now told out : Option (List ℕ)) → GoesBeyond MOST_INPUT before now → FollowsReport m before now told AboveLimit out out
-beyond-reports m None now told out g = long-reports m None now told out g.bytes (record { whole = tt; read = inr g }) (omega (arith, g.beyond))
-beyond-reports m (Some left) (Some rest) told out g =
-    let same : left ≡ g.bytes ++ rest = cc (g.taken) in
-    long-reports m (Some left) (Some rest) told out left (record { whole = refl; read = inr g }) (omega (arith, g.beyond, ap length same, length-append g.bytes rest))
-beyond-reports m (Some left) None told out g = absurd (cc (g.taken))
+pub beyond-reports : (m : ℕ) (before now : SourceTrace) (told out : Option (List ℕ)) → GoesBeyond MOST_INPUT before now → FollowsReport m before now told AboveLimit out out
+beyond-reports m before now told out g =
+    let i = beyond-input before now g in
+    long-reports m before now told out i.input i.is i.long
 
-pub cut-reports : (m : ℕ) (left now told out : Option (List ℕ)) (e : Ending) → IsCut left e now → RunsReport m left now told e out out
-cut-reports m left now told out Done r = absurd r
-cut-reports m left now told out Usage r = absurd r
-cut-reports m left now told out AboveLimit r = beyond-reports m left now told out r
-cut-reports m left now told out (Input f) r = absurd r
-cut-reports m left now told out (NotValid p b) r = absurd r
-cut-reports m left now told out (NoPlan u) r = absurd r
-cut-reports m left now told out ReadFault r = refl
-cut-reports m left now told out WriteFault r = absurd r
-cut-reports m left now told out DiskFault r = absurd r
-cut-reports m left now told out GuestFault r = absurd r
-cut-reports m left now told out (Refused f) r = absurd r
-cut-reports m left now told out (NotFinished u) r = absurd r
-cut-reports m left now told out OutOfMemory r = refl
+pub cut-reports : (m : ℕ) (source source_now : SourceTrace) (told out : Option (List ℕ)) (e : Ending) → IsCut source e source_now → RunsReport m source source_now told e out out
+cut-reports m source source_now told out Done r = absurd r
+cut-reports m source source_now told out Usage r = absurd r
+cut-reports m source source_now told out AboveLimit r = beyond-reports m source source_now told out r
+cut-reports m source source_now told out (Input f) r = absurd r
+cut-reports m source source_now told out (NotValid p b) r = absurd r
+cut-reports m source source_now told out (NoPlan u) r = absurd r
+cut-reports m source source_now told out ReadFault r = refl
+cut-reports m source source_now told out WriteFault r = absurd r
+cut-reports m source source_now told out DiskFault r = absurd r
+cut-reports m source source_now told out GuestFault r = absurd r
+cut-reports m source source_now told out (Refused f) r = absurd r
+cut-reports m source source_now told out (NotFinished u) r = absurd r
+cut-reports m source source_now told out OutOfMemory r = refl
 
 -- ---- what a journal comes to
 
-told-more : (told : Option (List ℕ)) (P Q : List ℕ → Type 0) → ((image : List ℕ) → P image → Q image) → IfSome told P → IfSome told Q
-told-more None P Q more h = tt
-told-more (Some image) P Q more h = more image h
-
-module _ (m : ℕ) (o : Rollout) (told out : Option (List ℕ)) where
-  pub reported-text : (text : List ℕ) (e : Ending) (now : Option (List ℕ)) → IfSome told (λ image. Tells (Ok text) (journal_report o m image)) → EndsWith (Ok text) e out now → FollowsReported m (Ok o) told e out now
+module _ (m : ℕ) (o : Rollout) (image : List ℕ) (out : Option (List ℕ)) where
+  reported-text : (text : List ℕ) (e : Ending) (now : Option (List ℕ)) → Tells (Ok text) (journal_report o m image) → EndsWith (Ok text) e out now → FollowsReported m (Ok o) (Some image) e out now
   reported-text text e now tells (inl done) =
-      subst (λ x. FollowsReported m (Ok o) told x out now) (sym done.0)
-      (record { answer = Ok text; late = tt; is = told-more told _ _ (λ image is. ap or_journal is) tells; ends = inl (refl, done.1) })
+      subst (λ x. FollowsReported m (Ok o) (Some image) x out now) (sym done.0)
+      (record { image = image; stored = refl; answer = Ok text; late = tt; is = ap or_journal tells; ends = inl (refl, done.1) })
   reported-text text e now tells (inr cut) =
-      subst (λ x. FollowsReported m (Ok o) told x out now) (sym cut.0)
-      (record { answer = Ok text; late = tt; is = told-more told _ _ (λ image is. ap or_journal is) tells; ends = inr (refl, cut.1) })
+      subst (λ x. FollowsReported m (Ok o) (Some image) x out now) (sym cut.0)
+      (record { image = image; stored = refl; answer = Ok text; late = tt; is = ap or_journal tells; ends = inr (refl, cut.1) })
 
-  pub reported-fault : (cause : JournalFault) → IfSome told (λ image. Tells (Err cause) (journal_report o m image)) → FollowsReported m (Ok o) told (ending_of_journal cause) out out
+  reported-fault : (cause : JournalFault) → Tells (Err cause) (journal_report o m image) → FollowsReported m (Ok o) (Some image) (ending_of_journal cause) out out
   reported-fault journal.Disk tells = refl
   reported-fault journal.Memory tells = refl
   reported-fault (journal.NotJournal first) tells =
-      record { answer = Err (Refused (journal.NotJournal first)); late = tt; is = told-more told _ _ (λ image is. ap or_journal is) tells; ends = (refl, refl) }
+      record { image = image; stored = refl; answer = Err (Refused (journal.NotJournal first)); late = tt; is = ap or_journal tells; ends = (refl, refl) }
   reported-fault (journal.OtherPlan kept wanted) tells =
-      record { answer = Err (Refused (journal.OtherPlan kept wanted)); late = tt; is = told-more told _ _ (λ image is. ap or_journal is) tells; ends = (refl, refl) }
+      record { image = image; stored = refl; answer = Err (Refused (journal.OtherPlan kept wanted)); late = tt; is = ap or_journal tells; ends = (refl, refl) }
   reported-fault (journal.Illegal place) tells =
-      record { answer = Err (Refused (journal.Illegal place)); late = tt; is = told-more told _ _ (λ image is. ap or_journal is) tells; ends = (refl, refl) }
+      record { image = image; stored = refl; answer = Err (Refused (journal.Illegal place)); late = tt; is = ap or_journal tells; ends = (refl, refl) }
   reported-fault journal.BadStart tells =
-      record { answer = Err (Refused journal.BadStart); late = tt; is = told-more told _ _ (λ image is. ap or_journal is) tells; ends = (refl, refl) }
+      record { image = image; stored = refl; answer = Err (Refused journal.BadStart); late = tt; is = ap or_journal tells; ends = (refl, refl) }
 
-pub reported : (m : ℕ) (o : Rollout) (told out now : Option (List ℕ)) (answer : Result (List ℕ) JournalFault) (e : Ending) → IfSome told (λ image. Tells answer (journal_report o m image))
+pub reported : (m : ℕ) (o : Rollout) (told out now : Option (List ℕ)) (answer : Result (List ℕ) JournalFault) (e : Ending) → IsTold told → IfSome told (λ image. Tells answer (journal_report o m image))
     → EndsJournal answer e out now → FollowsReported m (Ok o) told e out now
-reported m o told out now (Ok text) e tells ends = reported-text m o told out text e now tells ends
-reported m o told out now (Err cause) e tells ends =
-    subst (λ x. FollowsReported m (Ok o) told x out now) (sym ends.0)
-    (subst (λ w. FollowsReported m (Ok o) told (ending_of_journal cause) out w) (sym ends.1) (reported-fault m o told out cause tells))
+reported m o None out now answer e some tells ends = absurd (cc some)
+reported m o (Some image) out now (Ok text) e some tells ends = reported-text m o image out text e now tells ends
+reported m o (Some image) out now (Err cause) e some tells ends =
+    subst (λ x. FollowsReported m (Ok o) (Some image) x out now) (sym ends.0)
+    (subst (λ w. FollowsReported m (Ok o) (Some image) (ending_of_journal cause) out w) (sym ends.1) (reported-fault m o image out cause tells))
+
+-- a report of a rollout never ends as if its input were refused
+pub reported-late : (m : ℕ) (o : Rollout) (told out now : Option (List ℕ)) (e : Ending) → FollowsReported m (Ok o) told e out now → status_of e ≡ 3 → ⊥
+reported-late m o told out now Done h three = late-status h.answer Done out now h.late h.ends three
+reported-late m o told out now Usage h three = late-status h.answer Usage out now h.late h.ends three
+reported-late m o told out now AboveLimit h three = late-status h.answer AboveLimit out now h.late h.ends three
+reported-late m o told out now (Input f) h three = late-status h.answer (Input f) out now h.late h.ends three
+reported-late m o told out now (NotValid p b) h three = late-status h.answer (NotValid p b) out now h.late h.ends three
+reported-late m o told out now (NoPlan u) h three = late-status h.answer (NoPlan u) out now h.late h.ends three
+reported-late m o told out now ReadFault h three = late-status h.answer ReadFault out now h.late h.ends three
+reported-late m o told out now WriteFault h three = late-status h.answer WriteFault out now h.late h.ends three
+reported-late m o told out now DiskFault h three = omega (arith, three)
+reported-late m o told out now GuestFault h three = late-status h.answer GuestFault out now h.late h.ends three
+reported-late m o told out now (Refused f) h three = late-status h.answer (Refused f) out now h.late h.ends three
+reported-late m o told out now (NotFinished u) h three = late-status h.answer (NotFinished u) out now h.late h.ends three
+reported-late m o told out now OutOfMemory h three = omega (arith, three)
 
 -- the ending is that of the disk exactly where the disk failed, and never another device's
 pub fault-of-disk : (cause : JournalFault) → ending_of_journal cause ≡ DiskFault → cause ≡ journal.Disk

@@ -3,7 +3,7 @@ use Rattle.std.proofs.Common.{◌≡◌, ◌⊎◌, ℕ, List, ◌++◌, length,
 use Rattle.rollout_rules.specs.Wan.{Rollout}
 use Rattle.rollout_rules.specs.declared.limits.TheConstants.{MOST_INPUT}
 use Rattle.rollout_rules.specs.declared.op.OpView.{OpView}
-use Rattle.std.proofs.lemmas.List.{length-append}
+use Rattle.wan_edge.specs.Streams.{SourceTrace}
 use Rattle.disk_model.specs.Traces.{DiskTrace}
 use Rattle.wan_edge.specs.Ports.{PortTrace}
 use Rattle.wan_edge.specs.ReadAll.{GoesBeyond}
@@ -17,6 +17,7 @@ use Rattle.swanroll_top.specs.Taken.{IsValidDocument}
 use Rattle.swanroll_top.specs.declared.ending.Ending.{Ending}
 use Rattle.swanroll_top.specs.declared.ending.Ending.TheVariants.{Done, Usage, AboveLimit, Input, NotValid, NoPlan, ReadFault, WriteFault, DiskFault, GuestFault, Refused, NotFinished, OutOfMemory}
 use Rattle.swanroll_top.proofs.Answering.{is_answer, rollout-answers}
+use Rattle.swanroll_top.proofs.Inputs.{beyond-input}
 use Rattle.swanroll_top.proofs.Reporting.{IsJudgedAs, beyond-reports, long-rollout, rollout-judged, short-rollout}
 use Rattle.swanroll_top.proofs.Statuses.{not-status}
 
@@ -114,8 +115,8 @@ module _ (input : List ℕ) (e : Ending) (some : e ≡ OutOfMemory → ⊥) (out
   silent (inl refused) zero seven = refused.1
   silent (inr begun) zero seven = begun.1.silent zero seven
 
-  follows-rollout : (left now : Option (List ℕ)) → IsShortInput left now input → FollowsRolled (rollout_in input) e out out_now → FollowsRollout left now e out out_now
-  follows-rollout left now short h = record {
+  follows-rollout : (source source_now : SourceTrace) → IsShortInput source source_now input → FollowsRolled (rollout_in input) e out out_now → FollowsRollout source source_now e out out_now
+  follows-rollout source source_now short h = record {
     input = input;
     read = short.input;
     refused = refused-exactly (rollout_in input) (rollout-judged input short.within) h;
@@ -126,76 +127,74 @@ memory-silent : (input : List ℕ) (out out_now : Option (List ℕ)) → Follows
 memory-silent input out out_now (inl refused) = refused.1
 memory-silent input out out_now (inr begun) = begun.1.silent (λ h. omega (arith, h)) (λ h. omega (arith, h))
 
-module _ (left now out out_now : Option (List ℕ)) (input : List ℕ) (short : IsShortInput left now input) where
-  pub short-rollouts : (e : Ending) → FollowsRolled (rollout_in input) e out out_now → RunsRollout left now e out out_now
-  short-rollouts Done h = follows-rollout input Done (λ m. cc) out out_now left now short h
-  short-rollouts Usage h = follows-rollout input Usage (λ m. cc) out out_now left now short h
-  short-rollouts AboveLimit h = follows-rollout input AboveLimit (λ m. cc) out out_now left now short h
-  short-rollouts (Input f) h = follows-rollout input (Input f) (λ m. cc) out out_now left now short h
-  short-rollouts (NotValid p b) h = follows-rollout input (NotValid p b) (λ m. cc) out out_now left now short h
-  short-rollouts (NoPlan u) h = follows-rollout input (NoPlan u) (λ m. cc) out out_now left now short h
+module _ (source source_now : SourceTrace) (out out_now : Option (List ℕ)) (input : List ℕ) (short : IsShortInput source source_now input) where
+  pub short-rollouts : (e : Ending) → FollowsRolled (rollout_in input) e out out_now → RunsRollout source source_now e out out_now
+  short-rollouts Done h = follows-rollout input Done (λ m. cc) out out_now source source_now short h
+  short-rollouts Usage h = follows-rollout input Usage (λ m. cc) out out_now source source_now short h
+  short-rollouts AboveLimit h = follows-rollout input AboveLimit (λ m. cc) out out_now source source_now short h
+  short-rollouts (Input f) h = follows-rollout input (Input f) (λ m. cc) out out_now source source_now short h
+  short-rollouts (NotValid p b) h = follows-rollout input (NotValid p b) (λ m. cc) out out_now source source_now short h
+  short-rollouts (NoPlan u) h = follows-rollout input (NoPlan u) (λ m. cc) out out_now source source_now short h
   short-rollouts ReadFault h = absurd (never-follows input ReadFault out out_now refl refl h)
-  short-rollouts WriteFault h = follows-rollout input WriteFault (λ m. cc) out out_now left now short h
-  short-rollouts DiskFault h = follows-rollout input DiskFault (λ m. cc) out out_now left now short h
-  short-rollouts GuestFault h = follows-rollout input GuestFault (λ m. cc) out out_now left now short h
-  short-rollouts (Refused f) h = follows-rollout input (Refused f) (λ m. cc) out out_now left now short h
-  short-rollouts (NotFinished u) h = follows-rollout input (NotFinished u) (λ m. cc) out out_now left now short h
+  short-rollouts WriteFault h = follows-rollout input WriteFault (λ m. cc) out out_now source source_now short h
+  short-rollouts DiskFault h = follows-rollout input DiskFault (λ m. cc) out out_now source source_now short h
+  short-rollouts GuestFault h = follows-rollout input GuestFault (λ m. cc) out out_now source source_now short h
+  short-rollouts (Refused f) h = follows-rollout input (Refused f) (λ m. cc) out out_now source source_now short h
+  short-rollouts (NotFinished u) h = follows-rollout input (NotFinished u) (λ m. cc) out out_now source source_now short h
   short-rollouts OutOfMemory h = memory-silent input out out_now h
 
 -- a source that wasn't read to its end
-beyond-rollouts : (left now out : Option (List ℕ)) → GoesBeyond MOST_INPUT left now → FollowsRollout left now AboveLimit out out
-beyond-rollouts left now out g =
-    let r = beyond-reports 0 left now None out g in
+beyond-rollouts : (source source_now : SourceTrace) (out : Option (List ℕ)) → GoesBeyond MOST_INPUT source source_now → FollowsRollout source source_now AboveLimit out out
+beyond-rollouts source source_now out g =
+    let r = beyond-reports 0 source source_now None out g in
     record { input = r.input; read = r.read; refused = r.refused; silent = r.silent }
 
-pub cut-rollouts : (left now out : Option (List ℕ)) (e : Ending) → IsCut left e now → RunsRollout left now e out out
-cut-rollouts left now out Done r = absurd r
-cut-rollouts left now out Usage r = absurd r
-cut-rollouts left now out AboveLimit r = beyond-rollouts left now out r
-cut-rollouts left now out (Input f) r = absurd r
-cut-rollouts left now out (NotValid p b) r = absurd r
-cut-rollouts left now out (NoPlan u) r = absurd r
-cut-rollouts left now out ReadFault r = refl
-cut-rollouts left now out WriteFault r = absurd r
-cut-rollouts left now out DiskFault r = absurd r
-cut-rollouts left now out GuestFault r = absurd r
-cut-rollouts left now out (Refused f) r = absurd r
-cut-rollouts left now out (NotFinished u) r = absurd r
-cut-rollouts left now out OutOfMemory r = refl
+pub cut-rollouts : (source source_now : SourceTrace) (out : Option (List ℕ)) (e : Ending) → IsCut source e source_now → RunsRollout source source_now e out out
+cut-rollouts source source_now out Done r = absurd r
+cut-rollouts source source_now out Usage r = absurd r
+cut-rollouts source source_now out AboveLimit r = beyond-rollouts source source_now out r
+cut-rollouts source source_now out (Input f) r = absurd r
+cut-rollouts source source_now out (NotValid p b) r = absurd r
+cut-rollouts source source_now out (NoPlan u) r = absurd r
+cut-rollouts source source_now out ReadFault r = refl
+cut-rollouts source source_now out WriteFault r = absurd r
+cut-rollouts source source_now out DiskFault r = absurd r
+cut-rollouts source source_now out GuestFault r = absurd r
+cut-rollouts source source_now out (Refused f) r = absurd r
+cut-rollouts source source_now out (NotFinished u) r = absurd r
+cut-rollouts source source_now out OutOfMemory r = refl
 
-beyond-unbegun : (left now : Option (List ℕ)) → GoesBeyond MOST_INPUT left now → IsUnbegun left AboveLimit
-beyond-unbegun None now g = record { input = g.bytes; whole = tt; refused = long-rollout g.bytes (omega (arith, g.beyond)) }
-beyond-unbegun (Some left) (Some rest) g =
-    let same : left ≡ g.bytes ++ rest = cc (g.taken) in
-    record { input = left; whole = refl; refused = long-rollout left (omega (arith, g.beyond, ap length same, length-append g.bytes rest)) }
-beyond-unbegun (Some left) None g = absurd (cc (g.taken))
+beyond-unbegun : (source source_now : SourceTrace) → GoesBeyond MOST_INPUT source source_now → IsUnbegun (IsInput source source_now) AboveLimit
+beyond-unbegun source source_now g =
+    let i = beyond-input source source_now g in
+    record { input = i.input; given = i.is; refused = long-rollout i.input i.long }
 
-pub cut-unbegun : (left now : Option (List ℕ)) (e : Ending) → IsCut left e now → IsUnbegun left e
-cut-unbegun left now Done r = absurd r
-cut-unbegun left now Usage r = absurd r
-cut-unbegun left now AboveLimit r = beyond-unbegun left now r
-cut-unbegun left now (Input f) r = absurd r
-cut-unbegun left now (NotValid p b) r = absurd r
-cut-unbegun left now (NoPlan u) r = absurd r
-cut-unbegun left now ReadFault r = tt
-cut-unbegun left now WriteFault r = absurd r
-cut-unbegun left now DiskFault r = absurd r
-cut-unbegun left now GuestFault r = absurd r
-cut-unbegun left now (Refused f) r = absurd r
-cut-unbegun left now (NotFinished u) r = absurd r
-cut-unbegun left now OutOfMemory r = tt
+pub cut-unbegun : (source source_now : SourceTrace) (e : Ending) → IsCut source e source_now → IsUnbegun (IsInput source source_now) e
+cut-unbegun source source_now Done r = absurd r
+cut-unbegun source source_now Usage r = absurd r
+cut-unbegun source source_now AboveLimit r = beyond-unbegun source source_now r
+cut-unbegun source source_now (Input f) r = absurd r
+cut-unbegun source source_now (NotValid p b) r = absurd r
+cut-unbegun source source_now (NoPlan u) r = absurd r
+cut-unbegun source source_now ReadFault r = tt
+cut-unbegun source source_now WriteFault r = absurd r
+cut-unbegun source source_now DiskFault r = absurd r
+cut-unbegun source source_now GuestFault r = absurd r
+cut-unbegun source source_now (Refused f) r = absurd r
+cut-unbegun source source_now (NotFinished u) r = absurd r
+cut-unbegun source source_now OutOfMemory r = tt
 
 -- ---- the disk and the ports
 
 module _ {D P : Type 0} (trace : D → DiskTrace) (tell : P → PortTrace)
     (limits : Limits) (policy : OpView → ℕ) (disk disk_now : D) (before fleet_now : FleetSeen P) (out out_now : Option (List ℕ)) where
-  unbegun : (left now : Option (List ℕ)) (input : List ℕ) (e : Ending) → IsShortInput left now input → IsRefused (rollout_in input) e → IsUnbegun left e
-  unbegun left now input e short h = by_ending e h
+  unbegun : (source source_now : SourceTrace) (input : List ℕ) (e : Ending) → IsShortInput source source_now input → IsRefused (rollout_in input) e → IsUnbegun (IsInput source source_now) e
+  unbegun source source_now input e short h = by_ending e h
     where
-      refuses : (x : Ending) → rollout_in input ≡ Err x → RefusesAs left x
-      refuses x is = record { input = input; whole = short.input.whole; refused = short-rollout input short.within ∙ is }
+      refuses : (x : Ending) → rollout_in input ≡ Err x → RefusesAs (IsInput source source_now) x
+      refuses x is = record { input = input; given = short.input; refused = short-rollout input short.within ∙ is }
 
-      by_ending : (x : Ending) → IsRefused (rollout_in input) x → IsUnbegun left x
+      by_ending : (x : Ending) → IsRefused (rollout_in input) x → IsUnbegun (IsInput source source_now) x
       by_ending Done h = refuses Done h
       by_ending Usage h = refuses Usage h
       by_ending AboveLimit h = refuses AboveLimit h
@@ -210,13 +209,13 @@ module _ {D P : Type 0} (trace : D → DiskTrace) (tell : P → PortTrace)
       by_ending (NotFinished u) h = refuses (NotFinished u) h
       by_ending OutOfMemory h = tt
 
-  pub input-rolls : (left now : Option (List ℕ)) (input : List ℕ) (e : Ending) → IsShortInput left now input
+  pub input-rolls : (source source_now : SourceTrace) (input : List ℕ) (e : Ending) → IsShortInput source source_now input
       → RollsIn trace tell (rollout_in input) limits policy disk disk_now before fleet_now e out out_now
-      → Rolls trace tell left limits policy disk disk_now before fleet_now e out out_now
-  input-rolls left now input e short (inl refused) = inl (record { why = unbegun left now input e short refused.why; disk_is = refused.disk_is; fleet_is = refused.fleet_is })
-  input-rolls left now input e short (inr begun) = inr (record {
+      → Rolls trace tell (IsInput source source_now) limits policy disk disk_now before fleet_now e out out_now
+  input-rolls source source_now input e short (inl refused) = inl (record { why = unbegun source source_now input e short refused.why; disk_is = refused.disk_is; fleet_is = refused.fleet_is })
+  input-rolls source source_now input e short (inr begun) = inr (record {
     input = input;
-    whole = short.input.whole;
+    given = short.input;
     r = begun.0;
     is = short-rollout input short.within ∙ begun.1;
     rolls = begun.2;

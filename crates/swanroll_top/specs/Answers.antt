@@ -6,6 +6,7 @@ use Rattle.rollout_rules.specs.declared.op.OpView.{OpView}
 use Rattle.plan_check.specs.FirstBroken.{first_broken}
 use Rattle.plan_check.specs.declared.broken.Broken.{Broken}
 use Rattle.plan_choose.specs.Choice.{Choice, chosen}
+use Rattle.plan_texts.specs.Loads.{loads_text}
 use Rattle.scratch_plan.specs.declared.no_plan.NoPlan.{NoPlan}
 use Rattle.problem_json.specs.Grammar.{problem_in}
 use Rattle.problem_json.specs.GrammarDocuments.{DocumentRead, ScriptedRead, document_in, scripted_in}
@@ -15,7 +16,7 @@ use Rattle.sim_run.specs.Script.{script_text}
 use Rattle.swanroll_top.specs.Endings.{ending_of, ending_without}
 use Rattle.swanroll_top.specs.declared.ending.Ending.{Ending}
 use Rattle.swanroll_top.specs.declared.ending.Ending.TheVariants.{AboveLimit, NotValid}
-use Rattle.swanroll_top.specs.Words.{TextAsked, a_plan, a_check, a_rehearsal}
+use Rattle.swanroll_top.specs.Words.{TextAsked, a_plan, a_check, the_loads, a_rehearsal}
 
 infixl 10 ◌>>=◌
 -- the next step at the value; an ending stays
@@ -54,6 +55,10 @@ valid_line plan = valid_text (last_stage plan) plan.scale
 unfoldable pub judged : DocumentRead → Result (List ℕ) Ending
 judged d = checked d >>= λ o. Ok (valid_line o.plan)
 
+-- the loads of the plan of a document, where that is valid
+unfoldable pub loaded : DocumentRead → Result (List ℕ) Ending
+loaded d = checked d >>= λ o. Ok (loads_text o.problem o.plan)
+
 -- the text of a script over the plan of its document, where that is valid, under a policy
 unfoldable pub rehearsed : (OpView → ℕ) → ScriptedRead → Result (List ℕ) Ending
 rehearsed policy s = checked s.document >>= λ o. Ok (script_text o.problem o.plan policy s.script)
@@ -62,6 +67,7 @@ rehearsed policy s = checked s.document >>= λ o. Ok (script_text o.problem o.pl
 unfoldable pub answer_in : TextAsked → List ℕ → Result (List ℕ) Ending
 answer_in a_plan input = or_ending (problem_in input) >>= planned
 answer_in a_check input = or_ending (document_in input) >>= judged
+answer_in the_loads input = or_ending (document_in input) >>= loaded
 answer_in (a_rehearsal policy) input = or_ending (scripted_in input) >>= rehearsed policy
 
 -- the answer to an input

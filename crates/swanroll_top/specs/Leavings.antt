@@ -5,11 +5,13 @@ use Rattle.rollout_rules.specs.Wan.{Rollout}
 use Rattle.disk_model.specs.Traces.{DiskTrace}
 use Rattle.disk_model.specs.Crashes.{Within}
 use Rattle.disk_model.specs.Moments.{LeavesOnly}
+use Rattle.wan_edge.specs.Streams.{SourceTrace}
 use Rattle.intent_journal.specs.declared.digest.Digest.{Digest}
 use Rattle.intent_journal.specs.Recovered.{KeepsNow, MayStand, kept_for}
 use Rattle.intent_journal.specs.Verdicts.{verdict}
 use Rattle.rollout_report.specs.Journals.{digest_for}
 use Rattle.swanroll_top.specs.Reports.{rollout_to}
+use Rattle.swanroll_top.specs.Runs.{TellsInput}
 use Rattle.swanroll_top.specs.declared.ending.Ending.{Ending}
 
 -- What a run of this status leaves on a disk that told this image, of a journal that knows its rollout by this digest.
@@ -27,7 +29,7 @@ abbrev pub LeavesReported : {D : Type 0} → (D → DiskTrace) → ℕ → Resul
 LeavesReported trace migration rollout status old new =
     IfOk rollout (λ o. IfSome (trace old).bytes (λ image. LeavesJournal trace o (digest_for o migration) image status old new))
 
--- the same by what the source had left
-abbrev pub LeavesRead : {D : Type 0} → (D → DiskTrace) → ℕ → Option (List ℕ) → ℕ → D → D → Type 0
-LeavesRead trace migration left status old new =
-    IfSome left (λ input. LeavesReported trace migration (rollout_to input) status old new)
+-- the same of the input that the source tells, where it does
+abbrev pub LeavesRead : {D : Type 0} → (D → DiskTrace) → ℕ → SourceTrace → SourceTrace → ℕ → D → D → Type 0
+LeavesRead trace migration source source_now status old new =
+    (input : List ℕ) → TellsInput source source_now input → LeavesReported trace migration (rollout_to input) status old new

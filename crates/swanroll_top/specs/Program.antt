@@ -1,29 +1,26 @@
 -- What the whole program does, by what it read, wrote and noted.
 use Rattle.std.specs.Prelude.{◌≡◌, ◌≢◌, ◌⊎◌, ◌↔◌, ◌==◌, ℕ, List, [], ◌∷◌, Option, None, IsTrue}
 use Rattle.std.specs.List.{list_any}
-use Rattle.wan_edge.specs.Streams.{Rose}
+use Rattle.wan_edge.specs.Streams.{Rose, SinkTrace, SourceTrace}
 use Rattle.swanroll_top.specs.Endings.{status_of}
 use Rattle.swanroll_top.specs.Runs.{Notes}
 use Rattle.swanroll_top.specs.Uses.{uses_of}
 use Rattle.swanroll_top.specs.Words.{Asked}
 use Rattle.swanroll_top.specs.declared.ending.Ending.{Ending}
 
--- what the streams, the disk and the fleet of a run tell at a moment: the bytes that the source has left, those written to the sink and to
--- the notes, those on the disk, and how often each has failed
+-- what the streams, the disk and the fleet of a run tell at a moment: all that source, sink and notes tell, the bytes on the disk, and how often
+-- disk and fleet have failed
 pub record Streams : Type 0 where
-  pub left : Option (List ℕ)
-  pub written : Option (List ℕ)
-  pub noted : Option (List ℕ)
+  pub source : SourceTrace
+  pub sink : SinkTrace
+  pub notes : SinkTrace
   pub stored : Option (List ℕ)
-  pub source_faults : ℕ
-  pub sink_faults : ℕ
-  pub notes_faults : ℕ
   pub disk_faults : ℕ
   pub fleet_faults : ℕ
 
 -- the notes have the line of an ending
 abbrev pub NotesLine : Ending → Streams → Streams → Type 0
-NotesLine ending before after = Notes ending before.noted after.noted before.notes_faults after.notes_faults
+NotesLine ending before after = Notes ending before.notes.written after.notes.written before.notes.faults after.notes.faults
 
 -- a status that the program may have
 abbrev pub IsStatus : ℕ → Type 0
@@ -45,14 +42,14 @@ pub record IsRun (asked : Option Asked) (before after : Streams) (status : ℕ) 
   -- the words alone decide whether anything is read
   pub usage : (status ≡ 2) ↔ (asked ≡ None)
   -- a fault comes only where its object counted one
-  pub read_fault : status ≡ 6 → Rose before.source_faults after.source_faults
-  pub write_fault : status ≡ 7 → Rose before.sink_faults after.sink_faults
+  pub read_fault : status ≡ 6 → Rose before.source.faults after.source.faults
+  pub write_fault : status ≡ 7 → Rose before.sink.faults after.sink.faults
   pub disk_fault : status ≡ 8 → IsTrue (uses_of asked).journal × Rose before.disk_faults after.disk_faults
   pub fleet_fault : status ≡ 9 → (IsTrue (uses_of asked).guests × Rose before.fleet_faults after.fleet_faults) ⊎ IsTrue (uses_of asked).ports
   -- only a rollout is begun and not finished
   pub unfinished : IsUnfinished status → IsTrue (uses_of asked).ports
   -- nothing is written but a text, or a part of it
-  pub silent : status ≢ 0 → status ≢ 7 → after.written ≡ before.written
+  pub silent : status ≢ 0 → status ≢ 7 → after.sink.written ≡ before.sink.written
   -- the notes say why there is no text
   pub noted : IsNoted status before after
 
@@ -60,5 +57,5 @@ pub record IsRun (asked : Option Asked) (before after : Streams) (status : ℕ) 
 pub record IsEnded (ending : Ending) (before after : Streams) (status : ℕ) : Type 0 where
   pub is_status : status ≡ status_of ending
   pub line : NotesLine ending before after
-  pub unread : after.left ≡ before.left
-  pub unwritten : after.written ≡ before.written
+  pub unread : after.source ≡ before.source
+  pub unwritten : after.sink.written ≡ before.sink.written

@@ -12,7 +12,7 @@ use Rattle.swanroll_top.specs.TextPromise.{TextPromise}
 use Rattle.swanroll_top.specs.TrialPromise.{TrialPromise}
 use Rattle.swanroll_top.specs.Tries.{RunsTrial}
 use Rattle.swanroll_top.specs.Uses.{Uses, uses_of}
-use Rattle.swanroll_top.specs.Views.{Objects, Outside, Views, left_at, streams, used, written_at}
+use Rattle.swanroll_top.specs.Views.{Objects, Outside, Views, source_at, streams, used, written_at}
 use Rattle.swanroll_top.specs.Words.{Asked, a_report, a_run, a_text, a_trial, an_agent, asked_by}
 use Rattle.swanroll_top.specs.declared.arguments.Unread.{Unread}
 use Rattle.swanroll_top.specs.declared.arguments.Unread.TheVariants.{NotText, Memory}
@@ -42,10 +42,10 @@ pub record LeavesUnnamed {S K D F P G : Type 0} (views : Views S K D F P G) (use
 
 -- what each command has brought about that ended so
 abbrev pub Brings : {S K D F P G : Type 0} → Views S K D F P G → Asked → Objects S K D F → Ending → Objects S K D F → Type 0
-Brings views (a_text what) before ending after = Runs what (left_at views before) (left_at views after) ending (written_at views before) (written_at views after)
+Brings views (a_text what) before ending after = Runs what (source_at views before) (source_at views after) ending (written_at views before) (written_at views after)
 Brings views (a_report migration) before ending after = BringsReport views migration before ending after
 Brings views (an_agent guests) before ending after = BringsService views guests before ending after
-Brings views (a_trial shape policy) before ending after = RunsTrial policy shape (left_at views before) (left_at views after) ending (written_at views before) (written_at views after)
+Brings views (a_trial shape policy) before ending after = RunsTrial policy shape (source_at views before) (source_at views after) ending (written_at views before) (written_at views after)
 Brings views (a_run limits policy) before ending after = BringsRollout views limits policy before ending after
 
 -- What is so of every command that ended so.

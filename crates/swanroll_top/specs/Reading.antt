@@ -1,23 +1,24 @@
 -- What reading all of a source comes to.
-use Rattle.std.specs.Prelude.{ℕ, ◌≤◌, List, length, Option, Result, Ok, Err}
+use Rattle.std.specs.Prelude.{ℕ, ◌≤◌, List, length, Result, Ok, Err}
 use Rattle.rollout_rules.specs.declared.limits.TheConstants.{MOST_INPUT}
 use Rattle.swanroll_top.specs.Runs.{IsInput}
 use Rattle.wan_edge.specs.ReadAll.{GoesBeyond}
+use Rattle.wan_edge.specs.Streams.{SourceTrace}
 use Rattle.swanroll_top.specs.declared.ending.Ending.{Ending}
 use Rattle.swanroll_top.specs.declared.ending.Ending.TheVariants.{AboveLimit, ReadFault, OutOfMemory}
 
 -- the bytes are the input, and within the limit
-pub record IsShortInput (before now : Option (List ℕ)) (bytes : List ℕ) : Type 0 where
+pub record IsShortInput (before now : SourceTrace) (bytes : List ℕ) : Type 0 where
   pub within : length bytes ≤ MOST_INPUT
   pub input : IsInput before now bytes
 
 -- a source that was not read to its end
-abbrev pub IsCut : Option (List ℕ) → Ending → Option (List ℕ) → Type 0
+abbrev pub IsCut : SourceTrace → Ending → SourceTrace → Type 0
 IsCut before ReadFault now = Unit {0}
 IsCut before OutOfMemory now = Unit {0}
 IsCut before AboveLimit now = GoesBeyond MOST_INPUT before now
 IsCut before ending now = ⊥
 
-abbrev pub ReadsInput : Option (List ℕ) → Result (List ℕ) Ending → Option (List ℕ) → Type 0
+abbrev pub ReadsInput : SourceTrace → Result (List ℕ) Ending → SourceTrace → Type 0
 ReadsInput before (Ok bytes) now = IsShortInput before now bytes
 ReadsInput before (Err e) now = IsCut before e now

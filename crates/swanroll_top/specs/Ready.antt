@@ -7,7 +7,7 @@ use Rattle.rollout_rules.specs.declared.op.OpView.{OpView}
 use Rattle.rollout_rules.specs.Legal.{unsettled}
 use Rattle.rollout_laws.specs.Waiting.{HoldsNothing}
 use Rattle.wan_edge.specs.Ports.{PortTrace}
-use Rattle.wan_edge.specs.Streams.{Rose}
+use Rattle.wan_edge.specs.Streams.{Rose, SourceTrace}
 use Rattle.intent_journal.specs.Verdicts.{verdict}
 use Rattle.port_session.specs.Sessions.{first_talk}
 use Rattle.worker_ports.specs.Views.{view}
@@ -19,12 +19,13 @@ use Rattle.intent_journal.specs.Openings.{found_by}
 use Rattle.completion_laws.specs.Answering.{IsReady}
 use Rattle.swanroll_top.specs.Reports.{rollout_to}
 use Rattle.swanroll_top.specs.Rollouts.{FleetSeen}
+use Rattle.swanroll_top.specs.Runs.{TellsInput}
 
--- The source tells its bytes, which are a document with a valid plan; and the disk tells its image, which is blank or a journal of this rollout with a
+-- The source tells its input, which is a document with a valid plan; and the disk tells its image, which is blank or a journal of this rollout with a
 -- legal list. The rollout goes on from this history.
-pub record GoesOnFrom (migration : ℕ) (left stored : Option (List ℕ)) (r : Rollout) (found : History) : Type 0 where
+pub record GoesOnFrom (migration : ℕ) (source source_now : SourceTrace) (stored : Option (List ℕ)) (r : Rollout) (found : History) : Type 0 where
   pub input : List ℕ
-  pub read : left ≡ Some input
+  pub told_input : TellsInput source source_now input
   pub is : rollout_to input ≡ Ok r
   pub image : List ℕ
   pub told : stored ≡ Some image

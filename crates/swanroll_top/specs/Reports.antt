@@ -1,8 +1,9 @@
 -- What the command `report` reads and writes.
-use Rattle.std.specs.Prelude.{◌≡◌, ⊤, ◌↔◌, ℕ, List, length, nat_lt, Option, Result, Ok, Err, IfSome, if◌then◌else◌}
+use Rattle.std.specs.Prelude.{◌≡◌, ⊤, ◌↔◌, ℕ, List, length, nat_lt, Option, Some, Result, Ok, Err, if◌then◌else◌}
 use Rattle.rollout_rules.specs.Wan.{Rollout}
 use Rattle.rollout_rules.specs.declared.limits.TheConstants.{MOST_INPUT}
 use Rattle.problem_json.specs.GrammarDocuments.{document_in}
+use Rattle.wan_edge.specs.Streams.{SourceTrace}
 use Rattle.intent_journal.specs.declared.fault.JournalFault.{JournalFault}
 use Rattle.rollout_report.specs.Journals.{journal_report}
 use Rattle.swanroll_top.specs.Answers.{◌>>=◌, checked, or_ending}
@@ -29,11 +30,13 @@ IsLate (Ok text) = ⊤
 IsLate (Err (Refused e)) = ⊤
 IsLate (Err e) = ⊥
 
--- The run ends as the journal's answer says. Where the disk tells its bytes, that is the report of them.
+-- The run ends as the journal's answer says: that is the report of the bytes that the disk told when it was opened.
 pub record Reports (migration : ℕ) (o : Rollout) (told : Option (List ℕ)) (ending : Ending) (out out_now : Option (List ℕ)) : Type 0 where
+  pub image : List ℕ
+  pub stored : told ≡ Some image
   pub answer : Result (List ℕ) Ending
   pub late : IsLate answer
-  pub is : IfSome told (λ image. or_journal (journal_report o migration image) ≡ answer)
+  pub is : or_journal (journal_report o migration image) ≡ answer
   pub ends : EndsWith answer ending out out_now
 
 -- the text of a report was written, or a part of it, or the run ends as its cause says
@@ -53,16 +56,16 @@ FollowsReported migration rollout told DiskFault out out_now = out_now ≡ out
 FollowsReported migration rollout told ending out out_now = EndsReport migration rollout told ending out out_now
 
 -- The input of a report, and how the run follows from it. It is refused exactly where it is no document with a valid plan.
-pub record FollowsReport (migration : ℕ) (left left_now told : Option (List ℕ)) (ending : Ending) (out out_now : Option (List ℕ)) : Type 0 where
+pub record FollowsReport (migration : ℕ) (source source_now : SourceTrace) (told : Option (List ℕ)) (ending : Ending) (out out_now : Option (List ℕ)) : Type 0 where
   pub input : List ℕ
-  pub read : IsInput left left_now input
+  pub read : IsInput source source_now input
   pub ends : EndsReport migration (rollout_to input) told ending out out_now
   pub refused : (status_of ending ≡ 3) ↔ (IsValidDocument input → ⊥)
   pub silent : (status_of ending ≡ 0 → ⊥) → (status_of ending ≡ 7 → ⊥) → out_now ≡ out
 
 -- what an ending of a report says: after a fault of the source or of the disk, and for want of memory, that nothing was written
-abbrev pub RunsReport : ℕ → Option (List ℕ) → Option (List ℕ) → Option (List ℕ) → Ending → Option (List ℕ) → Option (List ℕ) → Type 0
-RunsReport migration left left_now told ReadFault out out_now = out_now ≡ out
-RunsReport migration left left_now told DiskFault out out_now = out_now ≡ out
-RunsReport migration left left_now told OutOfMemory out out_now = out_now ≡ out
-RunsReport migration left left_now told ending out out_now = FollowsReport migration left left_now told ending out out_now
+abbrev pub RunsReport : ℕ → SourceTrace → SourceTrace → Option (List ℕ) → Ending → Option (List ℕ) → Option (List ℕ) → Type 0
+RunsReport migration source source_now told ReadFault out out_now = out_now ≡ out
+RunsReport migration source source_now told DiskFault out out_now = out_now ≡ out
+RunsReport migration source source_now told OutOfMemory out out_now = out_now ≡ out
+RunsReport migration source source_now told ending out out_now = FollowsReport migration source source_now told ending out out_now

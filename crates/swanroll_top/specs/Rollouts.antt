@@ -1,14 +1,15 @@
 -- What the command `run` brings about. A disk and a port are given by what they tell.
-use Rattle.std.specs.Prelude.{◌≡◌, ◌⊎◌, ⊤, ◌↔◌, ◌<◌, ◌^◌, Bool, true, false, ℕ, List, ◌++◌, codes, decimal, Option, Result, Ok, Err, IfSome}
+use Rattle.std.specs.Prelude.{◌≡◌, ◌⊎◌, ⊤, ◌↔◌, ◌<◌, ◌^◌, Bool, true, false, ℕ, List, ◌++◌, codes, decimal, Option, Result, Ok, Err}
 use Rattle.rollout_rules.specs.Wan.{Rollout}
 use Rattle.rollout_rules.specs.Network.{IsNetwork}
 use Rattle.rollout_rules.specs.declared.op.OpView.{OpView}
 use Rattle.disk_model.specs.Traces.{DiskTrace}
+use Rattle.disk_mirror.specs.Openings.{IsTold, Opens}
 use Rattle.intent_journal.specs.declared.fault.JournalFault.TheVariants as fault
 use Rattle.shared_history.specs.declared.note.Cause.{Cause}
 use Rattle.shared_history.specs.declared.note.Cause.TheVariants as cause
 use Rattle.wan_edge.specs.Ports.{PortTrace}
-use Rattle.wan_edge.specs.Streams.{Rose}
+use Rattle.wan_edge.specs.Streams.{Rose, SourceTrace}
 use Rattle.rollout_ports.specs.Berths.{FleetPorts, ports_of}
 use Rattle.rollout_report.specs.Journals.{digest_for}
 use Rattle.rollout_run.specs.declared.running.Limits.{Limits}
@@ -81,17 +82,42 @@ pub record RollsOut {D P : Type 0} (trace : D → DiskTrace) (tell : P → PortT
   pub no_port : (other : Rollout) (switch : ℕ) → answer ≡ outcome.NoPort other switch → Rose before.faults now.faults
   pub follows : Follows (line_or_ending answer) ending out out_now
 
+-- The disk couldn't be opened, which it counted. Nothing was begun.
+pub record FailsToOpen {D P : Type 0} (trace : D → DiskTrace) (disk disk_now : D) (before now : FleetSeen P) (ending : Ending) (out out_now : Option (List ℕ)) : Type 0 where
+  pub is : ending ≡ DiskFault
+  pub opens : Opens (trace disk) (trace disk_now)
+  pub failed : Rose (trace disk).faults (trace disk_now).faults
+  pub fleet_is : now ≡ before
+  pub silent : out_now ≡ out
+
+-- The disk was opened, tells its bytes since, and the rollout was run from these.
+pub record RollsOpened {D P : Type 0} (trace : D → DiskTrace) (tell : P → PortTrace)
+    (r : Rollout) (limits : Limits) (policy : OpView → ℕ) (disk disk_now : D) (before now : FleetSeen P) (ending : Ending) (out out_now : Option (List ℕ)) : Type 0 where
+  pub opened : D
+  pub opens : Opens (trace disk) (trace opened)
+  pub told : IsTold (trace opened).bytes
+  pub rolls : RollsOut trace tell r limits policy opened disk_now before now ending out out_now
+
+-- either way
+abbrev pub OpensAndRolls : {D P : Type 0} → (D → DiskTrace) → (P → PortTrace)
+    → Rollout → Limits → (OpView → ℕ) → D → D → FleetSeen P → FleetSeen P → Ending → Option (List ℕ) → Option (List ℕ) → Type 0
+OpensAndRolls trace tell r limits policy disk disk_now before now ending out out_now =
+    FailsToOpen trace disk disk_now before now ending out out_now
+    ⊎ RollsOpened trace tell r limits policy disk disk_now before now ending out out_now
+
+-- ---- by the input: which bytes that may be is given by a test on them, as that they are what was read
+
 -- the input is no document with a valid plan, and this is how it is refused
-pub record RefusesAs (left : Option (List ℕ)) (ending : Ending) : Type 0 where
+pub record RefusesAs (Given : List ℕ → Type 0) (ending : Ending) : Type 0 where
   pub input : List ℕ
-  pub whole : IfSome left (λ bytes. bytes ≡ input)
+  pub given : Given input
   pub refused : rollout_to input ≡ Err ending
 
 -- why nothing was begun: the source failed, memory ran out, or the input was refused
-abbrev pub IsUnbegun : Option (List ℕ) → Ending → Type 0
-IsUnbegun left ReadFault = ⊤
-IsUnbegun left OutOfMemory = ⊤
-IsUnbegun left ending = RefusesAs left ending
+abbrev pub IsUnbegun : (List ℕ → Type 0) → Ending → Type 0
+IsUnbegun Given ReadFault = ⊤
+IsUnbegun Given OutOfMemory = ⊤
+IsUnbegun Given ending = RefusesAs Given ending
 
 abbrev pub IsRefused : Result Rollout Ending → Ending → Type 0
 IsRefused rollout OutOfMemory = ⊤
@@ -103,37 +129,37 @@ pub record LeavesAll {D P : Type 0} (cause : Type 0) (disk disk_now : D) (before
   pub disk_is : disk_now ≡ disk
   pub fleet_is : now ≡ before
 
--- The input is a rollout, and it was run.
+-- The input is a rollout, and it was run, unless its disk couldn't be opened.
 pub record RollsOutOf {D P : Type 0} (trace : D → DiskTrace) (tell : P → PortTrace)
-    (left : Option (List ℕ)) (limits : Limits) (policy : OpView → ℕ) (disk disk_now : D) (before now : FleetSeen P) (ending : Ending) (out out_now : Option (List ℕ)) : Type 0 where
+    (Given : List ℕ → Type 0) (limits : Limits) (policy : OpView → ℕ) (disk disk_now : D) (before now : FleetSeen P) (ending : Ending) (out out_now : Option (List ℕ)) : Type 0 where
   pub input : List ℕ
-  pub whole : IfSome left (λ trace. trace ≡ input)
+  pub given : Given input
   pub r : Rollout
   pub is : rollout_to input ≡ Ok r
-  pub rolls : RollsOut trace tell r limits policy disk disk_now before now ending out out_now
+  pub rolls : OpensAndRolls trace tell r limits policy disk disk_now before now ending out out_now
 
 -- either way
 abbrev pub Rolls : {D P : Type 0} → (D → DiskTrace) → (P → PortTrace)
-    → Option (List ℕ) → Limits → (OpView → ℕ) → D → D → FleetSeen P → FleetSeen P → Ending → Option (List ℕ) → Option (List ℕ) → Type 0
-Rolls trace tell left limits policy disk disk_now before now ending out out_now =
-    LeavesAll (IsUnbegun left ending) disk disk_now before now
-    ⊎ RollsOutOf trace tell left limits policy disk disk_now before now ending out out_now
+    → (List ℕ → Type 0) → Limits → (OpView → ℕ) → D → D → FleetSeen P → FleetSeen P → Ending → Option (List ℕ) → Option (List ℕ) → Type 0
+Rolls trace tell Given limits policy disk disk_now before now ending out out_now =
+    LeavesAll (IsUnbegun Given ending) disk disk_now before now
+    ⊎ RollsOutOf trace tell Given limits policy disk disk_now before now ending out out_now
 
 -- the same of an input that is this rollout
 abbrev pub RollsIn : {D P : Type 0} → (D → DiskTrace) → (P → PortTrace)
     → Result Rollout Ending → Limits → (OpView → ℕ) → D → D → FleetSeen P → FleetSeen P → Ending → Option (List ℕ) → Option (List ℕ) → Type 0
 RollsIn trace tell rollout limits policy disk disk_now before now ending out out_now =
     LeavesAll (IsRefused rollout ending) disk disk_now before now
-    ⊎ ((r : Rollout) × (rollout ≡ Ok r) × RollsOut trace tell r limits policy disk disk_now before now ending out out_now)
+    ⊎ ((r : Rollout) × (rollout ≡ Ok r) × OpensAndRolls trace tell r limits policy disk disk_now before now ending out out_now)
 
 -- the same by the status
 pub record RollsAs {D P : Type 0} (trace : D → DiskTrace) (tell : P → PortTrace)
-    (left : Option (List ℕ)) (limits : Limits) (policy : OpView → ℕ) (disk disk_now : D) (before now : FleetSeen P) (status : ℕ) (out out_now : Option (List ℕ)) : Type 0 where
+    (Given : List ℕ → Type 0) (limits : Limits) (policy : OpView → ℕ) (disk disk_now : D) (before now : FleetSeen P) (status : ℕ) (out out_now : Option (List ℕ)) : Type 0 where
   pub ending : Ending
   pub told : Ending
   pub told_as : IsToldAs ending told
   pub is_status : status ≡ status_of told
-  pub rolls : Rolls trace tell left limits policy disk disk_now before now ending out out_now
+  pub rolls : Rolls trace tell Given limits policy disk disk_now before now ending out out_now
 
 -- ---- what is read and written
 
@@ -157,14 +183,14 @@ FollowsRolled rollout ending out out_now =
     (IsRefused rollout ending × (out_now ≡ out)) ⊎ (((r : Rollout) × (rollout ≡ Ok r)) × EndsRollout ending out out_now)
 
 -- The input of a rollout. It is refused exactly where it is no document with a valid plan.
-pub record FollowsRollout (left left_now : Option (List ℕ)) (ending : Ending) (out out_now : Option (List ℕ)) : Type 0 where
+pub record FollowsRollout (source source_now : SourceTrace) (ending : Ending) (out out_now : Option (List ℕ)) : Type 0 where
   pub input : List ℕ
-  pub read : IsInput left left_now input
+  pub read : IsInput source source_now input
   pub refused : (status_of ending ≡ 3) ↔ (IsValidDocument input → ⊥)
   pub silent : (status_of ending ≡ 0 → ⊥) → (status_of ending ≡ 7 → ⊥) → out_now ≡ out
 
 -- what an ending of a rollout says: after a fault of the source, and for want of memory, that nothing was written
-abbrev pub RunsRollout : Option (List ℕ) → Option (List ℕ) → Ending → Option (List ℕ) → Option (List ℕ) → Type 0
-RunsRollout left left_now ReadFault out out_now = out_now ≡ out
-RunsRollout left left_now OutOfMemory out out_now = out_now ≡ out
-RunsRollout left left_now ending out out_now = FollowsRollout left left_now ending out out_now
+abbrev pub RunsRollout : SourceTrace → SourceTrace → Ending → Option (List ℕ) → Option (List ℕ) → Type 0
+RunsRollout source source_now ReadFault out out_now = out_now ≡ out
+RunsRollout source source_now OutOfMemory out out_now = out_now ≡ out
+RunsRollout source source_now ending out out_now = FollowsRollout source source_now ending out out_now

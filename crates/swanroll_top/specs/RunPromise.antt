@@ -6,21 +6,21 @@ use Rattle.swanroll_top.specs.Endings.{status_of}
 use Rattle.swanroll_top.specs.Program.{NotesLine, Streams}
 use Rattle.swanroll_top.specs.Rollouts.{FollowsRollout, Rolls, RollsAs, RunsRollout}
 use Rattle.swanroll_top.specs.Targets.{IsOfBegun, ReachesTarget, StaysSafe}
-use Rattle.swanroll_top.specs.Views.{Objects, Outside, Views, guests_of, left_at, seen, streams, used, written_at}
+use Rattle.swanroll_top.specs.Views.{Objects, Outside, Views, guests_of, input_of, seen, source_at, streams, used, written_at}
 use Rattle.swanroll_top.specs.declared.ending.Ending.{Ending}
 
 -- what a run has brought about that ended so
 pub record BringsRollout {S K D F P G : Type 0} (views : Views S K D F P G) (limits : Limits) (policy : OpView → ℕ) (before : Objects S K D F) (ending : Ending) (after : Objects S K D F) : Type 0 where
-  pub runs : RunsRollout (left_at views before) (left_at views after) ending (written_at views before) (written_at views after)
+  pub runs : RunsRollout (source_at views before) (source_at views after) ending (written_at views before) (written_at views after)
   pub guests : guests_of (views.fleet after.fleet) ≡ guests_of (views.fleet before.fleet)
   pub rolls : Rolls views.disk views.port
-      (left_at views before) limits policy before.disk after.disk (seen (views.fleet before.fleet)) (seen (views.fleet after.fleet)) ending (written_at views before) (written_at views after)
+      (input_of views before after) limits policy before.disk after.disk (seen (views.fleet before.fleet)) (seen (views.fleet after.fleet)) ending (written_at views before) (written_at views after)
 
 -- The whole of a run that read its input: which inputs are refused, and the line of the notes.
 pub record RollsAndNotes (before after : Streams) (status : ℕ) : Type 0 where
   pub ending : Ending
   pub is_status : status ≡ status_of ending
-  pub follows : FollowsRollout before.left after.left ending before.written after.written
+  pub follows : FollowsRollout before.source after.source ending before.sink.written after.sink.written
   pub line : NotesLine ending before after
 
 pub record RunPromise {S K D F P G : Type 0} (views : Views S K D F P G) (limits : Limits) (policy : OpView → ℕ) (before : Outside S K D F) (status : ℕ) (after : Outside S K D F) : Type 0 where
@@ -30,11 +30,11 @@ pub record RunPromise {S K D F P G : Type 0} (views : Views S K D F P G) (limits
   pub serves : guests_of (views.fleet after.fleet) ≡ guests_of (views.fleet before.fleet)
   -- the plan is rolled out from what the journal had, or disk and ports are as they were
   pub rolls : RollsAs views.disk views.port
-      (left_at views (used before)) limits policy before.disk after.disk (seen (views.fleet before.fleet)) (seen (views.fleet after.fleet)) status (written_at views (used before)) (written_at views (used after))
+      (input_of views (used before) (used after)) limits policy before.disk after.disk (seen (views.fleet before.fleet)) (seen (views.fleet after.fleet)) status (written_at views (used before)) (written_at views (used after))
   -- the network is safe behind every rollout that was begun
   pub safe : IsOfBegun status
-      → StaysSafe views.disk views.port limits (left_at views (used before)) before.disk (views.fleet before.fleet).ports (views.fleet after.fleet).ports
+      → StaysSafe views.disk views.port limits (input_of views (used before) (used after)) before.disk (views.fleet before.fleet).ports (views.fleet after.fleet).ports
   -- and behind status 0 it is at the target
   pub target : status ≡ 0
-      → ReachesTarget views.disk views.port limits (left_at views (used before)) before.disk (views.fleet before.fleet).ports (views.fleet after.fleet).ports
+      → ReachesTarget views.disk views.port limits (input_of views (used before) (used after)) before.disk (views.fleet before.fleet).ports (views.fleet after.fleet).ports
       (written_at views (used before)) (written_at views (used after))

@@ -1,7 +1,7 @@
 -- What a run reads, writes and notes.
-use Rattle.std.specs.Prelude.{◌≡◌, ◌⊎◌, ◌↔◌, ℕ, List, Option, Result, Ok, Err, IfSome}
+use Rattle.std.specs.Prelude.{◌≡◌, ◌⊎◌, ◌↔◌, ℕ, List, ◌++◌, Option, Some, Result, Ok, Err, IfSome}
 use Rattle.rollout_rules.specs.declared.limits.TheConstants.{MOST_INPUT}
-use Rattle.wan_edge.specs.Streams.{Appends, AppendsPart, IsAtEnd, Rose}
+use Rattle.wan_edge.specs.Streams.{Appends, AppendsPart, IsAtEnd, Rose, SourceTrace}
 use Rattle.wan_edge.specs.ReadAll.{GoesBeyond}
 use Rattle.swanroll_top.specs.Endings.{status_of, line_of}
 use Rattle.swanroll_top.specs.Lines.{IsToldAs}
@@ -12,11 +12,32 @@ use Rattle.swanroll_top.specs.declared.ending.Ending.{Ending}
 use Rattle.swanroll_top.specs.declared.ending.Ending.TheVariants.{Done, ReadFault, WriteFault, OutOfMemory}
 use Rattle.swanroll_top.specs.Words.{TextAsked}
 
--- The bytes are the input: where the source tells its bytes they are all that was left at entry, and the source was read
--- to its end, or above the limit of it.
-pub record IsInput (before now : Option (List ℕ)) (input : List ℕ) : Type 0 where
-  pub whole : IfSome before (λ left. left ≡ input)
-  pub read : IsAtEnd now ⊎ GoesBeyond MOST_INPUT before now
+-- these bytes were read, and with them the source to its end
+pub record IsReadToEnd (before now : SourceTrace) (input : List ℕ) : Type 0 where
+  pub at_end : IsAtEnd now.left
+  pub taken : Appends before.taken input now.taken
+
+-- more bytes than the limit were read, and these begin with them
+pub record IsReadBeyond (before now : SourceTrace) (input : List ℕ) : Type 0 where
+  pub goes : GoesBeyond MOST_INPUT before now
+  pub behind : List ℕ
+  pub parts : input ≡ goes.bytes ++ behind
+
+-- The bytes are the input. Where the source tells what is left, they are all that was left at entry. Where it tells what was taken, they are what
+-- was taken since; of an input above the limit that is the front.
+pub record IsInput (before now : SourceTrace) (input : List ℕ) : Type 0 where
+  pub whole : IfSome before.left (λ left. left ≡ input)
+  pub read : IsReadToEnd before now input ⊎ IsReadBeyond before now input
+
+-- these bytes were taken since
+pub record TellsTaken (before now : SourceTrace) (bytes : List ℕ) : Type 0 where
+  pub earlier : List ℕ
+  pub before_is : before.taken ≡ Some earlier
+  pub now_is : now.taken ≡ Some (earlier ++ bytes)
+
+-- The source tells its input, by what it had left or by what was taken of it.
+abbrev pub TellsInput : SourceTrace → SourceTrace → List ℕ → Type 0
+TellsInput before now input = (before.left ≡ Some input) ⊎ TellsTaken before now input
 
 -- What a call answers is what the definition says; want of memory says nothing.
 abbrev pub Gives : {A : Type 0} → Result A Ending → Result A Ending → Type 0
@@ -37,18 +58,18 @@ Follows answer ending before now = EndsWith answer ending before now
 
 -- The input of a run, and how the run follows from it. It is refused exactly where the command doesn't take it;
 -- where the text was written, its rollout is safe.
-pub record FollowsInput (asked : TextAsked) (left left_now : Option (List ℕ)) (ending : Ending) (out out_now : Option (List ℕ)) : Type 0 where
+pub record FollowsInput (asked : TextAsked) (source source_now : SourceTrace) (ending : Ending) (out out_now : Option (List ℕ)) : Type 0 where
   pub input : List ℕ
-  pub read : IsInput left left_now input
+  pub read : IsInput source source_now input
   pub answer : EndsWith (answer_to asked input) ending out out_now
   pub refused : (status_of ending ≡ 3) ↔ (IsTaken asked input → ⊥)
   pub safe : ending ≡ Done → DoesSafely asked input
 
 -- what an ending of a run says: after a fault of the source, and for want of memory, that nothing was written
-abbrev pub Runs : TextAsked → Option (List ℕ) → Option (List ℕ) → Ending → Option (List ℕ) → Option (List ℕ) → Type 0
-Runs asked left left_now ReadFault out out_now = out_now ≡ out
-Runs asked left left_now OutOfMemory out out_now = out_now ≡ out
-Runs asked left left_now ending out out_now = FollowsInput asked left left_now ending out out_now
+abbrev pub Runs : TextAsked → SourceTrace → SourceTrace → Ending → Option (List ℕ) → Option (List ℕ) → Type 0
+Runs asked source source_now ReadFault out out_now = out_now ≡ out
+Runs asked source source_now OutOfMemory out out_now = out_now ≡ out
+Runs asked source source_now ending out out_now = FollowsInput asked source source_now ending out out_now
 
 -- the line of an ending was written, or a part of it where the notes failed
 abbrev pub Notes : Ending → Option (List ℕ) → Option (List ℕ) → ℕ → ℕ → Type 0

@@ -1,16 +1,18 @@
 -- What is known of the input of a command that made a text of it, and of the rollout that its text speaks of.
-use Rattle.std.specs.Prelude.{◌≡◌, ℕ, true, List, Ok}
-use Rattle.rollout_rules.specs.Wan.{Problem, Plan, Rollout}
+use Rattle.std.specs.Prelude.{◌≡◌, ℕ, ◌≤◌, true, List, Ok, IsTrue}
+use Rattle.rollout_rules.specs.Items.{Resource, is_resource}
+use Rattle.rollout_rules.specs.Wan.{Problem, Plan, Rollout, last_stage}
 use Rattle.rollout_rules.specs.Valid.{is_valid_plan}
 use Rattle.rollout_rules.specs.World.{new_world}
 use Rattle.rollout_rules.specs.declared.event.Event.{Event}
 use Rattle.rollout_rules.specs.declared.op.OpView.{OpView}
 use Rattle.rollout_laws.specs.SafeWorlds.{EveryWorldIsSafe}
 use Rattle.plan_choose.specs.Choice.{Choice, chosen}
+use Rattle.plan_texts.specs.Loads.{IsBetween}
 use Rattle.problem_json.specs.Grammar.{problem_in}
 use Rattle.problem_json.specs.GrammarDocuments.{DocumentRead, ScriptedRead, document_in, scripted_in}
 use Rattle.sim_run.specs.Rehearsed.{IsSafeRehearsal}
-use Rattle.swanroll_top.specs.Words.{TextAsked, a_plan, a_check, a_rehearsal}
+use Rattle.swanroll_top.specs.Words.{TextAsked, a_plan, a_check, the_loads, a_rehearsal}
 
 abbrev pub IsValid : Problem → Plan → Type 0
 IsValid p plan = is_valid_plan p plan ≡ true
@@ -45,6 +47,21 @@ pub record ChecksValid (input : List ℕ) : Type 0 where
   pub read : document_in input ≡ Ok document
   pub valid : IsValid document.problem document.plan
 
+-- in each step no link and no table may be asked for more than there is, nor for less than is taken at both ends
+abbrev pub HoldsItsLoads : Problem → Plan → Type 0
+HoldsItsLoads p plan = (s : ℕ) (r : Resource) → s ≤ last_stage plan → IsTrue (is_resource p r) → IsBetween p plan s r
+
+-- a valid plan, of which the loads are told
+pub record IsLoaded (p : Problem) (plan : Plan) : Type 0 where
+  pub valid : IsValid p plan
+  pub holds : HoldsItsLoads p plan
+
+-- the document that the input is, and what is known of its plan
+pub record LoadsSafely (input : List ℕ) : Type 0 where
+  pub document : DocumentRead
+  pub read : document_in input ≡ Ok document
+  pub loaded : IsLoaded document.problem document.plan
+
 -- the script that the input is, over the plan of its document, under a policy
 pub record RehearsesSafely (policy : OpView → ℕ) (input : List ℕ) : Type 0 where
   pub scripted : ScriptedRead
@@ -54,4 +71,5 @@ pub record RehearsesSafely (policy : OpView → ℕ) (input : List ℕ) : Type 0
 abbrev pub DoesSafely : TextAsked → List ℕ → Type 0
 DoesSafely a_plan input = PlansSafely input
 DoesSafely a_check input = ChecksValid input
+DoesSafely the_loads input = LoadsSafely input
 DoesSafely (a_rehearsal policy) input = RehearsesSafely policy input

@@ -5,7 +5,7 @@ use Rattle.rollout_rules.specs.declared.limits.TheConstants.{MOST_INPUT}
 use Rattle.problem_json.specs.Grammar.{problem_in}
 use Rattle.problem_json.specs.GrammarDocuments.{DocumentRead, ScriptedRead, document_in, scripted_in}
 use Rattle.swanroll_top.specs.Safety.{IsValid}
-use Rattle.swanroll_top.specs.Words.{TextAsked, a_plan, a_check, a_rehearsal}
+use Rattle.swanroll_top.specs.Words.{TextAsked, a_plan, a_check, the_loads, a_rehearsal}
 
 pub record IsProblem (input : List ℕ) : Type 0 where
   pub within : length input ≤ MOST_INPUT
@@ -27,4 +27,5 @@ pub record IsValidScript (input : List ℕ) : Type 0 where
 abbrev pub IsTaken : TextAsked → List ℕ → Type 0
 IsTaken a_plan input = IsProblem input
 IsTaken a_check input = IsValidDocument input
+IsTaken the_loads input = IsValidDocument input
 IsTaken (a_rehearsal policy) input = IsValidScript input

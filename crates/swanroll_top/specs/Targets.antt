@@ -10,6 +10,7 @@ use Rattle.rollout_rules.specs.declared.op.Entry.{Entry}
 use Rattle.rollout_rules.specs.declared.op.OpView.{OpView}
 use Rattle.rollout_laws.specs.Good.{AreHeldWithin, places_held}
 use Rattle.disk_model.specs.Traces.{DiskTrace}
+use Rattle.disk_mirror.specs.Openings.{Opens}
 use Rattle.wan_edge.specs.Ports.{PortTrace}
 use Rattle.wan_edge.specs.Streams.{Appends}
 use Rattle.dependency_graph.specs.Graph.{op_total}
@@ -24,6 +25,7 @@ use Rattle.rollout_ports.specs.Homes.{working_homes}
 use Rattle.rollout_ports.specs.Opening.{IsGiven}
 use Rattle.switch_laws.specs.Holdings.{AreHeldAt, AreHeldAtEnd}
 use Rattle.switch_laws.specs.Runs.{StartsAsFound}
+use Rattle.holding_laws.specs.Untold.{EachMayHold}
 use Rattle.rollout_report.specs.Journals.{digest_for}
 use Rattle.rollout_run.specs.declared.running.Limits.{Limits}
 use Rattle.intent_journal.specs.Openings.{found_by}
@@ -31,13 +33,15 @@ use Rattle.swanroll_top.specs.Reports.{rollout_to}
 use Rattle.swanroll_top.specs.Rollouts.{finished_line}
 
 -- The port of this berth was opened, and one is back at its switch. Where the switch held at entry what the list found allows, and all that its port
--- was told before agrees with that, it holds now what the history allows: each item between what is settled and what is begun.
+-- was told before agrees with that, it holds now what the history allows: each item between what is settled and what is begun. So it is with what the
+-- port tells of its switch (holds), and with whatever that may hold by what went out and came back (each).
 pub record EndsWithin {P : Type 0} (tell : P → PortTrace) (r : Rollout) (migration : ℕ) (found h : History) (before now : FleetPorts P) (berth : Berth P) : Type 0 where
   pub given : IsGiven tell before.waiting berth
   pub back : P
   pub kept : now.kept berth.switch ≡ Some back
   pub holds : StartsAsFound r migration (homes_of r.problem) found (view tell (first_talk berth.switch berth.port))
       → IfSome (tell back).offered (λ _. IfSome (tell back).heard (λ _. IfSome (tell back).held (AreHeldAt r migration (homes_of r.problem) berth.switch h)))
+  pub each : EachMayHold r migration (homes_of r.problem) found (view tell (first_talk berth.switch berth.port)) (tell back) (AreHeldAt r migration (homes_of r.problem) berth.switch h)
 
 -- The same behind a history in which all is settled: it holds exactly the target.
 pub record EndsAtTarget {P : Type 0} (tell : P → PortTrace) (r : Rollout) (migration : ℕ) (found : History) (before now : FleetPorts P) (berth : Berth P) : Type 0 where
@@ -46,17 +50,22 @@ pub record EndsAtTarget {P : Type 0} (tell : P → PortTrace) (r : Rollout) (mig
   pub kept : now.kept berth.switch ≡ Some back
   pub holds : StartsAsFound r migration (homes_of r.problem) found (view tell (first_talk berth.switch berth.port))
       → IfSome (tell back).offered (λ _. IfSome (tell back).heard (λ _. IfSome (tell back).held (AreHeldAtEnd r migration (homes_of r.problem) berth.switch found.start)))
+  pub each : EachMayHold r migration (homes_of r.problem) found (view tell (first_talk berth.switch berth.port)) (tell back) (AreHeldAtEnd r migration (homes_of r.problem) berth.switch found.start)
 
--- The input is a rollout, and it was begun. Behind the history that was found on its disk there are entries with which it is legal, and whatever the
--- switches hold between what it settles and what it begins, and whichever of their next updates have applied, the network is safe. Each switch with an
+-- The input, of which this test holds, is a rollout, and it was begun. The disk was opened, and told an image. Behind the history that was found there are entries with which it is
+-- legal, and whatever the switches hold between what it settles and what it begins, and whichever of their next updates have applied, the network is safe. Each switch with an
 -- operation has a port, and holds what that history allows.
-pub record StaysSafe {D P : Type 0} (trace : D → DiskTrace) (tell : P → PortTrace) (limits : Limits) (left : Option (List ℕ)) (disk : D) (before now : FleetPorts P) : Type 0 where
+pub record StaysSafe {D P : Type 0} (trace : D → DiskTrace) (tell : P → PortTrace) (limits : Limits) (Given : List ℕ → Type 0) (disk : D) (before now : FleetPorts P) : Type 0 where
   pub input : List ℕ
-  pub whole : IfSome left (λ trace. trace ≡ input)
+  pub given : Given input
   pub r : Rollout
   pub is : rollout_to input ≡ Ok r
+  pub opened : D
+  pub opens : Opens (trace disk) (trace opened)
+  pub image : List ℕ
+  pub stored : (trace opened).bytes ≡ Some image
   pub found : History
-  pub begins : IfSome (trace disk).bytes (λ image. found_by r (verdict r (digest_for r limits.migration) image) ≡ Some found)
+  pub begins : found_by r (verdict r (digest_for r limits.migration) image) ≡ Some found
   pub added : List Entry
   pub legal : is_legal r.problem r.plan (with_entries found added) ≡ true
   pub safe : (held : ℕ → ℕ) → AreHeldWithin r.problem (with_entries found added) held → IsSafe r.problem r.plan (places_held r.problem held)
@@ -65,15 +74,15 @@ pub record StaysSafe {D P : Type 0} (trace : D → DiskTrace) (tell : P → Port
   pub ports : AllByRecursion (EndsWithin tell r limits.migration found (with_entries found added) before now) berths
 
 -- So it is, every operation is settled, and the switches are at the target. And the line of it was written.
-pub record ReachesTarget {D P : Type 0} (trace : D → DiskTrace) (tell : P → PortTrace) (limits : Limits) (left : Option (List ℕ)) (disk : D) (before now : FleetPorts P) (out out_now : Option (List ℕ)) : Type 0 where
-  pub stays : StaysSafe trace tell limits left disk before now
+pub record ReachesTarget {D P : Type 0} (trace : D → DiskTrace) (tell : P → PortTrace) (limits : Limits) (Given : List ℕ → Type 0) (disk : D) (before now : FleetPorts P) (out out_now : Option (List ℕ)) : Type 0 where
+  pub stays : StaysSafe trace tell limits Given disk before now
   pub finished : is_finished stays.r.problem stays.r.plan (with_entries stays.found stays.added) ≡ true
   pub ports : AllByRecursion (EndsAtTarget tell stays.r limits.migration stays.found before now) stays.berths
   pub line : Appends out (finished_line (op_total stays.r) (length stays.found.entries)) out_now
 
 -- So it is, not every operation is settled, none is in flight, and each that may begin is one that the policy holds back.
-pub record RestsHeld {D P : Type 0} (trace : D → DiskTrace) (tell : P → PortTrace) (limits : Limits) (policy : OpView → ℕ) (left : Option (List ℕ)) (disk : D) (before now : FleetPorts P) : Type 0 where
-  pub stays : StaysSafe trace tell limits left disk before now
+pub record RestsHeld {D P : Type 0} (trace : D → DiskTrace) (tell : P → PortTrace) (limits : Limits) (policy : OpView → ℕ) (Given : List ℕ → Type 0) (disk : D) (before now : FleetPorts P) : Type 0 where
+  pub stays : StaysSafe trace tell limits Given disk before now
   pub unfinished : is_finished stays.r.problem stays.r.plan (with_entries stays.found stays.added) ≡ false
   pub still : is_still stays.r.problem (with_entries stays.found stays.added) ≡ true
   pub held : (n : ℕ) → may_begin stays.r.problem stays.r.plan (with_entries stays.found stays.added) (next_op (with_entries stays.found stays.added) n) ≡ true

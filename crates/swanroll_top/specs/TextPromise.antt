@@ -1,4 +1,4 @@
--- The promise of `plan`, `check` and `sim`, which make a text of their input.
+-- The promise of `plan`, `check`, `loads` and `sim`, which make a text of their input.
 use Rattle.std.specs.Prelude.{◌≡◌, ◌≢◌, ℕ}
 use Rattle.swanroll_top.specs.Endings.{status_of}
 use Rattle.swanroll_top.specs.Program.{NotesLine, Streams}
@@ -10,7 +10,7 @@ use Rattle.swanroll_top.specs.declared.ending.Ending.{Ending}
 pub record RunsAndNotes (asked : TextAsked) (before after : Streams) (status : ℕ) : Type 0 where
   pub ending : Ending
   pub is_status : status ≡ status_of ending
-  pub follows : FollowsInput asked before.left after.left ending before.written after.written
+  pub follows : FollowsInput asked before.source after.source ending before.sink.written after.sink.written
   pub line : NotesLine ending before after
 
 pub record TextPromise (asked : TextAsked) (before after : Streams) (status : ℕ) : Type 0 where

@@ -11,7 +11,7 @@ use Rattle.swanroll_top.specs.declared.ending.Ending.{Ending}
 pub record TriesAndNotes (policy : OpView → ℕ) (shape : Shape) (before after : Streams) (status : ℕ) : Type 0 where
   pub ending : Ending
   pub is_status : status ≡ status_of ending
-  pub follows : FollowsTrial policy shape before.left after.left ending before.written after.written
+  pub follows : FollowsTrial policy shape before.source after.source ending before.sink.written after.sink.written
   pub line : NotesLine ending before after
 
 pub record TrialPromise (policy : OpView → ℕ) (shape : Shape) (before after : Streams) (status : ℕ) : Type 0 where

@@ -6,6 +6,7 @@ use Rattle.rollout_rules.specs.declared.limits.TheConstants.{MOST_FLOWS, MOST_SW
 use Rattle.rollout_rules.specs.declared.op.OpView.{OpView}
 use Rattle.plan_choose.specs.Choice.{Choice, chosen}
 use Rattle.scratch_plan.specs.declared.no_plan.NoPlan.{NoPlan}
+use Rattle.wan_edge.specs.Streams.{SourceTrace}
 use Rattle.case_gen.specs.Cases.{after_case, case}
 use Rattle.case_gen.specs.Draws.{seeded}
 use Rattle.sim_run.specs.TrialText.{trial_text}
@@ -44,13 +45,13 @@ unfoldable pub tried : (OpView → ℕ) → Shape → Result (List ℕ) Ending
 tried policy s = with_plan policy s (chosen (case_of s))
 
 -- nothing was read, and the run ends as that says; where memory ran out nothing was written
-pub record RunsTrial (policy : OpView → ℕ) (s : Shape) (left left_now : Option (List ℕ)) (ending : Ending) (out out_now : Option (List ℕ)) : Type 0 where
-  pub unread : left_now ≡ left
+pub record RunsTrial (policy : OpView → ℕ) (s : Shape) (source source_now : SourceTrace) (ending : Ending) (out out_now : Option (List ℕ)) : Type 0 where
+  pub unread : source_now ≡ source
   pub shape : IsShape s
   pub follows : Follows (tried policy s) ending out out_now
 
 -- the same where memory sufficed
-pub record FollowsTrial (policy : OpView → ℕ) (s : Shape) (left left_now : Option (List ℕ)) (ending : Ending) (out out_now : Option (List ℕ)) : Type 0 where
-  pub unread : left_now ≡ left
+pub record FollowsTrial (policy : OpView → ℕ) (s : Shape) (source source_now : SourceTrace) (ending : Ending) (out out_now : Option (List ℕ)) : Type 0 where
+  pub unread : source_now ≡ source
   pub shape : IsShape s
   pub answer : EndsWith (tried policy s) ending out out_now

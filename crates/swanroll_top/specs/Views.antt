@@ -2,11 +2,12 @@
 use Rattle.std.specs.Prelude.{ℕ, List, Option}
 use Rattle.disk_model.specs.Traces.{DiskTrace}
 use Rattle.wan_edge.specs.Ports.{PortTrace}
-use Rattle.wan_edge.specs.Streams.{AsSink, AsSource}
+use Rattle.wan_edge.specs.Streams.{SinkTrace, SourceTrace}
 use Rattle.agent_service.specs.Services.{Guests, Tells}
 use Rattle.rollout_ports.specs.Berths.{FleetPorts}
 use Rattle.swanroll_top.specs.Program.{Streams}
 use Rattle.swanroll_top.specs.Rollouts.{FleetSeen}
+use Rattle.swanroll_top.specs.Runs.{IsInput}
 
 -- the guests of a fleet: those to come, where they are told, those given back, and how many are out
 pub record GuestsTrace (G : Type 0) : Type 0 where
@@ -22,8 +23,8 @@ pub record FleetTrace (P G : Type 0) : Type 0 where
 
 -- what each of the outside objects tells
 pub record Views (S K D F P G : Type 0) : Type 1 where
-  pub source : S → AsSource
-  pub sink : K → AsSink
+  pub source : S → SourceTrace
+  pub sink : K → SinkTrace
   pub disk : D → DiskTrace
   pub fleet : F → FleetTrace P G
   pub port : P → PortTrace
@@ -53,6 +54,10 @@ outside source sink notes disk fleet = record { source = source; sink = sink; no
 abbrev pub used : {S K D F : Type 0} → Outside S K D F → Objects S K D F
 used o = objects o.source o.sink o.disk o.fleet
 
+-- these with another disk
+abbrev pub over : {S K D F : Type 0} → D → Outside S K D F → Outside S K D F
+over disk o = outside o.source o.sink o.notes disk o.fleet
+
 -- what is told of a fleet's ports and faults, and of its guests
 abbrev pub seen : {P G : Type 0} → FleetTrace P G → FleetSeen P
 seen fleet = record { ports = fleet.ports; faults = fleet.faults }
@@ -63,20 +68,21 @@ guests_of fleet = record { coming = fleet.guests.coming; served = fleet.guests.s
 -- what is told of the bytes read, written, noted and stored, and of faults
 abbrev pub streams : {S K D F P G : Type 0} → Views S K D F P G → Outside S K D F → Streams
 streams views o = record {
-  left = (views.source o.source).left;
-  written = (views.sink o.sink).written;
-  noted = (views.sink o.notes).written;
+  source = views.source o.source;
+  sink = views.sink o.sink;
+  notes = views.sink o.notes;
   stored = (views.disk o.disk).bytes;
-  source_faults = (views.source o.source).faults;
-  sink_faults = (views.sink o.sink).faults;
-  notes_faults = (views.sink o.notes).faults;
   disk_faults = (views.disk o.disk).faults;
   fleet_faults = (views.fleet o.fleet).faults;
 }
 
--- the bytes that the source has left, and those written to the sink
-abbrev pub left_at : {S K D F P G : Type 0} → Views S K D F P G → Objects S K D F → Option (List ℕ)
-left_at views o = (views.source o.source).left
+-- what the source tells, and the bytes written to the sink
+abbrev pub source_at : {S K D F P G : Type 0} → Views S K D F P G → Objects S K D F → SourceTrace
+source_at views o = views.source o.source
 
 abbrev pub written_at : {S K D F P G : Type 0} → Views S K D F P G → Objects S K D F → Option (List ℕ)
 written_at views o = (views.sink o.sink).written
+
+-- the bytes are what a command read between these moments
+abbrev pub input_of : {S K D F P G : Type 0} → Views S K D F P G → Objects S K D F → Objects S K D F → List ℕ → Type 0
+input_of views before after input = IsInput (source_at views before) (source_at views after) input

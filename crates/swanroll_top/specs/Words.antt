@@ -12,7 +12,7 @@ use Rattle.order_policy.specs.Named.{policy_named}
 use Rattle.rollout_run.specs.declared.running.Limits.{Limits}
 use Rattle.sim_run.specs.declared.shape.Shape.{Shape}
 use Rattle.swanroll_top.specs.declared.words.Kind.{Kind}
-use Rattle.swanroll_top.specs.declared.words.Kind.TheVariants.{Plan, Check, Sim, Report, Agent, Trial, Run}
+use Rattle.swanroll_top.specs.declared.words.Kind.TheVariants.{Plan, Check, Loads, Sim, Report, Agent, Trial, Run}
 use Rattle.swanroll_top.specs.declared.words.Command.{Command}
 use Rattle.swanroll_top.specs.declared.words.Command.TheVariants as command
 use Rattle.swanroll_top.specs.declared.words.TextCommand.{TextCommand}
@@ -22,6 +22,7 @@ use Rattle.swanroll_top.specs.declared.words.TextCommand.TheVariants as text_com
 pub data TextAsked : Type 0 where
   a_plan : TextAsked
   a_check : TextAsked
+  the_loads : TextAsked
   a_rehearsal : (policy : OpView → ℕ) → TextAsked
 
 -- what a command line asks for: a command, and what its pairs say
@@ -37,6 +38,7 @@ module _ {X : Type 0} {F : X → Type 0} {M : Mut ((x : X) × F x) (OpView × Un
   abbrev pub text_asked : TextCommand X F M → TextAsked
   text_asked text_command.Plan = a_plan
   text_asked text_command.Check = a_check
+  text_asked text_command.Loads = the_loads
   text_asked (text_command.Sim policy) = a_rehearsal (rank_by policy.now.answers)
 
   abbrev pub asked : Command X F M → Asked
@@ -52,6 +54,7 @@ abbrev pub kind_named : List ℕ → Option Kind
 kind_named word =
     if bytes_eq word (codes "plan") then Some Plan
     else if bytes_eq word (codes "check") then Some Check
+    else if bytes_eq word (codes "loads") then Some Loads
     else if bytes_eq word (codes "sim") then Some Sim
     else if bytes_eq word (codes "report") then Some Report
     else if bytes_eq word (codes "agent") then Some Agent
@@ -65,6 +68,7 @@ trial_numbers = codes "--k" ∷ codes "--switches" ∷ codes "--flows" ∷ codes
 abbrev pub names_of : Kind → List (List ℕ)
 names_of Plan = []
 names_of Check = []
+names_of Loads = []
 names_of Sim = codes "--policy" ∷ []
 names_of Report = codes "--migration" ∷ []
 names_of Agent = codes "--guests" ∷ []
@@ -165,6 +169,7 @@ limits_in pairs = option_and_then (λ workers. option_and_then (λ rounds. optio
 abbrev pub with_pairs : List (List ℕ × (OpView → ℕ)) → List (List ℕ) → Kind → Option Asked
 with_pairs policies pairs Plan = Some (a_text a_plan)
 with_pairs policies pairs Check = Some (a_text a_check)
+with_pairs policies pairs Loads = Some (a_text the_loads)
 with_pairs policies pairs Sim = option_map (λ policy. a_text (a_rehearsal policy)) (policy_in policies pairs)
 with_pairs policies pairs Report = option_map a_report (migration_in pairs)
 with_pairs policies pairs Agent = option_map an_agent (guests_in pairs)

@@ -15,19 +15,15 @@ use wan_edge::{Fleet, Sink};
 /// One agent serves this many guests of the fleet, or fewer where no more come, and a line says how many
 /// came, how many commands were carried out, and how many guests were refused.
 pub fn agent<K: Sink, F: Fleet>(alloc: Global, guests: u32, fleet: &mut F, sink: &mut K) -> Ending
-    ensures runs { RunsAgent (record {
-      left = F.Guest.left;
-      written = F.Guest.written;
-      read_faults = F.Guest.Source.faults;
-      write_faults = F.Guest.Sink.faults;
-    }) guests
+    ensures runs { RunsAgent (record { source = F.Guest.Source.told; sink = F.Guest.Sink.told })
+        guests
         (record { coming = F.coming fleet.old; served = F.served fleet.old })
         (record { coming = F.coming fleet.new; served = F.served fleet.new }) result
-        (K.written sink.old) (K.written sink.new) }
+        (K.told sink.old).written (K.told sink.new).written }
     ensures guest_fault { result ≡ Ending.GuestFault
         → Rose (F.faults fleet.old) (F.faults fleet.new) }
     ensures write_fault { result ≡ Ending.WriteFault
-        → Rose (K.faults sink.old) (K.faults sink.new) }
+        → Rose (K.told sink.old).faults (K.told sink.new).faults }
     ensures visiting { F.visiting fleet.new ≡ F.visiting fleet.old }
     ensures ports { (F.waiting fleet.new ≡ F.waiting fleet.old)
         × (F.kept fleet.new ≡ F.kept fleet.old)
@@ -45,9 +41,10 @@ pub fn agent<K: Sink, F: Fleet>(alloc: Global, guests: u32, fleet: &mut F, sink:
 
 fn write_service<K: Sink>(alloc: Global, service: &Service, sink: &mut K) -> Ending
     ensures own { EndsOwn result }
-    ensures follows { Follows (Ok (service_line service.now)) result (K.written sink.old)
-        (K.written sink.new) }
-    ensures cause { result ≡ Ending.WriteFault → Rose (K.faults sink.old) (K.faults sink.new) }
+    ensures follows { Follows (Ok (service_line service.now)) result (K.told sink.old).written
+        (K.told sink.new).written }
+    ensures cause { result ≡ Ending.WriteFault
+        → Rose (K.told sink.old).faults (K.told sink.new).faults }
 {
     match line_of(alloc, service) {
         Ok(line) => write_text(sink, line.as_str()),

@@ -7,7 +7,7 @@ ghost use Rattle.swanroll_top.specs.Views.{outside};
 use crate::ending::Ending;
 use crate::notes::note;
 use crate::top::{Ended, swanroll};
-use disk_model::Disk;
+use disk_mirror::Openable;
 use order_policy::{Policies, Policy};
 use std::alloc::Global;
 use std::sync::Wait;
@@ -39,7 +39,7 @@ impl From<Unread> for Ending {
 
 /// Does what the program's arguments ask for, of which the first is its own name, and answers its exit
 /// status and the disk. Arguments that aren't text are no command line.
-pub fn start<R: Wait + Threads + Sync, S: Source, K: Sink, D: Disk + Drop + Send, F: Fleet>(
+pub fn start<R: Wait + Threads + Sync, S: Source, K: Sink, D: Openable + Drop + Send, F: Fleet>(
     rt: &R,
     alloc: Global,
     arguments: Result<Vec<String>, Unread>,
@@ -53,8 +53,8 @@ pub fn start<R: Wait + Threads + Sync, S: Source, K: Sink, D: Disk + Drop + Send
 where
     F::Port: Drop + Send,
     ensures { StartPromise (record {
-      source = λ source. record { left = S.left source; faults = S.faults source };
-      sink = λ sink. record { written = K.written sink; faults = K.faults sink };
+      source = S.told;
+      sink = K.told;
       disk = D.told;
       fleet = λ fleet. record {
         ports = ports_of F.waiting F.kept F.lent fleet;
@@ -66,12 +66,7 @@ where
         faults = F.faults fleet;
       };
       port = F.Port.told;
-      guest = record {
-        left = F.Guest.left;
-        written = F.Guest.written;
-        read_faults = F.Guest.Source.faults;
-        write_faults = F.Guest.Sink.faults;
-      };
+      guest = record { source = F.Guest.Source.told; sink = F.Guest.Sink.told };
     }) (answers_in policies.now) arguments (λ all. all.items)
         (outside source.old sink.old notes.old disk fleet.old) result.status
         (outside source.new sink.new notes.new result.disk fleet.new) }

@@ -2,18 +2,21 @@
 
 ghost use Rattle.std.specs.Prelude.{◌≡◌, ◌≢◌, IfSome, IsErrOf, Ok};
 ghost use Rattle.intent_journal.specs.declared.fault.JournalFault.TheVariants as fault;
+ghost use Rattle.disk_mirror.specs.Openings.{IsTold};
 ghost use Rattle.wan_edge.specs.Streams.{Rose};
 ghost use Rattle.rollout_report.specs.Journals.{digest_for};
 ghost use Rattle.swanroll_top.specs.Endings.{status_of};
 ghost use Rattle.swanroll_top.specs.declared.unfinished.Unfinished.{Unfinished};
-ghost use Rattle.swanroll_top.specs.Leavings.{LeavesJournal, LeavesReported};
-ghost use Rattle.swanroll_top.specs.Reports.{EndsJournal, FollowsReported, RunsReport, rollout_in, rollout_to};
+ghost use Rattle.swanroll_top.specs.Leavings.{LeavesJournal};
+ghost use Rattle.swanroll_top.specs.ReportPromise.{ReportsIn, ReportsOn};
+ghost use Rattle.swanroll_top.specs.Reports.{EndsJournal, FollowsReported, rollout_in};
 
 use crate::ending::Ending;
 use crate::reading::read_input;
 use crate::run::Closed;
 use crate::texts::rollout_of;
 use crate::writing::write_text;
+use disk_mirror::Openable;
 use disk_model::Disk;
 use intent_journal::JournalFault;
 use lists::Text;
@@ -24,22 +27,19 @@ use wan_model::CheckedPlan;
 
 /// Reads all of the source, and writes how far the rollout of its document has come by the journal on the
 /// disk.
-pub fn report<S: Source, K: Sink, D: Disk>(
+pub fn report<S: Source, K: Sink, D: Openable>(
     alloc: Global,
     migration: u32,
     source: &mut S,
     sink: &mut K,
     disk: D,
 ) -> Closed<D>
-    ensures runs { RunsReport migration (S.left source.old) (S.left source.new) (D.told disk).bytes
-        result.ending (K.written sink.old) (K.written sink.new) }
-    ensures leaves { IfSome (S.left source.old)
-        (λ input. LeavesReported D.told migration (rollout_to input) (status_of result.ending) disk
-        result.disk) }
+    ensures reports { ReportsOn D.told migration (S.told source.old) (S.told source.new) disk
+        result.disk result.ending (K.told sink.old).written (K.told sink.new).written }
     ensures read_fault { result.ending ≡ Ending.ReadFault
-        → Rose (S.faults source.old) (S.faults source.new) }
+        → Rose (S.told source.old).faults (S.told source.new).faults }
     ensures write_fault { result.ending ≡ Ending.WriteFault
-        → Rose (K.faults sink.old) (K.faults sink.new) }
+        → Rose (K.told sink.old).faults (K.told sink.new).faults }
     ensures disk_fault { result.ending ≡ Ending.DiskFault
         → Rose (D.told disk).faults (D.told result.disk).faults }
     ensures no_guest { result.ending ≢ Ending.GuestFault }
@@ -52,19 +52,17 @@ pub fn report<S: Source, K: Sink, D: Disk>(
     }
 }
 
-fn report_input<K: Sink, D: Disk>(
+fn report_input<K: Sink, D: Openable>(
     alloc: Global,
     migration: u32,
     input: Nums8,
     sink: &mut K,
     disk: D,
 ) -> Closed<D>
-    ensures follows { FollowsReported migration (rollout_in input) (D.told disk).bytes result.ending
-        (K.written sink.old) (K.written sink.new) }
-    ensures leaves { LeavesReported D.told migration (rollout_in input) (status_of result.ending)
-        disk result.disk }
+    ensures reports { ReportsIn D.told migration (rollout_in input) disk result.disk result.ending
+        (K.told sink.old).written (K.told sink.new).written }
     ensures write_fault { result.ending ≡ Ending.WriteFault
-        → Rose (K.faults sink.old) (K.faults sink.new) }
+        → Rose (K.told sink.old).faults (K.told sink.new).faults }
     ensures disk_fault { result.ending ≡ Ending.DiskFault
         → Rose (D.told disk).faults (D.told result.disk).faults }
 {
@@ -74,20 +72,48 @@ fn report_input<K: Sink, D: Disk>(
     }
 }
 
-fn report_plan<K: Sink, D: Disk>(
+/// Opens the disk, and reports the journal that it tells then.
+fn report_plan<K: Sink, D: Openable>(
+    alloc: Global,
+    plan: CheckedPlan,
+    migration: u32,
+    sink: &mut K,
+    mut disk: D,
+) -> Closed<D>
+    ensures reports { ReportsIn D.told migration (Ok plan) disk result.disk result.ending
+        (K.told sink.old).written (K.told sink.new).written }
+    ensures write_fault { result.ending ≡ Ending.WriteFault
+        → Rose (K.told sink.old).faults (K.told sink.new).faults }
+    ensures disk_fault { result.ending ≡ Ending.DiskFault
+        → Rose (D.told disk).faults (D.told result.disk).faults }
+{
+    match disk.open() {
+        Ok(()) => report_opened(alloc, plan, migration, sink, disk),
+        Err(_) => {
+            drop(plan);
+            Closed {
+                ending: Ending::DiskFault,
+                disk,
+            }
+        }
+    }
+}
+
+fn report_opened<K: Sink, D: Disk>(
     alloc: Global,
     plan: CheckedPlan,
     migration: u32,
     sink: &mut K,
     disk: D,
 ) -> Closed<D>
+    requires told { IsTold (D.told disk).bytes }
     ensures follows { FollowsReported migration (Ok plan) (D.told disk).bytes result.ending
-        (K.written sink.old) (K.written sink.new) }
+        (K.told sink.old).written (K.told sink.new).written }
     ensures leaves { IfSome (D.told disk).bytes
         (λ image. LeavesJournal D.told plan (digest_for plan migration) image
         (status_of result.ending) disk result.disk) }
     ensures write_fault { result.ending ≡ Ending.WriteFault
-        → Rose (K.faults sink.old) (K.faults sink.new) }
+        → Rose (K.told sink.old).faults (K.told sink.new).faults }
     ensures disk_fault { result.ending ≡ Ending.DiskFault
         → Rose (D.told disk).faults (D.told result.disk).faults }
 {
@@ -100,9 +126,10 @@ fn report_plan<K: Sink, D: Disk>(
 
 /// Writes a report, or says how the run ends without one.
 fn write_report<K: Sink>(sink: &mut K, report: Result<Text, JournalFault>) -> Ending
-    ensures written { EndsJournal report result (K.written sink.old) (K.written sink.new) }
+    ensures written { EndsJournal report result (K.told sink.old).written
+        (K.told sink.new).written }
     ensures write_fault { result ≡ Ending.WriteFault
-        → Rose (K.faults sink.old) (K.faults sink.new) }
+        → Rose (K.told sink.old).faults (K.told sink.new).faults }
     ensures disk { result ≡ Ending.DiskFault → IsErrOf report fault.Disk }
 {
     match report {

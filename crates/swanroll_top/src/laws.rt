@@ -13,6 +13,7 @@ ghost use Rattle.plan_choose.specs.Choice.{direct_plan, step_plan, most_tried};
 ghost use Rattle.problem_json.specs.Grammar.{problem_in};
 ghost use Rattle.rollout_rules.specs.declared.op.OpView.{OpView};
 ghost use Rattle.agent_service.specs.Services.{Guests};
+ghost use Rattle.wan_edge.specs.Streams.{SourceTrace};
 ghost use Rattle.rollout_run.specs.declared.running.Limits.{Limits};
 ghost use Rattle.swanroll_top.specs.Agents.{ServesAs};
 ghost use Rattle.swanroll_top.specs.Answers.{answer_to};
@@ -20,13 +21,14 @@ ghost use Rattle.rollout_report.specs.Journals.{journal_report};
 ghost use Rattle.swanroll_top.specs.Reports.{rollout_to};
 ghost use Rattle.swanroll_top.specs.Program.{Streams};
 ghost use Rattle.swanroll_top.specs.ReportPromise.{ReportsBy};
+ghost use Rattle.swanroll_top.specs.Runs.{IsInput, TellsInput};
 ghost use Rattle.swanroll_top.specs.TextPromise.{TextPromise};
 ghost use Rattle.swanroll_top.specs.TrialPromise.{TrialPromise};
 ghost use Rattle.swanroll_top.specs.Ready.{CountsNoFault, GoesOnFrom, IsReadyFor};
 ghost use Rattle.swanroll_top.specs.Rollouts.{FleetSeen, RollsAs};
 ghost use Rattle.swanroll_top.specs.Taken.{IsValidDocument, IsValidScript};
 ghost use Rattle.swanroll_top.specs.Targets.{RestsHeld};
-ghost use Rattle.swanroll_top.specs.Words.{TextAsked, a_plan, a_check, a_rehearsal};
+ghost use Rattle.swanroll_top.specs.Words.{TextAsked, a_plan, a_check, the_loads, a_rehearsal};
 ghost use Rattle.sim_run.specs.declared.shape.Shape.{Shape};
 ghost use Rattle.swanroll_top.specs.Tries.{IsShape, tried};
 
@@ -67,21 +69,22 @@ pub fn what_fits_is_planned()
         → IsOk (answer_to a_plan input) }
 {}
 
-/// Every document with a valid plan has an answer of `check`, and every script on one of `sim`, whatever the
-/// policy.
+/// Every document with a valid plan has an answer of `check` and one of `loads`, and every script on one of
+/// `sim`, whatever the policy.
 pub fn what_is_valid_is_answered()
     ensures check { (input : List ℕ) → IsValidDocument input → IsOk (answer_to a_check input) }
+    ensures loads { (input : List ℕ) → IsValidDocument input → IsOk (answer_to the_loads input) }
     ensures sim { (policy : OpView → ℕ) (input : List ℕ)
         → IsValidScript input
         → IsOk (answer_to (a_rehearsal policy) input) }
 {}
 
-/// A run whose source tells its bytes, and whose command has an answer to them, ends with status 0 unless
-/// the source or the sink failed or memory ran out.
+/// A run whose source tells its input, by what it had left or by what was taken of it, and whose command has
+/// an answer to it, ends with status 0 unless the source or the sink failed or memory ran out.
 pub fn an_answer_is_written()
     ensures { (asked : TextAsked) (before after : Streams) (status : ℕ) (input : List ℕ)
         → TextPromise asked before after status
-        → before.left ≡ Some input
+        → TellsInput before.source after.source input
         → IsOk (answer_to asked input)
         → status ≢ 6
         → status ≢ 7
@@ -90,13 +93,13 @@ pub fn an_answer_is_written()
 {}
 
 /// A report ends with status 0 unless the source, the sink or the disk failed or memory ran out, where the
-/// source tells a document with a valid plan, and the disk no journal yet, or one of this rollout with a
-/// legal list.
+/// source tells that its input is a document with a valid plan, and the disk no journal yet, or one of this
+/// rollout with a legal list.
 pub fn a_report_is_written()
     ensures { (migration : ℕ) (before after : Streams) (status : ℕ) (input image : List ℕ)
         (o : Rollout)
         → ReportsBy migration before after status
-        → before.left ≡ Some input
+        → TellsInput before.source after.source input
         → before.stored ≡ Some image
         → rollout_to input ≡ Ok o
         → IsOk (journal_report o migration image)
@@ -126,12 +129,8 @@ pub fn a_trial_is_written()
 pub fn an_agent_ends_well<F: Fleet>()
     ensures { (guests : ℕ) (before now : Guests F.Guest) (status : ℕ)
         (out out_now : Option (List ℕ))
-        → ServesAs (record {
-          left = F.Guest.left;
-          written = F.Guest.written;
-          read_faults = F.Guest.Source.faults;
-          write_faults = F.Guest.Sink.faults;
-        }) guests before now status out out_now
+        → ServesAs (record { source = F.Guest.Source.told; sink = F.Guest.Sink.told }) guests
+        before now status out out_now
         → status ≢ 7
         → status ≢ 9
         → status ≢ 12
@@ -139,17 +138,17 @@ pub fn an_agent_ends_well<F: Fleet>()
 {}
 
 /// A run ends with status 0 unless the source, the sink, the disk, the fleet or a port failed or memory ran
-/// out, where the source tells a document with a valid plan, the disk no journal yet, or one of this rollout
-/// with a legal list, and the fleet for each switch with an operation a port that is ready; where rounds are
-/// given for all that isn't settled; and where the policy holds nothing back. Neither disk, fleet nor port
-/// failed where no count of theirs has risen.
+/// out, where the source tells that its input is a document with a valid plan, the disk no journal yet, or
+/// one of this rollout with a legal list, and the fleet for each switch with an operation a port that is
+/// ready; where rounds are given for all that isn't settled; and where the policy holds nothing back. Neither
+/// disk, fleet nor port failed where no count of theirs has risen.
 pub fn a_run_over_ready_ports_ends_well<D: Disk, F: Fleet>()
-    ensures by_status { (limits : Limits) (policy : OpView → ℕ) (left : Option (List ℕ))
+    ensures by_status { (limits : Limits) (policy : OpView → ℕ) (source source_now : SourceTrace)
         (disk disk_now : D) (before now : FleetSeen F.Port) (status : ℕ)
         (out out_now : Option (List ℕ)) (r : Rollout) (found : History)
-        → RollsAs D.told F.Port.told left limits policy
+        → RollsAs D.told F.Port.told (IsInput source source_now) limits policy
         disk disk_now before now status out out_now
-        → GoesOnFrom limits.migration left (D.told disk).bytes r found
+        → GoesOnFrom limits.migration source source_now (D.told disk).bytes r found
         → IsReadyFor F.Port.told limits policy before.ports.waiting r found
         → status ≢ 6
         → status ≢ 7
@@ -157,12 +156,12 @@ pub fn a_run_over_ready_ports_ends_well<D: Disk, F: Fleet>()
         → status ≢ 9
         → status ≢ 12
         → status ≡ 0 }
-    ensures by_counts { (limits : Limits) (policy : OpView → ℕ) (left : Option (List ℕ))
+    ensures by_counts { (limits : Limits) (policy : OpView → ℕ) (source source_now : SourceTrace)
         (disk disk_now : D) (before now : FleetSeen F.Port) (status : ℕ)
         (out out_now : Option (List ℕ)) (r : Rollout) (found : History)
-        → RollsAs D.told F.Port.told left limits policy
+        → RollsAs D.told F.Port.told (IsInput source source_now) limits policy
         disk disk_now before now status out out_now
-        → GoesOnFrom limits.migration left (D.told disk).bytes r found
+        → GoesOnFrom limits.migration source source_now (D.told disk).bytes r found
         → IsReadyFor F.Port.told limits policy before.ports.waiting r found
         → CountsNoFault F.Port.told (D.told disk).faults (D.told disk_now).faults before now
         → status ≢ 6
@@ -175,10 +174,12 @@ pub fn a_run_over_ready_ports_ends_well<D: Disk, F: Fleet>()
 /// not every operation is settled, none is in flight, and each that may begin is one that the policy holds
 /// back.
 pub fn a_rollout_is_held_by_its_policy_alone<D: Disk, F: Fleet>()
-    ensures { (limits : Limits) (policy : OpView → ℕ) (left : Option (List ℕ)) (disk disk_now : D)
-        (before now : FleetSeen F.Port) (status : ℕ) (out out_now : Option (List ℕ))
-        → RollsAs D.told F.Port.told left limits policy
+    ensures { (limits : Limits) (policy : OpView → ℕ) (source source_now : SourceTrace)
+        (disk disk_now : D) (before now : FleetSeen F.Port) (status : ℕ)
+        (out out_now : Option (List ℕ))
+        → RollsAs D.told F.Port.told (IsInput source source_now) limits policy
         disk disk_now before now status out out_now
         → status ≡ 14
-        → RestsHeld D.told F.Port.told limits policy left disk before.ports now.ports }
+        → RestsHeld D.told F.Port.told limits policy (IsInput source source_now) disk before.ports
+        now.ports }
 {}

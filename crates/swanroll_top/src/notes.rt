@@ -12,13 +12,15 @@ use wan_edge::{Sink, write_all};
 /// want of memory. That the notes fail changes nothing else.
 #[tactic(auto, using(crate::proofs::Programs::telling))]
 pub fn note<K: Sink>(alloc: Global, notes: &mut K, ending: Ending) -> u8
-    ensures told { IsTold ending result (K.written notes.old) (K.written notes.new)
-        (K.faults notes.old) (K.faults notes.new) }
+    ensures told { IsTold ending result (K.told notes.old).written (K.told notes.new).written
+        (K.told notes.old).faults (K.told notes.new).faults }
     ensures quiet { result ≡ 0 → notes.new ≡ notes.old }
 {
     let (told, line) = with_line(alloc, ending);
     write_line(notes, &told, &line);
-    told.status()
+    let status = told.status();
+    drop(told);
+    status
 }
 
 /// The ending with its line, or want of memory in place of an ending whose line finds none.
@@ -27,15 +29,18 @@ fn with_line(alloc: Global, ending: Ending) -> (Ending, Line)
 {
     match ending.line(alloc) {
         Ok(line) => (ending, line),
-        Err(_) => (Ending::OutOfMemory, out_of_memory()),
+        Err(_) => {
+            drop(ending);
+            (Ending::OutOfMemory, out_of_memory())
+        }
     }
 }
 
 /// Writes the line of an ending; nothing where the run is done.
 fn write_line<K: Sink>(notes: &mut K, told: &Ending, line: &Line)
     requires { bytes_of line.now ≡ line_of told.now }
-    ensures line { Notes told.now (K.written notes.old) (K.written notes.new) (K.faults notes.old)
-        (K.faults notes.new) }
+    ensures line { Notes told.now (K.told notes.old).written (K.told notes.new).written
+        (K.told notes.old).faults (K.told notes.new).faults }
     ensures quiet { told.now ≡ Ending.Done → notes.new ≡ notes.old }
 {
     if let Ending::Done = told {

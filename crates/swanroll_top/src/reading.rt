@@ -9,9 +9,9 @@ use wan_edge::{Nums8, Source, read_all};
 
 /// Reads all that the source has left, up to the limit of an input.
 pub fn read_input<S: Source>(alloc: Global, source: &mut S) -> Result<Nums8, Ending>
-    ensures read { ReadsInput (S.left source.old) result (S.left source.new) }
+    ensures read { ReadsInput (S.told source.old) result (S.told source.new) }
     ensures cause { IsErrOf result Ending.ReadFault
-        → Rose (S.faults source.old) (S.faults source.new) }
+        → Rose (S.told source.old).faults (S.told source.new).faults }
 {
     Ok(read_all(alloc, source, MOST_INPUT)?)
 }

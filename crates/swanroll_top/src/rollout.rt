@@ -4,8 +4,8 @@ ghost use Rattle.std.specs.Prelude.{◌≡◌, ◌≢◌, ◌++◌, IfOk};
 ghost use Rattle.order_policy.specs.Answers.{rank_by};
 ghost use Rattle.wan_edge.specs.Streams.{Rose};
 ghost use Rattle.swanroll_top.specs.Reports.{rollout_in};
-ghost use Rattle.swanroll_top.specs.Rollouts.{EndsRollout, FollowsRolled, IsDiskFault, Rolls, RollsIn, RollsOut, RunsRollout, ending_of_stop, finished_line, fleet_of, line_or_ending};
-ghost use Rattle.swanroll_top.specs.Runs.{Follows, Gives};
+ghost use Rattle.swanroll_top.specs.Rollouts.{EndsRollout, FollowsRolled, IsDiskFault, OpensAndRolls, Rolls, RollsIn, RollsOut, RunsRollout, ending_of_stop, finished_line, fleet_of, line_or_ending};
+ghost use Rattle.swanroll_top.specs.Runs.{Follows, Gives, IsInput};
 
 use crate::ending::Ending;
 use crate::reading::read_input;
@@ -14,6 +14,7 @@ use crate::texts::rollout_of;
 use crate::unfinished::Unfinished;
 use crate::writing::write_text;
 use dependency_graph::checked_plan_is_valid;
+use disk_mirror::Openable;
 use disk_model::Disk;
 use lists::{Memory, Text};
 use order_policy::Policy;
@@ -28,7 +29,7 @@ use wan_model::CheckedPlan;
 
 /// Reads all of the source, and runs the rollout of its document within these limits under a policy, from
 /// what the journal on the disk has. A line says how many operations there are.
-pub fn roll_out<R: Wait + Threads + Sync, S: Source, K: Sink, D: Disk + Drop + Send, F: Fleet>(
+pub fn roll_out<R: Wait + Threads + Sync, S: Source, K: Sink, D: Openable + Drop + Send, F: Fleet>(
     rt: &R,
     alloc: Global,
     limits: Limits,
@@ -40,19 +41,20 @@ pub fn roll_out<R: Wait + Threads + Sync, S: Source, K: Sink, D: Disk + Drop + S
 ) -> Closed<D>
 where
     F::Port: Drop + Send,
-    ensures runs { RunsRollout (S.left source.old) (S.left source.new) result.ending
-        (K.written sink.old) (K.written sink.new) }
-    ensures rolls { Rolls D.told F.Port.told (S.left source.old) limits (rank_by policy.now.answers)
-        disk result.disk (fleet_of F.waiting F.kept F.lent F.faults fleet.old)
-        (fleet_of F.waiting F.kept F.lent F.faults fleet.new) result.ending (K.written sink.old)
-        (K.written sink.new) }
+    ensures runs { RunsRollout (S.told source.old) (S.told source.new) result.ending
+        (K.told sink.old).written (K.told sink.new).written }
+    ensures rolls { Rolls D.told F.Port.told (IsInput (S.told source.old) (S.told source.new))
+        limits (rank_by policy.now.answers) disk result.disk
+        (fleet_of F.waiting F.kept F.lent F.faults fleet.old)
+        (fleet_of F.waiting F.kept F.lent F.faults fleet.new) result.ending
+        (K.told sink.old).written (K.told sink.new).written }
     ensures guests { (F.coming fleet.new ≡ F.coming fleet.old)
         × (F.served fleet.new ≡ F.served fleet.old)
         × (F.visiting fleet.new ≡ F.visiting fleet.old) }
     ensures read_fault { result.ending ≡ Ending.ReadFault
-        → Rose (S.faults source.old) (S.faults source.new) }
+        → Rose (S.told source.old).faults (S.told source.new).faults }
     ensures write_fault { result.ending ≡ Ending.WriteFault
-        → Rose (K.faults sink.old) (K.faults sink.new) }
+        → Rose (K.told sink.old).faults (K.told sink.new).faults }
     ensures disk_fault { result.ending ≡ Ending.DiskFault
         → Rose (D.told disk).faults (D.told result.disk).faults }
     ensures others { (result.ending ≢ Ending.Usage) × (result.ending ≢ Ending.GuestFault) }
@@ -63,7 +65,7 @@ where
     }
 }
 
-fn roll_out_input<R: Wait + Threads + Sync, K: Sink, D: Disk + Drop + Send, F: Fleet>(
+fn roll_out_input<R: Wait + Threads + Sync, K: Sink, D: Openable + Drop + Send, F: Fleet>(
     rt: &R,
     alloc: Global,
     limits: Limits,
@@ -75,18 +77,18 @@ fn roll_out_input<R: Wait + Threads + Sync, K: Sink, D: Disk + Drop + Send, F: F
 ) -> Closed<D>
 where
     F::Port: Drop + Send,
-    ensures follows { FollowsRolled (rollout_in input) result.ending (K.written sink.old)
-        (K.written sink.new) }
+    ensures follows { FollowsRolled (rollout_in input) result.ending (K.told sink.old).written
+        (K.told sink.new).written }
     ensures rolls { RollsIn D.told F.Port.told (rollout_in input) limits
         (rank_by policy.now.answers) disk result.disk
         (fleet_of F.waiting F.kept F.lent F.faults fleet.old)
-        (fleet_of F.waiting F.kept F.lent F.faults fleet.new) result.ending (K.written sink.old)
-        (K.written sink.new) }
+        (fleet_of F.waiting F.kept F.lent F.faults fleet.new) result.ending
+        (K.told sink.old).written (K.told sink.new).written }
     ensures guests { (F.coming fleet.new ≡ F.coming fleet.old)
         × (F.served fleet.new ≡ F.served fleet.old)
         × (F.visiting fleet.new ≡ F.visiting fleet.old) }
     ensures write_fault { result.ending ≡ Ending.WriteFault
-        → Rose (K.faults sink.old) (K.faults sink.new) }
+        → Rose (K.told sink.old).faults (K.told sink.new).faults }
     ensures disk_fault { result.ending ≡ Ending.DiskFault
         → Rose (D.told disk).faults (D.told result.disk).faults }
 {
@@ -96,7 +98,45 @@ where
     }
 }
 
-fn roll_out_plan<R: Wait + Threads + Sync, K: Sink, D: Disk + Drop + Send, F: Fleet>(
+/// Opens the disk, and runs the rollout from what it tells then.
+fn roll_out_plan<R: Wait + Threads + Sync, K: Sink, D: Openable + Drop + Send, F: Fleet>(
+    rt: &R,
+    alloc: Global,
+    limits: Limits,
+    policy: &Policy,
+    plan: CheckedPlan,
+    sink: &mut K,
+    mut disk: D,
+    fleet: &mut F,
+) -> Closed<D>
+where
+    F::Port: Drop + Send,
+    ensures rolls { OpensAndRolls D.told F.Port.told plan limits (rank_by policy.now.answers) disk
+        result.disk (fleet_of F.waiting F.kept F.lent F.faults fleet.old)
+        (fleet_of F.waiting F.kept F.lent F.faults fleet.new) result.ending
+        (K.told sink.old).written (K.told sink.new).written }
+    ensures ends { EndsRollout result.ending (K.told sink.old).written (K.told sink.new).written }
+    ensures guests { (F.coming fleet.new ≡ F.coming fleet.old)
+        × (F.served fleet.new ≡ F.served fleet.old)
+        × (F.visiting fleet.new ≡ F.visiting fleet.old) }
+    ensures write_fault { result.ending ≡ Ending.WriteFault
+        → Rose (K.told sink.old).faults (K.told sink.new).faults }
+    ensures disk_fault { result.ending ≡ Ending.DiskFault
+        → Rose (D.told disk).faults (D.told result.disk).faults }
+{
+    match disk.open() {
+        Ok(()) => roll_out_opened(rt, alloc, limits, policy, plan, sink, disk, fleet),
+        Err(_) => {
+            drop(plan);
+            Closed {
+                ending: Ending::DiskFault,
+                disk,
+            }
+        }
+    }
+}
+
+fn roll_out_opened<R: Wait + Threads + Sync, K: Sink, D: Disk + Drop + Send, F: Fleet>(
     rt: &R,
     alloc: Global,
     limits: Limits,
@@ -110,14 +150,14 @@ where
     F::Port: Drop + Send,
     ensures rolls { RollsOut D.told F.Port.told plan limits (rank_by policy.now.answers) disk
         result.disk (fleet_of F.waiting F.kept F.lent F.faults fleet.old)
-        (fleet_of F.waiting F.kept F.lent F.faults fleet.new) result.ending (K.written sink.old)
-        (K.written sink.new) }
-    ensures ends { EndsRollout result.ending (K.written sink.old) (K.written sink.new) }
+        (fleet_of F.waiting F.kept F.lent F.faults fleet.new) result.ending
+        (K.told sink.old).written (K.told sink.new).written }
+    ensures ends { EndsRollout result.ending (K.told sink.old).written (K.told sink.new).written }
     ensures guests { (F.coming fleet.new ≡ F.coming fleet.old)
         × (F.served fleet.new ≡ F.served fleet.old)
         × (F.visiting fleet.new ≡ F.visiting fleet.old) }
     ensures write_fault { result.ending ≡ Ending.WriteFault
-        → Rose (K.faults sink.old) (K.faults sink.new) }
+        → Rose (K.told sink.old).faults (K.told sink.new).faults }
     ensures disk_fault { result.ending ≡ Ending.DiskFault
         → Rose (D.told disk).faults (D.told result.disk).faults }
 {
@@ -131,12 +171,12 @@ where
 
 /// Writes the line of a rollout that is finished, or says how the run ends without one.
 fn write_outcome<K: Sink>(alloc: Global, answer: RunAnswer, sink: &mut K) -> Ending
-    ensures follows { Follows (line_or_ending answer) result (K.written sink.old)
-        (K.written sink.new) }
-    ensures ends { EndsRollout result (K.written sink.old) (K.written sink.new) }
+    ensures follows { Follows (line_or_ending answer) result (K.told sink.old).written
+        (K.told sink.new).written }
+    ensures ends { EndsRollout result (K.told sink.old).written (K.told sink.new).written }
     ensures disk { result ≡ Ending.DiskFault → IsDiskFault answer }
     ensures write_fault { result ≡ Ending.WriteFault
-        → Rose (K.faults sink.old) (K.faults sink.new) }
+        → Rose (K.told sink.old).faults (K.told sink.new).faults }
 {
     match line_of(alloc, answer) {
         Ok(line) => write_text(sink, line.as_str()),
@@ -175,13 +215,17 @@ fn ending_of_stop(plan: CheckedPlan, cause: Cause) -> Ending
             rounds,
             item,
             number,
-        } => Ending::NotFinished(Unfinished::RoundsSpent {
-            rounds,
-            item,
-            number,
-        }),
+        } => {
+            drop(plan);
+            Ending::NotFinished(Unfinished::RoundsSpent {
+                rounds,
+                item,
+                number,
+            })
+        }
         Cause::Port(switch) => Ending::NotFinished(Unfinished::PortFault(plan, switch)),
         Cause::Above { item, held, begun } => {
+            drop(plan);
             Ending::NotFinished(Unfinished::Above { item, held, begun })
         }
         Cause::NotMine { switch, item } => {
@@ -191,6 +235,9 @@ fn ending_of_stop(plan: CheckedPlan, cause: Cause) -> Ending
             Ending::NotFinished(Unfinished::NoAnswer(plan, switch, byte))
         }
         Cause::Disk => Ending::DiskFault,
-        Cause::Memory => Ending::OutOfMemory,
+        Cause::Memory => {
+            drop(plan);
+            Ending::OutOfMemory
+        }
     }
 }

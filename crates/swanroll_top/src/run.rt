@@ -19,7 +19,7 @@ use crate::texts::text_of;
 use crate::trial::trial;
 use crate::words::{Command, TextCommand};
 use crate::writing::write_text;
-use disk_model::Disk;
+use disk_mirror::Openable;
 use std::alloc::Global;
 use std::sync::Wait;
 use std::thread::Threads;
@@ -33,7 +33,7 @@ pub struct Closed<D> {
 }
 
 /// Does what a command line asks for.
-pub fn run<R: Wait + Threads + Sync, S: Source, K: Sink, D: Disk + Drop + Send, F: Fleet>(
+pub fn run<R: Wait + Threads + Sync, S: Source, K: Sink, D: Openable + Drop + Send, F: Fleet>(
     rt: &R,
     alloc: Global,
     command: Command<'_>,
@@ -46,8 +46,8 @@ where
     F::Port: Drop + Send,
     requires { IsAskedShape (asked command) }
     ensures { Ran (record {
-      source = λ source. record { left = S.left source; faults = S.faults source };
-      sink = λ sink. record { written = K.written sink; faults = K.faults sink };
+      source = S.told;
+      sink = K.told;
       disk = D.told;
       fleet = λ fleet. record {
         ports = ports_of F.waiting F.kept F.lent fleet;
@@ -59,12 +59,7 @@ where
         faults = F.faults fleet;
       };
       port = F.Port.told;
-      guest = record {
-        left = F.Guest.left;
-        written = F.Guest.written;
-        read_faults = F.Guest.Source.faults;
-        write_faults = F.Guest.Sink.faults;
-      };
+      guest = record { source = F.Guest.Source.told; sink = F.Guest.Sink.told };
     }) (asked command.entry)
         (objects source.old sink.old disk fleet.old) result.ending
         (objects source.new sink.new result.disk fleet.new) }
@@ -96,12 +91,12 @@ fn run_text<S: Source, K: Sink>(
     source: &mut S,
     sink: &mut K,
 ) -> Ending
-    ensures runs { Runs (text_asked command.entry) (S.left source.old) (S.left source.new) result
-        (K.written sink.old) (K.written sink.new) }
+    ensures runs { Runs (text_asked command.entry) (S.told source.old) (S.told source.new) result
+        (K.told sink.old).written (K.told sink.new).written }
     ensures read_fault { result ≡ Ending.ReadFault
-        → Rose (S.faults source.old) (S.faults source.new) }
+        → Rose (S.told source.old).faults (S.told source.new).faults }
     ensures write_fault { result ≡ Ending.WriteFault
-        → Rose (K.faults sink.old) (K.faults sink.new) }
+        → Rose (K.told sink.old).faults (K.told sink.new).faults }
     ensures no_disk { result ≢ Ending.DiskFault }
     ensures no_guest { result ≢ Ending.GuestFault }
     ensures no_rollout { (u : Unfinished) → result ≢ Ending.NotFinished u }
@@ -120,8 +115,9 @@ fn write_answer<K: Sink>(
     sink: &mut K,
 ) -> Ending
     ensures follows { Follows (answer_in (text_asked command.entry) input) result
-        (K.written sink.old) (K.written sink.new) }
-    ensures cause { result ≡ Ending.WriteFault → Rose (K.faults sink.old) (K.faults sink.new) }
+        (K.told sink.old).written (K.told sink.new).written }
+    ensures cause { result ≡ Ending.WriteFault
+        → Rose (K.told sink.old).faults (K.told sink.new).faults }
     ensures safe { result ≡ Ending.Done → DoesSafely (text_asked command.entry) input }
 {
     match text_of(alloc, command, input) {

@@ -2,6 +2,7 @@
 
 mod check;
 mod checking;
+mod loads;
 mod plan;
 mod sim;
 
@@ -27,6 +28,7 @@ pub fn text_of(alloc: Global, command: TextCommand<'_>, input: Nums8) -> Result<
     match command {
         TextCommand::Plan => plan::plan(alloc, input),
         TextCommand::Check => check::check(alloc, input),
+        TextCommand::Loads => loads::loads(alloc, input),
         TextCommand::Sim(policy) => sim::sim(alloc, policy, input),
     }
 }

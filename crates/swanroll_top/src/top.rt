@@ -8,7 +8,7 @@ use crate::ending::Ending;
 use crate::notes::note;
 use crate::run::{Closed, run};
 use crate::words::command_of;
-use disk_model::Disk;
+use disk_mirror::Openable;
 use order_policy::{Policies, Policy};
 use std::alloc::Global;
 use std::sync::Wait;
@@ -24,10 +24,11 @@ pub struct Ended<D> {
 
 /// Does all that the program does, and answers its exit status and the disk of the journal. The policies
 /// are those that the words may name. A command leaves each of source, disk and fleet that it doesn't name
-/// as it was: `plan`, `check` and `sim` name the source, `report` the source and the disk, `run` all three,
-/// `agent` the fleet, whose ports it leaves and whose guests it gives back, and `trial` none. `report` keeps
-/// the journal's list on the disk. Each command's own promise has a file of its own in `specs`: what `run` does
-/// with disk and ports is in `RunPromise`.
+/// as it was: `plan`, `check`, `loads` and `sim` name the source, `report` the source and the disk, `run` all
+/// three, `agent` the fleet, whose ports it leaves and whose guests it gives back, and `trial` none. `report`
+/// keeps the journal's list on the disk. `report` and `run` open the disk once their input is judged, and what
+/// they promise of it is said of the disk as it was opened. Each command's own promise has a file of its own
+/// in `specs`: what `run` does with disk and ports is in `RunPromise`.
 ///
 /// | Status | Comes |
 /// |---|---|
@@ -44,7 +45,7 @@ pub struct Ended<D> {
 /// | 11 | `run`: a switch told what can't be |
 /// | 12 | memory ran out |
 /// | 14 | `run`: the policy holds back all that is left |
-pub fn swanroll<R: Wait + Threads + Sync, S: Source, K: Sink, D: Disk + Drop + Send, F: Fleet>(
+pub fn swanroll<R: Wait + Threads + Sync, S: Source, K: Sink, D: Openable + Drop + Send, F: Fleet>(
     rt: &R,
     alloc: Global,
     words: &[String],
@@ -58,8 +59,8 @@ pub fn swanroll<R: Wait + Threads + Sync, S: Source, K: Sink, D: Disk + Drop + S
 where
     F::Port: Drop + Send,
     ensures { Promise (record {
-      source = λ source. record { left = S.left source; faults = S.faults source };
-      sink = λ sink. record { written = K.written sink; faults = K.faults sink };
+      source = S.told;
+      sink = K.told;
       disk = D.told;
       fleet = λ fleet. record {
         ports = ports_of F.waiting F.kept F.lent fleet;
@@ -71,12 +72,7 @@ where
         faults = F.faults fleet;
       };
       port = F.Port.told;
-      guest = record {
-        left = F.Guest.left;
-        written = F.Guest.written;
-        read_faults = F.Guest.Source.faults;
-        write_faults = F.Guest.Sink.faults;
-      };
+      guest = record { source = F.Guest.Source.told; sink = F.Guest.Sink.told };
     }) (asked_by (answers_in policies.now) words.now)
         (outside source.old sink.old notes.old disk fleet.old) result.status
         (outside source.new sink.new notes.new result.disk fleet.new) }

@@ -21,9 +21,9 @@ use wan_edge::Sink;
 pub fn trial<K: Sink>(alloc: Global, shape: &Shape, policy: &Policy, sink: &mut K) -> Ending
     requires { IsShape shape.now }
     ensures follows { Follows (tried (rank_by policy.now.answers) shape.now) result
-        (K.written sink.old) (K.written sink.new) }
+        (K.told sink.old).written (K.told sink.new).written }
     ensures write_fault { result ≡ Ending.WriteFault
-        → Rose (K.faults sink.old) (K.faults sink.new) }
+        → Rose (K.told sink.old).faults (K.told sink.new).faults }
     ensures no_rollout { (u : Unfinished) → result ≢ Ending.NotFinished u }
     ensures others { (result ≢ Ending.Usage)
         × (result ≢ Ending.ReadFault)

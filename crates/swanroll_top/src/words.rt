@@ -48,6 +48,7 @@ pub enum Command<'a> {
 pub enum TextCommand<'a> {
     Plan,
     Check,
+    Loads,
     /// A rehearsal under a policy.
     Sim(&'a Policy),
 }
@@ -57,6 +58,7 @@ pub enum TextCommand<'a> {
 pub enum Kind {
     Plan,
     Check,
+    Loads,
     Sim,
     Report,
     Agent,
@@ -84,6 +86,7 @@ fn kind_named(word: &str) -> Option<Kind>
     match word {
         "plan" => Some(Kind::Plan),
         "check" => Some(Kind::Check),
+        "loads" => Some(Kind::Loads),
         "sim" => Some(Kind::Sim),
         "report" => Some(Kind::Report),
         "agent" => Some(Kind::Agent),
@@ -108,6 +111,7 @@ fn command_with<'a>(
     match kind {
         Kind::Plan => Some(Command::Text(TextCommand::Plan)),
         Kind::Check => Some(Command::Text(TextCommand::Check)),
+        Kind::Loads => Some(Command::Text(TextCommand::Loads)),
         Kind::Sim => Some(Command::Text(TextCommand::Sim(policy_of(pairs, policies)?))),
         Kind::Report => Some(Command::Report(migration_of(pairs)?)),
         Kind::Agent => Some(Command::Agent(guests_of(pairs)?)),
@@ -121,7 +125,7 @@ fn takes(kind: Kind, name: &str) -> bool
     ensures { result ≡ list_any (bytes_eq name.now) (names_of kind) }
 {
     match kind {
-        Kind::Plan | Kind::Check => false,
+        Kind::Plan | Kind::Check | Kind::Loads => false,
         Kind::Sim => name == "--policy",
         Kind::Report => name == "--migration",
         Kind::Agent => name == "--guests",

@@ -5,13 +5,14 @@ ghost use Rattle.rollout_rules.specs.Worked.{fresh};
 ghost use Rattle.switch_laws.specs.Worked.{two_flows};
 ghost use Rattle.completion_laws.specs.Worked.{begun_one};
 ghost use Rattle.swanroll_top.specs.Ready.{CountsNoFault, IsReadyFor};
-ghost use Rattle.swanroll_top.specs.Words.{a_plan, a_check, a_rehearsal, a_report, a_text, a_trial, an_agent, asked_in};
+ghost use Rattle.swanroll_top.specs.Words.{a_plan, a_check, the_loads, a_rehearsal, a_report, a_text, a_trial, an_agent, asked_in};
 ghost use Rattle.swanroll_top.specs.Worked.{answered_once, by_item, chain_first, failed_once, fleet_with, in_rounds, itself, never_used, none_begins, two_policies, unanswered, waiting_at_first};
 
 /// A command alone, and a rehearsal under the policy that is named.
 pub fn command_lines()
     ensures plan { asked_in two_policies (codes "plan" ∷ []) ≡ Some (a_text a_plan) }
     ensures check { asked_in two_policies (codes "check" ∷ []) ≡ Some (a_text a_check) }
+    ensures loads { asked_in two_policies (codes "loads" ∷ []) ≡ Some (a_text the_loads) }
     ensures sim { asked_in two_policies (codes "sim" ∷ [])
         ≡ Some (a_text (a_rehearsal chain_first)) }
     ensures critical { asked_in two_policies
@@ -42,6 +43,9 @@ pub fn words_with_a_wrong_name()
     ensures other { asked_in two_policies (codes "sim" ∷ codes "--k" ∷ codes "3" ∷ []) ≡ None }
     ensures of_another { asked_in two_policies
         (codes "plan" ∷ codes "--policy" ∷ codes "order" ∷ [])
+        ≡ None }
+    ensures of_none { asked_in two_policies
+        (codes "loads" ∷ codes "--policy" ∷ codes "order" ∷ [])
         ≡ None }
     ensures bare { asked_in two_policies (codes "sim" ∷ codes "policy" ∷ codes "order" ∷ [])
         ≡ None }

@@ -7,8 +7,10 @@ use wan_edge::{Sink, write_all};
 
 /// Writes all of a text.
 pub fn write_text<K: Sink>(sink: &mut K, text: &str) -> Ending
-    ensures written { EndsWith (Ok text.now) result (K.written sink.old) (K.written sink.new) }
-    ensures cause { result ≡ Ending.WriteFault → Rose (K.faults sink.old) (K.faults sink.new) }
+    ensures written { EndsWith (Ok text.now) result (K.told sink.old).written
+        (K.told sink.new).written }
+    ensures cause { result ≡ Ending.WriteFault
+        → Rose (K.told sink.old).faults (K.told sink.new).faults }
 {
     match write_all(sink, text.as_bytes()) {
         Ok(()) => Ending::Done,

@@ -3,26 +3,22 @@ use Rattle.std.proofs.Common.{◌≡◌, ℕ, ◌+◌, ◌-◌, ◌≤◌, List,
 use Rattle.std.proofs.lemmas.List.{append-nil, take_all}
 use Rattle.std.proofs.lemmas.List.Elements.{All-nil}
 use Rattle.wan_edge.specs.Frames.{CommandFrame, IsCommand, IsCutCommand, command_bytes}
-use Rattle.wan_edge.specs.Streams.{Appends, TakesFrom}
+use Rattle.wan_edge.specs.Streams.{Appends, SourceTrace, Takes}
 use Rattle.wire_frames.specs.Reading.{GoesOn, IsCommandFault, Reader, Reads}
 use Rattle.wire_frames.specs.declared.fault.FrameFault.{FrameFault}
 use Rattle.switch_agent.specs.Items.{Items, holding, seen}
 use Rattle.switch_agent.specs.Serving.{CarriesOut, Ends, IsOwnFault, ReadsSo, ServesGuest, most}
 use Rattle.switch_agent.specs.declared.serve_fault.ServeFault.{ServeFault}
 use Rattle.switch_agent.specs.declared.serve_fault.ServeFault.TheVariants.{Frame, Long, Memory, Read, Write}
-use Rattle.wan_edge.proofs.Chains.{TakesFrom-chain}
+use Rattle.wan_edge.proofs.Chains.{Takes-chain, Takes-nothing}
 use Rattle.switch_agent.proofs.Chains.{carried_with_more, carry_on}
 
 -- these bytes were read, and the commands at their front carried out and answered
-pub record ServedSoFar (before now : Items) (left left_now : Option (List ℕ)) (kept : List ℕ) (commands room : ℕ) (written written_now : Option (List ℕ)) : Type 0 where
+pub record ServedSoFar (before now : Items) (source source_now : SourceTrace) (kept : List ℕ) (commands room : ℕ) (written written_now : Option (List ℕ)) : Type 0 where
   pub bytes : List ℕ
-  pub taken : TakesFrom left bytes left_now
+  pub takes : Takes bytes source source_now
   pub so_many : length bytes + room ≡ most
   pub carried : CarriesOut before now bytes (record { commands = commands; fault = None }) (λ rest. rest ≡ kept) written written_now
-
-takes_nothing : (left : Option (List ℕ)) → TakesFrom left [] left
-takes_nothing None = refl
-takes_nothing (Some bytes) = refl
 
 pub appends_nothing : (written : Option (List ℕ)) → Appends written [] written
 appends_nothing None = refl
@@ -32,10 +28,10 @@ appends_nothing (Some bytes) = ap some (sym (append-nil bytes))
     some xs = Some xs
 
 -- before the first read
-pub nothing_served : (items : Items) (left written : Option (List ℕ)) (kept : List ℕ) → kept ≡ [] → ServedSoFar items items left left kept 0 most written written
-nothing_served items left written kept empty = record {
+pub nothing_served : (items : Items) (source : SourceTrace) (written : Option (List ℕ)) (kept : List ℕ) → kept ≡ [] → ServedSoFar items items source source kept 0 most written written
+nothing_served items source written kept empty = record {
   bytes = [];
-  taken = takes_nothing left;
+  takes = Takes-nothing source;
   so_many = refl;
   carried = record {
     commands = [];
@@ -55,30 +51,30 @@ within_most Write count left own few = few
 within_most Long count left own few = absurd own
 within_most Memory count left own few = few
 
-module _ (before a b : Items) (left left1 left2 : Option (List ℕ)) (kept kept_now piece : List ℕ) (m n count room : ℕ) (w w1 w2 : Option (List ℕ))
-    (so_far : ServedSoFar before a left left1 kept m room w w1) (taken : TakesFrom left1 piece left2) (long : length piece ≡ n) (fits : n ≤ room) where
+module _ (before a b : Items) (source source1 source2 : SourceTrace) (kept kept_now piece : List ℕ) (m n count room : ℕ) (w w1 w2 : Option (List ℕ))
+    (so_far : ServedSoFar before a source source1 kept m room w w1) (takes : Takes piece source1 source2) (long : length piece ≡ n) (fits : n ≤ room) where
   more_bytes : length (so_far.bytes ++ piece) + (room - n) ≡ most
   more_bytes = omega (arith, length-append so_far.bytes piece, so_far.so_many, long)
 
   -- one piece more was read and served
-  pub served_more : CarriesOut a b (kept ++ piece) (record { commands = count; fault = None }) (λ rest. rest ≡ kept_now) w1 w2 → ServedSoFar before b left left2 kept_now (m + count) (room - n) w w2
+  pub served_more : CarriesOut a b (kept ++ piece) (record { commands = count; fault = None }) (λ rest. rest ≡ kept_now) w1 w2 → ServedSoFar before b source source2 kept_now (m + count) (room - n) w w2
   served_more carried = record {
     bytes = so_far.bytes ++ piece;
-    taken = TakesFrom-chain left left1 left2 so_far.bytes piece so_far.taken taken;
+    takes = Takes-chain source source1 source2 so_far.bytes piece so_far.takes takes;
     so_many = more_bytes;
     carried = carry_on before a b so_far.bytes kept piece m count None (λ rest. rest ≡ kept_now) w w1 w2 so_far.carried carried;
   }
 
   -- in the next piece a fault came
   pub served_until : (fault : ServeFault) → IsOwnFault fault → CarriesOut a b (kept ++ piece) (record { commands = count; fault = Some fault }) (λ rest. rest ≡ kept_now) w1 w2
-      → ServesGuest before b left left2 (record { commands = m + count; fault = Some fault }) w w2
+      → ServesGuest before b source source2 (record { commands = m + count; fault = Some fault }) w w2
   served_until fault own carried =
       let on = carry_on before a b so_far.bytes kept piece m count (Some fault) (λ rest. rest ≡ kept_now) w w1 w2 so_far.carried carried in
       let all = carried_with_more before b (so_far.bytes ++ piece) [] (m + count) fault (λ rest. rest ≡ kept_now) IsCutCommand w w2 own on in
       record {
         bytes = so_far.bytes ++ piece;
-        taken = TakesFrom-chain left left1 left2 so_far.bytes piece so_far.taken taken;
-        so_many = within_most fault (length (so_far.bytes ++ piece)) left2 own (omega (arith, more_bytes));
+        takes = Takes-chain source source1 source2 so_far.bytes piece so_far.takes takes;
+        so_many = within_most fault (length (so_far.bytes ++ piece)) source2.left own (omega (arith, more_bytes));
         carried = subst (λ (bytes : List ℕ). CarriesOut before b bytes (record { commands = m + count; fault = Some fault }) IsCutCommand w w2) (append-nil (so_far.bytes ++ piece)) all;
       }
 

@@ -2,7 +2,7 @@
 use Rattle.std.specs.Prelude.{◌≡◌, ℕ, ◌<◌, ◌≤◌, ◌++◌, List, length, false, Option, Some, None, ◌==◌, ◌||◌, Bool, [], ◌∷◌}
 use Rattle.std.specs.List.{flat_map}
 use Rattle.wan_edge.specs.Frames.{CommandFrame, IsCommand, IsCutCommand, Splits, answer_bytes, command_bytes}
-use Rattle.wan_edge.specs.Streams.{Appends, AppendsPart, IsAtEnd, TakesFrom}
+use Rattle.wan_edge.specs.Streams.{Appends, AppendsPart, IsAtEnd, SourceTrace, Takes}
 use Rattle.wan_edge.specs.Switches.{Holdings, after_commands, answers_to}
 use Rattle.wire_frames.specs.Reading.{IsCommandFault}
 use Rattle.switch_agent.specs.Items.{Items, holding, seen}
@@ -70,8 +70,8 @@ ReadsSo (Some Long) count left = count ≡ most
 ReadsSo (Some Memory) count left = count ≤ most
 
 -- These bytes of the guest were read, and the commands at their front carried out and answered.
-pub record ServesGuest (before now : Items) (left left_now : Option (List ℕ)) (served : Served) (written written_now : Option (List ℕ)) : Type 0 where
+pub record ServesGuest (before now : Items) (source source_now : SourceTrace) (served : Served) (written written_now : Option (List ℕ)) : Type 0 where
   pub bytes : List ℕ
-  pub taken : TakesFrom left bytes left_now
-  pub so_many : ReadsSo served.fault (length bytes) left_now
+  pub takes : Takes bytes source source_now
+  pub so_many : ReadsSo served.fault (length bytes) source_now.left
   pub carried : CarriesOut before now bytes served IsCutCommand written written_now

@@ -2,7 +2,7 @@ ghost use Rattle.std.specs.Prelude.{◌≡◌, ◌<◌, ◌≤◌, ◌++◌, [],
 ghost use Rattle.switch_agent.specs.Serving.{CarriesOut, IsOwnFault, ServesGuest};
 ghost use Rattle.switch_agent.specs.declared.serve_fault.ServeFault.TheVariants as fault;
 ghost use Rattle.wan_edge.specs.Frames.{IsCommand, IsCutCommand, answer_bytes, command_bytes};
-ghost use Rattle.wan_edge.specs.Streams.{KeepsTelling, Rose};
+ghost use Rattle.wan_edge.specs.Streams.{Rose, SinkSteps, SourceSteps};
 
 use crate::{Agent, ServeFault, Served};
 use wan_edge::{Guest, write_all};
@@ -17,16 +17,15 @@ const BUFFER: usize = 4_096;
 /// Reads the guest to its end, and carries out and answers each command in order. A command that is cut
 /// off at the end is dropped.
 pub fn serve_bytes<G: Guest>(agent: &mut Agent, guest: &mut G) -> Served
-    ensures served { ServesGuest agent.old agent.new (G.left guest.old) (G.left guest.new) result
-        (G.written guest.old) (G.written guest.new) }
+    ensures served { ServesGuest agent.old agent.new (G.Source.told guest.old)
+        (G.Source.told guest.new) result (G.Sink.told guest.old).written
+        (G.Sink.told guest.new).written }
     ensures read_cause { result.fault ≡ Some fault.Read
-        → Rose (G.Source.faults guest.old) (G.Source.faults guest.new) }
+        → Rose (G.Source.told guest.old).faults (G.Source.told guest.new).faults }
     ensures write_cause { result.fault ≡ Some fault.Write
-        → Rose (G.Sink.faults guest.old) (G.Sink.faults guest.new) }
-    ensures counts { (G.Source.faults guest.old ≤ G.Source.faults guest.new)
-        × (G.Sink.faults guest.old ≤ G.Sink.faults guest.new) }
-    ensures told { KeepsTelling (G.left guest.old) (G.left guest.new)
-        × KeepsTelling (G.written guest.old) (G.written guest.new) }
+        → Rose (G.Sink.told guest.old).faults (G.Sink.told guest.new).faults }
+    ensures reads { SourceSteps (G.Source.told guest.old) (G.Source.told guest.new) }
+    ensures writes { SinkSteps (G.Sink.told guest.old) (G.Sink.told guest.new) }
 {
     let mut buffer = [0; BUFFER];
     let mut reader = CommandReader::new();
@@ -69,17 +68,16 @@ fn serve_piece<G: Guest>(
     requires live { IsTrue reader.old.live }
     requires cut { IsCutCommand reader.old.kept }
     ensures carried { CarriesOut agent.old agent.new (reader.old.kept ++ piece.now) result
-        (λ rest. rest ≡ reader.new.kept) (G.written guest.old) (G.written guest.new) }
+        (λ rest. rest ≡ reader.new.kept) (G.Sink.told guest.old).written
+        (G.Sink.told guest.new).written }
     ensures few { result.commands ≤ length piece.now }
     ensures own { IfSome result.fault IsOwnFault }
     ensures live { result.fault ≡ None → IsTrue reader.new.live }
     ensures cut { result.fault ≡ None → IsCutCommand reader.new.kept }
     ensures write_cause { result.fault ≡ Some fault.Write
-        → Rose (G.Sink.faults guest.old) (G.Sink.faults guest.new) }
-    ensures counts { G.Sink.faults guest.old ≤ G.Sink.faults guest.new }
-    ensures told { KeepsTelling (G.written guest.old) (G.written guest.new) }
-    ensures unread { (G.left guest.new ≡ G.left guest.old)
-        × (G.Source.faults guest.new ≡ G.Source.faults guest.old) }
+        → Rose (G.Sink.told guest.old).faults (G.Sink.told guest.new).faults }
+    ensures writes { SinkSteps (G.Sink.told guest.old) (G.Sink.told guest.new) }
+    ensures unread { G.Source.told guest.new ≡ G.Source.told guest.old }
 {
     let mut commands = 0;
     let mut rest = piece;
@@ -109,17 +107,16 @@ fn serve_next<G: Guest>(
     requires some { 0 < length piece.now }
     ensures taken { (0 < result.0) × (result.0 ≤ length piece.now) }
     ensures carried { CarriesOut agent.old agent.new (reader.old.kept ++ take result.0 piece.now)
-        result.1 (λ rest. rest ≡ reader.new.kept) (G.written guest.old) (G.written guest.new) }
+        result.1 (λ rest. rest ≡ reader.new.kept) (G.Sink.told guest.old).written
+        (G.Sink.told guest.new).written }
     ensures few { result.1.commands ≤ 1 }
     ensures own { IfSome result.1.fault IsOwnFault }
     ensures live { result.1.fault ≡ None → IsTrue reader.new.live }
     ensures cut { result.1.fault ≡ None → IsCutCommand reader.new.kept }
     ensures write_cause { result.1.fault ≡ Some fault.Write
-        → Rose (G.Sink.faults guest.old) (G.Sink.faults guest.new) }
-    ensures counts { G.Sink.faults guest.old ≤ G.Sink.faults guest.new }
-    ensures told { KeepsTelling (G.written guest.old) (G.written guest.new) }
-    ensures unread { (G.left guest.new ≡ G.left guest.old)
-        × (G.Source.faults guest.new ≡ G.Source.faults guest.old) }
+        → Rose (G.Sink.told guest.old).faults (G.Sink.told guest.new).faults }
+    ensures writes { SinkSteps (G.Sink.told guest.old) (G.Sink.told guest.new) }
+    ensures unread { G.Source.told guest.new ≡ G.Source.told guest.old }
 {
     match reader.feed(piece) {
         Ok((n, Some((migration, command)))) => (n, answer(agent, guest, migration, &command)),
@@ -141,15 +138,13 @@ fn serve_next<G: Guest>(
 fn answer<G: Guest>(agent: &mut Agent, guest: &mut G, migration: u32, command: &Command) -> Served
     requires { IsCommand (migration, command.now) }
     ensures carried { CarriesOut agent.old agent.new (command_bytes (migration, command.now)) result
-        (λ rest. rest ≡ []) (G.written guest.old) (G.written guest.new) }
+        (λ rest. rest ≡ []) (G.Sink.told guest.old).written (G.Sink.told guest.new).written }
     ensures few { result.commands ≤ 1 }
     ensures own { IfSome result.fault IsOwnFault }
     ensures write_cause { result.fault ≡ Some fault.Write
-        → Rose (G.Sink.faults guest.old) (G.Sink.faults guest.new) }
-    ensures counts { G.Sink.faults guest.old ≤ G.Sink.faults guest.new }
-    ensures told { KeepsTelling (G.written guest.old) (G.written guest.new) }
-    ensures unread { (G.left guest.new ≡ G.left guest.old)
-        × (G.Source.faults guest.new ≡ G.Source.faults guest.old) }
+        → Rose (G.Sink.told guest.old).faults (G.Sink.told guest.new).faults }
+    ensures writes { SinkSteps (G.Sink.told guest.old) (G.Sink.told guest.new) }
+    ensures unread { G.Source.told guest.new ≡ G.Source.told guest.old }
 {
     let bytes = match agent.apply(migration, command) {
         Ok(given) => bytes_of(&given),

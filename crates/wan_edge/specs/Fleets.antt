@@ -1,6 +1,7 @@
 -- Ports by the number of their switch, and guests in a row: what a fleet gives, and takes back.
-use Rattle.std.specs.Prelude.{◌≡◌, ℕ, ◌==◌, List, ◌∷◌, Bool, Option, Some, None, if◌then◌else◌}
-use Rattle.wan_edge.specs.Ports.{PortTrace}
+use Rattle.std.specs.Prelude.{◌≡◌, ℕ, ◌==◌, List, [], ◌∷◌, Bool, Option, Some, None, IfSome, if◌then◌else◌}
+use Rattle.wan_edge.specs.Ports.{IsNew, PortTrace}
+use Rattle.wan_edge.specs.Streams.{SinkTrace, SourceTrace}
 
 -- what stands at each number, the one at this number taken away
 abbrev pub without : {X : Type 0} → (ℕ → Option X) → ℕ → ℕ → Option X
@@ -14,12 +15,19 @@ with_one places number x = λ n. if n == number then Some x else places n
 abbrev pub marked : (ℕ → Bool) → ℕ → Bool → ℕ → Bool
 marked marks number mark = λ n. if n == number then mark else marks n
 
--- The port given is the one that waited for the switch, which waits no more. Where it is not told what waits, the port has not failed yet.
+-- The port given is the one that waited for the switch, which waits no more. Where it is not told what waits, the port is new.
 abbrev pub GivesPort : {P : Type 0} → (P → PortTrace) → Option (ℕ → Option P) → ℕ → P → Option (ℕ → Option P) → Type 0
-GivesPort tell None switch port now = (now ≡ None) × ((tell port).faults ≡ 0)
+GivesPort tell None switch port now = (now ≡ None) × IsNew (tell port)
 GivesPort tell (Some waiting) switch port now = (waiting switch ≡ Some port) × (now ≡ Some (without waiting switch))
 
--- The guest given is the first of those to come. Where these are not told, it has not failed yet, neither as a source nor as a sink.
-abbrev pub GivesGuest : {G : Type 0} → (G → ℕ) → (G → ℕ) → Option (List G) → G → Option (List G) → Type 0
-GivesGuest source_faults sink_faults None guest now = (now ≡ None) × (source_faults guest ≡ 0) × (sink_faults guest ≡ 0)
-GivesGuest source_faults sink_faults (Some coming) guest now = (later : List _) × (coming ≡ guest ∷ later) × (now ≡ Some later)
+-- A new guest: it has not failed yet, neither as a source nor as a sink, and nothing was read of it or written to it, where that is told.
+pub record IsNewGuest (source : SourceTrace) (sink : SinkTrace) : Type 0 where
+  pub read_faults : source.faults ≡ 0
+  pub write_faults : sink.faults ≡ 0
+  pub taken : IfSome source.taken (λ bytes. bytes ≡ [])
+  pub written : IfSome sink.written (λ bytes. bytes ≡ [])
+
+-- The guest given is the first of those to come. Where these are not told, it is new.
+abbrev pub GivesGuest : {G : Type 0} → (G → SourceTrace) → (G → SinkTrace) → Option (List G) → G → Option (List G) → Type 0
+GivesGuest source sink None guest now = (now ≡ None) × IsNewGuest (source guest) (sink guest)
+GivesGuest source sink (Some coming) guest now = (later : List _) × (coming ≡ guest ∷ later) × (now ≡ Some later)

@@ -1,6 +1,6 @@
 -- What a port tells, which ports keep to the agent rule, and what becomes of what is told in a call and in any number of them. What a port tells is
 -- Some, and what it does not tell is None.
-use Rattle.std.specs.Prelude.{◌≡◌, ◌⊎◌, ℕ, ◌-◌, ◌<◌, ◌≤◌, Bool, List, ◌++◌, length, take, true, All, Option, Some, IfSome}
+use Rattle.std.specs.Prelude.{◌≡◌, ◌⊎◌, ℕ, ◌-◌, ◌<◌, ◌≤◌, Bool, List, [], ◌++◌, length, take, true, All, Option, Some, IfSome}
 use Rattle.std.specs.Bool.{OnTrue}
 use Rattle.std.specs.List.{flat_map}
 use Rattle.rollout_rules.specs.Agent.{is_at_most}
@@ -19,6 +19,12 @@ pub record PortTrace : Type 0 where
   pub honest : Bool
   pub prompt : Bool
   pub start : Holdings
+
+-- A new port: no call of it has failed, and nothing has gone over it in either direction, where that is told.
+pub record IsNew (port : PortTrace) : Type 0 where
+  pub faults : port.faults ≡ 0
+  pub offered : IfSome port.offered (λ bytes. bytes ≡ [])
+  pub heard : IfSome port.heard (λ bytes. bytes ≡ [])
 
 -- some of the bytes were appended from the front, perhaps all of them
 pub record AppendsFront (before : Option (List ℕ)) (bytes : List ℕ) (now : Option (List ℕ)) : Type 0 where

@@ -35,7 +35,8 @@ pub trait Fleet {
     /// How often a call has failed.
     ghost faults: { Self → ℕ };
 
-    /// Opens the connection to a switch.
+    /// Opens the connection to a switch. Where it isn't told what waits, the port is new: no call of it has
+    /// failed, and nothing has gone over it.
     fn port(&mut self, switch: u32, name: &str) -> Result<Self::Port, Failed>
         ensures given { IfOk result
             (λ p. GivesPort Self.Port.told (waiting self.old) switch p (waiting self.new)) }
@@ -63,11 +64,12 @@ pub trait Fleet {
             × (visiting self.new ≡ visiting self.old) }
         ensures count { faults self.old ≤ faults self.new };
 
-    /// Waits for the next controller that comes, or says that no more will come.
+    /// Waits for the next controller that comes, or says that no more will come. Where it isn't told who
+    /// comes, the guest is new: no call of it has failed, and nothing was read of it or written to it.
     fn guest(&mut self) -> Result<Option<Self::Guest>, Failed>
         ensures given { IfOk result
             (λ found. IfSome found
-            (λ g. GivesGuest Self.Guest.Source.faults Self.Guest.Sink.faults (coming self.old) g
+            (λ g. GivesGuest Self.Guest.Source.told Self.Guest.Sink.told (coming self.old) g
             (coming self.new))) }
         ensures no_more { result ≡ Ok None → IfSome (coming self.old) (λ guests. guests ≡ []) }
         ensures still_none { result ≡ Ok None → coming self.new ≡ coming self.old }

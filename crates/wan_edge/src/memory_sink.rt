@@ -46,9 +46,7 @@ impl MemorySink {
 }
 
 impl Sink for MemorySink {
-    ghost written = { λ s. Some s.written };
-
-    ghost faults = { λ s. s.turns.failures };
+    ghost told = { λ s. record { written = Some s.written; faults = s.turns.failures } };
 
     /// Takes all the bytes, or fails: where it is this call's turn, or for want of memory.
     fn write(&mut self, from: &[u8]) -> Result<usize, Failed>

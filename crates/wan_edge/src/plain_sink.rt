@@ -1,4 +1,5 @@
-ghost use Rattle.std.specs.Prelude.{◌≡◌, length, None, Ok};
+ghost use Rattle.std.specs.Prelude.{◌≡◌, length, Ok};
+ghost use Rattle.wan_edge.specs.Streams.{no_sink};
 
 use crate::{Failed, Sink};
 
@@ -13,9 +14,7 @@ impl PlainSink {
 }
 
 impl Sink for PlainSink {
-    ghost written = { λ _. None };
-
-    ghost faults = { λ _. 0 };
+    ghost told = { λ _. no_sink };
 
     fn write(&mut self, from: &[u8]) -> Result<usize, Failed>
         ensures { result ≡ Ok (length from.now) }

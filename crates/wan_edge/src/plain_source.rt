@@ -1,4 +1,4 @@
-ghost use Rattle.std.specs.Prelude.{◌≡◌, ◌++◌, length, take, min, Some, Ok, IfOk};
+ghost use Rattle.std.specs.Prelude.{◌≡◌, [], ◌++◌, length, take, min, Some, Ok, IfOk};
 
 use crate::{Failed, Source};
 use lists::Many;
@@ -8,7 +8,8 @@ use std::marker::Model;
 /// Bytes.
 pub type Nums8 = Many<u8>;
 
-/// A source of bytes in memory, which tells them and never fails. It is seen as the bytes not yet read.
+/// A source of bytes in memory, which tells them and never fails. It is seen as the bytes not yet read and
+/// those that were read.
 #[derive(Debug, Drop)]
 pub struct PlainSource {
     bytes: Nums8,
@@ -16,32 +17,32 @@ pub struct PlainSource {
 }
 
 impl Model for PlainSource {
-    ghost use Rattle.std.specs.Prelude.{ℕ, ◌≤◌, List, length, drop};
+    ghost use Rattle.std.specs.Prelude.{◌≤◌, length, drop, take};
+    ghost use Rattle.wan_edge.specs.Memory.{Tape};
 
-    ghost Value = { List ℕ };
+    ghost Value = { Tape };
 
-    ghost view = { λ s. drop s.at s.bytes };
+    ghost view = { λ s. record { left = drop s.at s.bytes; taken = take s.at s.bytes } };
 
     ghost invariant = { λ s. s.at ≤ length s.bytes };
 }
 
 impl PlainSource {
     pub fn new(bytes: Nums8) -> Self
-        ensures { result ≡ bytes }
+        ensures { result ≡ record { left = bytes; taken = [] } }
     {
         PlainSource { bytes, at: 0 }
     }
 }
 
 impl Source for PlainSource {
-    ghost left = { λ s. Some s };
-
-    ghost faults = { λ _. 0 };
+    ghost told = { λ s. record { left = Some s.left; taken = Some s.taken; faults = 0 } };
 
     /// As many bytes as there are and as fit.
     fn read(&mut self, into: &mut [u8]) -> Result<usize, Failed>
-        ensures answer { result ≡ Ok (min (length into.old) (length self.old)) }
-        ensures taken { IfOk result (λ n. self.old ≡ take n into.new ++ self.new) }
+        ensures answer { result ≡ Ok (min (length into.old) (length self.old.left)) }
+        ensures left { IfOk result (λ n. self.old.left ≡ take n into.new ++ self.new.left) }
+        ensures taken { IfOk result (λ n. self.new.taken ≡ self.old.taken ++ take n into.new) }
     {
         let rest = &self.bytes.as_slice()[self.at..];
         let n = min(into.len(), rest.len());

@@ -1,5 +1,5 @@
-ghost use Rattle.std.specs.Prelude.{◌≡◌, ◌<◌, ◌≤◌, ◌^◌, length, IsErrOf};
-ghost use Rattle.wan_edge.specs.Streams.{KeepsTelling, Rose};
+ghost use Rattle.std.specs.Prelude.{◌≡◌, ◌<◌, ◌^◌, length, IsErrOf};
+ghost use Rattle.wan_edge.specs.Streams.{Rose, SourceSteps};
 ghost use Rattle.wan_edge.specs.ReadAll.{ReadsMore, ReadsToEnd};
 
 use crate::{Failed, Nums8, Source};
@@ -45,11 +45,10 @@ impl From<AllocError> for ReadFault {
 /// one byte more than that.
 pub fn read_all<S: Source>(alloc: Global, source: &mut S, most: usize) -> Result<Nums8, ReadFault>
     requires { most < 2 ^ 63 }
-    ensures read { ReadsToEnd most (S.left source.old) result (S.left source.new) }
+    ensures read { ReadsToEnd most (S.told source.old) result (S.told source.new) }
     ensures cause { IsErrOf result ReadFault.Failed
-        → Rose (S.faults source.old) (S.faults source.new) }
-    ensures count { S.faults source.old ≤ S.faults source.new }
-    ensures told { KeepsTelling (S.left source.old) (S.left source.new) }
+        → Rose (S.told source.old).faults (S.told source.new).faults }
+    ensures step { SourceSteps (S.told source.old) (S.told source.new) }
     ensures apart { S.as_sink source.new ≡ S.as_sink source.old }
 {
     let mut buffer = vec![in alloc; 0; min(BUFFER, most + 1)]?;
@@ -73,12 +72,11 @@ fn read_more<S: Source>(
     bytes: &mut Nums8,
 ) -> Result<usize, ReadFault>
     requires { 0 < length buffer.old }
-    ensures read { ReadsMore (length buffer.old) (S.left source.old) bytes.old result bytes.new
-        (S.left source.new) }
+    ensures read { ReadsMore (length buffer.old) (S.told source.old) bytes.old result bytes.new
+        (S.told source.new) }
     ensures cause { IsErrOf result ReadFault.Failed
-        → Rose (S.faults source.old) (S.faults source.new) }
-    ensures count { S.faults source.old ≤ S.faults source.new }
-    ensures told { KeepsTelling (S.left source.old) (S.left source.new) }
+        → Rose (S.told source.old).faults (S.told source.new).faults }
+    ensures step { SourceSteps (S.told source.old) (S.told source.new) }
     ensures apart { S.as_sink source.new ≡ S.as_sink source.old }
 {
     let n = source.read(buffer)?;

@@ -1,20 +1,13 @@
-//! Tests of the crates from streams and ports to the ports of a rollout: what no clause of theirs says. They
-//! stand apart, since a crate with tests is proved twice.
+//! Tests of the crates from streams and ports to the ports of a rollout: streams, guests and switches that fail, and
+//! the ports in memory, of which no command has one. What these crates say whole, and a command shows, is tried over
+//! the built program. They stand apart, since a crate with tests is proved twice.
 #![tactic(auto)]
 
 #[cfg(test)]
-mod agents;
+mod fleets;
 #[cfg(test)]
-mod frames;
+mod guests;
 #[cfg(test)]
-mod links;
-#[cfg(test)]
-mod openings;
-#[cfg(test)]
-mod services;
-#[cfg(test)]
-mod sessions;
+mod ports;
 #[cfg(test)]
 mod streams;
-#[cfg(test)]
-mod workers;

@@ -1,9 +1,13 @@
+ghost use Rattle.std.specs.Prelude.{◌++◌, codes, decimal};
+ghost use Rattle.std.specs.Fmt.{WritesOnOk};
+ghost use Rattle.problem_json.specs.PlaceTexts.{stage_text};
+
 use std::fmt;
 
 /// A stage as a place, by its number.
 #[derive(Clone, Copy, Drop)]
-pub(super) struct StagePlace {
-    pub number: u32,
+struct StagePlace {
+    number: u32,
 }
 
 impl fmt::Display for StagePlace {
@@ -17,4 +21,32 @@ impl fmt::Display for StagePlace {
         let number = self.number;
         write!(f, "plan.stages[{number}]")
     }
+}
+
+pub(super) fn write_stage<W: fmt::Write>(f: &mut fmt::Formatter<W>, number: u32) -> fmt::Result
+    ensures { WritesOnOk W.write_str_gives f.old result (stage_text number) f.new }
+{
+    let stage = StagePlace { number };
+    write!(f, "{stage}")
+}
+
+/// A stage's list of rates.
+pub(super) fn write_rates<W: fmt::Write>(f: &mut fmt::Formatter<W>, number: u32) -> fmt::Result
+    ensures { WritesOnOk W.write_str_gives f.old result
+        (stage_text number ++ codes ".rates") f.new }
+{
+    let stage = StagePlace { number };
+    write!(f, "{stage}.rates")
+}
+
+pub(super) fn write_rate<W: fmt::Write>(
+    f: &mut fmt::Formatter<W>,
+    number: u32,
+    rate: u32,
+) -> fmt::Result
+    ensures { WritesOnOk W.write_str_gives f.old result
+        (stage_text number ++ codes ".rates[" ++ decimal rate ++ codes "]") f.new }
+{
+    let stage = StagePlace { number };
+    write!(f, "{stage}.rates[{rate}]")
 }

@@ -1,10 +1,14 @@
+ghost use Rattle.std.specs.Prelude.{◌++◌, codes, decimal};
+ghost use Rattle.std.specs.Fmt.{WritesOnOk};
+ghost use Rattle.problem_json.specs.PlaceTexts.{tunnel_text};
+
 use std::fmt;
 
 /// A tunnel as a place, by its flow's number and its own in the flow.
 #[derive(Clone, Copy, Drop)]
-pub(super) struct TunnelPlace {
-    pub flow: u32,
-    pub number: u32,
+struct TunnelPlace {
+    flow: u32,
+    number: u32,
 }
 
 impl fmt::Display for TunnelPlace {
@@ -18,4 +22,43 @@ impl fmt::Display for TunnelPlace {
         let TunnelPlace { flow, number } = *self;
         write!(f, "flows[{flow}].tunnels[{number}]")
     }
+}
+
+pub(super) fn write_tunnel<W: fmt::Write>(
+    f: &mut fmt::Formatter<W>,
+    flow: u32,
+    number: u32,
+) -> fmt::Result
+    ensures { WritesOnOk W.write_str_gives f.old result (tunnel_text flow number) f.new }
+{
+    let tunnel = TunnelPlace { flow, number };
+    write!(f, "{tunnel}")
+}
+
+/// What stands in a tunnel.
+pub(super) fn write_in_tunnel<W: fmt::Write>(
+    f: &mut fmt::Formatter<W>,
+    flow: u32,
+    number: u32,
+    behind: &str,
+) -> fmt::Result
+    ensures { WritesOnOk W.write_str_gives f.old result
+        (tunnel_text flow number ++ behind.now) f.new }
+{
+    let tunnel = TunnelPlace { flow, number };
+    write!(f, "{tunnel}{behind}")
+}
+
+/// A name of a tunnel's path.
+pub(super) fn write_hop<W: fmt::Write>(
+    f: &mut fmt::Formatter<W>,
+    flow: u32,
+    number: u32,
+    hop: u32,
+) -> fmt::Result
+    ensures { WritesOnOk W.write_str_gives f.old result
+        (tunnel_text flow number ++ codes ".path[" ++ decimal hop ++ codes "]") f.new }
+{
+    let tunnel = TunnelPlace { flow, number };
+    write!(f, "{tunnel}.path[{hop}]")
 }

@@ -84,8 +84,13 @@ fn document_of(alloc: Global, value: &Element<'_, '_>) -> Result<Document, Input
     ensures { Reads result (document_of (view value.now)) }
 {
     let problem = problem_part(alloc, value)?;
-    let plan = plan_part(alloc, value)?;
-    Ok(Document { problem, plan })
+    match plan_part(alloc, value) {
+        Ok(plan) => Ok(Document { problem, plan }),
+        Err(fault) => {
+            drop(problem);
+            Err(fault)
+        }
+    }
 }
 
 #[tactic(auto, using(crate::proofs::Steps::steps), unfolding(crate::specs::GrammarDocuments::problem_part))]
@@ -108,6 +113,11 @@ fn scripted_of(alloc: Global, value: &Element<'_, '_>) -> Result<Scripted, Input
     ensures { Reads result (scripted_of (view value.now)) }
 {
     let document = document_of(alloc, value)?;
-    let script = script_of(alloc, value)?;
-    Ok(Scripted { document, script })
+    match script_of(alloc, value) {
+        Ok(script) => Ok(Scripted { document, script }),
+        Err(fault) => {
+            drop(document);
+            Err(fault)
+        }
+    }
 }

@@ -27,7 +27,16 @@ fn judged(alloc: Global, document: Document) -> Result<Text, Ending>
     ensures valid { IfOk result (λ text. IsValid document.problem document.plan) }
 {
     let plan = checked(alloc, document)?;
-    Ok(valid_line(alloc, plan.steps(), plan.plan().scale)?)
+    match valid_line(alloc, plan.steps(), plan.plan().scale) {
+        Ok(line) => {
+            drop(plan);
+            Ok(line)
+        }
+        Err(refused) => {
+            drop(plan);
+            Err(Ending::from(refused))
+        }
+    }
 }
 
 fn valid_line(alloc: Global, steps: u32, scale: u32) -> Result<Text, Memory>

@@ -38,7 +38,16 @@ fn planned(alloc: Global, problem: Problem) -> Result<Text, Ending>
 {
     let chosen = choose(alloc, problem)?;
     every_rollout_is_safe(&chosen.plan);
-    Ok(document_of(alloc, &chosen.plan)?)
+    match document_of(alloc, &chosen.plan) {
+        Ok(document) => {
+            drop(chosen);
+            Ok(document)
+        }
+        Err(refused) => {
+            drop(chosen);
+            Err(Ending::from(refused))
+        }
+    }
 }
 
 /// What the plan's type keeps makes every world of its rollouts safe.

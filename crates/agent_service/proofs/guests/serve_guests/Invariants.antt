@@ -6,7 +6,7 @@ use Rattle.agent_service.proofs.guests.serve_guests.Given as goal
 abbrev pub invariant-loop-service : goal.invariant-loop-service
 invariant-loop-service g l = record {
   so_far : ServedSoFar
-      (record { left = g.F.Guest.Source.left; written = g.F.Guest.Sink.written; read_faults = g.F.Guest.Source.faults; write_faults = g.F.Guest.Sink.faults })
+      (record { source = g.F.Guest.Source.told; sink = g.F.Guest.Sink.told })
       (record { coming = g.F.Fleet.coming l.fn.fleet; served = g.F.Fleet.served l.fn.fleet })
       (record { coming = g.F.Fleet.coming l.fleet; served = g.F.Fleet.served l.fleet })
       l.agent

@@ -1,23 +1,6 @@
-use Rattle.std.proofs.Common.{◌≡◌, ◌∙◌, length, sym, ap, subst, arith}
-use Rattle.rollout_rules.specs.Wan.{Problem, Rollout}
-use Rattle.dependency_graph.specs.Cells.{resource_count, AreRooms}
-use Rattle.dependency_graph.specs.Graph.{Followed, places}
-use Rattle.dependency_graph.proofs.Blocked.{first-waiting}
+use Rattle.std.proofs.Common.{ap}
+use Rattle.dependency_graph.specs.Graph.{Followed}
 use Rattle.dependency_graph.proofs.graph.parts_at.Goals as goal
 
-pub returns-clause-graph : goal.returns-clause-graph
-returns-clause-graph c =
-    let g = c.in_ok-course.course in
-    let w = c.in_ok-wakes.wakes in
-    let own : c.args.plan.now ≡ g.rollout = sym (ap (λ (f : Followed). f.rollout) c.in_ok-course.ensures) in
-    let resources : w.resources ≡ resource_count g.rollout.problem =
-    omega (arith, c.in_ok-wakes.ensures.resources, ap length c.links.ensures.list, ap length c.switches.ensures.list, ap (λ (q : Problem). length q.links) c.problem.ensures, ap (λ (q : Problem). length q.switches) c.problem-2.ensures, ap (λ (r : Rollout). resource_count r.problem) own) in
-    record {
-      graph = record {
-        own = own;
-        rows = c.in_ok-touched.ensures ∙ own;
-        longest = c.in_ok-chains.ensures ∙ own;
-        rooms = subst (λ (r : Rollout). AreRooms r (places g) c.fill.new.cells) own c.fill.ensures;
-      };
-      waiting = first-waiting g w c.rouse_each.new.wakes (c.in_ok-wakes.ensures.items ∙ c.item_count.ensures) resources c.in_ok-wakes.ensures.free c.rouse_each.ensures.rouses c.rouse_each.ensures.each;
-    }
+pub sides_of-requires : goal.sides_of-requires
+sides_of-requires c = ap (λ (f : Followed). f.rollout) c.in_ok-course.ensures

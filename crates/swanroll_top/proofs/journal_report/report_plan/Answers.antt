@@ -1,16 +1,26 @@
-use Rattle.rollout_report.specs.Journals.{digest_for}
-use Rattle.swanroll_top.proofs.Leaving.{journal-failed, journal-leaves}
-use Rattle.swanroll_top.proofs.Reporting.{reported}
+use Rattle.std.proofs.Common.{Ok, refl, arith}
+use Rattle.swanroll_top.proofs.Leaving.{untouched-leaves}
+use Rattle.swanroll_top.proofs.Outcomes.{rose-later}
+use Rattle.swanroll_top.proofs.Reporting.{reported-late}
 use Rattle.swanroll_top.proofs.journal_report.report_plan.Goals as goal
 
-pub returns-clause-follows : goal.returns-clause-follows
-returns-clause-follows g c = reported _ _ _ _ _ _ _ c.report_journal-disk.ensures.tells c.write_report.ensures.written
+pub returns-in-Ok-clause-reports : goal.returns-in-Ok-clause-reports
+returns-in-Ok-clause-reports g c = record {
+  opened = c.open.new.self;
+  opens = c.open.ensures.opens;
+  follows = c.report_opened.ensures.follows;
+  leaves = c.report_opened.ensures.leaves;
+  untouched = λ three. absurd (reported-late _ _ _ _ _ _ c.report_opened.ensures.follows three);
+}
 
-pub returns-clause-leaves : goal.returns-clause-leaves
-returns-clause-leaves g c =
-    journal-leaves g.D.Disk.told _ _ _ _ _ _ _ _ c.write_report.ensures.written c.report_journal-disk.ensures.opened c.report_journal-disk.ensures.left
+pub returns-in-Ok-clause-disk_fault : goal.returns-in-Ok-clause-disk_fault
+returns-in-Ok-clause-disk_fault g c = λ e. rose-later _ _ _ c.open.ensures.opens.count (c.report_opened.ensures.disk_fault e)
 
-pub returns-clause-disk_fault : goal.returns-clause-disk_fault
-returns-clause-disk_fault g c = λ e.
-    journal-failed g.D.Disk.told c.args.disk c.report_journal-disk.result.disk c.args.plan (digest_for c.args.plan c.args.migration)
-    c.report_journal-disk.result.answer c.report_journal-disk.ensures.left (c.write_report.ensures.disk e)
+pub returns-in-Err-clause-reports : goal.returns-in-Err-clause-reports
+returns-in-Err-clause-reports g c = record {
+  opened = c.open.new.self;
+  opens = c.open.ensures.opens;
+  follows = refl;
+  leaves = untouched-leaves g.D.Disk.told c.open.new.self c.open.new.self c.args.migration (Ok c.args.plan) 8 (g.met.D.Disk.only_now c.open.new.self) refl (λ h. omega (arith, h), (λ h. omega (arith, h), λ h. omega (arith, h)));
+  untouched = λ three. absurd (omega (arith, three));
+}

@@ -1,7 +1,8 @@
+use Rattle.swanroll_top.specs.Runs.{IsInput}
 use Rattle.swanroll_top.proofs.Reaching.{held-rest}
 use Rattle.swanroll_top.proofs.laws.a_rollout_is_held_by_its_policy_alone.Goals as goal
 
 pub returns : goal.returns
-returns g c = λ limits policy left disk disk_now before now status out out_now rolls is.
+returns g c = λ limits policy source source_now disk disk_now before now status out out_now rolls is.
     held-rest g.D.Disk.told g.F.Port.Port.told
-    left disk disk_now before now out out_now limits policy status rolls is
+    (IsInput source source_now) disk disk_now before now out out_now limits policy status rolls is

@@ -5,7 +5,7 @@ use Rattle.swanroll_top.proofs.Outcomes.{err-disk, err-ends, err-not-cut, gives-
 use Rattle.swanroll_top.proofs.rollout.write_outcome.Goals as goal
 
 pub returns-in-Ok-clause-follows : goal.returns-in-Ok-clause-follows
-returns-in-Ok-clause-follows g c = subst (λ r. Follows r c.write_text.result (g.K.Sink.written c.args.sink.now) (g.K.Sink.written c.write_text.new.sink)) (sym c.in-Ok.ensures) (text-follows _ _ _ _ _ c.as_str.ensures c.write_text.ensures.written)
+returns-in-Ok-clause-follows g c = subst (λ r. Follows r c.write_text.result (g.K.Sink.told c.args.sink.now).written (g.K.Sink.told c.write_text.new.sink).written) (sym c.in-Ok.ensures) (text-follows _ _ _ _ _ c.as_str.ensures c.write_text.ensures.written)
 
 pub returns-in-Ok-clause-ends : goal.returns-in-Ok-clause-ends
 returns-in-Ok-clause-ends g c = text-ends _ _ _ _ c.write_text.ensures.written

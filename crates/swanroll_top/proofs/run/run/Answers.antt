@@ -20,7 +20,7 @@ returns-in-Text g c = ran-as _ _ _ _ _ _ (ap asked c.in-Text.is) (record {
 
 pub returns-in-Report : goal.returns-in-Report
 returns-in-Report g c = ran-as _ _ _ _ _ _ (ap asked c.in-Report.is) (record {
-  brings = record { runs = c.report.ensures.runs; leaves = c.report.ensures.leaves };
+  brings = c.report.ensures.reports;
   read_fault = c.report.ensures.read_fault;
   write_fault = c.report.ensures.write_fault;
   disk_fault = λ e. (refl, c.report.ensures.disk_fault e);

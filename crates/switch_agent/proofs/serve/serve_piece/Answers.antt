@@ -1,5 +1,6 @@
 use Rattle.std.proofs.Common.{◌≡◌, ◌∙◌, ◌+◌, ◌-◌, ◌++◌, List, ℕ, length, take, drop, Option, Some, None, subst, arith}
 use Rattle.std.specs.Prelude.{IfSome}
+use Rattle.wan_edge.proofs.Chains.{sink_steps}
 use Rattle.switch_agent.specs.Serving.{CarriesOut, IsOwnFault}
 use Rattle.switch_agent.specs.declared.serve_fault.ServeFault.{ServeFault}
 use Rattle.switch_agent.proofs.Chains.{carried_with_more, carry_on, behind_on, bytes_all, bytes_on, rest_on}
@@ -14,11 +15,11 @@ returns-in-Some-clause-carried g c =
     let kept = c.loop-rest.reader.kept in
     let before = c.args.reader.now.kept in
     let i = c.loop-rest.invariant in
-    let next = subst (λ (f : Option ServeFault). CarriesOut c.loop-rest.agent c.serve_next-n.new.agent (kept ++ take n rest) (record { commands = count; fault = f }) (λ xs. xs ≡ c.serve_next-n.new.reader.kept) (g.G.Sink.written c.loop-rest.guest) (g.G.Sink.written c.serve_next-n.new.guest)) c.in-Some.is c.serve_next-n.ensures.carried in
+    let next = subst (λ (f : Option ServeFault). CarriesOut c.loop-rest.agent c.serve_next-n.new.agent (kept ++ take n rest) (record { commands = count; fault = f }) (λ xs. xs ≡ c.serve_next-n.new.reader.kept) (g.G.Sink.told c.loop-rest.guest).written (g.G.Sink.told c.serve_next-n.new.guest).written) c.in-Some.is c.serve_next-n.ensures.carried in
     let own : IsOwnFault c.in-Some.fault = subst (λ (f : Option ServeFault). IfSome f IsOwnFault) c.in-Some.is c.serve_next-n.ensures.own in
     let on = carry_on c.args.agent.now c.loop-rest.agent c.serve_next-n.new.agent (before ++ take (length piece - length rest) piece) kept (take n rest) c.loop-rest.commands count (Some c.in-Some.fault) (λ xs. xs ≡ c.serve_next-n.new.reader.kept) _ _ _ i.carried next in
     let all = carried_with_more c.args.agent.now c.serve_next-n.new.agent _ (drop n rest) (c.loop-rest.commands + count) c.in-Some.fault (λ xs. xs ≡ c.serve_next-n.new.reader.kept) (λ xs. xs ≡ c.serve_next-n.new.reader.kept) _ _ own on in
-    subst (λ (bytes : List ℕ). CarriesOut c.args.agent.now c.serve_next-n.new.agent bytes (record { commands = c.loop-rest.commands + count; fault = Some c.in-Some.fault }) (λ xs. xs ≡ c.serve_next-n.new.reader.kept) (g.G.Sink.written c.args.guest.now) (g.G.Sink.written c.serve_next-n.new.guest))
+    subst (λ (bytes : List ℕ). CarriesOut c.args.agent.now c.serve_next-n.new.agent bytes (record { commands = c.loop-rest.commands + count; fault = Some c.in-Some.fault }) (λ xs. xs ≡ c.serve_next-n.new.reader.kept) (g.G.Sink.told c.args.guest.now).written (g.G.Sink.told c.serve_next-n.new.guest).written)
     (bytes_all piece rest i.behind i.within n c.serve_next-n.ensures.taken.1 before) all
 
 pub loop-rest-preserved : goal.loop-rest-preserved
@@ -33,18 +34,16 @@ loop-rest-preserved g c =
     let fits = c.serve_next-n.ensures.taken.1 in
     let some = c.serve_next-n.ensures.taken.0 in
     let shorter = rest_on piece rest i.behind i.within n fits in
-    let next = subst (λ (f : Option ServeFault). CarriesOut c.loop-rest.agent c.serve_next-n.new.agent (kept ++ take n rest) (record { commands = count; fault = f }) (λ xs. xs ≡ c.serve_next-n.new.reader.kept) (g.G.Sink.written c.loop-rest.guest) (g.G.Sink.written c.serve_next-n.new.guest)) c.in_default.is c.serve_next-n.ensures.carried in
+    let next = subst (λ (f : Option ServeFault). CarriesOut c.loop-rest.agent c.serve_next-n.new.agent (kept ++ take n rest) (record { commands = count; fault = f }) (λ xs. xs ≡ c.serve_next-n.new.reader.kept) (g.G.Sink.told c.loop-rest.guest).written (g.G.Sink.told c.serve_next-n.new.guest).written) c.in_default.is c.serve_next-n.ensures.carried in
     let on = carry_on c.args.agent.now c.loop-rest.agent c.serve_next-n.new.agent (before ++ take (length piece - length rest) piece) kept (take n rest) c.loop-rest.commands count None (λ xs. xs ≡ c.serve_next-n.new.reader.kept) _ _ _ i.carried next in
     record {
       behind = behind_on piece rest i.behind i.within n fits;
       within = omega (arith, shorter);
-      carried = subst (λ (bytes : List ℕ). CarriesOut c.args.agent.now c.serve_next-n.new.agent bytes (record { commands = c.loop-rest.commands + count; fault = None }) (λ xs. xs ≡ c.serve_next-n.new.reader.kept) (g.G.Sink.written c.args.guest.now) (g.G.Sink.written c.serve_next-n.new.guest))
+      carried = subst (λ (bytes : List ℕ). CarriesOut c.args.agent.now c.serve_next-n.new.agent bytes (record { commands = c.loop-rest.commands + count; fault = None }) (λ xs. xs ≡ c.serve_next-n.new.reader.kept) (g.G.Sink.told c.args.guest.now).written (g.G.Sink.told c.serve_next-n.new.guest).written)
           (bytes_on piece rest i.behind i.within n fits before) on;
       few = omega (arith, shorter, c.serve_next-n.ensures.few, i.few);
       live = c.serve_next-n.ensures.live c.in_default.is;
       cut = c.serve_next-n.ensures.cut c.in_default.is;
-      count = omega (arith, c.serve_next-n.ensures.counts, i.count);
-      told = c.serve_next-n.ensures.told ∙ i.told;
-      unread = c.serve_next-n.ensures.unread.0 ∙ i.unread;
-      no_read = c.serve_next-n.ensures.unread.1 ∙ i.no_read;
+      writes = sink_steps _ _ _ i.writes c.serve_next-n.ensures.writes;
+      unread = c.serve_next-n.ensures.unread ∙ i.unread;
     }

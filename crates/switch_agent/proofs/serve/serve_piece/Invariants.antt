@@ -1,7 +1,7 @@
 use Rattle.std.proofs.Common.{◌≡◌, ◌-◌, ◌≤◌, ◌++◌, length, take, drop, None}
 use Rattle.std.specs.Prelude.{IsTrue}
 use Rattle.wan_edge.specs.Frames.{IsCutCommand}
-use Rattle.wan_edge.specs.Streams.{KeepsTelling}
+use Rattle.wan_edge.specs.Streams.{SinkSteps}
 use Rattle.switch_agent.specs.Serving.{CarriesOut}
 use Rattle.switch_agent.proofs.serve.serve_piece.Given as goal
 
@@ -9,14 +9,12 @@ abbrev pub invariant-loop-rest : goal.invariant-loop-rest
 invariant-loop-rest g l = record {
   behind : l.rest ≡ drop (length l.piece - length l.rest) l.piece;
   within : length l.rest ≤ length l.piece;
-  carried : CarriesOut l.fn.agent l.agent (l.fn.reader.kept ++ take (length l.piece - length l.rest) l.piece) (record { commands = l.commands; fault = None }) (λ rest. rest ≡ l.reader.kept) (g.G.Sink.written l.fn.guest) (g.G.Sink.written l.guest);
+  carried : CarriesOut l.fn.agent l.agent (l.fn.reader.kept ++ take (length l.piece - length l.rest) l.piece) (record { commands = l.commands; fault = None }) (λ rest. rest ≡ l.reader.kept) (g.G.Sink.told l.fn.guest).written (g.G.Sink.told l.guest).written;
   few : l.commands ≤ length l.piece - length l.rest;
   live : IsTrue l.reader.live;
   cut : IsCutCommand l.reader.kept;
-  count : g.G.Sink.faults l.fn.guest ≤ g.G.Sink.faults l.guest;
-  told : KeepsTelling (g.G.Sink.written l.fn.guest) (g.G.Sink.written l.guest);
-  unread : g.G.Source.left l.guest ≡ g.G.Source.left l.fn.guest;
-  no_read : g.G.Source.faults l.guest ≡ g.G.Source.faults l.fn.guest;
+  writes : SinkSteps (g.G.Sink.told l.fn.guest) (g.G.Sink.told l.guest);
+  unread : g.G.Source.told l.guest ≡ g.G.Source.told l.fn.guest;
 }
 
 abbrev pub decreases-loop-rest : goal.decreases-loop-rest

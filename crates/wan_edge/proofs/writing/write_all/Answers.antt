@@ -1,7 +1,7 @@
 use Rattle.std.proofs.Common.{◌≡◌, ℕ, ◌+◌, ◌-◌, ◌≤◌, List, ◌++◌, length, take, drop, arith, ◌∙◌, ap, sym}
 use Rattle.std.proofs.Math.Seq.{take-add}
 use Rattle.std.proofs.lemmas.List.{length-take, take-take}
-use Rattle.wan_edge.proofs.Chains.{Appends-chain}
+use Rattle.wan_edge.proofs.Chains.{Appends-chain, sink_steps}
 use Rattle.wan_edge.proofs.writing.write_all.Goals as goal
 
 -- the first bytes of the rest follow those that were written
@@ -15,7 +15,7 @@ loop-done-preserved g c =
     let further = take_further _ _ _ c.loop-done.invariant.within c.in_ok-done.ensures.within in
     record {
       within = further.0;
-      appended = rw (← further.1) (Appends-chain _ _ _ _ _ c.loop-done.invariant.appended c.in_ok-done.ensures.appended);
+      appended = rw (← further.1) (Appends-chain _ _ _ _ _ c.loop-done.invariant.appended c.in_ok-done.ensures.taken.written);
       apart = c.in_ok-done.ensures.apart ∙ c.loop-done.invariant.apart;
-      count = omega arith;
+      step = sink_steps _ _ _ c.loop-done.invariant.step c.in_ok-done.ensures.step;
     }

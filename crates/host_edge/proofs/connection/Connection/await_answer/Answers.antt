@@ -10,5 +10,5 @@ loop-preserved g c =
     let now = c.read.new.self in
     let sorted = c.read.ensures.sorted in
     let empty = empty_list now.inbox.ready (sym c.is_empty.ensures.empty ∙ c.if-not-is_empty.false) in
-    let cut = cut_more (known first.stream) (known mid.stream) (known now.stream) first.inbox mid.inbox now.inbox sorted.0 c.loop.invariant.cut sorted.2 sorted.3 empty in
-    record { cut = cut; sending = c.read.ensures.sending ∙ c.loop.invariant.sending }
+    let cut = cut_more (known first.stream) (known mid.stream) (known now.stream) first.inbox mid.inbox now.inbox first.came mid.came now.came sorted.0 c.loop.invariant.cut sorted.2 sorted.3 sorted.4 empty in
+    record { cut = cut; outbox = c.read.ensures.outbox ∙ c.loop.invariant.outbox }

@@ -18,12 +18,12 @@ past start entries = record { start = start; entries = entries }
 pub invariant_of-result : goal.invariant_of-result
 invariant_of-result c =
     let r = c.args.plan.now in
-    let is : started c.args.start.now ≡ past c.in_ok-numbers.numbers.items c.new-3.result = λ k. past (sym c.in_ok-numbers.ensures k) (sym c.new-3.ensures k) in
+    let is : started c.args.start.now ≡ past c.in_ok-numbers.numbers.items c.new-in-Ok.result = λ k. past (sym c.in_ok-numbers.ensures k) (sym c.new-in-Ok.ensures k) in
     let room = c.item_count.ensures ∙ ap (λ q. item_count q.problem) c.in_ok-progress.ensures.plan in
     record {
       rollout = sym c.in_ok-progress.ensures.plan;
       counts = subst (AreCountsOf c.in_ok-progress.progress) is c.in_ok-progress.ensures.counts;
       start = subst (λ h. length h.start ≡ item_count r.problem) is c.requires.numbers;
-      flights = subst (λ h. AreFlying r.problem h c.in_ok-flights.flights) is (flying-first r.problem c.args.start.now c.in_ok-flights.flights (c.in_ok-flights.ensures ∙ ap first room));
+      flights = subst (λ h. AreFlying r.problem h c.in-Ok.flights) is (flying-first r.problem c.args.start.now c.in-Ok.flights (c.in-Ok.ensures ∙ ap first room));
       legal = subst (λ h. is_legal r.problem r.plan h ≡ true) is (started_is_legal r.problem r.plan c.args.start.now c.requires.sound);
     }

@@ -2,8 +2,8 @@ use Rattle.std.proofs.Common.{ap, ◌∙◌}
 use Rattle.swanroll_top.proofs.Documents.{checked-judged}
 use Rattle.swanroll_top.proofs.texts.check.judged.Goals as goal
 
-pub returns-clause-gives : goal.returns-clause-gives
-returns-clause-gives c =
+pub returns-in-Ok-clause-gives : goal.returns-in-Ok-clause-gives
+returns-in-Ok-clause-gives c =
     checked-judged _ _ _ _ _ c.in_ok-plan.ensures.gives c.steps.ensures
-    (ap (λ plan. plan.scale) (c.behind-plan.view_is ∙ c.plan-2.ensures.part))
-    c.in_ok-valid_line.ensures
+    (ap (λ plan. plan.scale) (c.behind-plan.view_is ∙ c.plan.ensures.part))
+    c.in-Ok.ensures

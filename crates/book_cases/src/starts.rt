@@ -1,0 +1,153 @@
+//! The graph of a rollout at its starts, and what is taken of links and tables there.
+
+ghost use Rattle.std.specs.Prelude.{◌≡◌, length, IsTrue};
+ghost use Rattle.rollout_rules.specs.Items.{item_count};
+ghost use Rattle.rollout_rules.specs.Legal as legal;
+
+use crate::books::{late, planned};
+use dependency_graph::{Graph, sound};
+use std::alloc::Global;
+use std::test::Fail;
+use wan_model::{CheckedPlan, item_count};
+
+// The links from A on to P, L and N, and the tables of A and L. There are no further resources than 14.
+const TO_P: u32 = 0;
+
+const TO_L: u32 = 2;
+
+const TO_N: u32 = 6;
+
+const TABLE_OF_A: u32 = 8;
+
+const TABLE_OF_L: u32 = 11;
+
+const RESOURCES: u32 = 14;
+
+// How many operations of the two flows are settled, a stage, a resource, and how much is taken of it there. A flow
+// takes the larger of both ends of a step that it has ahead of it, and past that what it uses where it stands.
+#[derive(Clone, Copy, Debug)]
+struct Row {
+    flows: [u32; 2],
+    stage: u32,
+    resource: u32,
+    taken: Option<u64>,
+}
+
+fn taking(flows: [u32; 2], stage: u32, resource: u32, taken: Option<u64>) -> Row {
+    Row {
+        flows,
+        stage,
+        resource,
+        taken,
+    }
+}
+
+fn rows() -> [Row; 15] {
+    [
+        // The first flow leaves P for M, M for L and L for M; the second one leaves N for L in the last step.
+        taking([0, 0], 0, TO_P, Some(2)),
+        taking([0, 0], 0, TO_L, Some(0)),
+        taking([0, 0], 0, TO_N, Some(2)),
+        taking([0, 0], 1, TO_P, Some(0)),
+        taking([0, 0], 1, TO_L, Some(2)),
+        taking([0, 0], 3, TO_L, Some(2)),
+        taking([0, 0], 0, TABLE_OF_A, Some(5)),
+        taking([0, 0], 0, TABLE_OF_L, Some(2)),
+        taking([0, 0], 0, RESOURCES, None),
+        // All items have left stage 0.
+        taking([1, 0], 0, TO_P, None),
+        taking([1, 0], 1, TO_L, Some(2)),
+        taking([3, 0], 3, TO_L, Some(2)),
+        taking([3, 0], 4, TO_L, None),
+        // The second flow would meet the first one on its way: 4 of 2.
+        taking([0, 1], 1, TO_L, None),
+        // Nothing is left to do.
+        taking([3, 1], 3, TO_L, None),
+    ]
+}
+
+// So many operations of the flows are settled, and none of an entry.
+fn settled(alloc: Global, plan: &CheckedPlan, flows: &[u32]) -> Result<Vec<u32>, Fail> {
+    let mut start = Vec::new(alloc);
+    start.extend_from_slice(flows)?;
+    for _entry in flows.len()..item_count(plan.problem()) as usize {
+        start.push(0)?;
+    }
+    Ok(start)
+}
+
+// How much is taken of a resource at a stage; none at a stage that all items have left, or without a step.
+fn cell_if_any(graph: &Graph, stage: u32, resource: u32) -> Option<u64> {
+    let plan = graph.plan();
+    let resources = plan.problem().links().len() + plan.problem().switches().len();
+    if graph.least_stage() <= stage && stage < plan.steps() && (resource as usize) < resources {
+        Some(graph.cell(stage, resource))
+    } else {
+        None
+    }
+}
+
+fn taken(graph: Graph, stage: u32, resource: u32) -> Option<u64> {
+    let cell = cell_if_any(&graph, stage, resource);
+    drop(graph);
+    cell
+}
+
+// The same at a sound start.
+fn taken_at(
+    alloc: Global,
+    plan: CheckedPlan,
+    start: &[u32],
+    stage: u32,
+    resource: u32,
+) -> Result<Option<u64>, Fail>
+    requires numbers { length start.now ≡ item_count plan.problem }
+    requires sound { IsTrue (legal.is_sound plan.problem plan.plan start.now) }
+{
+    match Graph::start(alloc, plan, start) {
+        Ok(graph) => Ok(taken(graph, stage, resource)),
+        Err(plan) => {
+            drop(plan);
+            Err(Fail::new("memory is short"))
+        }
+    }
+}
+
+// The same at a start; none where no rollout may begin there.
+fn taken_from(
+    alloc: Global,
+    plan: CheckedPlan,
+    start: &[u32],
+    stage: u32,
+    resource: u32,
+) -> Result<Option<u64>, Fail> {
+    if start.len() != item_count(plan.problem()) as usize {
+        drop(plan);
+        return Ok(None);
+    }
+    match sound(alloc, &plan, start) {
+        Ok(true) => taken_at(alloc, plan, start, stage, resource),
+        Ok(false) => {
+            drop(plan);
+            Ok(None)
+        }
+        Err(refused) => {
+            drop(plan);
+            Err(Fail::from(refused))
+        }
+    }
+}
+
+fn found(alloc: Global, row: Row) -> Result<Option<u64>, Fail> {
+    let plan = planned(alloc, late())?;
+    let start = settled(alloc, &plan, &row.flows)?;
+    taken_from(alloc, plan, start.as_slice(), row.stage, row.resource)
+}
+
+#[test]
+fn a_graph_tells_what_is_taken_at_each_start(rt: HostRuntime) -> Result<(), Fail> {
+    for row in rows() {
+        assert_eq!(rt; found(rt.alloc(), row)?, row.taken, "{row:?}");
+    }
+    Ok(())
+}

@@ -1,0 +1,4 @@
+mod Alone
+mod Pieces
+mod Telling
+mod Tying

@@ -1,0 +1,5 @@
+pub mod Images
+pub mod Mirrors
+pub mod Openings
+pub mod Past
+pub mod Pending

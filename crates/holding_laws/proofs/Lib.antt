@@ -1,0 +1,4 @@
+pub mod Imagined
+pub mod Each
+pub mod Next
+pub mod SmallHoldings

@@ -1,6 +1,0 @@
-use Rattle.std.specs.declared.net.tcp.TcpStream.{TcpStream}
-use Rattle.host_edge.proofs.Sorting.{hears_none}
-use Rattle.host_edge.proofs.tcp_port.TcpPortPort.hear.Goals as goal
-
-pub returns-in-Err-2-clause-told : goal.returns-in-Err-2-clause-told
-returns-in-Err-2-clause-told g c = hears_none TcpStream c.args.self.now.connection c.hang_up.new.self.connection c.hang_up.ensures

@@ -1,0 +1,5 @@
+pub mod Entries
+pub mod Cells
+pub mod Lines
+pub mod Greatest
+pub mod Between

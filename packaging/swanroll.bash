@@ -1,0 +1,31 @@
+# Completion of swanroll's commands, options and policies, for bash.
+
+# The options that a command takes.
+_swanroll_options() {
+    case $1 in
+        sim) echo --policy ;;
+        trial) echo --k --switches --flows --seed --events --policy ;;
+        run) echo --workers --rounds --policy --migration ;;
+        report) echo --migration ;;
+        agent) echo --guests ;;
+    esac
+}
+
+_swanroll() {
+    local word=${COMP_WORDS[COMP_CWORD]} before=${COMP_WORDS[COMP_CWORD - 1]} words= option
+    if [[ $before == [\<\>]* ]]; then
+        : # a file, by the default
+    elif [ "$COMP_CWORD" -eq 1 ]; then
+        words="plan check loads sim trial run report agent"
+    elif [ "$before" = --policy ]; then
+        words="critical order freeze"
+    elif [[ $before != --* ]]; then
+        # each option at most once
+        for option in $(_swanroll_options "${COMP_WORDS[1]}"); do
+            [[ " ${COMP_WORDS[*]:2:COMP_CWORD-2} " == *" $option "* ]] || words+=" $option"
+        done
+    fi
+    COMPREPLY=($(compgen -W "$words" -- "$word"))
+}
+
+complete -o default -F _swanroll swanroll
