@@ -1,8 +1,9 @@
-# Completion of swanroll's commands, options and policies, for bash.
+# Completion of swanroll's commands, options, planners and policies, for bash.
 
 # The options that a command takes.
 _swanroll_options() {
     case $1 in
+        plan) echo --planner ;;
         sim) echo --policy ;;
         trial) echo --k --switches --flows --seed --events --policy ;;
         run) echo --workers --rounds --policy --migration ;;
@@ -16,9 +17,11 @@ _swanroll() {
     if [[ $before == [\<\>]* ]]; then
         : # a file, by the default
     elif [ "$COMP_CWORD" -eq 1 ]; then
-        words="plan check loads sim trial run report agent"
+        words="plan check loads explain back sim trial run report agent"
     elif [ "$before" = --policy ]; then
         words="critical order freeze"
+    elif [ "$before" = --planner ]; then
+        words="slack fewest"
     elif [[ $before != --* ]]; then
         # each option at most once
         for option in $(_swanroll_options "${COMP_WORDS[1]}"); do

@@ -1,5 +1,5 @@
 """The command `agent` over loopback: controllers connect to the built program one after the other, send commands cut anywhere, and read the
-answers. Without a reference these are worked cases, the agent rule, commands cut at each byte, what begins no command, the longest guest, the words,
+answers. Without a reference these are worked cases, the agent rule, commands cut at each byte, and cut off there, what begins no command, the longest guest, the words,
 and addresses at which nothing can listen; with one, drawn guests, of which answers, the line at the end and the status are compared with it.
 
     python3 tests/agents.py PROGRAM [REFERENCE]
@@ -133,6 +133,16 @@ def cut(program):
         yield "all that were cut", ended(agent) == (0, f"agent: guests 1, commands {25 + 33 + 145}, refused 0\n", "")
 
 
+def dropped(program):
+    """Three commands that are cut off at each length: the whole ones are carried out and answered, what is left is dropped, and that is no fault."""
+    whole = 3 * len(command(1, 0, 1, 1, [6, 6]))
+    said = [command(1, item, 1, 2, [6, 6]) * 2 + command(1, item, 3, 2, [6, 6]) for item in range(whole + 1)]
+    answers, end = served(program, [data[:length] for length, data in enumerate(said)], ("--guests", str(whole + 1)))
+    for length, found in enumerate(answers):
+        yield f"cut off at {length}", found == answer(1, length, 1) * (3 * length // whole)
+    yield "all that were cut off", end == (0, f"agent: guests {whole + 1}, commands {sum(3 * length // whole for length in range(whole + 1))}, refused 0\n", "")
+
+
 def frames(program):
     """What begins no command, or has another count of rates, ends its guest, who has the answers to what came before."""
     good, told = command(0, 3, 1, 1, [6]), answer(0, 3, 1)
@@ -199,7 +209,7 @@ def drawn(program, reference):
 
 def main():
     program = sys.argv[1]
-    kinds = [drawn(program, sys.argv[2])] if len(sys.argv) > 2 else [kind(program) for kind in (worked, ruled, cut, frames, long, without_guests, words)]
+    kinds = [drawn(program, sys.argv[2])] if len(sys.argv) > 2 else [kind(program) for kind in (worked, ruled, cut, dropped, frames, long, without_guests, words)]
     cases = [case for kind in kinds for case in kind]
     wrong = [name for name, right in cases if not right]
     print(f"agents: {len(cases)} cases, {len(wrong)} wrong")

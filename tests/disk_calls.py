@@ -1,10 +1,12 @@
-"""Each call of the journal's file in turn fails, or the controller is killed before it or after it, while `run` rolls a plan out: what the rollout then
-says, that the journal has what was begun, and that the next start goes on to the end.
+"""Each call of the journal's file in turn fails, alone or with all behind it, or the controller is killed before it or after it, while `run` rolls a plan out:
+what the rollout then says, that the journal has what was begun, and that the next start goes on to the end, from the file as it stands and, behind a disk that
+stopped, from what was synced alone.
 
     python3 tests/disk_calls.py PROGRAM
 """
 
 import errno
+import json
 import os
 import signal
 import sys
@@ -12,10 +14,10 @@ import threading
 
 from carried import Items
 from journal_files import BEGIN, entries_in
-from named import EXCHANGE, TWO
+from named import EXCHANGE, ONE, TWO
 from outcomes import report
 from rolling import finished, planned, rollout, same, stopped
-from syncs import NUMBERS, Calls
+from syncs import NUMBERS, SYNCS, Calls
 
 FAULT = stopped(8, "journal device fault")
 MOST_CALLS = 40
@@ -23,21 +25,30 @@ KILLED = -signal.SIGKILL
 
 
 class Turn:
-    """The call of this number, from 0, fails; or the controller is killed before it, or before the next one. Without a number all are counted alone."""
+    """The call of this number, from 0, fails, or it and all behind it; or the controller is killed before it, or before the next one. Without a number all are
+    counted alone. What was synced last is kept."""
 
-    def __init__(self, number=None, fate=None):
-        self.number, self.fate, self.count, self.lock = number, fate, 0, threading.Lock()
+    def __init__(self, path, number=None, fate=None):
+        self.path, self.number, self.fate, self.count, self.lock = path, number, fate, 0, threading.Lock()
+        self.is_synced, self.synced = False, b""
 
     def __call__(self, name, process):
         with self.lock:
-            at, self.count = self.count, self.count + 1
-        if self.number is None:
-            return None
-        if self.fate == "fails" and at == self.number:
+            at, self.count, self.synced = self.count, self.count + 1, self.durable()
+            fails = self.number is not None and (at == self.number and self.fate == "fails" or at >= self.number and self.fate == "stops")
+            self.is_synced = name in SYNCS and not fails
+        if fails:
             return errno.EIO
-        if (self.fate, at) in (("killed before", self.number), ("killed after", self.number + 1)):
+        if self.number is not None and (self.fate, at) in (("killed before", self.number), ("killed after", self.number + 1)):
             os.kill(process, signal.SIGKILL)
         return None
+
+    def durable(self):
+        """What the file has where its last call was a sync, else what it had behind the last one."""
+        if not self.is_synced:
+            return self.synced
+        with open(self.path, "rb") as file:
+            return file.read()
 
 
 def rolled(one, turn):
@@ -62,16 +73,21 @@ def unbegun(one):
 def turns(program, name, document):
     operations = Items(document).operations
     with rollout(program, document) as one:
-        whole = Turn()
+        whole = Turn(one.journal)
         if rolled(one, whole) is None:
             yield "calls can't be seen on this machine", None
             return
         yield f"{name}, its calls", None if whole.count > 4 else f"there are {whole.count}"
-    for fate, ends in (("fails", {FAULT}), ("killed before", {(KILLED, "", "")}), ("killed after", {(KILLED, "", ""), finished(operations, 0)})):
+    for fate, image, ends in (
+        ("fails", "kept", {FAULT}), ("stops", "kept", {FAULT}), ("stops", "lost", {FAULT}),
+        ("killed before", "kept", {(KILLED, "", "")}), ("killed after", "kept", {(KILLED, "", ""), finished(operations, 0)}),
+    ):
         for number in range(min(MOST_CALLS, whole.count)):
             with rollout(program, document) as one:
-                case = f"{name}, call {number} {fate}"
-                end = rolled(one, Turn(number, fate))
+                case, turn = f"{name}, call {number} {fate}, {image}", Turn(one.journal, number, fate)
+                end = rolled(one, turn)
+                if image == "lost":
+                    one.put(turn.durable())
                 yield case, None if end in ends | {finished(operations, 0)} else f"{end}"
                 yield f"{case}, what was sent", unbegun(one)
                 found = len(entries_in(one.image() or b""))
@@ -81,6 +97,7 @@ def turns(program, name, document):
 
 
 def outcomes(program):
+    yield from turns(program, "one", json.loads(ONE))
     yield from turns(program, "two", TWO)
     yield from turns(program, "exchange", planned(program, EXCHANGE))
 

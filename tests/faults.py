@@ -215,6 +215,8 @@ def alone():
         yield f"{text} alone", Raw(text), "top: wrong kind"
     for key in ("switches", "links", "flows"):
         yield f"no {key} alone", {other: inner for other, inner in DOCUMENT["problem"].items() if other != key}, f'top: missing "{key}"'
+    yield "two hundred open lists alone", Raw("[" * 200), "not JSON"
+    yield "a table of 2^64 alone", Raw('{"switches":[{"name":"A","table":18446744073709551616}],"links":[],"flows":[]}'), "switches[0].table: not a whole number"
     yield "a place alone", put(1.5, PROBLEM + ("flows", 0, "tunnels", 0, "old"))["problem"], "flows[0].tunnels[0].old: not a whole number"
 
 

@@ -1,11 +1,11 @@
-"""Every allocation refused once, for each in turn: what the program comes to where one finds no memory, and what a rollout then leaves.
+"""Every allocation refused once, for each in turn, and every thread: what the program comes to where one finds no memory, and what a rollout then leaves.
 
     python3 tests/growths.py [PROGRAM]
 
 With the program: `plan`, `check`, `sim`, `trial`, `report`, `run` and `agent` over small inputs end as they would, or with status 12 and its line, and with nothing else; the
-journal of a `run` has what its switches carried out, and the next start goes on to the end. Without: the calls of a journal, made by `measure journal` (which has to be
+journal of a `run` has what its switches carried out, and the next start goes on to the end; where a worker's thread can't be started, the others serve its ports. Without: the calls of a journal, made by `measure journal` (which has to be
 built, by `rt run -- linear < stdin` in its folder), and whether each image that is left is still a journal with the list before or after the batch, or with the journal
-that was placed. A few lines of C that refuse one allocation stand before the C library's; where there is no C compiler nothing is tried, and it is said.
+that was placed. A few lines of C that refuse one allocation or thread stand before the C library's; where there is no C compiler nothing is tried, and it is said.
 """
 
 import json
@@ -19,26 +19,30 @@ import sys
 import tempfile
 
 from agents import PATIENCE, command, connected, exchange, held_port
+from carried import Items
 from journal_files import BEGIN, entries_in
-from named import ONE, TWO
+from named import EXCHANGE, FULL_TABLES, ONE, TWO, read
 from outcomes import report
-from rolling import finished, rollout
+from rolling import finished, planned, rollout, same
 
 HERE = os.path.dirname(os.path.abspath(__file__))
-EXAMPLES = os.path.join(HERE, "..", "examples")
 PROGRAM = os.path.join(HERE, "..", "crates", "measure", "out", "measure")
-# Memory is short for the allocation whose number the environment gives, and a file has how many there were: the program ends without a word to the library.
+# Memory is short for the allocation whose number the environment gives, and a file has how many there were: the program ends without a word to the library. No
+# thread is started whose number it gives, or none at all.
 REFUSES = r"""
 #define _GNU_SOURCE
 #include <dlfcn.h>
+#include <errno.h>
 #include <fcntl.h>
+#include <pthread.h>
 #include <stdlib.h>
 #include <sys/mman.h>
 
-static long refused, spare, *count = &spare;
+static long refused, spare, *count = &spare, thread, threads;
 
 __attribute__((constructor)) static void begin(void) {
     refused = atol(getenv("REFUSED"));
+    thread = atol(getenv("THREAD"));
     int file = open(getenv("COUNT"), O_RDWR);
     if (file >= 0) count = mmap(NULL, sizeof(long), PROT_READ | PROT_WRITE, MAP_SHARED, file, 0);
     *count = 0;
@@ -56,6 +60,13 @@ void *realloc(void *old, size_t size) {
     static void *(*next)(void *, size_t);
     if (!next) next = dlsym(RTLD_NEXT, "realloc");
     return is_refused() ? NULL : next(old, size);
+}
+
+int pthread_create(pthread_t *made, const pthread_attr_t *how, void *(*does)(void *), void *given) {
+    static int (*next)(pthread_t *, const pthread_attr_t *, void *(*)(void *), void *);
+    if (!next) next = dlsym(RTLD_NEXT, "pthread_create");
+    threads++;
+    return thread < 0 || thread == threads ? EAGAIN : next(made, how, does, given);
 }
 """
 DOCUMENT = {
@@ -80,8 +91,8 @@ class Refusing:
         with open(self.counts, "wb") as out:
             out.write(bytes(mmap.PAGESIZE))
 
-    def environment(self, refused, given=os.environ):
-        return dict(given, LD_PRELOAD=self.library, COUNT=self.counts, REFUSED=str(refused))
+    def environment(self, refused, given=os.environ, thread=0):
+        return dict(given, LD_PRELOAD=self.library, COUNT=self.counts, REFUSED=str(refused), THREAD=str(thread))
 
     def count(self):
         """How many allocations the last program made."""
@@ -145,12 +156,10 @@ def journals(refusing):
 
 def texts(program, refusing):
     """Commands that read and write alone."""
-    with open(os.path.join(EXAMPLES, "ahead.json"), "rb") as file:
-        script = file.read()
-    with open(os.path.join(EXAMPLES, "three-steps.json"), "rb") as file:
-        problem = file.read()
+    script, tables, problem = (read(name).encode() for name in ("ahead.json", "tables.json", "three-steps.json"))
+    changing = json.dumps(EXCHANGE).encode()
     small = ["trial", "--switches", "4", "--flows", "3", "--events", "20"]
-    for words, text in ((["plan"], problem), (["check"], ONE.encode()), (["loads"], ONE.encode()), (["sim"], script), (small, b""), (["plan"], b"[1"), (["check"], problem), (["loads"], problem)):
+    for words, text in ((["plan"], problem), (["plan"], changing), (["plan", "--planner", "fewest"], problem), (["check"], ONE.encode()), (["loads"], ONE.encode()), (["explain"], ONE.encode()), (["back"], ONE.encode()), (["sim"], script), (["sim"], tables), (small, b""), (["plan"], b"[1"), (["check"], problem), (["loads"], problem), (["explain"], problem)):
         whole = ended(program, words, text, refusing.environment(0))
         for refused in range(1, refusing.count() + 1):
             yield f"allocation {refused} of {words[0]}", wrong_end(ended(program, words, text, refusing.environment(refused)), whole)
@@ -167,20 +176,31 @@ def wrong_end(found, whole):
 
 
 def rollouts(program, refusing):
-    """A rollout at which one allocation is refused, a report on it, and the next start."""
-    with rollout(program, TWO) as one:
-        one.run("run --workers 1", refusing.environment(0, one.environment))
-        count = refusing.count()
-    for refused in range(1, count + 1):
-        with rollout(program, TWO) as one:
-            status, out, notes = one.run("run --workers 1", refusing.environment(refused, one.environment))
-            entries = entries_in(one.image() or b"")
-            begun = {entry[1:] for entry in entries if entry[0] == BEGIN}
-            sent = {(command.item, command.number) for switch in one.switches.values() for command in switch.commands}
-            right = (status, out, notes) in (finished(2, 0), (12, "", "out of memory\n"), (8, "", "journal device fault\n"), (9, "", "port fault at \"A\"\n"), (9, "", "port fault at \"B\"\n"))
-            yield f"allocation {refused} of run", None if right and sent <= begun else f"{(status, out, notes)}, sent {sent}, begun {begun}"
-            end = one.run()
-            yield f"allocation {refused} of run, again", None if end == finished(2, len(entries)) and not one.misses() else f"{end}, {one.misses()}"
+    """A rollout at which one allocation is refused, and the next start."""
+    for name, document, operations in (("one", ONE, 1), ("two", TWO, 2)):
+        with rollout(program, document) as one:
+            one.run("run --workers 1", refusing.environment(0, one.environment))
+            count = refusing.count()
+        for refused in range(1, count + 1):
+            with rollout(program, document) as one:
+                status, out, notes = one.run("run --workers 1", refusing.environment(refused, one.environment))
+                entries = entries_in(one.image() or b"")
+                begun = {entry[1:] for entry in entries if entry[0] == BEGIN}
+                sent = {(command.item, command.number) for switch in one.switches.values() for command in switch.commands}
+                right = (status, out, notes) in (finished(operations, 0), (12, "", "out of memory\n"), (8, "", "journal device fault\n"), (9, "", "port fault at \"A\"\n"), (9, "", "port fault at \"B\"\n"))
+                yield f"allocation {refused} of run of {name}", None if right and sent <= begun else f"{(status, out, notes)}, sent {sent}, begun {begun}"
+                end = one.run()
+                yield f"allocation {refused} of run of {name}, again", None if end == finished(operations, len(entries)) and not one.misses() else f"{end}, {one.misses()}"
+
+
+def threads(program, refusing):
+    """A rollout by four workers of which one has no thread, or all but the caller: their ports are served all the same."""
+    document = planned(program, FULL_TABLES)
+    operations = Items(document).operations
+    for name, thread in (("thread 1", 1), ("thread 2", 2), ("thread 3", 3), ("all threads", -1)):
+        with rollout(program, document) as one:
+            end = one.run("run --workers 4", refusing.environment(0, one.environment, thread))
+            yield f"{name} of run", same(end, finished(operations, 0)) or one.misses()
 
 
 def reports(program, refusing):
@@ -227,7 +247,7 @@ def outcomes(program):
         if program is None:
             yield from journals(refusing)
             return
-        for kind in (texts, reports, rollouts, agents):
+        for kind in (texts, reports, rollouts, threads, agents):
             yield from kind(program, refusing)
 
 

@@ -1,11 +1,12 @@
-"""Files, streams, words and guests that an operator meets at the rims: each row runs the built program on one, and holds its status, its line,
-its memory and its time.
+"""Files, journals, streams, words and guests that an operator meets at the rims: each row runs the built program on one, and holds its status, its
+line, its memory and its time.
 
     python3 tests/hostile.py PROGRAM
 """
 
 import contextlib
 import fcntl
+import json
 import os
 import pathlib
 import resource
@@ -19,7 +20,9 @@ import threading
 import time
 
 sys.path.insert(0, os.path.join(os.path.dirname(os.path.abspath(__file__)), "..", "bench"))
-from agent_streams import command  # noqa: E402
+from agent_streams import command, MOST_RATES  # noqa: E402
+from agents import connected, held_port  # noqa: E402
+from journal_files import PARTS, SLOT, digest_of, part, slot  # noqa: E402
 from named import ONE  # noqa: E402
 from outcomes import report  # noqa: E402
 
@@ -28,6 +31,8 @@ PATIENCE, GUESTS, MEBIBYTE, PAGE = 120, 1000, 1 << 20, 4096
 LATE, SLOWLY, MORE = 1.0, 0.02, 0.3  # seconds: until a stream is first served, between its pieces, and of a processor beyond the usual
 USAGE = "usage: swanroll COMMAND [--NAME VALUE]\n"
 DISK, FLEET, SINK, SOURCE = "journal device fault\n", "port fault at \"A\"\n", "write fault\n", "read fault\n"
+# What a journal of a small plan may take, the largest part that its format can name, and how many items a document within the limits has at most.
+ROOM, LARGEST_PART, MOST_ITEMS = 33_554_432, 1_000_000_000, 1024 + 4096 * 17
 
 
 def held_to(file_bytes=None, stack_bytes=None):
@@ -96,6 +101,44 @@ def odd_files(program, folder):
         for name, path in (("a folder", folder), ("a pipe", fifo), ("a device", "/dev/zero"), ("a file of 8 GiB", sparse)):
             done = Ran(program, words, ONE, environment={"SWANROLL_JOURNAL": str(path), "SWANROLL_FLEET": str(large)})
             yield f"{name} as a journal of {words[0]}", done.wrong(8, DISK)
+
+
+def far_parts(program, folder):
+    """A journal of a few bytes that names a part far out takes neither memory nor room on the disk, nor does a file as long as it says: where the plan can't need
+    it, it is refused and stays short; where it might, it is gone on with, and all but a few pages of the file are a hole."""
+    digest, image = digest_of(json.loads(ONE)), {}
+    for size in (LARGEST_PART, ROOM, ROOM // 2):
+        image[size] = b"\x54" + slot(PARTS, size) + bytes(SLOT) + part(digest, [0] * 6)
+    last = b"\x54" + slot(PARTS + LARGEST_PART, 97) + bytes(SLOT)
+    for words in (("report",), ("run", "--rounds", "1")):
+        for name, data, length in (
+            ("a part of a gigabyte", image[LARGEST_PART], None), ("a part as long as all may be", image[ROOM], None),
+            ("a part of a gigabyte, and is as long", image[LARGEST_PART], PARTS + LARGEST_PART), ("a part behind a gigabyte", last, PARTS + LARGEST_PART + 97),
+        ):
+            journal = folder / f"far-{words[0]}-{name.replace(' ', '-')}"
+            sparse(journal, data, length)
+            done = Ran(program, words, ONE, environment={"SWANROLL_JOURNAL": str(journal), "SWANROLL_FLEET": ""})
+            yield f"{words[0]} of a journal that names {name}", done.wrong(8, DISK, memory=24 * MEBIBYTE) or longer(journal, length or len(data))
+        journal = folder / f"far-{words[0]}-within"
+        sparse(journal, image[ROOM // 2], None)
+        for turn in ("", ", again"):
+            done = Ran(program, words, ONE, environment={"SWANROLL_JOURNAL": str(journal), "SWANROLL_FLEET": ""})
+            ends = (0, "") if words[0] == "report" else (9, FLEET)
+            yield f"{words[0]} of a journal that names a part of half its room{turn}", done.wrong(*ends, memory=4 * ROOM) or longer(journal, ROOM)
+
+
+def sparse(path, data, length):
+    """A file of these bytes, as long as it is to be, with a hole behind them."""
+    with open(path, "wb") as file:
+        file.write(data)
+        if length is not None:
+            file.truncate(length)
+
+
+def longer(path, length):
+    """What is wrong with a file that has at most so many bytes, and takes at most a mebibyte of its disk, or None."""
+    found = os.stat(path)
+    return None if found.st_size <= length and found.st_blocks * 512 <= MEBIBYTE else f"it has {found.st_size:,} bytes, and takes {found.st_blocks * 512:,}"
 
 
 def odd_words(program, folder):
@@ -268,11 +311,76 @@ def answers_before_a_bad_frame(program, folder):
     yield "the line of their agent", None if (agent.returncode, out, noted) == (0, line, b"") else f"{agent.returncode} {out!r} {noted!r}"
 
 
+def commands_of(items, rates=MOST_RATES):
+    """A first command for each of these items."""
+    return b"".join(command(0, item, 1, 1, [1] * rates) for item in items)
+
+
+def many_items(program, folder):
+    """An agent keeps as many items as a document within the limits may have, whatever their numbers, and no more: for one more there is no memory, and it ends behind
+    the answers to what came before. So neither one guest nor many take more of it."""
+    whole, other, line = commands_of(range(MOST_ITEMS)), commands_of([2 ** 32 - 1]), "agent: guests %d, commands %d, refused %d\n"
+    again, short = (0, line % (3, 2 * MOST_ITEMS + 1, 0), ""), (12, "", "out of memory\n")
+    numbers = [n * 60_000 + 7 for n in range(MOST_ITEMS)]
+    for name, guests, answered, end in (
+        ("as many items as a document has, again, and one more time the last", [whole, whole, commands_of([MOST_ITEMS - 1])], [MOST_ITEMS, MOST_ITEMS, 1], again),
+        ("as many of any number", [commands_of(numbers)], [MOST_ITEMS], (0, line % (1, MOST_ITEMS, 0), "")),
+        ("one more", [whole + other + whole], [MOST_ITEMS], short),
+        ("one more by a second guest", [whole, other], [MOST_ITEMS, 0], short),
+        ("half by a first, and a million by a second", [commands_of(range(MOST_ITEMS // 2)), commands_of(range(1_000_000), 1)], [MOST_ITEMS // 2, MOST_ITEMS], short),
+    ):
+        heard, found, memory = talked(program, folder, guests)
+        wrong = None if (heard, found) == (answered, end) else f"{heard} answers, and it ended with {found}"
+        yield f"an agent that is asked for {name}", wrong or (None if memory <= 64 * MEBIBYTE else f"it took {memory // MEBIBYTE} MiB")
+
+
+# Starts a program, and writes how much memory it took at most: of a child of this script the system would count what the script has.
+MEASURED = """
+import os, sys
+child = os.posix_spawn(sys.argv[2], sys.argv[2:], os.environ)
+_, status, used = os.wait4(child, 0)
+with open(sys.argv[1], "w") as peak:
+    peak.write(str(1024 * used.ru_maxrss))
+sys.exit(os.waitstatus_to_exitcode(status))
+"""
+
+
+def talked(program, folder, guests):
+    """How many answers each guest had of an agent, how that ended, and its greatest memory in bytes."""
+    with held_port() as held, tempfile.TemporaryFile() as written, tempfile.TemporaryFile() as noted:
+        peak = folder / "peak"
+        environment = dict(os.environ, SWANROLL_LISTEN="127.0.0.1:%d" % held.getsockname()[1], SWANROLL_TIMEOUT="60000")
+        words = [sys.executable, "-c", MEASURED, str(peak), program, "agent", "--guests", str(len(guests))]
+        agent = subprocess.Popen(words, env=environment, stdin=subprocess.DEVNULL, stdout=written, stderr=noted)
+        heard = []
+        for data in guests:
+            with connected(held, agent) as guest:
+                hearing = threading.Thread(target=lambda: heard.append(taken(guest)))
+                hearing.start()
+                with contextlib.suppress(OSError):  # it has ended, and reads no more
+                    guest.sendall(data)
+                    guest.shutdown(socket.SHUT_WR)
+                hearing.join(PATIENCE)
+        agent.wait(PATIENCE)
+        for stream in (written, noted):
+            stream.seek(0)
+        return [count // 13 for count in heard], (agent.returncode, written.read().decode(), noted.read().decode()), int(peak.read_text())
+
+
+def taken(guest):
+    """How many bytes come before the other end closes, or resets."""
+    count = 0
+    with contextlib.suppress(OSError):
+        while more := guest.recv(1 << 16):
+            count += len(more)
+    return count
+
+
 def cases(program):
     with tempfile.TemporaryDirectory() as folder:
-        for kind in (sized_files, odd_files, odd_words, odd_streams, small_stacks, streams_that_do_not_block, answers_before_a_bad_frame):
+        for kind in (sized_files, odd_files, far_parts, odd_words, odd_streams, small_stacks, streams_that_do_not_block, answers_before_a_bad_frame, many_items):
             yield from kind(program, pathlib.Path(folder))
 
 
 if __name__ == "__main__":
-    report("hostile", "files, streams, words and guests", cases(sys.argv[1]))
+    report("hostile", "files, journals, streams, words and guests", cases(sys.argv[1]))

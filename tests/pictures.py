@@ -273,9 +273,9 @@ def skipped(why):
 
 
 def with_networkx():
-    """A Python that has networkx; None where there is none."""
+    """A Python that has networkx and scipy; None where there is none."""
     for python in dict.fromkeys((sys.executable, "/usr/bin/python3")):
-        if os.path.exists(python) and subprocess.run([python, "-c", "import networkx"], capture_output=True).returncode == 0:
+        if os.path.exists(python) and subprocess.run([python, "-c", "import networkx, scipy"], capture_output=True).returncode == 0:
             return python
     return None
 
@@ -284,7 +284,7 @@ def outcomes(program, python):
     with tempfile.TemporaryDirectory() as folder, contextlib.ExitStack() as stack:
         yield from refusals(program, folder)
         if not python:
-            return skipped("this machine has no Python with networkx")
+            return skipped("this machine has no Python with networkx and scipy")
         if not browser.program():
             return skipped(f"this machine has no browser of {', '.join(browser.NAMES)}")
         try:

@@ -372,6 +372,7 @@ def alien_answers(program):
         ("the last number", answer(0, 0, LAST), f"item 0 held {LAST} above 1", 0),
         ("a number above behind a good one", answer(0, 0, 1) + answer(0, 0, 2), "item 0 held 2 above 1", 0),
         ("an item of another switch", answer(0, 4, 1), 'item 4 not of "A"', 0),
+        ("the last item there is", answer(0, 5, 1), 'item 5 not of "A"', 0),
         ("an item that isn't there", answer(0, LAST, 0), f'item {LAST} not of "A"', 0),
         ("an item that has no operation", answer(0, 3, 1), "item 3 held 1 above 0", 0),
         ("a zero", b"\0", 'byte 0 is no answer from "A"', 0),

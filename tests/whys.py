@@ -10,6 +10,7 @@ import socket
 import subprocess
 import sys
 
+from journal_files import PARTS, SLOT, slot
 from named import FULL_TABLES, ONE
 from outcomes import report
 from rolling import planned, rollout, same, stopped
@@ -41,8 +42,13 @@ def journals(program):
         ):
             yield spoiled(one, name, environment, NO_JOURNAL, [said, FINE])
         with open(one.journal, "wb") as long:
-            long.truncate((1 << 30) + 1)
-        yield spoiled(one, "a journal of more than a gibibyte", None, NO_JOURNAL, ["it has 1,073,741,825 bytes, and at most 1,073,741,824 are read", FINE])
+            long.truncate(33_554_433)
+        yield spoiled(one, "a journal that is too long", None, NO_JOURNAL, ["it has 33,554,433 bytes, and a journal of this document at most 33,554,432", FINE])
+    with rollout(program) as one:
+        one.run()
+        one.put(b"\x54" + slot(PARTS, 1_000_000_000) + bytes(SLOT) + one.image()[PARTS:])
+        said = "it names a part that ends at byte 1,000,000,035, and a journal of this document has at most 33,554,432"
+        yield spoiled(one, "a journal that names a part far out", None, NO_JOURNAL, [said, FINE])
     with rollout(program, ONE, b"") as one, open(one.journal, "r+b") as held:
         fcntl.flock(held, fcntl.LOCK_EX)
         yield spoiled(one, "a journal that another process holds", None, NO_JOURNAL, [f"process {os.getpid()} holds it", FINE])

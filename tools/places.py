@@ -2,14 +2,13 @@
 
 import itertools
 import math
-import random
 
 # The picture's size for few switches, the room around them, and how large a switch is drawn.
 WIDTH, HEIGHT, SIDE, RADIUS = 800, 520, 64, 11
 # Where all switches but those that say their place are put, before they are made to fit.
 BOX = (100, 65)
-# How many beginnings are tried, for how many switches in all (a large network is placed once), and how many pairs of switches are looked at for one.
-BEGINNINGS, PLACED, ROUNDS = 12, 200, 1_000_000
+# How many beginnings are tried, and for how many switches in all (a large network is placed once).
+BEGINNINGS, PLACED = 12, 200
 # How large a letter is, how high a line of them, how far from a switch its name begins, and where around
 # it the name may stand, first below and above.
 LETTER, LINE, AWAY = 8, 16, RADIUS + 8
@@ -66,51 +65,30 @@ def drawn(count, links):
     """Places as far from each other as there are hops between the switches, from the beginning that leads to the clearest picture."""
     try:
         import networkx
-    except ImportError:
-        raise Unplaced("has no networkx: on Debian apt-get install python3-networkx, which is for /usr/bin/python3")
+        import scipy  # noqa: F401 (what places the switches stands on it)
+    except ImportError as lacking:
+        raise Unplaced(f"has no {lacking.name}: on Debian apt-get install python3-networkx python3-scipy, which are for /usr/bin/python3")
     graph = networkx.Graph()
     graph.add_nodes_from(range(count))
     graph.add_edges_from(links)
-    hops = dict(networkx.all_pairs_shortest_path_length(graph))
-    far = 1 + math.sqrt(count)
-    apart = [[hops[one].get(other, far) for other in range(count)] for one in range(count)]
+    hops, far = dict(networkx.all_pairs_shortest_path_length(graph)), 1 + math.sqrt(count)
+    apart = {one: {other: hops[one].get(other, far) for other in range(count)} for one in range(count)}
+    found = []
+    for begin in beginnings(networkx, graph):
+        settled = networkx.kamada_kawai_layout(graph, dist=apart, pos=begin)
+        found.append([tuple(map(float, settled[switch])) for switch in range(count)])
     edges = sorted({tuple(sorted(ends)) for ends in links})
-    found = [settled(begin, apart) for begin in beginnings(networkx, graph)]
     return found[0] if len(found) == 1 else min(found, key=lambda points: unclear(fitted(points, WIDTH, HEIGHT), edges))
 
 
 def beginnings(networkx, graph):
     """A drawing in which no edges cross, where there is one, and then others that are drawn."""
     count = len(graph)
-    is_planar, drawing = networkx.check_planarity(graph)
+    is_planar, _ = networkx.check_planarity(graph)
     if is_planar and count:
-        large = math.sqrt(count) / max(1, 2 * count)
-        found = networkx.combinatorial_embedding_to_pos(drawing)
-        yield [(found[switch][0] * large, found[switch][1] * large) for switch in range(count)]
+        yield networkx.planar_layout(graph)
     for number in range(not is_planar, max(1, min(BEGINNINGS, PLACED // max(count, 1)))):
-        rng = random.Random(number)
-        yield [(rng.uniform(0, math.sqrt(count)), rng.uniform(0, math.sqrt(count))) for _ in range(count)]
-
-
-def settled(points, apart):
-    """The points moved one by one to where all others want them, who want them so far away (stress majorization), until that moves them little."""
-    points = list(points)
-    for _ in range(max(5, min(300, ROUNDS // max(1, len(points)) ** 2))):
-        furthest = 0
-        for one, (x, y) in enumerate(points):
-            weights = wanted_x = wanted_y = 0
-            for (other_x, other_y), want in zip(points, apart[one]):
-                if want:
-                    away, weight = math.hypot(x - other_x, y - other_y) or 1e-9, 1 / want ** 2
-                    weights += weight
-                    wanted_x += weight * (other_x + want * (x - other_x) / away)
-                    wanted_y += weight * (other_y + want * (y - other_y) / away)
-            if weights:
-                points[one] = wanted_x / weights, wanted_y / weights
-                furthest = max(furthest, math.dist(points[one], (x, y)))
-        if furthest < 1e-4:
-            break
-    return points
+        yield networkx.random_layout(graph, seed=number)
 
 
 def unclear(points, edges):

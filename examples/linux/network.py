@@ -20,7 +20,7 @@ USUAL, SLOW, STANDING = (0.1, 0.5), (1.0, 2.0), (0.0, 0.05)
 
 
 class Network:
-    def __init__(self, document, words):
+    def __init__(self, document, explained, words):
         self.words, self.split = words, words.split
         self.queue_seconds, self.margin = (STANDING_SECONDS, STANDING_MARGIN) if words.standing else (QUEUE_SECONDS, MARGIN[words.split])
         self.problem, self.stages, self.scale = document["problem"], document["plan"]["stages"], document["plan"]["scale"]
@@ -30,7 +30,7 @@ class Network:
         self.paths = [[self.number[name] for name in tunnel["path"]] for flow in self.flows for tunnel in flow["tunnels"]]
         ends = list(itertools.accumulate(len(flow["tunnels"]) for flow in self.flows))
         self.tunnels = [range(end - len(flow["tunnels"]), end) for flow, end in zip(self.flows, ends)]
-        self.items = items_of(self.problem)
+        self.items = items_of(explained)
         self.capacity = {(self.number[link["from"]], self.number[link["to"]]): link["capacity"] for link in self.problem["links"]}
         self.bits = self.bits_of_a_unit()
 
@@ -77,17 +77,22 @@ class Network:
         return f"{self.names[link[0]]} > {self.names[link[1]]}"
 
 
-def write_network(folder, document, words):
-    """What all processes of a lab read: the document's text, and the lab's words."""
+def write_network(folder, document, explained, words):
+    """What all processes of a lab read: the document's text, what the controller explains of it, and the lab's words."""
     os.makedirs(folder)
-    for name, text in (("document", document), ("words", words)):
+    for name, text in (("document", document), ("explained", explained), ("words", words)):
         with open(os.path.join(folder, name), "w", encoding="utf-8") as file:
             file.write(text)
 
 
 def read_network(folder):
-    with open(os.path.join(folder, "document"), encoding="utf-8") as document, open(os.path.join(folder, "words"), encoding="utf-8") as words:
-        return Network(json.load(document), types.SimpleNamespace(**json.load(words)))
+    document, explained, words = (read(folder, name) for name in ("document", "explained", "words"))
+    return Network(json.loads(document), explained, types.SimpleNamespace(**json.loads(words)))
+
+
+def read(folder, name):
+    with open(os.path.join(folder, name), encoding="utf-8") as file:
+        return file.read()
 
 
 def label(tunnel):

@@ -233,8 +233,17 @@ class Way:
                 "lost": sorted(lost), "slowest": seen["slowest"]}
 
 
+def explained(document, words):
+    """What the controller says of the document's items."""
+    done = subprocess.run([json.loads(words)["controller"], "explain"], input=document, capture_output=True, text=True, encoding="utf-8")
+    if done.returncode:
+        raise SystemExit(f"lab: explain: {done.stderr.strip()}")
+    return done.stdout
+
+
 def main():
-    write_network(FOLDER, sys.stdin.read(), sys.argv[1])
+    document, words = sys.stdin.read(), sys.argv[1]
+    write_network(FOLDER, document, explained(document, words), words)
     way = Way()
     way.start()
     print(json.dumps(way.measured()))

@@ -1,9 +1,9 @@
 -- What the serving of guests by one agent comes to.
-use Rattle.std.specs.Prelude.{◌≡◌, ◌≢◌, ◌⊎◌, ℕ, ◌+◌, ◌<◌, List, [], ◌∷◌, ◌++◌, length, map, All, Option, Some, None, IfSome, Result, Ok, Err}
+use Rattle.std.specs.Prelude.{◌≡◌, ◌≢◌, ◌⊎◌, ℕ, ◌+◌, ◌<◌, ◌≤◌, List, [], ◌∷◌, ◌++◌, length, map, All, Option, Some, None, IfSome, Result, Ok, Err}
 use Rattle.wan_edge.specs.Fleets.{GivesGuest}
 use Rattle.wan_edge.specs.Streams.{Rose, SinkTrace, SourceTrace}
 use Rattle.wan_edge.specs.declared.stream.Failed.{Failed}
-use Rattle.switch_agent.specs.Items.{Items}
+use Rattle.switch_agent.specs.Items.{Items, most_items}
 use Rattle.switch_agent.specs.Serving.{ServesGuest, most as most_bytes}
 use Rattle.switch_agent.specs.declared.serve_fault.ServeFault.TheVariants.{Memory as NoRoom, Read, Write}
 use Rattle.switch_agent.specs.declared.serve_fault.Served.{Served}
@@ -34,12 +34,14 @@ pub record Visit (G : Type 0) : Type 0 where
   pub coming : Option (List G)
 
 -- The guest was the first to come. Its bytes were read, and the commands in them carried out and answered by what was held before it. Its serving
--- ended in a fault of reading or of writing only where the count of these rose.
+-- ended in a fault of reading or of writing only where the count of these rose. Behind it the agent keeps no more items than a document within the
+-- limits has, whatever came.
 pub record IsVisit {G : Type 0} (tells : Tells G) (items : Items) (coming : Option (List G)) (visit : Visit G) : Type 0 where
   pub given : GivesGuest tells.source tells.sink coming visit.came visit.coming
   pub serves : ServesGuest items visit.items (tells.source visit.came) (tells.source visit.back) visit.served (tells.sink visit.came).written (tells.sink visit.back).written
   pub read_cause : visit.served.fault ≡ Some Read → Rose (tells.source visit.came).faults (tells.source visit.back).faults
   pub write_cause : visit.served.fault ≡ Some Write → Rose (tells.sink visit.came).faults (tells.sink visit.back).faults
+  pub few : length visit.items ≤ most_items
 
 -- each guest behind the one before it: what is held and who is to come goes on from there
 abbrev pub InTurn : {G : Type 0} → Tells G → Items → Option (List G) → List (Visit G) → Items → Option (List G) → Type 0

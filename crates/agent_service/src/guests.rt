@@ -10,7 +10,8 @@ use wan_edge::{Failed, Fleet};
 
 /// Serves this many guests, or fewer where no more come: one after the other, each to its end, by one
 /// agent that holds nothing at first. A guest that isn't served to its end is refused, and what it
-/// brought about stays; only want of memory for an item ends the service. Each guest is given back.
+/// brought about stays; only want of memory for an item ends the service, and there is none for more
+/// items than a document within the limits has. Each guest is given back.
 pub fn serve_guests<F: Fleet>(
     alloc: Global,
     fleet: &mut F,
@@ -68,6 +69,7 @@ fn serve_next<F: Fleet>(agent: &mut Agent, fleet: &mut F) -> Result<Option<Serve
         return Ok(None);
     };
     let served = serve_bytes(agent, &mut guest);
+    agent.keeps_few_items();
     fleet.keep_guest(guest);
     Ok(Some(served))
 }

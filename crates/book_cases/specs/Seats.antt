@@ -1,11 +1,16 @@
 -- Passes with which a seat calls a shared book.
 use Rattle.std.specs.Prelude.{◌≡◌, ℕ, ◌<◌}
+use Rattle.wan_edge.specs.Frames.{Answer}
 use Rattle.turn_lock.specs.declared.counted.Counted.{Ghosts}
 use Rattle.turn_lock.specs.declared.lock.TurnLock.{TurnLock}
 use Rattle.turn_lock.specs.declared.pass.Pass.{Pass}
 use Rattle.turn_lock.specs.Passes.{IsPassOf, IsSamePass, out_of, seat_of_pass}
 use Rattle.shared_history.specs.declared.note.Written.{Written}
 use Rattle.shared_book.specs.Calls.{IsCounted}
+
+-- every answer counts as heard, since no port is asked
+abbrev pub TakesAny : (Answer → Type 0) → Type 0
+TakesAny heard = (answer : Answer) → heard answer
 
 module _ {V : Type 0} {C : Ghosts V Written} where
   -- a seat below a number, with so many calls, may call under this lock

@@ -12,12 +12,12 @@ use lists::Memory;
 use order_policy::Policy;
 use plan_check::check_plan;
 use problem_json::{Document, read_document};
-use rollout_book::{Book, CommandList};
+use rollout_book::Book;
 use std::alloc::Global;
 use std::test::Fail;
 use wan_edge::{Nums8, Turns};
 use wan_model::CheckedPlan;
-use wire_frames::Answer;
+use wire_frames::{Answer, Command};
 
 /// One flow moves 3 of its 4 to a second path in one step.
 pub fn one() -> &'static str {
@@ -100,9 +100,9 @@ pub fn disk_behind<D: Disk>(book: Book<'_, D>) -> D {
 }
 
 /// The answers of switches that have carried these commands out.
-pub fn answers_to(alloc: Global, commands: &CommandList) -> Result<Vec<Answer>, Memory> {
+pub fn answers_to(alloc: Global, commands: &[Command]) -> Result<Vec<Answer>, Memory> {
     let mut answers = Vec::new(alloc);
-    for command in commands.as_slice() {
+    for command in commands {
         answers.push(Answer {
             item: command.item,
             held: command.number,

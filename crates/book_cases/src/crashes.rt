@@ -50,7 +50,7 @@ fn roll<D: Disk>(alloc: Global, book: &mut Book<'_, D>) -> Result<(), Memory> {
 fn listed<D: Disk>(alloc: Global, book: &Book<'_, D>) -> Result<Vec<Answer>, Memory> {
     let mut commands = CommandList::new(alloc);
     book.commands(alloc, &SWITCHES, &mut commands)?;
-    answers_to(alloc, &commands)
+    answers_to(alloc, commands.as_slice())
 }
 
 // Rolls on, and says what was found and what has come of it.

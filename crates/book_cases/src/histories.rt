@@ -151,7 +151,7 @@ fn answer<D: Disk>(
 fn listed<D: Disk>(alloc: Global, book: &Book<'_, D>) -> Result<Vec<Answer>, Memory> {
     let mut commands = CommandList::new(alloc);
     book.commands(alloc, &SWITCHES, &mut commands)?;
-    answers_to(alloc, &commands)
+    answers_to(alloc, commands.as_slice())
 }
 
 fn turned<D: Disk>(book: &mut Book<'_, D>, answers: &[Answer]) -> RoundReply {

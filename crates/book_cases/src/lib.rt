@@ -15,6 +15,8 @@ mod jobs;
 #[cfg(test)]
 mod many;
 #[cfg(test)]
+mod nowhere;
+#[cfg(test)]
 mod rows;
 #[cfg(test)]
 mod seats;

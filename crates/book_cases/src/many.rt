@@ -2,13 +2,13 @@
 ghost use Rattle.std.specs.Prelude.{◌≡◌};
 ghost use Rattle.order_policy.specs.Answers.{rank_by};
 ghost use Rattle.shared_book.specs.Homes.{homes_of};
-ghost use Rattle.book_cases.specs.Seats.{HasCalled, MayCall};
+ghost use Rattle.book_cases.specs.Seats.{HasCalled, MayCall, TakesAny};
 
 use crate::books::{SWITCHES, answers_to};
 use crate::histories::{Kind, kind_of, said_of_list, said_of_round, said_of_wake};
+use crate::nowhere::as_heard;
 use disk_model::Disk;
-use rollout_book::CommandList;
-use shared_book::{BookPass, Marker, SharedBook};
+use shared_book::{BookPass, Listed, Marker, SharedBook};
 use shared_history::{Note, NoteList, What};
 use std::alloc::Global;
 use std::sync::Wait;
@@ -28,19 +28,39 @@ fn one_call<D: Disk, M: Marker, R: Wait>(
 ) -> (BookPass<D, M>, Option<What>)
     requires homes { book.now.homes ≡ homes_of M.opening.rollout.problem }
     requires policy { M.opening.policy ≡ rank_by book.now.policy.now.answers }
+    requires any { TakesAny M.heard }
     requires may { MayCall book.now.lock M.seats pass.pass pass.calls }
     ensures called { HasCalled book.now.lock pass.pass result.0.pass result.0.calls }
 {
     match kind {
         Kind::List => list(rt, alloc, book, pass, answers),
-        Kind::Round => {
-            let (pass, reply) = book.round(rt, pass, answers.as_slice());
-            (pass, said_of_round(reply))
-        }
+        Kind::Round => round(rt, alloc, book, pass, answers.as_slice()),
         Kind::Look => {
             let (pass, wake) = book.wait_work(rt, pass, &SWITCHES);
             (pass, said_of_wake(wake))
         }
+    }
+}
+
+// A round with these answers; none is made where memory for them runs out.
+fn round<D: Disk, M: Marker, R: Wait>(
+    rt: &R,
+    alloc: Global,
+    book: &SharedBook<'_, D, M>,
+    pass: BookPass<D, M>,
+    answers: &[Answer],
+) -> (BookPass<D, M>, Option<What>)
+    requires policy { M.opening.policy ≡ rank_by book.now.policy.now.answers }
+    requires any { TakesAny M.heard }
+    requires may { MayCall book.now.lock M.seats pass.pass pass.calls }
+    ensures called { HasCalled book.now.lock pass.pass result.0.pass result.0.calls }
+{
+    match as_heard(alloc, answers) {
+        Ok(heard) => {
+            let (pass, reply) = book.round(rt, pass, heard);
+            (pass, said_of_round(reply))
+        }
+        Err(_) => (pass, None),
     }
 }
 
@@ -55,9 +75,9 @@ fn list<D: Disk, M: Marker, R: Wait>(
     requires may { MayCall book.now.lock M.seats pass.pass pass.calls }
     ensures called { HasCalled book.now.lock pass.pass result.0.pass result.0.calls }
 {
-    let mut commands = CommandList::new(alloc);
+    let mut commands = Listed::new(alloc);
     let (pass, reply) = book.commands(rt, alloc, pass, &SWITCHES, &mut commands);
-    if let Ok(new) = answers_to(alloc, &commands) {
+    if let Ok(new) = answers_to(alloc, commands.commands()) {
         *answers = new;
     }
     (pass, said_of_list(reply))
@@ -72,6 +92,7 @@ pub fn many_calls<D: Disk, M: Marker, R: Wait>(
 ) -> (BookPass<D, M>, NoteList)
     requires homes { book.now.homes ≡ homes_of M.opening.rollout.problem }
     requires policy { M.opening.policy ≡ rank_by book.now.policy.now.answers }
+    requires any { TakesAny M.heard }
     requires may { MayCall book.now.lock M.seats pass.pass pass.calls }
     ensures called { HasCalled book.now.lock pass.pass result.0.pass result.0.calls }
 {

@@ -3,7 +3,7 @@ ghost use Rattle.std.specs.Prelude.{◌≡◌, ◌≤◌};
 ghost use Rattle.order_policy.specs.Answers.{rank_by};
 ghost use Rattle.turn_lock.specs.Passes.{IsFirstPass};
 ghost use Rattle.shared_book.specs.Homes.{homes_of};
-ghost use Rattle.book_cases.specs.Seats.{AllAreIn, HasCalled, MayCall};
+ghost use Rattle.book_cases.specs.Seats.{AllAreIn, HasCalled, MayCall, TakesAny};
 
 use crate::books::{CALLS_TO_OPEN, one};
 use crate::seats::{Call, Told, make_call};
@@ -46,6 +46,7 @@ pub fn two_seats<D: Disk, M: Marker, R: Abort + Wait>(
 ) -> BookPass<D, M>
     requires homes { book.now.homes ≡ homes_of M.opening.rollout.problem }
     requires policy { M.opening.policy ≡ rank_by book.now.policy.now.answers }
+    requires any { TakesAny M.heard }
     requires may { MayCall book.now.lock M.seats pass.pass pass.calls }
     requires first { IsFirstPass pass.pass }
     requires seats { M.seats ≡ 4 }
@@ -66,6 +67,7 @@ fn one_call<D: Disk, M: Marker, R: Wait>(
 ) -> (Seats<Kept<D, M>>, Told)
     requires homes { book.now.homes ≡ homes_of M.opening.rollout.problem }
     requires policy { M.opening.policy ≡ rank_by book.now.policy.now.answers }
+    requires any { TakesAny M.heard }
     requires first { MayCall book.now.lock M.seats seats.first.pass seats.first.calls }
     requires second { MayCall book.now.lock M.seats seats.second.pass seats.second.calls }
     ensures first { HasCalled book.now.lock seats.first.pass result.0.first.pass
@@ -93,6 +95,7 @@ pub fn all_calls<D: Disk, M: Marker, R: Abort + Wait>(
 ) -> Seats<Kept<D, M>>
     requires homes { book.now.homes ≡ homes_of M.opening.rollout.problem }
     requires policy { M.opening.policy ≡ rank_by book.now.policy.now.answers }
+    requires any { TakesAny M.heard }
     requires first { MayCall book.now.lock M.seats seats.first.pass seats.first.calls }
     requires second { MayCall book.now.lock M.seats seats.second.pass seats.second.calls }
     ensures first { HasCalled book.now.lock seats.first.pass result.first.pass result.first.calls }

@@ -2,11 +2,11 @@
 ghost use Rattle.std.specs.Prelude.{◌≡◌};
 ghost use Rattle.order_policy.specs.Answers.{rank_by};
 ghost use Rattle.shared_book.specs.Homes.{homes_of};
-ghost use Rattle.book_cases.specs.Seats.{HasCalled, MayCall};
+ghost use Rattle.book_cases.specs.Seats.{HasCalled, MayCall, TakesAny};
 
+use crate::nowhere::as_heard;
 use disk_model::Disk;
-use rollout_book::CommandList;
-use shared_book::{BookPass, Marker, RoundReply, SharedBook};
+use shared_book::{BookPass, Listed, Marker, RoundReply, SharedBook};
 use shared_history::{Cause, Halt, ListReply, Wake};
 use std::alloc::Global;
 use std::sync::Wait;
@@ -43,11 +43,12 @@ pub fn make_call<D: Disk, M: Marker, R: Wait>(
 ) -> (BookPass<D, M>, Told)
     requires homes { book.now.homes ≡ homes_of M.opening.rollout.problem }
     requires policy { M.opening.policy ≡ rank_by book.now.policy.now.answers }
+    requires any { TakesAny M.heard }
     requires may { MayCall book.now.lock M.seats pass.pass pass.calls }
     ensures called { HasCalled book.now.lock pass.pass result.0.pass result.0.calls }
 {
     match call {
-        Call::Round(answer) => round(rt, book, pass, answer),
+        Call::Round(answer) => round(rt, alloc, book, pass, answer),
         Call::List(switch) => list(rt, alloc, book, pass, switch),
         Call::Await(switch) => await_work(rt, book, pass, switch),
         Call::Stop(cause) => stop(rt, book, pass, cause),
@@ -55,21 +56,30 @@ pub fn make_call<D: Disk, M: Marker, R: Wait>(
     }
 }
 
+// Without memory for its answer no round is made.
 fn round<D: Disk, M: Marker, R: Wait>(
     rt: &R,
+    alloc: Global,
     book: &SharedBook<'_, D, M>,
     pass: BookPass<D, M>,
     answer: Option<Answer>,
 ) -> (BookPass<D, M>, Told)
     requires policy { M.opening.policy ≡ rank_by book.now.policy.now.answers }
+    requires any { TakesAny M.heard }
     requires may { MayCall book.now.lock M.seats pass.pass pass.calls }
     ensures called { HasCalled book.now.lock pass.pass result.0.pass result.0.calls }
 {
-    let (pass, reply) = match answer {
-        Some(answer) => book.round(rt, pass, &[answer]),
-        None => book.round(rt, pass, &[]),
+    let heard = match answer {
+        Some(answer) => as_heard(alloc, &[answer]),
+        None => as_heard(alloc, &[]),
     };
-    (pass, Told::Round(reply))
+    match heard {
+        Ok(heard) => {
+            let (pass, reply) = book.round(rt, pass, heard);
+            (pass, Told::Round(reply))
+        }
+        Err(_) => (pass, Told::Round(RoundReply::Memory)),
+    }
 }
 
 fn list<D: Disk, M: Marker, R: Wait>(
@@ -82,9 +92,9 @@ fn list<D: Disk, M: Marker, R: Wait>(
     requires may { MayCall book.now.lock M.seats pass.pass pass.calls }
     ensures called { HasCalled book.now.lock pass.pass result.0.pass result.0.calls }
 {
-    let mut commands = CommandList::new(alloc);
+    let mut commands = Listed::new(alloc);
     let (pass, reply) = book.commands(rt, alloc, pass, &[switch], &mut commands);
-    (pass, Told::List(reply, commands.as_slice().len()))
+    (pass, Told::List(reply, commands.commands().len()))
 }
 
 fn await_work<D: Disk, M: Marker, R: Wait>(

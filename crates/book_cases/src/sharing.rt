@@ -6,7 +6,7 @@ ghost use Rattle.rollout_book.specs.Lists.{IsKeptList};
 ghost use Rattle.turn_lock.specs.Passes.{IsFirstPass};
 ghost use Rattle.shared_book.specs.Homes.{homes_of};
 ghost use Rattle.shared_book.specs.Opened.{IsOpened, IsOpenedOn, opening_of};
-ghost use Rattle.book_cases.specs.Seats.{AllAreIn, MayCall};
+ghost use Rattle.book_cases.specs.Seats.{AllAreIn, MayCall, TakesAny};
 
 use crate::books::{digest, disk_behind, disk_of, graph_of, opened};
 use crate::rows::{Row, two_seats};
@@ -74,6 +74,7 @@ fn work<R: Abort + Threads + Wait + Sync, D: Disk + Drop + Send, M: Marker + Sen
 ) -> (BookPass<D, M>, NoteList)
     requires homes { book.now.homes ≡ homes_of M.opening.rollout.problem }
     requires policy { M.opening.policy ≡ rank_by book.now.policy.now.answers }
+    requires any { TakesAny M.heard }
     requires may { MayCall book.now.lock M.seats pass.pass pass.calls }
     requires first { IsFirstPass pass.pass }
     requires seats { M.seats ≡ 4 }
@@ -94,6 +95,7 @@ fn share_named<'d, R: Abort + Threads + Wait + Sync, D: Disk + Drop + Send, M: M
 ) -> Left<'d, D>
     requires opened { IsOpenedOn D.told M.opening M.moment M.faults book.chronicle }
     requires policy { M.opening.policy ≡ rank_by book.policy.now.answers }
+    requires any { TakesAny M.heard }
     requires seats { M.seats ≡ 4 }
 {
     match SharedBook::<D, M>::new(alloc, book, SEATS) {

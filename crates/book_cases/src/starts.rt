@@ -4,11 +4,11 @@ ghost use Rattle.std.specs.Prelude.{◌≡◌, length, IsTrue};
 ghost use Rattle.rollout_rules.specs.Items.{item_count};
 ghost use Rattle.rollout_rules.specs.Legal as legal;
 
-use crate::books::{late, planned};
-use dependency_graph::{Graph, sound};
+use crate::books::{late, planned, tables};
+use dependency_graph::{Graph, StartFault, sound};
 use std::alloc::Global;
 use std::test::Fail;
-use wan_model::{CheckedPlan, item_count};
+use wan_model::{CheckedPlan, Spot, item_count};
 
 // The links from A on to P, L and N, and the tables of A and L. There are no further resources than 14.
 const TO_P: u32 = 0;
@@ -126,15 +126,19 @@ fn taken_from(
         return Ok(None);
     }
     match sound(alloc, &plan, start) {
-        Ok(true) => taken_at(alloc, plan, start, stage, resource),
-        Ok(false) => {
+        Ok(()) => taken_at(alloc, plan, start, stage, resource),
+        Err(fault) => {
             drop(plan);
-            Ok(None)
+            none_unless_short(fault)
         }
-        Err(refused) => {
-            drop(plan);
-            Err(Fail::from(refused))
-        }
+    }
+}
+
+fn none_unless_short(fault: StartFault) -> Result<Option<u64>, Fail> {
+    if fault == StartFault::Memory {
+        Err(Fail::new("memory is short"))
+    } else {
+        Ok(None)
     }
 }
 
@@ -148,6 +152,109 @@ fn found(alloc: Global, row: Row) -> Result<Option<u64>, Fail> {
 fn a_graph_tells_what_is_taken_at_each_start(rt: HostRuntime) -> Result<(), Fail> {
     for row in rows() {
         assert_eq!(rt; found(rt.alloc(), row)?, row.taken, "{row:?}");
+    }
+    Ok(())
+}
+
+// A network, items with how many operations of each are settled, of the other items none, and what the start breaks
+// first. NOBODY is no item.
+#[derive(Clone, Copy, Debug)]
+struct Refusal {
+    full_tables: bool,
+    settled: [(u32, u32); 2],
+    fault: Option<StartFault>,
+}
+
+const NOBODY: u32 = 1000;
+
+fn refused(full_tables: bool, settled: [(u32, u32); 2], fault: Option<StartFault>) -> Refusal {
+    Refusal {
+        full_tables,
+        settled,
+        fault,
+    }
+}
+
+fn above(item: u32, held: u32, count: u32) -> Option<StartFault> {
+    Some(StartFault::Above { item, held, count })
+}
+
+fn need(item: u32, number: u32) -> Option<StartFault> {
+    Some(StartFault::Need { item, number })
+}
+
+fn room(stage: u32, spot: Spot, found: u64, wanted: u64) -> Option<StartFault> {
+    Some(StartFault::Room {
+        stage,
+        spot,
+        found,
+        wanted,
+    })
+}
+
+fn refusals() -> [Refusal; 14] {
+    [
+        // The flows have three operations and one. The second flow would meet the first one at the link from A to L.
+        refused(false, [(0, 0), (1, 0)], None),
+        refused(false, [(1, 1), (NOBODY, 0)], room(1, Spot::Link(2), 4, 2)),
+        refused(false, [(0, 1), (1, 1)], room(1, Spot::Link(2), 4, 2)),
+        refused(false, [(0, 3), (1, 1)], None),
+        refused(false, [(1, 2), (NOBODY, 0)], above(1, 2, 1)),
+        refused(false, [(0, 4), (1, 2)], above(0, 4, 3)),
+        // The flow needs the entries 7, 8 and 9, and the tables of A and B have no place for 7 and 9 ahead of 4 and 6.
+        refused(true, [(0, 0), (4, 1)], None),
+        refused(true, [(0, 1), (NOBODY, 0)], need(0, 1)),
+        refused(true, [(7, 1), (NOBODY, 0)], room(0, Spot::Table(0), 3, 2)),
+        refused(true, [(9, 1), (7, 1)], room(0, Spot::Table(0), 3, 2)),
+        refused(true, [(9, 1), (4, 1)], room(0, Spot::Table(1), 3, 2)),
+        // What is settled has to exist, first of all, and then to have had its needs.
+        refused(true, [(0, 1), (7, 1)], need(0, 1)),
+        refused(true, [(0, 1), (4, 2)], above(4, 2, 1)),
+        refused(true, [(8, 3), (7, 1)], above(8, 3, 1)),
+    ]
+}
+
+fn number_of(item: u32, settled: [(u32, u32); 2]) -> u32 {
+    for (other, number) in settled {
+        if other == item {
+            return number;
+        }
+    }
+    0
+}
+
+fn start_of(alloc: Global, plan: &CheckedPlan, settled: [(u32, u32); 2]) -> Result<Vec<u32>, Fail> {
+    let mut start = Vec::new(alloc);
+    for item in 0..item_count(plan.problem()) {
+        start.push(number_of(item, settled))?;
+    }
+    Ok(start)
+}
+
+// What a start breaks first; none at a sound one.
+fn broken_by(alloc: Global, plan: &CheckedPlan, start: &[u32]) -> Option<StartFault> {
+    if start.len() != item_count(plan.problem()) as usize {
+        return None;
+    }
+    match sound(alloc, plan, start) {
+        Ok(()) => None,
+        Err(fault) => Some(fault),
+    }
+}
+
+fn broken(alloc: Global, row: Refusal) -> Result<Option<StartFault>, Fail> {
+    let text = if row.full_tables { tables() } else { late() };
+    let plan = planned(alloc, text)?;
+    let start = start_of(alloc, &plan, row.settled)?;
+    let fault = broken_by(alloc, &plan, start.as_slice());
+    drop(plan);
+    Ok(fault)
+}
+
+#[test]
+fn a_start_tells_what_it_breaks_first(rt: HostRuntime) -> Result<(), Fail> {
+    for row in refusals() {
+        assert_eq!(rt; broken(rt.alloc(), row)?, row.fault, "{row:?}");
     }
     Ok(())
 }

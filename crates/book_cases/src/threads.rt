@@ -3,7 +3,7 @@ ghost use Rattle.std.specs.Prelude.{◌≡◌};
 ghost use Rattle.order_policy.specs.Answers.{rank_by};
 ghost use Rattle.turn_lock.specs.Passes.{IsFirstPass};
 ghost use Rattle.shared_book.specs.Homes.{homes_of};
-ghost use Rattle.book_cases.specs.Seats.{AllAreIn, HasCalled, MayCall};
+ghost use Rattle.book_cases.specs.Seats.{AllAreIn, HasCalled, MayCall, TakesAny};
 
 use crate::jobs::{Job, four_jobs};
 use crate::many::many_calls;
@@ -55,6 +55,7 @@ impl<'s, 'd, R: Abort + Wait, D: Disk, M: Marker> Job
 
     ghost may_begin = { λ d. (d.book.now.homes ≡ homes_of M.opening.rollout.problem)
         × (M.opening.policy ≡ rank_by d.book.now.policy.now.answers)
+        × TakesAny M.heard
         × MayCall d.book.now.lock M.seats d.pass.pass d.pass.calls };
 
     ghost may_leave = { λ d back. HasCalled d.book.now.lock d.pass.pass back.pass.pass
@@ -84,6 +85,7 @@ fn called_often<R: Abort + Wait, D: Disk, M: Marker>(
 ) -> Back<Kept<D, M>>
     requires homes { book.now.homes ≡ homes_of M.opening.rollout.problem }
     requires policy { M.opening.policy ≡ rank_by book.now.policy.now.answers }
+    requires any { TakesAny M.heard }
     requires may { MayCall book.now.lock M.seats pass.pass pass.calls }
     ensures called { HasCalled book.now.lock pass.pass result.pass.pass result.pass.calls }
 {
@@ -99,6 +101,7 @@ fn woken<R: Abort + Wait, D: Disk, M: Marker>(
 ) -> Back<Kept<D, M>>
     requires homes { book.now.homes ≡ homes_of M.opening.rollout.problem }
     requires policy { M.opening.policy ≡ rank_by book.now.policy.now.answers }
+    requires any { TakesAny M.heard }
     requires may { MayCall book.now.lock M.seats pass.pass pass.calls }
     ensures called { HasCalled book.now.lock pass.pass result.pass.pass result.pass.calls }
 {
@@ -124,6 +127,7 @@ fn begun<R: Abort + Wait, D: Disk, M: Marker>(
 ) -> Back<Kept<D, M>>
     requires homes { book.now.homes ≡ homes_of M.opening.rollout.problem }
     requires policy { M.opening.policy ≡ rank_by book.now.policy.now.answers }
+    requires any { TakesAny M.heard }
     requires may { MayCall book.now.lock M.seats pass.pass pass.calls }
     ensures called { HasCalled book.now.lock pass.pass result.pass.pass result.pass.calls }
 {
@@ -146,6 +150,7 @@ pub fn four_threads<R: Abort + Threads + Wait + Sync, D: Disk + Drop + Send, M: 
 ) -> (BookPass<D, M>, NoteList)
     requires homes { book.now.homes ≡ homes_of M.opening.rollout.problem }
     requires policy { M.opening.policy ≡ rank_by book.now.policy.now.answers }
+    requires any { TakesAny M.heard }
     requires may { MayCall book.now.lock M.seats pass.pass pass.calls }
     requires first { IsFirstPass pass.pass }
     requires seats { M.seats ≡ 4 }
@@ -184,6 +189,7 @@ fn four_parts<R: Abort + Threads + Wait + Sync, D: Disk + Drop + Send, M: Marker
 )
     requires homes { book.now.homes ≡ homes_of M.opening.rollout.problem }
     requires policy { M.opening.policy ≡ rank_by book.now.policy.now.answers }
+    requires any { TakesAny M.heard }
     requires first { MayCall book.now.lock M.seats first.pass first.calls }
     requires second { MayCall book.now.lock M.seats second.pass second.calls }
     requires third { MayCall book.now.lock M.seats third.pass third.calls }

@@ -1,6 +1,7 @@
-ghost use Rattle.std.specs.Prelude.{◌≡◌, ◌<◌};
+ghost use Rattle.std.specs.Prelude.{◌≡◌, ◌<◌, IfOk};
 ghost use Rattle.case_gen.specs.Draws.{after_draws, drawn, seeded};
 
+use lists::Memory;
 use rand_core::SeedableRng;
 use rand_core::utils::NextWord;
 use rand_pcg::Lcg64Xsh32;
@@ -28,6 +29,15 @@ impl Draws {
         Draws {
             generator: Lcg64Xsh32::seed_from_u64(seed),
         }
+    }
+
+    /// The same draws once more, from the next one on.
+    pub fn copied(&self) -> Result<Draws, Memory>
+        ensures { IfOk result (λ draws. draws ≡ self.now) }
+    {
+        Ok(Draws {
+            generator: self.generator.clone()?,
+        })
     }
 
     /// The next draw below a bound. It takes one word, also below 1.

@@ -1,4 +1,4 @@
-ghost use Rattle.std.specs.Prelude.{◌≡◌, ℕ, ◌<◌, ◌≤◌, IfOk, IsTrue, OnOk, length, slice_index};
+ghost use Rattle.std.specs.Prelude.{◌≡◌, ℕ, ◌<◌, ◌≤◌, IfOk, IsTrue, OnErr, OnOk, length, slice_index};
 ghost use Rattle.rollout_rules.specs.Slack.{has_slack, has_table_room};
 ghost use Rattle.rollout_rules.specs.declared.limits.TheConstants.{LARGEST_CAPACITY, LARGEST_TABLE, MOST_FLOWS, MOST_SWITCHES};
 ghost use Rattle.rollout_rules.specs.Sums.{list_below};
@@ -13,9 +13,33 @@ use lists::{Memory, Nums};
 use std::alloc::Global;
 use wan_model::Problem;
 
-/// The case of a trial, made of the next draws, with slack 1/k and table room. Time: the switches, and the
-/// lengths of the tunnels.
+/// The case of a trial, made of the next draws, with slack 1/k and table room. An Err is want of memory, and
+/// leaves the draws as they were. Time: the switches, and the lengths of the tunnels.
 pub fn make_case(
+    alloc: Global,
+    k: u32,
+    switches: u32,
+    flows: u32,
+    draws: &mut Draws,
+) -> Result<Problem, Memory>
+    requires least_k { 2 ≤ k }
+    requires most_k { k ≤ 64 }
+    requires least_switches { 3 ≤ switches }
+    requires most_switches { switches ≤ MOST_SWITCHES }
+    requires most_flows { flows ≤ MOST_FLOWS }
+    ensures case { IfOk result (λ problem. problem ≡ case k switches flows draws.old) }
+    ensures slack { IfOk result (λ problem. IsTrue (has_slack problem k)) }
+    ensures room { IfOk result (λ problem. IsTrue (has_table_room problem)) }
+    ensures behind { OnOk result (draws.new ≡ after_case flows draws.old) }
+    ensures kept { OnErr result (draws.new ≡ draws.old) }
+{
+    let mut ahead = draws.copied()?;
+    let problem = drawn_case(alloc, k, switches, flows, &mut ahead)?;
+    *draws = ahead;
+    Ok(problem)
+}
+
+fn drawn_case(
     alloc: Global,
     k: u32,
     switches: u32,

@@ -1,10 +1,13 @@
-ghost use Rattle.std.specs.Prelude.{◌≡◌, ◌⊎◌, ℕ, [], All, List, Option, IfErr, IsTrue, OnOk};
+ghost use Rattle.std.specs.Prelude.{◌≡◌, ◌⊎◌, ℕ, All, List, Option, IfErr, IfOk, IsTrue, OnOk};
+ghost use Rattle.shared_book.specs.Homes.{homes_of};
 ghost use Rattle.controller_run.specs.Exchanging.{Exchanges, StopsInHear, StopsInOffer};
 
-use port_session::AnswerList;
+use disk_model::Disk;
+use port_session::Heard;
+use shared_book::{Listed, Marker};
 use shared_history::Cause;
+use std::alloc::Global;
 use wan_edge::Port;
-use wire_frames::Command;
 use worker_ports::WorkerPorts;
 
 /// A round between the ports alone: the commands go out, at all ports before the first is heard, and what
@@ -14,22 +17,25 @@ use worker_ports::WorkerPorts;
 /// # Errors
 ///
 /// As those of [`WorkerPorts::offer`] and [`WorkerPorts::hear`].
-pub fn exchange<T: Port>(
+pub fn exchange<D: Disk, M: Marker, T: Port>(
+    alloc: Global,
     ports: &mut WorkerPorts<T>,
-    commands: &[Command],
+    commands: &Listed<D, M>,
     homes: &[Option<u32>],
     migration: u32,
-    answers: &mut AnswerList,
-) -> Result<(), Cause>
+) -> Result<Heard<T>, Cause>
     requires live { All (λ s. IsTrue s.stream.live) ports.old }
-    requires fresh { answers.old ≡ [] }
-    ensures ok { OnOk result
-        (Exchanges T.told migration homes.now ports.old commands.now answers.new ports.new) }
+    requires homes { homes.now ≡ homes_of M.opening.rollout.problem }
+    requires migration { migration ≡ M.migration }
+    ensures ok { IfOk result
+        (λ heard. Exchanges T.told migration homes.now ports.old commands.now heard.answers
+        ports.new) }
+    ensures migration { IfOk result (λ heard. heard.migration ≡ migration) }
     ensures live { OnOk result (All (λ s. IsTrue s.stream.live) ports.new) }
     ensures err { IfErr result
         (λ why. StopsInOffer T.told migration homes.now why ports.old commands.now ports.new
         ⊎ StopsInHear T.told migration homes.now why ports.old commands.now ports.new) }
 {
     ports.offer(commands, homes, migration)?;
-    ports.hear(homes, migration, answers)
+    ports.hear::<M>(alloc, homes, migration)
 }

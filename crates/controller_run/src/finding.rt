@@ -5,9 +5,8 @@ ghost use Rattle.shared_book.specs.Homes.{homes_of};
 ghost use Rattle.controller_run.specs.Finding.{IsFound, IsListed};
 
 use disk_model::Disk;
-use rollout_book::CommandList;
 use rollout_rules::Op;
-use shared_book::{BookPass, Marker, SharedBook};
+use shared_book::{BookPass, Listed, Marker, SharedBook};
 use shared_history::{ListReply, Wake};
 use std::alloc::Global;
 use std::sync::Wait;
@@ -33,7 +32,7 @@ pub(crate) fn find_work<'d, R: Wait, D: Disk, M: Marker>(
     pass: BookPass<D, M>,
     switches: &[u32],
     left: u32,
-    commands: &mut CommandList,
+    commands: &mut Listed<D, M>,
 ) -> (BookPass<D, M>, Found)
     requires lock { IsPassOf book.now.lock pass.pass }
     requires homes { book.now.homes ≡ homes_of M.opening.rollout.problem }
@@ -67,7 +66,7 @@ fn list_work<'d, R: Wait, D: Disk, M: Marker>(
     pass: BookPass<D, M>,
     switches: &[u32],
     op: Op,
-    commands: &mut CommandList,
+    commands: &mut Listed<D, M>,
 ) -> (BookPass<D, M>, Found)
     requires lock { IsPassOf book.now.lock pass.pass }
     requires calls { IsCounted pass.calls pass.pass }

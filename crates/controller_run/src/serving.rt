@@ -4,6 +4,7 @@ ghost use Rattle.order_policy.specs.Answers.{rank_by};
 ghost use Rattle.turn_lock.specs.Passes.{IsPassOf, IsSamePass, seat_of_pass, seats_of, seen_of};
 ghost use Rattle.shared_book.specs.Calls.{IsCounted};
 ghost use Rattle.shared_book.specs.Homes.{homes_of};
+ghost use Rattle.shared_book.specs.Lasting.{CountsAsHeard};
 ghost use Rattle.controller_run.specs.Serving.{Served};
 
 use crate::outcome::Outcome;
@@ -42,6 +43,9 @@ pub fn serve<'d, R: Wait, D: Disk, M: Marker, T: Port>(
     requires calls { IsCounted pass.calls pass.pass }
     requires seat { seat_of_pass pass.pass < M.seats }
     requires live { All (λ s. IsTrue s.stream.live) ports }
+    requires home { terms.homes.now ≡ homes_of M.opening.rollout.problem }
+    requires migration { terms.migration ≡ M.migration }
+    requires told { CountsAsHeard T.told terms.migration M.heard }
     ensures lock { IsPassOf book.now.lock result.pass.pass }
     ensures pass { IsSamePass pass.pass result.pass.pass }
     ensures calls { IsCounted result.pass.calls result.pass.pass }

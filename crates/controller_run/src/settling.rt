@@ -3,34 +3,37 @@ ghost use Rattle.order_policy.specs.Answers.{rank_by};
 ghost use Rattle.rollout_book.specs.Aliens.{told_by};
 ghost use Rattle.turn_lock.specs.Passes.{IsPassOf, IsSamePass, seat_of_pass, seats_of, seen_of};
 ghost use Rattle.shared_book.specs.Calls.{IsCounted};
+ghost use Rattle.shared_book.specs.Lasting.{CountsAsHeard};
 ghost use Rattle.controller_run.specs.Settling.{IsSettled};
 
 use crate::outcome::Outcome;
 use disk_model::Disk;
+use port_session::Heard;
 use rollout_book::BookFault;
 use shared_book::{BookPass, Marker, RoundReply, SharedBook};
 use shared_history::{Cause, Wake};
 use std::sync::Wait;
-use wire_frames::Answer;
+use wan_edge::Port;
 
-/// Hands the answers of a round to the book, in whose round a command was offered or none.
-pub(crate) fn settle<'d, R: Wait, D: Disk, M: Marker>(
+/// Hands the answers that a round has heard to the book, in whose round a command was offered or none.
+pub(crate) fn settle<'d, R: Wait, D: Disk, M: Marker, T: Port>(
     rt: &R,
     book: &SharedBook<'d, D, M>,
     pass: BookPass<D, M>,
-    answers: &[Answer],
+    heard: Heard<T>,
     offered: bool,
 ) -> (BookPass<D, M>, Outcome)
     requires lock { IsPassOf book.now.lock pass.pass }
     requires policy { M.opening.policy ≡ rank_by book.now.policy.now.answers }
     requires calls { IsCounted pass.calls pass.pass }
+    requires told { CountsAsHeard T.told heard.migration M.heard }
     ensures lock { IsPassOf book.now.lock result.0.pass }
     ensures pass { IsSamePass pass.pass result.0.pass }
     ensures calls { IsCounted result.0.calls result.0.pass }
     ensures settled { IsSettled M.opening (seats_of pass.pass) (seat_of_pass pass.pass)
-        (seen_of pass.pass) (told_by answers.now) offered result.1 (seen_of result.0.pass) }
+        (seen_of pass.pass) (told_by heard.answers) offered result.1 (seen_of result.0.pass) }
 {
-    let (pass, reply) = book.round(rt, pass, answers);
+    let (pass, reply) = book.round(rt, pass, heard);
     let outcome = match reply {
         RoundReply::Turned(_) => Outcome::Whole { offered },
         RoundReply::Stopped(halt) => Outcome::Ended(Wake::Stopped(halt)),

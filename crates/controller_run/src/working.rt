@@ -3,6 +3,7 @@ ghost use Rattle.order_policy.specs.Answers.{rank_by};
 ghost use Rattle.turn_lock.specs.Passes.{IsPassOf, IsSamePass, seat_of_pass, seats_of, seen_of};
 ghost use Rattle.shared_book.specs.Calls.{IsCounted};
 ghost use Rattle.shared_book.specs.Homes.{homes_of};
+ghost use Rattle.shared_book.specs.Lasting.{CountsAsHeard};
 ghost use Rattle.controller_run.specs.Working.{Breaks, IsWorked, OnWhole, Settles};
 
 use crate::exchanging::exchange;
@@ -10,14 +11,11 @@ use crate::finding::{Found, find_work};
 use crate::outcome::Outcome;
 use crate::settling::settle;
 use disk_model::Disk;
-use port_session::AnswerList;
-use rollout_book::CommandList;
-use shared_book::{BookPass, Marker, SharedBook};
+use shared_book::{BookPass, Listed, Marker, SharedBook};
 use shared_history::Cause;
 use std::alloc::Global;
 use std::sync::Wait;
 use wan_edge::Port;
-use wire_frames::Command;
 use worker_ports::WorkerPorts;
 
 /// What a worker's rounds are given: where each item's home is, in which migration commands go out, and how
@@ -45,6 +43,9 @@ pub(crate) fn work<'d, R: Wait, D: Disk, M: Marker, T: Port>(
     requires policy { M.opening.policy ≡ rank_by book.now.policy.now.answers }
     requires calls { IsCounted pass.calls pass.pass }
     requires live { All (λ s. IsTrue s.stream.live) ports.old }
+    requires home { terms.homes.now ≡ homes_of M.opening.rollout.problem }
+    requires migration { terms.migration ≡ M.migration }
+    requires told { CountsAsHeard T.told terms.migration M.heard }
     ensures lock { IsPassOf book.now.lock result.0.pass }
     ensures pass { IsSamePass pass.pass result.0.pass }
     ensures calls { IsCounted result.0.calls result.0.pass }
@@ -60,7 +61,7 @@ pub(crate) fn work<'d, R: Wait, D: Disk, M: Marker, T: Port>(
         terms.entry.rounds (record { seen = seen_of pass.pass; ports = ports.old }) result.1
         (record { seen = seen_of result.0.pass; ports = ports.new }) }
 {
-    let mut commands = CommandList::new(alloc);
+    let mut commands = Listed::new(alloc);
     let (pass, found) = find_work(rt, alloc, book, pass, ports.switches(), left, &mut commands);
     match found {
         Found::Spent(op) => {
@@ -71,13 +72,13 @@ pub(crate) fn work<'d, R: Wait, D: Disk, M: Marker, T: Port>(
             };
             (pass, Outcome::Stops(spent))
         }
-        Found::Work(_) => carry_out(rt, alloc, book, pass, ports, terms, commands.as_slice()),
+        Found::Work(_) => carry_out(rt, alloc, book, pass, ports, terms, commands),
         Found::Ended(end) => (pass, Outcome::Ended(end)),
         Found::Memory => (pass, Outcome::Stops(Cause::Memory)),
     }
 }
 
-// Offers these commands, hears, and hands the book what was told.
+// Offers these commands, which a turn of the book has listed, hears, and hands the book what was told.
 fn carry_out<'d, R: Wait, D: Disk, M: Marker, T: Port>(
     rt: &R,
     alloc: Global,
@@ -85,28 +86,31 @@ fn carry_out<'d, R: Wait, D: Disk, M: Marker, T: Port>(
     pass: BookPass<D, M>,
     ports: &mut WorkerPorts<T>,
     terms: Terms<'_>,
-    commands: &[Command],
+    commands: Listed<D, M>,
 ) -> (BookPass<D, M>, Outcome)
     requires lock { IsPassOf book.now.lock pass.pass }
     requires policy { M.opening.policy ≡ rank_by book.now.policy.now.answers }
     requires calls { IsCounted pass.calls pass.pass }
     requires live { All (λ s. IsTrue s.stream.live) ports.old }
+    requires home { terms.homes.now ≡ homes_of M.opening.rollout.problem }
+    requires migration { terms.migration ≡ M.migration }
+    requires told { CountsAsHeard T.told terms.migration M.heard }
     ensures lock { IsPassOf book.now.lock result.0.pass }
     ensures pass { IsSamePass pass.pass result.0.pass }
     ensures calls { IsCounted result.0.calls result.0.pass }
     ensures live { OnWhole result.1 (All (λ s. IsTrue s.stream.live) ports.new) }
     ensures carried_out { Settles T.told M.opening (seats_of pass.pass) (seat_of_pass pass.pass)
-        terms.entry.migration terms.entry.homes.now commands.now
+        terms.entry.migration terms.entry.homes.now commands
         (record { seen = seen_of pass.pass; ports = ports.old }) result.1
         (record { seen = seen_of result.0.pass; ports = ports.new })
         ⊎ Breaks T.told
-        terms.entry.migration terms.entry.homes.now commands.now
+        terms.entry.migration terms.entry.homes.now commands
         (record { seen = seen_of pass.pass; ports = ports.old }) result.1
         (record { seen = seen_of result.0.pass; ports = ports.new }) }
 {
-    let mut answers = AnswerList::new(alloc);
-    match exchange(ports, commands, terms.homes, terms.migration, &mut answers) {
-        Ok(()) => settle(rt, book, pass, answers.as_slice(), !commands.is_empty()),
+    let offered = !commands.commands().is_empty();
+    match exchange(alloc, ports, &commands, terms.homes, terms.migration) {
+        Ok(heard) => settle(rt, book, pass, heard, offered),
         Err(cause) => (pass, Outcome::Stops(cause)),
     }
 }

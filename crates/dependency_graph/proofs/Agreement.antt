@@ -53,7 +53,7 @@ module _ (p : Problem) (plan : Plan) (at other : Places) (same : Agree p at othe
   pub room-same : (s : ℕ) (r : Resource) → room p plan at s r ≡ room p plan other s r
   room-same s r = sum_items-same p (share p plan at s r) (share p plan other s r) (λ i here. ap₂ (share_from s r i) (same.settled i here) (same.flies i here))
 
-  fits_at-same : (s : ℕ) → fits_at p plan at s ≡ fits_at p plan other s
+  pub fits_at-same : (s : ℕ) → fits_at p plan at s ≡ fits_at p plan other s
   fits_at-same s =
       ap₂ (λ a b. a && b)
       (all_below-same (length p.links) (λ l. nat_le (room p plan at s (the_link l)) (capacity_of p plan (the_link l))) (λ l. nat_le (room p plan other s (the_link l)) (capacity_of p plan (the_link l)))

@@ -25,6 +25,9 @@ pub mod Filled
 pub mod Graphs
 pub mod Looked
 pub mod Starts
+pub mod SmallRooms
+pub mod FirstFaults
+pub mod OneFault
 pub mod Walks
 pub mod Viewed
 pub mod EnoughTurns

@@ -55,7 +55,7 @@ module _ (p : Problem) where
   ]
 
 -- ---- no room is large
-scale-few : (p : Problem) (plan : Plan) → has_shape p plan ≡ true → plan.scale ≤ 65536
+pub scale-few : (p : Problem) (plan : Plan) → has_shape p plan ≡ true → plan.scale ≤ 65536
 scale-few p plan shape =
     let a = and_parts _ _ shape in
     let b = and_parts _ _ a.0 in
@@ -63,7 +63,7 @@ scale-few p plan shape =
     let e = and_parts _ _ d.0 in
     leb-true plan.scale LARGEST_SCALE e.1
 
-valid-shape : (p : Problem) (plan : Plan) → is_valid_plan p plan ≡ true → has_shape p plan ≡ true
+pub valid-shape : (p : Problem) (plan : Plan) → is_valid_plan p plan ≡ true → has_shape p plan ≡ true
 valid-shape p plan valid =
     let a = and_parts _ _ valid in
     let b = and_parts _ _ a.0 in
@@ -81,7 +81,7 @@ capacity-few p plan net valid (the_table w) here =
     let few = net.switches.tables w (ltb-true w (length p.switches) here) in
     omega (arith, few)
 
-sum_below-at : (n : ℕ) (f : ℕ → ℕ) (k : ℕ) → k < n → f k ≤ sum_below n f
+pub sum_below-at : (n : ℕ) (f : ℕ → ℕ) (k : ℕ) → k < n → f k ≤ sum_below n f
 sum_below-at zero f k lt = absurd (omega arith)
 sum_below-at (suc n) f k lt = elim (cases_eq k n) as (λ _. f k ≤ sum_below (suc n) f) [
   | inl same ↦ subst (λ m. f m ≤ sum_below n f + f n) (sym same) (omega arith)

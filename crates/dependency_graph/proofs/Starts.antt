@@ -24,7 +24,7 @@ use Rattle.dependency_graph.proofs.Changed.{same-test}
 use Rattle.dependency_graph.proofs.Counts.{counts-agree}
 use Rattle.dependency_graph.proofs.RoomCells.{number-inside, at-number, at-resource}
 
-needs_at-same : (p : Problem) (plan : Plan) (at other : Places) (i : Item) (s : ℕ) → Agree p at other → IsNetwork p → is_item p i ≡ true → needs_met_at p plan at i s ≡ needs_met_at p plan other i s
+pub needs_at-same : (p : Problem) (plan : Plan) (at other : Places) (i : Item) (s : ℕ) → Agree p at other → IsNetwork p → is_item p i ≡ true → needs_met_at p plan at i s ≡ needs_met_at p plan other i s
 needs_at-same p plan at other (item.Flow f) s same net here = needs_at-flow p plan at other same f s net (ltb-true f (length p.flows) here)
 needs_at-same p plan at other (item.Entry t h) s same net here = needs_at-entry p plan at other same t h s net (entry-is_item p t h here).row
 

@@ -1,5 +1,5 @@
 -- An item's operations, walked by the stages at which it changes.
-use Rattle.std.proofs.Common.{◌≡◌, ℕ, ◌+◌, ◌<◌, ◌≤◌, Bool, true, false, not, ◌||◌, if◌then◌else◌, inl, inr, refl, ap, subst, arith}
+use Rattle.std.proofs.Common.{◌≡◌, ℕ, ◌+◌, ◌<◌, ◌≤◌, Bool, true, false, not, ◌||◌, if◌then◌else◌, inl, inr, refl, sym, ap, ◌∙◌, subst, arith}
 use Rattle.std.proofs.lemmas.Bool.{cases_Bool, cases_lt}
 use Rattle.rollout_rules.specs.Sums.{all_below}
 use Rattle.rollout_rules.specs.Wan.{Problem, Plan, last_stage}
@@ -7,6 +7,7 @@ use Rattle.rollout_rules.specs.Operations.{changes_behind, changes_to, operation
 use Rattle.rollout_rules.specs.declared.item.Item.{Item}
 use Rattle.rollout_rules.proofs.Below.{all_below-at, all_below-from}
 use Rattle.rollout_laws.proofs.Standing.{changes-up, stand-most, stand-passes, stand-past, stand-before, stand-up, stand-left, stand-moves}
+use Rattle.dependency_graph.specs.FirstFault.{FailsFirst}
 use Rattle.dependency_graph.proofs.Changed.{same-test}
 use Rattle.dependency_graph.proofs.Elements.{sum_below-more}
 
@@ -16,6 +17,15 @@ all_below-more test n before here = all_below-from (n + 1) test (λ k lt. elim (
   | inl less ↦ all_below-at n test before k less
   | inr last ↦ let same : n ≡ k = omega (arith, lt, last) in subst (λ m. test m ≡ true) same here
 ])
+
+-- what is known where a change fails the test
+stops-there : (b t : Bool) → (not b || t) ≡ false → b ≡ true
+stops-there true t e = refl
+stops-there false t e = cc
+
+stops-test : (b t : Bool) → (not b || t) ≡ false → t ≡ false
+stops-test true t e = e
+stops-test false t e = cc
 
 module _ (p : Problem) (plan : Plan) (i : Item) where
   changes-more : (s : ℕ) (b : Bool) → changes_behind p plan i s ≡ b → changes_to p plan i (s + 1) ≡ changes_to p plan i s + (if b then 1 else 0)
@@ -53,3 +63,15 @@ module _ (p : Problem) (plan : Plan) (i : Item) where
                 let met = subst (λ u. test u ≡ true) (stood-there s (omega (arith, lt, stand-most p plan i k)) there) (all_below-at k (λ j. test (stand_after p plan i j)) e (changes_to p plan i s) less) in
                 rw (there, met) refl
           ])
+
+  -- Where the walk stops at a stage, the operation that takes the item there from it is the first that fails.
+  pub walk-stops : (k s : ℕ) (test : ℕ → Bool) → k ≤ operations p plan i → s < stand_after p plan i k → all_below s (λ u. not (changes_behind p plan i u) || test u) ≡ true → (not (changes_behind p plan i s) || test s) ≡ false → FailsFirst k (λ j. test (stand_after p plan i j)) (changes_to p plan i s)
+  walk-stops k s test le lt passed stopped =
+      let there = stops-there (changes_behind p plan i s) (test s) stopped in
+      let stood = stood-there s (omega (arith, lt, stand-most p plan i k)) there in
+      let less : changes_to p plan i s < k = omega (arith, changes-more s true there, changes-up p plan i (s + 1) (stand_after p plan i k) (omega (arith, lt)), stand-passes p plan i k) in
+      record {
+        there = less;
+        fails = ap test stood ∙ stops-test (changes_behind p plan i s) (test s) stopped;
+        before = sym (walk (changes_to p plan i s) test (omega (arith, less, le))) ∙ subst (λ m. all_below m (λ u. not (changes_behind p plan i u) || test u) ≡ true) (sym stood) passed;
+      }

@@ -10,5 +10,6 @@ pub mod Touched
 pub mod Wakes
 pub mod Graph
 pub mod Waiting
+pub mod FirstFault
 pub mod Soundness
 pub mod Chains

@@ -17,7 +17,7 @@ use wan_model::CheckedPlan;
 /// the last a row of the flows and one of the tunnels, whose entries all have the same chains. The rows
 /// stand from the last of these stages down.
 #[derive(Drop)]
-pub(crate) struct Chains {
+pub struct Chains {
     plan: Snapshot<CheckedPlan>,
     flows: Many<Ids>,
     tunnels: Many<Ids>,
@@ -35,8 +35,8 @@ impl Model for Chains {
 }
 
 impl Chains {
-    /// The chains of a plan. Time: the stages times the tunnels.
-    pub(crate) fn new(alloc: Global, plan: &CheckedPlan) -> Result<Chains, Memory>
+    /// The chains of a plan. Time: the stages times the tunnels. An Err is want of memory.
+    pub fn new(alloc: Global, plan: &CheckedPlan) -> Result<Chains, Memory>
         ensures { IfOk result (λ chains. chains ≡ plan.now) }
     {
         let rows = all_rows(alloc, plan)?;
@@ -48,7 +48,7 @@ impl Chains {
     }
 
     /// How many operations the longest chain has that begins with the item's operation behind a stage.
-    pub(crate) fn chain(&self, item: Item, stage: u32) -> u32
+    pub fn chain(&self, item: Item, stage: u32) -> u32
         requires item { IsTrue (is_item self.now.problem item) }
         requires stage { stage < last_stage self.now.plan }
         ensures { result ≡ chain self.now.problem self.now.plan item stage }

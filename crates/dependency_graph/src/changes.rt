@@ -13,9 +13,18 @@ pub fn operations(plan: &CheckedPlan, item: Item) -> u32
     requires { IsTrue (is_item plan.now.problem item) }
     ensures { result ≡ operation.operations plan.now.problem plan.now.plan item }
 {
+    changes_to(plan, item, plan.steps())
+}
+
+/// How many of its operations take an item to stages up to this one.
+pub fn changes_to(plan: &CheckedPlan, item: Item, stage: u32) -> u32
+    requires item { IsTrue (is_item plan.now.problem item) }
+    requires stage { stage ≤ wan.last_stage plan.now.plan }
+    ensures { result ≡ operation.changes_to plan.now.problem plan.now.plan item stage }
+{
     let mut changes = 0;
-    for s in 0..plan.last_stage() {
-        if changes_behind(plan, item, s) {
+    for s in 0..stage {
+        if changes_behind(plan, item, s as usize) {
             changes += 1;
         }
     }
@@ -43,7 +52,7 @@ pub fn stand_after(plan: &CheckedPlan, item: Item, settled: u64) -> u32
 
 /// The stage to which one operation more takes an item that stands at stage `from`: the next one before a
 /// change of its content, or the last. Time: the stages that it passes.
-pub(crate) fn stand_behind(plan: &CheckedPlan, item: Item, from: u32) -> u32
+pub fn stand_behind(plan: &CheckedPlan, item: Item, from: u32) -> u32
     requires item { IsTrue (is_item plan.now.problem item) }
     requires stage { from ≤ wan.last_stage plan.now.plan }
     ensures { (j : ℕ)

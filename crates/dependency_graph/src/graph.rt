@@ -23,7 +23,7 @@ use crate::zeros::zeros;
 use lists::Memory;
 use std::alloc::Global;
 use std::marker::Model;
-use wan_model::{CheckedPlan, OpView};
+use wan_model::{CheckedPlan, Item, OpView};
 
 /// The operations of a rollout as a graph of what each one needs and of the room that it takes. A graph
 /// stands for one legal history from its start, and each call tells what the rules say of that history.
@@ -110,6 +110,14 @@ impl Graph {
         self.course.item_count()
     }
 
+    /// The item with a number.
+    pub fn item(&self, number: u32) -> Item
+        requires { number < item_count self.now.rollout.problem }
+        ensures { result ≡ item_at self.now.rollout.problem number }
+    {
+        self.course.item(number)
+    }
+
     /// How many operations there are in all. Time: the items.
     pub fn op_total(&self) -> u32
         ensures { result ≡ graph.op_total self.now.rollout }
@@ -131,6 +139,14 @@ impl Graph {
         ensures { result ≡ history.settled self.now.history item }
     {
         self.course.settled(item)
+    }
+
+    /// How many of them were begun, settled or in flight.
+    pub fn begun(&self, item: u32) -> u32
+        requires { item < item_count self.now.rollout.problem }
+        ensures { result ≡ history.begun self.now.history item }
+    {
+        self.course.begun(item)
     }
 
     /// How many operations aren't settled. Time: the items.

@@ -83,7 +83,7 @@ impl Index {
     }
 
     /// How many operations the item with a number has.
-    pub(crate) fn operations(&self, number: u32) -> u32
+    pub fn operations(&self, number: u32) -> u32
         requires { number < item_count self.now.problem }
         ensures { result
             ≡ operation.operations self.now.problem self.now.plan
@@ -93,7 +93,7 @@ impl Index {
     }
 
     /// The item number of a tunnel's first entry.
-    pub(crate) fn first_entry(&self, tunnel: usize) -> u32
+    pub fn first_entry(&self, tunnel: usize) -> u32
         requires { tunnel < length self.now.problem.tunnels }
         ensures { result ≡ number_of self.now.problem (variants.Entry tunnel 0) }
     {

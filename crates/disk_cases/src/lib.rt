@@ -7,4 +7,6 @@ mod disks;
 #[cfg(test)]
 mod journals;
 #[cfg(test)]
+mod mirrors;
+#[cfg(test)]
 mod reports;

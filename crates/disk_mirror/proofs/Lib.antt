@@ -2,3 +2,4 @@ mod Alone
 mod Pieces
 mod Telling
 mod Tying
+mod Within

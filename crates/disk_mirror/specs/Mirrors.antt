@@ -8,12 +8,12 @@ use Rattle.disk_model.specs.Memory.{LeftSince, MayLeave, Reaches, Timeline, afte
 use Rattle.disk_model.specs.Past as past
 use Rattle.disk_model.specs.Traces.{DiskTrace}
 
--- The disk behind, and how many bytes of it are read at most; the bytes in memory with all that they were, once they were read; whether they were
--- read and each call of the disk behind has succeeded since; and how many calls have failed.
+-- The disk behind; the bytes in memory with all that they were, once they were read; how many there may be; whether they were read and each call of
+-- the disk behind has succeeded since; and how many calls have failed.
 pub record Mirrored (D : Type 0) : Type 0 where
   pub disk : D
-  pub most : ℕ
   pub course : Option Timeline
+  pub most : ℕ
   pub live : Bool
   pub faults : ℕ
 
@@ -51,6 +51,10 @@ pub record Mirrors (behind : DiskTrace) (course : Option Timeline) (live : Bool)
   pub crash : IfSome course (λ t. IfSome behind.bytes (λ _. Within behind.may_leave (MayLeave t.medium)))
   -- and what is in memory is one of the images that a crash may leave by the writes alone
   pub reached : IfSome course (λ t. Reaches t.medium.synced t.medium.pending t.medium.bytes)
+
+-- there are no more bytes in memory than these
+abbrev pub IsWithin : ℕ → Option Timeline → Type 0
+IsWithin most course = IfSome course (λ t. length t.medium.bytes ≤ most)
 
 -- the bytes are written over, and not synced
 abbrev pub written_in : ℕ → List ℕ → Option Timeline → Option Timeline

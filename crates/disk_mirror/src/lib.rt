@@ -2,7 +2,8 @@
 //!
 //! No call of a disk lets it begin to tell. So an [`Openable`] is opened before its first use: behind an
 //! Ok it tells its bytes, and what it told before it tells still. A [`Mirror`] reads the disk behind it
-//! then, once and whole, and from then on answers from memory and writes and syncs both. It tells what a
+//! then, once and whole, and from then on answers from memory and writes and syncs both, within as many
+//! bytes as the opening says, so that nothing on the disk makes it take more memory. It tells what a
 //! disk in memory tells, by the same definitions, and its type keeps that the disk behind holds what is
 //! in memory, and leaves behind a crash what is told. What it was, and what was synced, takes no memory.
 //!
@@ -19,8 +20,6 @@ mod openable;
 mod past;
 mod pending;
 mod standing;
-#[cfg(test)]
-mod tests;
 
 pub use mirror::Mirror;
 pub use openable::Openable;

@@ -1,7 +1,7 @@
-ghost use Rattle.std.specs.Prelude.{◌≡◌, ◌⊎◌, ◌≤◌, ◌-◌, None, Some, false, true, length, take, drop, min, IfOk, IfSome, IsTrue, IsSome, OnErr, OnOk};
+ghost use Rattle.std.specs.Prelude.{◌≡◌, ◌⊎◌, ◌-◌, ◌+◌, ◌≤◌, None, Some, false, true, length, take, drop, min, IfOk, IfSome, IsTrue, IsSome, OnErr, OnOk};
 ghost use Rattle.disk_model.specs.Crashes.{IsDurable};
 ghost use Rattle.disk_mirror.specs.Images.{IsLeftAlone};
-ghost use Rattle.disk_mirror.specs.Mirrors.{bytes_in, counts_now, only_now, shows_one, synced_in, trace_of, written_in};
+ghost use Rattle.disk_mirror.specs.Mirrors.{IsWithin, bytes_in, counts_now, only_now, shows_one, synced_in, trace_of, written_in};
 
 use crate::Openable;
 use crate::both::{begin, sync_both, write_both};
@@ -16,48 +16,55 @@ use wan_edge::Failed;
 /// A disk over another: it reads all the bytes behind it once, when it is opened, and from then on gives
 /// them from memory, and writes and syncs both.
 ///
-/// Before it is opened it tells nothing, and each other call fails and reaches nothing. After a call of
-/// the disk behind that failed each further one fails, since what is there may no longer be what is in
-/// memory. A call that finds no memory fails, too, and changes nothing. Each failure is counted.
+/// Before it is opened it tells nothing, and each other call fails and reaches nothing. It never has more
+/// bytes than the opening says: a longer disk isn't opened, and a write past that fails and changes
+/// nothing, also where all before it would be zeros. After a call of the disk behind that failed each
+/// further one fails, since what is there may no longer be what is in memory. A call that finds no memory
+/// fails, too, and changes nothing. Each failure is counted.
 #[derive(Drop)]
 pub struct Mirror<D: Disk> {
     alloc: Global,
     disk: D,
-    most: u64,
     course: Option<Course>,
+    // How many bytes there may be; 0 before it is opened.
+    most: u64,
     // Whether it was opened, and no call of the disk behind has failed since.
     live: bool,
     failures: Failures,
 }
 
 impl<D: Disk> Model for Mirror<D> {
-    ghost use Rattle.disk_mirror.specs.Mirrors.{Mirrored, Mirrors};
+    ghost use Rattle.disk_mirror.specs.Mirrors.{IsWithin, Mirrored, Mirrors};
 
     ghost Value = { Mirrored D };
 
     ghost view = { λ m. record {
       disk = m.disk;
-      most = m.most;
       course = m.course;
+      most = m.most;
       live = m.live;
       faults = m.failures;
     } };
 
-    ghost invariant = { λ m. Mirrors (D.told m.disk) m.course m.live };
+    ghost invariant = { λ m. (Mirrors (D.told m.disk) m.course m.live) × (IsWithin m.most m.course) };
 }
 
 impl<D: Disk> Mirror<D> {
-    /// Over a disk of which no byte is read before the opening, and no more than `most` then: a longer one
-    /// isn't opened.
-    pub fn new(alloc: Global, disk: D, most: u64) -> Self
-        ensures { result
-            ≡ record { disk = disk; most = most; course = None; live = false; faults = 0 } }
+    /// Over a disk of which no byte is read before the opening.
+    pub fn new(alloc: Global, disk: D) -> Self
+        ensures { result ≡ record {
+          disk = disk;
+          course = None;
+          most = 0;
+          live = false;
+          faults = 0;
+        } }
     {
         Mirror {
             alloc,
             disk,
-            most,
             course: None,
+            most: 0,
             live: false,
             failures: Failures::new(),
         }
@@ -71,18 +78,18 @@ impl<D: Disk> Mirror<D> {
     }
 
     // Reads what is behind, if that wasn't done.
-    fn begin(&mut self) -> Result<(), Failed>
+    fn begin(&mut self, most: u64) -> Result<(), Failed>
         ensures told { OnOk result (IsSome self.new.course) }
-        ensures within { OnOk result (self.old.course ≡ None
-            → IfSome self.new.course (λ t. length t.medium.bytes ≤ self.old.most)) }
-        ensures most { self.new.most ≡ self.old.most }
+        ensures within { OnOk result (self.old.course ≡ None → IsWithin most self.new.course) }
+        ensures most { OnOk result (self.old.course ≡ None → self.new.most ≡ most) }
         ensures kept { IfSome self.old.course (λ t. self.new.course ≡ Some t) }
         ensures alone { IsLeftAlone (D.told self.old.disk) (D.told self.new.disk) }
         ensures faults { self.new.faults ≡ self.old.faults }
     {
         if self.course.is_none() {
-            let course = begin(self.alloc, &mut self.disk, self.most)?;
+            let course = begin(self.alloc, &mut self.disk, most)?;
             self.course = Some(course);
+            self.most = most;
             self.live = true;
         }
         if self.live { Ok(()) } else { Err(Failed) }
@@ -92,11 +99,11 @@ impl<D: Disk> Mirror<D> {
         ensures ok { OnOk result (self.new.course ≡ written_in at from.now self.old.course) }
         ensures either { (self.new.course ≡ self.old.course)
             ⊎ (self.new.course ≡ written_in at from.now self.old.course) }
-        ensures most { self.new.most ≡ self.old.most }
         ensures live { OnOk result (IsTrue self.old.live) }
+        ensures most { self.new.most ≡ self.old.most }
         ensures faults { self.new.faults ≡ self.old.faults }
     {
-        if !self.live {
+        if !self.live || !fits(at, from, self.most) {
             return Err(Failed);
         }
         match &mut self.course {
@@ -109,10 +116,10 @@ impl<D: Disk> Mirror<D> {
         ensures ok { OnOk result (self.new.course ≡ synced_in self.old.course) }
         ensures either { (self.new.course ≡ self.old.course)
             ⊎ (self.new.course ≡ synced_in self.old.course) }
-        ensures most { self.new.most ≡ self.old.most }
         ensures live { OnOk result (IsTrue self.old.live) }
         ensures synced { OnOk result
             (IsDurable (D.told self.new.disk).bytes (D.told self.new.disk).may_leave) }
+        ensures most { self.new.most ≡ self.old.most }
         ensures faults { self.new.faults ≡ self.old.faults }
     {
         if !self.live {
@@ -176,10 +183,17 @@ impl<D: Disk> Disk for Mirror<D> {
 }
 
 impl<D: Disk> Openable for Mirror<D> {
-    fn open(&mut self) -> Result<(), Failed> {
-        let answer = self.begin();
+    fn open(&mut self, most: u64) -> Result<(), Failed> {
+        let answer = self.begin(most);
         self.failures.counted(answer)
     }
+}
+
+// Whether a write ends within so many bytes.
+fn fits(at: u64, from: &[u8], most: u64) -> bool
+    ensures { result ≡ true → at + length from.now ≤ most }
+{
+    at <= most && from.len() as u64 <= most - at
 }
 
 // Copies the bytes from `at` on, as many as fit, and says how many.

@@ -102,11 +102,11 @@ growths-from p f sums n all so =
     list_below-from sums (length p.links) (growth p f) so.count (λ l lt. so.each l lt ∙ ap (λ m. sum_below m (λ j. part_at p f j l)) all)
 
 -- ---- the links of a flow in the list of all
-list-count : {A : Type 0} (n : ℕ) (f : ℕ → A) → length (list_below n f) ≡ n
+pub list-count : {A : Type 0} (n : ℕ) (f : ℕ → A) → length (list_below n f) ≡ n
 list-count zero f = refl
 list-count (suc n) f = omega (arith, length-append (list_below n f) (f n ∷ []), list-count n f)
 
-list-at : {A : Type 0} (n : ℕ) (f : ℕ → A) (k : ℕ) (d : A) → k < n → slice_index_or (list_below n f) k d ≡ f k
+pub list-at : {A : Type 0} (n : ℕ) (f : ℕ → A) (k : ℕ) (d : A) → k < n → slice_index_or (list_below n f) k d ≡ f k
 list-at zero f k d lt = absurd (omega arith)
 list-at (suc n) f k d lt = elim (cases_lt k n) as (λ _. slice_index_or (list_below n f ++ f n ∷ []) k d ≡ f k) [
   | inl below ↦ get_or_append_left (list_below n f) (f n ∷ []) d k (omega (arith, below, list-count n f)) ∙ list-at n f k d below

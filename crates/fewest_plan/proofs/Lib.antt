@@ -2,5 +2,8 @@ pub mod Gaining
 pub mod Moving
 pub mod Trying
 pub mod Arrivals
+pub mod Relieving
+pub mod Weighing
+pub mod Stuckness
 pub mod Chosen
 pub mod Fitting

@@ -1,35 +1,28 @@
 -- What the call answers.
-use Rattle.std.specs.Prelude.{◌≡◌, unwrap_or, Result, Ok, Err}
+use Rattle.std.specs.Prelude.{◌≡◌, Result, Ok, Err}
 use Rattle.rollout_rules.specs.Wan.{Problem}
-use Rattle.scratch_plan.specs.Refusals.{Refuses}
-use Rattle.scratch_plan.specs.declared.no_plan.NoPlan.{NoPlan}
-use Rattle.plan_choose.specs.Choice.{Choice}
+use Rattle.scratch_plan.specs.declared.no_plan.NoPlan.TheVariants.{OverCapacity, TableFull, NoSlack, Memory}
 use Rattle.plan_choose.specs.declared.chosen.Chosen.{Chosen}
-use Rattle.plan_choose.specs.declared.chosen.Unplanned.{Unplanned}
-use Rattle.fewest_plan.specs.declared.found.Fewest.{Fewest}
+use Rattle.fewest_plan.specs.declared.cause.Cause.{Cause}
+use Rattle.fewest_plan.specs.declared.cause.Cause.TheVariants.{Unchosen, Unfound, Stuck}
+use Rattle.fewest_plan.specs.declared.cause.NotFound.{NotFound}
 use Rattle.fewest_plan.specs.Fewest.{fewest}
 
-abbrev pub choice_of : Chosen → Choice
-choice_of c = record { plan = c.plan.plan; rate_steps = c.rate_steps }
+-- the cause that a planner answers is the right one; want of memory says nothing
+abbrev pub Refuses : {A : Type 0} → Cause → Result A Cause → Type 0
+Refuses (Unchosen (OverCapacity link side load capacity)) wanted = wanted ≡ Err (Unchosen (OverCapacity link side load capacity))
+Refuses (Unchosen (TableFull switch entries size)) wanted = wanted ≡ Err (Unchosen (TableFull switch entries size))
+Refuses (Unchosen (NoSlack link side load capacity)) wanted = wanted ≡ Err (Unchosen (NoSlack link side load capacity))
+Refuses (Unchosen Memory) wanted = Unit {0}
+Refuses (Unfound cause) wanted = wanted ≡ Err (Unfound cause)
+Refuses (Stuck link) wanted = wanted ≡ Err (Stuck link)
 
--- what is chosen without the rule, and the problem with which it comes back
-abbrev pub choice_told : Result Chosen Unplanned → Result Choice NoPlan
-choice_told (Ok c) = Ok (choice_of c)
-choice_told (Err u) = Err u.cause
+-- what a planner answers is what is wanted
+abbrev pub Answers : {A : Type 0} → Result A Cause → Result A Cause → Type 0
+Answers (Ok a) wanted = wanted ≡ Ok a
+Answers (Err cause) wanted = Refuses cause wanted
 
-abbrev pub problem_told : Result Chosen Unplanned → Problem
-problem_told (Ok c) = c.plan.problem
-problem_told (Err u) = u.problem
-
--- the better one, where there is one
-abbrev pub choice_in : Fewest → Choice
-choice_in f = unwrap_or f.better (choice_of f.chosen)
-
--- the problem itself with what is wanted, or with the cause that there is nothing; want of memory says nothing
-abbrev pub IsAnswer : Problem → Result Choice NoPlan → Result Fewest Unplanned → Type 0
-IsAnswer p wanted (Ok f) = (f.chosen.plan.problem ≡ p) × (wanted ≡ Ok (choice_in f))
-IsAnswer p wanted (Err u) = (u.problem ≡ p) × Refuses u.cause wanted
-
--- what is found for the problem
-abbrev pub IsFewest : Problem → Result Fewest Unplanned → Type 0
-IsFewest p result = IsAnswer p (fewest p) result
+-- the problem itself with what is found for it, or with the cause
+abbrev pub IsFewest : Problem → Result Chosen NotFound → Type 0
+IsFewest p (Ok c) = (c.plan.problem ≡ p) × (fewest p ≡ Ok (record { plan = c.plan.plan; rate_steps = c.rate_steps }))
+IsFewest p (Err u) = (u.problem ≡ p) × Refuses u.cause (fewest p)

@@ -1,6 +1,9 @@
 pub mod Growth
 pub mod Greedy
 pub mod Walk
+pub mod Marked
+pub mod Relief
+pub mod Stuck
 pub mod Fewest
 pub mod Found
 pub mod Fits

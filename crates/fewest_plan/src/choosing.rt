@@ -1,83 +1,111 @@
-ghost use Rattle.std.specs.Prelude.{◌≡◌, IfSome, IsTrue};
+ghost use Rattle.std.specs.Prelude.{◌≡◌, ◌≤◌, Ok, Err, IfOk, IsTrue};
 ghost use Rattle.rollout_rules.specs.Valid.{is_valid_plan};
 ghost use Rattle.fewest_plan.specs.Fewest as spec;
-ghost use Rattle.fewest_plan.specs.Found as answer;
+ghost use Rattle.fewest_plan.specs.Found.{Answers, IsFewest};
+ghost use Rattle.fewest_plan.specs.Stuck.{stuck_link};
 
-use crate::found::Fewest;
-use crate::planned::Planned;
+use crate::cause::{Cause, NotFound};
 use crate::rule::by_rule;
-use plan_choose::{Chosen, Unplanned, choose};
+use crate::stuck::stuck_link;
+use plan_check::least_slack;
+use plan_choose::{Chosen, Planned, plan_for};
 use scratch_plan::NoPlan;
 use std::alloc::Global;
 use wan_model::{CheckedPlan, Problem};
 
-/// The plan with the fewest rate steps among those of the linear program, from scratch and of the greedy
-/// rule, and the first of several in this order; still or direct where that is enough. It has no more
-/// rate steps than the one that [`choose`] gives, and there is one wherever that gives one.
-pub fn fewest(alloc: Global, problem: Problem) -> Result<Fewest, Unplanned>
-    ensures { answer.IsFewest problem result }
+/// The plan with the fewest rate steps among those of the linear program, of the greedy rule and from
+/// scratch, and the first of several in this order; still or direct where that is enough. It has no more
+/// rate steps than the one that [`plan_choose::choose`] gives, and there is one wherever that gives one. The
+/// problem comes back with either answer.
+pub fn fewest(alloc: Global, problem: Problem) -> Result<Chosen, NotFound>
+    ensures { IsFewest problem result }
 {
-    match by_rule(alloc, &problem) {
-        Ok(found) => pick(alloc, problem, found),
-        Err(_) => Err(Unplanned {
-            problem,
-            cause: NoPlan::Memory,
+    match fewest_for(alloc, &problem) {
+        Ok(Planned { plan, rate_steps }) => Ok(Chosen {
+            plan: CheckedPlan::seal(problem, plan),
+            rate_steps,
         }),
+        Err(cause) => Err(NotFound { problem, cause }),
     }
 }
 
-fn pick(alloc: Global, problem: Problem, found: Option<Planned>) -> Result<Fewest, Unplanned>
-    requires { found ≡ spec.by_rule problem }
-    ensures { answer.IsFewest problem result }
+fn fewest_for(alloc: Global, problem: &Problem) -> Result<Planned, Cause>
+    ensures value { Answers result (spec.fewest problem.now) }
+    ensures valid { IfOk result (λ found. IsTrue (is_valid_plan problem.now found.plan)) }
 {
-    beside(found, choose(alloc, problem))
-}
-
-// What is found where this is chosen without the rule.
-fn beside(found: Option<Planned>, choice: Result<Chosen, Unplanned>) -> Result<Fewest, Unplanned>
-    requires { IfSome found (λ f. IsTrue (is_valid_plan (answer.problem_told choice) f.plan)) }
-    ensures { answer.IsAnswer (answer.problem_told choice)
-        (spec.fewest_of found (answer.choice_told choice)) result }
-{
-    match choice {
-        Ok(chosen) => Ok(better_of(found, chosen)),
-        Err(unplanned) => instead(found, unplanned),
+    match plan_for(alloc, problem) {
+        Ok(chosen) => beside(alloc, problem, chosen),
+        Err(cause) => in_place(alloc, problem, cause),
     }
 }
 
-fn better_of(found: Option<Planned>, chosen: Chosen) -> Fewest
-    ensures problem { result.chosen.plan.problem ≡ chosen.plan.problem }
-    ensures choice { answer.choice_in result ≡ spec.better_of found (answer.choice_of chosen) }
+// The plan of the rule, where it may take the place of what is chosen.
+fn beside(alloc: Global, problem: &Problem, chosen: Planned) -> Result<Planned, Cause>
+    ensures { Answers result (Ok (spec.beside problem.now chosen)) }
 {
-    let better = taken(found, chosen.rate_steps);
-    Fewest { chosen, better }
-}
-
-// The plan of the rule, where it has fewer than `m` rate steps.
-fn taken(found: Option<Planned>, m: u32) -> Option<Planned>
-    ensures { result ≡ spec.taken found m }
-{
+    let slack = least_slack(alloc, problem)?;
+    let room = room_beside(slack, chosen.rate_steps);
+    let found = by_rule(alloc, problem, room)?;
     match found {
-        Some(planned) => {
-            if planned.rate_steps < m {
-                Some(planned)
-            } else {
-                None
-            }
-        }
-        None => None,
+        Some(better) => Ok(better),
+        None => Ok(chosen),
     }
 }
 
-// The plan of the rule, where no link has slack.
-fn instead(found: Option<Planned>, unplanned: Unplanned) -> Result<Fewest, Unplanned>
-    requires { IfSome found (λ f. IsTrue (is_valid_plan unplanned.problem f.plan)) }
-    ensures { answer.IsAnswer unplanned.problem (spec.instead_of found unplanned.cause) result }
+// How many rate steps the rule may have beside a plan with so many.
+fn room_beside(slack: Option<u64>, steps: u32) -> u32
+    ensures value { result ≡ spec.room_beside slack steps }
+    ensures most { result ≤ 252 }
 {
-    if is_no_slack(unplanned.cause) {
-        return or_none(found, unplanned);
+    room_of(is_from_scratch(slack, steps), steps)
+}
+
+fn room_of(from_scratch: bool, steps: u32) -> u32
+    ensures value { result ≡ spec.room_of from_scratch steps }
+    ensures most { result ≤ 252 }
+{
+    if from_scratch {
+        return steps.min(252);
     }
-    Err(unplanned)
+    steps.saturating_sub(1).min(252)
+}
+
+// Whether so many rate steps are those of the plan from scratch.
+fn is_from_scratch(slack: Option<u64>, steps: u32) -> bool
+    ensures { result ≡ spec.is_from_scratch slack steps }
+{
+    match slack {
+        Some(k) => k.saturating_sub(1) == u64::from(steps),
+        None => false,
+    }
+}
+
+// What is found where nothing is chosen.
+fn in_place(alloc: Global, problem: &Problem, cause: NoPlan) -> Result<Planned, Cause>
+    ensures { Answers result (spec.in_place problem.now cause) }
+{
+    if is_no_slack(cause) {
+        return without_slack(alloc, problem, cause);
+    }
+    Err(Cause::Unchosen(cause))
+}
+
+fn without_slack(alloc: Global, problem: &Problem, cause: NoPlan) -> Result<Planned, Cause>
+    ensures { Answers result
+        (spec.or_why (spec.by_rule problem.now 252) cause (stuck_link problem.now)) }
+{
+    let found = by_rule(alloc, problem, 252)?;
+    match found {
+        Some(better) => Ok(better),
+        None => unfound(alloc, problem, cause),
+    }
+}
+
+fn unfound(alloc: Global, problem: &Problem, cause: NoPlan) -> Result<Planned, Cause>
+    ensures { Answers result (Err (spec.why_none cause (stuck_link problem.now))) }
+{
+    let stuck = stuck_link(alloc, problem)?;
+    Err(why_none(cause, stuck))
 }
 
 fn is_no_slack(cause: NoPlan) -> bool
@@ -86,28 +114,11 @@ fn is_no_slack(cause: NoPlan) -> bool
     matches!(cause, NoPlan::NoSlack { .. })
 }
 
-fn or_none(found: Option<Planned>, unplanned: Unplanned) -> Result<Fewest, Unplanned>
-    requires { IfSome found (λ f. IsTrue (is_valid_plan unplanned.problem f.plan)) }
-    ensures { answer.IsAnswer unplanned.problem (spec.or_none found unplanned.cause) result }
+fn why_none(cause: NoPlan, stuck: Option<u32>) -> Cause
+    ensures { result ≡ spec.why_none cause stuck }
 {
-    match found {
-        Some(planned) => Ok(sealed(planned, unplanned.problem)),
-        None => Err(unplanned),
-    }
-}
-
-fn sealed(planned: Planned, problem: Problem) -> Fewest
-    requires { IsTrue (is_valid_plan problem planned.plan) }
-    ensures problem { result.chosen.plan.problem ≡ problem }
-    ensures choice { answer.choice_in result ≡ planned }
-{
-    let Planned { plan, rate_steps } = planned;
-    let chosen = Chosen {
-        plan: CheckedPlan::seal(problem, plan),
-        rate_steps,
-    };
-    Fewest {
-        chosen,
-        better: None,
+    match stuck {
+        Some(link) => Cause::Stuck(link),
+        None => Cause::Unfound(cause),
     }
 }

@@ -1,51 +1,63 @@
-ghost use Rattle.std.specs.Prelude.{◌≡◌, ◌≤◌, IfOk};
+ghost use Rattle.std.specs.Prelude.{◌≡◌, ◌≤◌, None, IfOk};
 ghost use Rattle.rollout_rules.specs.declared.limits.TheConstants.{LARGEST_SCALE};
 ghost use Rattle.fewest_plan.specs.Growth as growth;
 ghost use Rattle.fewest_plan.specs.Greedy.{IsOrder};
+ghost use Rattle.fewest_plan.specs.Relief.{by_relief};
 ghost use Rattle.fewest_plan.specs.Fewest as spec;
 
 use crate::gain::GainList;
 use crate::growing::all_gains;
-use crate::planned::Planned;
+use crate::relief::by_relief;
 use crate::walking::greedy;
 use lists::{Ids, Memory};
-use plan_check::least_slack;
+use plan_choose::Planned;
 use std::alloc::Global;
 use wan_model::Problem;
 
-/// The plan of the rule with the fewest rate steps, fewer than scratch takes, and the first of several.
-pub(crate) fn by_rule(alloc: Global, problem: &Problem) -> Result<Option<Planned>, Memory>
-    ensures { IfOk result (λ found. found ≡ spec.by_rule problem.now) }
-{
-    let slack = least_slack(alloc, problem)?;
-    least_of(alloc, problem, most_steps(slack))
-}
-
-// Fewer rate steps than scratch takes, or as many as a plan may have.
-fn most_steps(slack: Option<u64>) -> u32
-    ensures value { result ≡ spec.most_steps slack }
-    ensures most { result ≤ 252 }
-{
-    match slack {
-        Some(k) => k.saturating_sub(2).min(252) as u32,
-        None => 252,
-    }
-}
-
-fn least_of(alloc: Global, problem: &Problem, most: u32) -> Result<Option<Planned>, Memory>
+/// The plan of the rule with the fewest rate steps, no more than so many, and the first of several: the flows
+/// by item, then those first that relieve the fullest links.
+pub(crate) fn by_rule(
+    alloc: Global,
+    problem: &Problem,
+    most: u32,
+) -> Result<Option<Planned>, Memory>
     requires { most ≤ 252 }
-    ensures { IfOk result (λ found. found ≡ spec.least_of problem.now most) }
+    ensures { IfOk result (λ found. found ≡ spec.by_rule problem.now most) }
 {
+    if most == 0 {
+        return Ok(None);
+    }
     let gains = all_gains(alloc, problem)?;
+    by_both(alloc, problem, gains.as_slice(), most)
+}
+
+fn by_both(
+    alloc: Global,
+    problem: &Problem,
+    gains: &[GainList],
+    most: u32,
+) -> Result<Option<Planned>, Memory>
+    requires gains { gains.now ≡ growth.all_gains problem.now }
+    requires most { most ≤ 252 }
+    ensures { IfOk result (λ found. found ≡ spec.by_rule problem.now most) }
+{
+    let found = least_by_item(alloc, problem, gains, most)?;
+    least_by_relief(alloc, problem, gains, most, found)
+}
+
+fn least_by_item(
+    alloc: Global,
+    problem: &Problem,
+    gains: &[GainList],
+    most: u32,
+) -> Result<Option<Planned>, Memory>
+    requires gains { gains.now ≡ growth.all_gains problem.now }
+    requires most { most ≤ 252 }
+    ensures { IfOk result
+        (λ found. found ≡ spec.in_parts problem.now most (spec.by_item problem.now) None) }
+{
     let order = by_item(alloc, problem)?;
-    in_parts(
-        alloc,
-        problem,
-        order.as_slice(),
-        gains.as_slice(),
-        most,
-        None,
-    )
+    in_parts(alloc, problem, order.as_slice(), gains, most, None)
 }
 
 fn by_item(alloc: Global, problem: &Problem) -> Result<Ids, Memory>
@@ -58,7 +70,24 @@ fn by_item(alloc: Global, problem: &Problem) -> Result<Ids, Memory>
     Ok(order)
 }
 
+fn least_by_relief(
+    alloc: Global,
+    problem: &Problem,
+    gains: &[GainList],
+    most: u32,
+    found: Option<Planned>,
+) -> Result<Option<Planned>, Memory>
+    requires gains { gains.now ≡ growth.all_gains problem.now }
+    requires most { most ≤ 252 }
+    ensures { IfOk result
+        (λ best. best ≡ spec.in_parts problem.now most (by_relief problem.now) found) }
+{
+    let order = by_relief(alloc, problem)?;
+    in_parts(alloc, problem, order.as_slice(), gains, most, found)
+}
+
 // With whole flows, halves and twelfths.
+#[tactic(auto, unfolding(crate::specs::Fewest::in_parts))]
 fn in_parts(
     alloc: Global,
     problem: &Problem,

@@ -7,10 +7,10 @@ ghost use Rattle.fewest_plan.specs.Greedy as greedy;
 ghost use Rattle.fewest_plan.specs.Walk as spec;
 
 use crate::gain::GainList;
-use crate::planned::Planned;
 use crate::stepping::{row, step};
 use lists::{Many, Memory, Nums};
 use plan_check::{PlanFault, check_plan};
+use plan_choose::Planned;
 use scratch_plan::frame;
 use std::alloc::{AllocError, Global};
 use wan_model::{Plan, Problem};

@@ -38,8 +38,6 @@ mod tap;
 mod tcp_fleet;
 mod tcp_guest;
 mod tcp_port;
-#[cfg(test)]
-mod tests;
 mod time_limit;
 mod unbroken;
 

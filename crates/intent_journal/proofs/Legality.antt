@@ -162,6 +162,10 @@ module _ (old : Followed) (entries : List Entry) (place : ℕ) (now : Followed) 
       ap (legal_count p plan now.history) at_place ∙ ap (λ (b : Bool). if b then 1 + legal_count p plan (with_entries now.history (entry ∷ [])) (drop (place + 1) entries) else 0) may_not in
       omega (arith, so.counted, step)
 
+  -- an entry that may not follow leaves the graph there
+  pub HasFollowed-kept : (new : Followed) (may : Bool) → may ≡ false → new ≡ (if may then record now { history = with_entries now.history (entry ∷ []) } else now) → new ≡ record old { history = with_entries old.history (take place entries) }
+  HasFollowed-kept new may fails given = given ∙ ap (λ (b : Bool). if b then record now { history = with_entries now.history (entry ∷ []) } else now) fails ∙ so.is
+
 pub HasFollowed-all : (old : Followed) (entries : List Entry) (place : ℕ) (now : Followed) → HasFollowed old entries place now → length entries ≡ place
     → (legal_count old.rollout.problem old.rollout.plan old.history entries ≡ length entries) × (now ≡ record old { history = with_entries old.history entries })
 HasFollowed-all old entries place now so end =

@@ -15,6 +15,7 @@ pub mod Judgements
 pub mod Laying
 pub mod Listings
 pub mod Legality
+pub mod LeftGraphs
 pub mod Made
 pub mod NewParts
 pub mod Nothing

@@ -1,4 +1,4 @@
-ghost use Rattle.std.specs.Prelude.{◌≡◌, ◌<◌, [], ◌∷◌, length, if◌then◌else◌, IfNone, IsTrue, MatchOption};
+ghost use Rattle.std.specs.Prelude.{◌≡◌, ◌<◌, [], ◌∷◌, length, take, if◌then◌else◌, IfNone, IfSome, IsTrue, MatchOption};
 ghost use Rattle.rollout_rules.specs.History.{with_entries};
 ghost use Rattle.rollout_rules.specs.Items.{item_count};
 ghost use Rattle.rollout_rules.specs.Legal as legal;
@@ -22,6 +22,9 @@ pub(crate) fn follow_all(graph: &mut Graph, entries: &[Entry]) -> Option<usize>
         × (n < length entries.now)) }
     ensures all { IfNone result
         (graph.new ≡ record graph.old { history = with_entries graph.old.history entries.now }) }
+    ensures stopped { IfSome result
+        (λ n. graph.new
+        ≡ record graph.old { history = with_entries graph.old.history (take n entries.now) }) }
 {
     let items = graph.item_count();
     for place in 0..entries.len() {

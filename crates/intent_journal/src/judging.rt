@@ -1,9 +1,9 @@
-ghost use Rattle.std.specs.Prelude.{◌≡◌, ◌≤◌, ◌<◌, ◌&&◌, ◌==◌, [], Some, bytes_eq, drop, length, if◌then◌else◌, IfErr, IfNone, IfOk, IsTrue, MatchOption};
+ghost use Rattle.std.specs.Prelude.{◌≡◌, ◌≤◌, ◌<◌, ◌&&◌, ◌==◌, [], Some, bytes_eq, drop, length, take, if◌then◌else◌, IfErr, IfNone, IfOk, IfSome, IsTrue, MatchOption};
 ghost use Rattle.rollout_rules.specs.History.{from_nothing, started};
 ghost use Rattle.intent_journal.specs.Images as images;
 ghost use Rattle.intent_journal.specs.Images.{open_journal};
 ghost use Rattle.intent_journal.specs.declared.digest.Digest.{Digest};
-ghost use Rattle.intent_journal.specs.Judging.{BeforeList, IsJudged, IsJudgedPart, IsOfList};
+ghost use Rattle.intent_journal.specs.Judging.{BeforeList, IsJudged, IsJudgedPart, IsOfList, LeavesGraph, LeavesGraphOf, part_entries, part_start};
 ghost use Rattle.intent_journal.specs.Numbers as numbers;
 ghost use Rattle.intent_journal.specs.Parts.{digest_in, is_whole, migration_in};
 ghost use Rattle.intent_journal.specs.Phases.{IsFound};
@@ -52,6 +52,7 @@ pub(crate) fn judge(
         (λ fault. IsRefusal fault digest.now
         (judged_journal graph.old.rollout digest.now image.now)) }
     ensures unmoved { IfErr result (λ fault. BeforeList fault (graph.new ≡ graph.old)) }
+    ensures left { IfErr result (λ fault. LeavesGraphOf image.now fault graph.old graph.new) }
 {
     let first = byte_in(image, 0);
     if first != OPEN_JOURNAL {
@@ -80,6 +81,7 @@ fn judge_side(
         (λ fault. IsRefusal fault digest.now
         (judged_journal graph.old.rollout digest.now image.now)) }
     ensures unmoved { IfErr result (λ fault. BeforeList fault (graph.new ≡ graph.old)) }
+    ensures left { IfErr result (λ fault. LeavesGraphOf image.now fault graph.old graph.new) }
 {
     let slot = Slot::at(side, image);
     let kept = judge_part(alloc, &slot, part_of(&slot, image), digest, graph)?;
@@ -150,6 +152,9 @@ fn judge_part(
         (λ fault. IsRefusal fault digest.now
         (judged_part graph.old.rollout digest.now slot.now part.now)) }
     ensures unmoved { IfErr result (λ fault. BeforeList fault (graph.new ≡ graph.old)) }
+    ensures left { IfErr result
+        (λ fault. LeavesGraph (part_start graph.old.rollout.problem slot.now part.now)
+        (part_entries slot.now part.now) fault graph.old graph.new) }
 {
     let kept = kept_digest(slot, part);
     if !is_same(&kept, digest) {
@@ -202,6 +207,8 @@ fn bring(graph: &mut Graph, start: &[u32], listed: &Listed) -> Option<usize>
     ensures whole { IfNone result (IsTrue listed.now.whole) }
     ensures graph { IfNone result
         (graph.new ≡ with_history graph.old start.now listed.now.entries) }
+    ensures stopped { IfSome result
+        (λ n. graph.new ≡ with_history graph.old start.now (take n listed.now.entries)) }
 {
     begin_at(graph, start);
     let entries = listed.entries.as_slice();

@@ -4,7 +4,7 @@ ghost use Rattle.disk_model.specs.Crashes.{Within};
 ghost use Rattle.disk_model.specs.Moments.{LeavesOnly};
 ghost use Rattle.dependency_graph.specs.Graph.{op_total};
 ghost use Rattle.intent_journal.specs.Images as images;
-ghost use Rattle.intent_journal.specs.Judging.{BeforeList};
+ghost use Rattle.intent_journal.specs.Judging.{BeforeList, LeavesGraphOf};
 ghost use Rattle.intent_journal.specs.Opened.{HasRoom, IsKept};
 ghost use Rattle.intent_journal.specs.Openings.{IsLeft, IsMadeReady, IsOpenFor, IsOpenedFrom};
 ghost use Rattle.intent_journal.specs.Phases.{Holds};
@@ -43,7 +43,10 @@ struct Ready {
 /// Opens the journal of a rollout on a disk; on one that is blank it makes one. The graph is brought to
 /// the start and the list, which come back, and memory is taken for all later appends. Before the first
 /// write it refuses what is no journal, one of another plan, a start that isn't sound, and a list that
-/// isn't legal. After `Ok` each image that a crash may leave keeps the list.
+/// isn't legal. After `Ok` each image that a crash may leave keeps the list. Behind an entry that isn't
+/// legal the graph has the start and the entries ahead of it; after every other refusal of the image it is
+/// as it was. Where the disk failed or memory ran out it is as it was, or has the start and a front of
+/// the list.
 pub fn recover<D: Disk>(
     alloc: Global,
     disk: D,
@@ -58,6 +61,9 @@ pub fn recover<D: Disk>(
     ensures left { IfErr result
         (λ unopened. IsLeft D.told graph.old.rollout digest.now disk unopened.cause unopened.disk) }
     ensures unmoved { IfErr result (λ unopened. BeforeList unopened.cause (graph.new ≡ graph.old)) }
+    ensures graph { IfErr result
+        (λ unopened. IfSome (D.told disk).bytes
+        (λ image. LeavesGraphOf image unopened.cause graph.old graph.new)) }
 {
     let mut disk = disk;
     match open(alloc, &mut disk, digest, graph) {
@@ -106,6 +112,9 @@ fn open<D: Disk>(
     ensures left { IfErr result
         (λ cause. IsLeft D.told graph.old.rollout digest.now disk.old cause disk.new) }
     ensures unmoved { IfErr result (λ cause. BeforeList cause (graph.new ≡ graph.old)) }
+    ensures graph { IfErr result
+        (λ cause. IfSome (D.told disk.old).bytes
+        (λ image. LeavesGraphOf image cause graph.old graph.new)) }
 {
     let image = read_image(alloc, disk)?;
     open_read(alloc, disk, image.as_slice(), digest, graph)
@@ -137,6 +146,7 @@ fn open_read<D: Disk>(
     ensures refusal { IfErr result
         (λ fault. IsCause fault digest.now (verdict graph.old.rollout digest.now image.now)) }
     ensures unmoved { IfErr result (λ fault. BeforeList fault (graph.new ≡ graph.old)) }
+    ensures graph { IfErr result (λ fault. LeavesGraphOf image.now fault graph.old graph.new) }
     ensures unwritten { IfErr result (λ fault. OnRefusal fault (disk.new ≡ disk.old)) }
     ensures told { KeepsTelling (D.told disk.old).bytes (D.told disk.new).bytes }
     ensures count { (D.told disk.old).faults ≤ (D.told disk.new).faults }
@@ -212,6 +222,7 @@ fn go_on<D: Disk>(
         (λ fault. IsCause fault digest.now
         (judged_journal graph.old.rollout digest.now image.now)) }
     ensures unmoved { IfErr result (λ fault. BeforeList fault (graph.new ≡ graph.old)) }
+    ensures graph { IfErr result (λ fault. LeavesGraphOf image.now fault graph.old graph.new) }
     ensures unwritten { IfErr result (λ fault. OnRefusal fault (disk.new ≡ disk.old)) }
     ensures told { KeepsTelling (D.told disk.old).bytes (D.told disk.new).bytes }
     ensures count { (D.told disk.old).faults ≤ (D.told disk.new).faults }

@@ -1,14 +1,15 @@
-ghost use Rattle.std.specs.Prelude.{◌≡◌, length, IfOk, IsTrue};
+ghost use Rattle.std.specs.Prelude.{◌≡◌, ℕ, Bool, length, IfOk, IsTrue};
 ghost use Rattle.rollout_rules.specs.Sums.{list_below};
+ghost use Rattle.dependency_graph.specs.FirstFault.{TellsSound};
 ghost use Rattle.intent_journal.specs.Parts as parts;
 ghost use Rattle.intent_journal.specs.Verdicts as verdicts;
 
 use crate::bytes::{from_place, number_of_4};
 use crate::part::start_count;
 use crate::slot::Slot;
-use dependency_graph::{checked_plan_is_valid, sound};
+use dependency_graph::{StartFault, checked_plan_is_valid, sound};
 use lists::Memory;
-use std::alloc::Global;
+use std::alloc::{AllocError, Global};
 use wan_model::{CheckedPlan, item_count};
 
 // Where the first number of a part's start stands, and how many bytes each has.
@@ -44,7 +45,21 @@ pub(crate) fn is_start(alloc: Global, plan: &CheckedPlan, start: &[u32]) -> Resu
         checked_plan_is_valid(plan);
         return Ok(true);
     }
-    sound(alloc, plan, start)
+    match sound(alloc, plan, start) {
+        Ok(()) => Ok(true),
+        Err(fault) => unsound(fault),
+    }
+}
+
+/// No: unless there was no memory to find out.
+fn unsound(fault: StartFault) -> Result<bool, Memory>
+    ensures { IfOk result
+        (λ is. (sound : Bool) → TellsSound {A = ℕ} (Err fault) sound → is ≡ sound) }
+{
+    match fault {
+        StartFault::Above { .. } | StartFault::Need { .. } | StartFault::Room { .. } => Ok(false),
+        StartFault::Memory => Err(AllocError),
+    }
 }
 
 /// Whether nothing is settled at a start.

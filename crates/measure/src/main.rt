@@ -16,6 +16,7 @@ mod linear;
 mod lock_turns;
 mod log;
 mod mutex_turns;
+mod nowhere;
 mod program;
 mod recovery;
 mod rollout;

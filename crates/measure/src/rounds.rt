@@ -2,12 +2,14 @@
 //! is a document.
 ghost use Rattle.std.specs.Prelude.{◌≡◌, [], IfOk, IfSome};
 ghost use Rattle.rollout_rules.specs.History.{from_nothing};
+ghost use Rattle.wan_edge.specs.Frames.{Answer};
 ghost use Rattle.order_policy.specs.Answers.{rank_by};
 ghost use Rattle.rollout_book.specs.Lists.{IsKeptList};
 ghost use Rattle.turn_lock.specs.Passes.{IsPassOf, IsSamePass};
 ghost use Rattle.shared_book.specs.Calls.{IsCounted};
 ghost use Rattle.shared_book.specs.Opened.{IsOpened, IsOpenedOn, opening_of};
 
+use crate::nowhere::as_heard;
 use crate::rollout;
 use anyhow::{Result, bail};
 use dependency_graph::Graph;
@@ -15,13 +17,13 @@ use disk_model::{Disk, MemoryDisk};
 use intent_journal::{Digest, Unopened, digest_of};
 use order_policy::Policy;
 use rollout_book::{Book, CommandList, Turn};
-use shared_book::{BookPass, Marker, RoundReply, SharedBook};
+use shared_book::{BookPass, Listed, Marker, RoundReply, SharedBook};
 use std::alloc::{AllocError, Global};
 use std::marker::Brand;
 use std::sync::Wait;
 use wan_edge::{Nums8, Turns};
 use wan_model::{CheckedPlan, OpView};
-use wire_frames::Answer;
+use wire_frames::{Answer, Command};
 
 /// What the rounds are made of.
 #[derive(Clone, Copy, PartialEq, Eq)]
@@ -209,12 +211,12 @@ fn round_alone<D: Disk>(book: &mut Book<'_, D>, answers: &[Answer]) -> u64 {
 fn listed<D: Disk>(alloc: Global, book: &Book<'_, D>, switches: &[u32]) -> Vec<Answer> {
     let mut commands = CommandList::new(alloc);
     let _ = book.commands(alloc, switches, &mut commands);
-    answers_to(alloc, &commands)
+    answers_to(alloc, commands.as_slice())
 }
 
-fn answers_to(alloc: Global, commands: &CommandList) -> Vec<Answer> {
+fn answers_to(alloc: Global, commands: &[Command]) -> Vec<Answer> {
     let mut answers = Vec::new(alloc);
-    for command in commands.as_slice() {
+    for command in commands {
         let _ = answers.push(Answer {
             item: command.item,
             held: command.number,
@@ -247,6 +249,7 @@ fn roll_named<'d, R: Wait, D: Disk, M: Marker>(
 ) -> (Book<'d, D>, u64)
     requires opened { IsOpenedOn D.told M.opening M.moment M.faults book.chronicle }
     requires policy { M.opening.policy ≡ rank_by book.policy.now.answers }
+    requires any { (answer : Answer) → M.heard answer }
     requires seats { M.seats ≡ 1 }
 {
     match SharedBook::<D, M>::new(alloc, book, 1) {
@@ -268,6 +271,7 @@ fn rounds_shared<R: Wait, D: Disk, M: Marker>(
     work: Work<'_>,
 ) -> (BookPass<D, M>, u64)
     requires policy { M.opening.policy ≡ rank_by book.now.policy.now.answers }
+    requires any { (answer : Answer) → M.heard answer }
     requires lock { IsPassOf book.now.lock pass.pass }
     requires calls { IsCounted pass.calls pass.pass }
     ensures lock { IsPassOf book.now.lock result.0.pass }
@@ -292,20 +296,24 @@ fn round_shared<R: Wait, D: Disk, M: Marker>(
     answers: &mut Vec<Answer>,
 ) -> (BookPass<D, M>, u64)
     requires policy { M.opening.policy ≡ rank_by book.now.policy.now.answers }
+    requires any { (answer : Answer) → M.heard answer }
     requires lock { IsPassOf book.now.lock pass.pass }
     requires calls { IsCounted pass.calls pass.pass }
     ensures lock { IsPassOf book.now.lock result.0.pass }
     ensures calls { IsCounted result.0.calls result.0.pass }
     ensures same { IsSamePass pass.pass result.0.pass }
 {
-    let (pass, reply) = book.round(rt, pass, answers.as_slice());
+    let Ok(heard) = as_heard(alloc, answers.as_slice()) else {
+        return (pass, 0);
+    };
+    let (pass, reply) = book.round(rt, pass, heard);
     let dones = ended_by(reply);
     if !work.load.led {
         return (pass, dones);
     }
-    let mut commands = CommandList::new(alloc);
+    let mut commands = Listed::new(alloc);
     let (pass, _listed) = book.commands(rt, alloc, pass, work.switches, &mut commands);
-    *answers = answers_to(alloc, &commands);
+    *answers = answers_to(alloc, commands.commands());
     (pass, dones)
 }
 

@@ -2,6 +2,7 @@
 //! of the other begins what it waits for. Standard input is a document.
 ghost use Rattle.std.specs.Prelude.{◌≡◌, [], IfSome};
 ghost use Rattle.rollout_rules.specs.History.{from_nothing};
+ghost use Rattle.wan_edge.specs.Frames.{Answer};
 ghost use Rattle.order_policy.specs.Answers.{rank_by};
 ghost use Rattle.rollout_book.specs.Lists.{IsKeptList};
 ghost use Rattle.turn_lock.specs.Passes.{IsFirstPass, IsPassOf, IsSamePass, out_of, seat_of_pass};
@@ -10,6 +11,7 @@ ghost use Rattle.shared_book.specs.Homes.{homes_of};
 ghost use Rattle.shared_book.specs.Opened.{IsOpened, IsOpenedOn, opening_of};
 
 use crate::jobs::{Job, two_jobs};
+use crate::nowhere::as_heard;
 use crate::rollout;
 use crate::rounds::opened;
 use anyhow::{Result, bail};
@@ -52,6 +54,7 @@ enum Before {
 #[derive(Drop)]
 struct Duty<'s, R, B, V: Counted> {
     rt: &'s R,
+    alloc: Global,
     book: &'s B,
     pass: CallPass<V>,
     before: Before,
@@ -70,6 +73,7 @@ impl<'s, 'd, R: Wait + Clock, D: Disk, M: Marker> Job
 
     ghost may_begin = { λ d. (d.book.now.homes ≡ homes_of M.opening.rollout.problem)
         × (M.opening.policy ≡ rank_by d.book.now.policy.now.answers)
+        × ((answer : Answer) → M.heard answer)
         × IsPassOf d.book.now.lock d.pass.pass
         × IsCounted d.pass.calls d.pass.pass };
 
@@ -80,13 +84,14 @@ impl<'s, 'd, R: Wait + Clock, D: Disk, M: Marker> Job
     fn run(self) -> Woken<Kept<D, M>> {
         let Duty {
             rt,
+            alloc,
             book,
             pass,
             before,
         } = self;
         let pass = match before {
             Before::Nothing => pass,
-            Before::Round(milliseconds) => round_after(rt, book, pass, milliseconds),
+            Before::Round(milliseconds) => round_after(rt, alloc, book, pass, milliseconds),
         };
         let (pass, wake) = book.wait_work(rt, pass, &[HOME]);
         Woken { pass, wake }
@@ -95,11 +100,13 @@ impl<'s, 'd, R: Wait + Clock, D: Disk, M: Marker> Job
 
 fn round_after<R: Wait + Clock, D: Disk, M: Marker>(
     rt: &R,
+    alloc: Global,
     book: &SharedBook<'_, D, M>,
     pass: BookPass<D, M>,
     milliseconds: u32,
 ) -> BookPass<D, M>
     requires policy { M.opening.policy ≡ rank_by book.now.policy.now.answers }
+    requires any { (answer : Answer) → M.heard answer }
     requires lock { IsPassOf book.now.lock pass.pass }
     requires calls { IsCounted pass.calls pass.pass }
     ensures lock { IsPassOf book.now.lock result.pass }
@@ -107,7 +114,29 @@ fn round_after<R: Wait + Clock, D: Disk, M: Marker>(
     ensures same { IsSamePass pass.pass result.pass }
 {
     sleep(rt, Duration::from_millis(u64::from(milliseconds)));
-    book.round(rt, pass, &LATE).0
+    round_with(rt, alloc, book, pass, &LATE)
+}
+
+// A round with these answers; none is made where memory for them runs out.
+fn round_with<R: Wait, D: Disk, M: Marker>(
+    rt: &R,
+    alloc: Global,
+    book: &SharedBook<'_, D, M>,
+    pass: BookPass<D, M>,
+    answers: &[Answer],
+) -> BookPass<D, M>
+    requires policy { M.opening.policy ≡ rank_by book.now.policy.now.answers }
+    requires any { (answer : Answer) → M.heard answer }
+    requires lock { IsPassOf book.now.lock pass.pass }
+    requires calls { IsCounted pass.calls pass.pass }
+    ensures lock { IsPassOf book.now.lock result.pass }
+    ensures calls { IsCounted result.calls result.pass }
+    ensures same { IsSamePass pass.pass result.pass }
+{
+    match as_heard(alloc, answers) {
+        Ok(heard) => book.round(rt, pass, heard).0,
+        Err(_) => pass,
+    }
 }
 
 /// Prints what the waiting seat was told.
@@ -214,11 +243,12 @@ fn wait_named<'d, R: Threads + Wait + Sync + Clock, D: Disk + Drop + Send, M: Ma
 ) -> (Book<'d, D>, Wake)
     requires opened { IsOpenedOn D.told M.opening M.moment M.faults book.chronicle }
     requires policy { M.opening.policy ≡ rank_by book.policy.now.answers }
+    requires any { (answer : Answer) → M.heard answer }
     requires seats { M.seats ≡ 2 }
 {
     match SharedBook::<D, M>::new(alloc, book, 2) {
         Ok((shared, pass)) => {
-            let (pass, wake) = wait_shared(rt, &shared, pass, milliseconds);
+            let (pass, wake) = wait_shared(rt, alloc, &shared, pass, milliseconds);
             let (book, _notes, _halt) = shared.close(pass);
             (book, wake)
         }
@@ -228,12 +258,14 @@ fn wait_named<'d, R: Threads + Wait + Sync + Clock, D: Disk + Drop + Send, M: Ma
 
 fn wait_shared<R: Threads + Wait + Sync + Clock, D: Disk + Drop + Send, M: Marker + Send>(
     rt: &R,
+    alloc: Global,
     book: &SharedBook<'_, D, M>,
     pass: BookPass<D, M>,
     milliseconds: u32,
 ) -> (BookPass<D, M>, Wake)
     requires homes { book.now.homes ≡ homes_of M.opening.rollout.problem }
     requires policy { M.opening.policy ≡ rank_by book.now.policy.now.answers }
+    requires any { (answer : Answer) → M.heard answer }
     requires lock { IsPassOf book.now.lock pass.pass }
     requires calls { IsCounted pass.calls pass.pass }
     requires first { IsFirstPass pass.pass }
@@ -243,32 +275,34 @@ fn wait_shared<R: Threads + Wait + Sync + Clock, D: Disk + Drop + Send, M: Marke
     ensures all_in { out_of result.0.pass ≡ 0 }
 {
     let (first, second) = book.split(pass);
-    let first = entries_begun(rt, book, first);
-    let (first, second) = both_woken(rt, book, first, second, milliseconds);
+    let first = entries_begun(rt, alloc, book, first);
+    let (first, second) = both_woken(rt, alloc, book, first, second, milliseconds);
     (book.join(first.pass, second.pass), second.wake)
 }
 
 // Rounds behind which only the late entry is in flight.
 fn entries_begun<R: Wait, D: Disk, M: Marker>(
     rt: &R,
+    alloc: Global,
     book: &SharedBook<'_, D, M>,
     pass: BookPass<D, M>,
 ) -> BookPass<D, M>
     requires policy { M.opening.policy ≡ rank_by book.now.policy.now.answers }
+    requires any { (answer : Answer) → M.heard answer }
     requires lock { IsPassOf book.now.lock pass.pass }
     requires calls { IsCounted pass.calls pass.pass }
     ensures lock { IsPassOf book.now.lock result.pass }
     ensures calls { IsCounted result.calls result.pass }
     ensures same { IsSamePass pass.pass result.pass }
 {
-    let (pass, _begun) = book.round(rt, pass, &[]);
-    let (pass, _ended) = book.round(rt, pass, &EARLY);
-    pass
+    let pass = round_with(rt, alloc, book, pass, &[]);
+    round_with(rt, alloc, book, pass, &EARLY)
 }
 
 // The second waits while the first pauses.
 fn both_woken<R: Threads + Wait + Sync + Clock, D: Disk + Drop + Send, M: Marker + Send>(
     rt: &R,
+    alloc: Global,
     book: &SharedBook<'_, D, M>,
     first: BookPass<D, M>,
     second: BookPass<D, M>,
@@ -276,6 +310,7 @@ fn both_woken<R: Threads + Wait + Sync + Clock, D: Disk + Drop + Send, M: Marker
 ) -> (Woken<Kept<D, M>>, Woken<Kept<D, M>>)
     requires homes { book.now.homes ≡ homes_of M.opening.rollout.problem }
     requires policy { M.opening.policy ≡ rank_by book.now.policy.now.answers }
+    requires any { (answer : Answer) → M.heard answer }
     requires first { IsPassOf book.now.lock first.pass × IsCounted first.calls first.pass }
     requires second { IsPassOf book.now.lock second.pass × IsCounted second.calls second.pass }
     ensures first { IsPassOf book.now.lock result.0.pass.pass
@@ -285,12 +320,14 @@ fn both_woken<R: Threads + Wait + Sync + Clock, D: Disk + Drop + Send, M: Marker
 {
     let first = Duty {
         rt,
+        alloc,
         book,
         pass: first,
         before: Before::Round(milliseconds),
     };
     let second = Duty {
         rt,
+        alloc,
         book,
         pass: second,
         before: Before::Nothing,

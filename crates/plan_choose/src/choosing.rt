@@ -33,7 +33,8 @@ pub fn choose(alloc: Global, problem: Problem) -> Result<Chosen, Unplanned>
     }
 }
 
-fn plan_for(alloc: Global, problem: &Problem) -> Result<Planned, NoPlan>
+/// The plan that [`choose`] gives, without its problem, or the cause that there is none.
+pub fn plan_for(alloc: Global, problem: &Problem) -> Result<Planned, NoPlan>
     ensures value { Answers result (spec.chosen problem.now) }
     ensures valid { IfOk result (λ found. IsTrue (is_valid_plan problem.now found.plan)) }
 {

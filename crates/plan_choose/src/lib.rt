@@ -13,5 +13,6 @@ mod steps;
 mod validity;
 pub mod worked;
 
-pub use choosing::choose;
+pub use choosing::{choose, plan_for};
 pub use chosen::{Chosen, Unplanned};
+pub use planned::Planned;

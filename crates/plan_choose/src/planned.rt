@@ -3,9 +3,9 @@ use wan_model::Plan;
 
 /// A plan, and how many of its steps move rates.
 #[derive(Debug, Drop)]
-pub(crate) struct Planned {
-    pub(crate) plan: Plan,
-    pub(crate) rate_steps: u32,
+pub struct Planned {
+    pub plan: Plan,
+    pub rate_steps: u32,
 }
 
 impl Model for Planned {

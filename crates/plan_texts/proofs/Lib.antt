@@ -3,3 +3,6 @@ pub mod Cells
 pub mod Lines
 pub mod Greatest
 pub mod Between
+pub mod Pieces
+pub mod Needs
+pub mod Told

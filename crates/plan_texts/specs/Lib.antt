@@ -1,2 +1,5 @@
 pub mod Loads
 pub mod Rows
+pub mod Needs
+pub mod Explain
+pub mod Told

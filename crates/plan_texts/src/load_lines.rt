@@ -36,7 +36,7 @@ fn loads_of(alloc: Global, problem: &Problem, plan: &Plan) -> Result<Text, Memor
     Ok(text)
 }
 
-fn scale_of(plan: &Plan) -> u32
+pub(crate) fn scale_of(plan: &Plan) -> u32
     ensures { result ≡ plan.now.scale }
 {
     plan.scale

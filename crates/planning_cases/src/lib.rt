@@ -4,8 +4,12 @@
 #![tactic(auto)]
 
 #[cfg(test)]
+mod fewest;
+#[cfg(test)]
 mod fractions;
 #[cfg(test)]
 mod names;
 #[cfg(test)]
 mod texts;
+#[cfg(test)]
+mod way_back;

@@ -1,10 +1,10 @@
 -- What a row of hears comes to: of what was read, and of the port's rule.
-use Rattle.std.proofs.Common.{◌≡◌, ◌⊎◌, ℕ, ◌+◌, ◌-◌, ◌*◌, ◌<◌, true, false, List, [], ◌∷◌, ◌++◌, length, take, Option, Some, None, IfSome, inl, inr, refl, sym, ap, subst, ◌∙◌, arith, length-append}
+use Rattle.std.proofs.Common.{◌≡◌, ◌⊎◌, ℕ, ◌+◌, ◌*◌, ◌<◌, List, [], ◌∷◌, ◌++◌, length, take, Option, Some, None, IfSome, inl, inr, refl, sym, ap, subst, ◌∙◌, arith, length-append}
 use Rattle.std.proofs.lemmas.Bool.{OnTrue_at, OnTrue_from, true≢false}
 use Rattle.std.proofs.lemmas.List.Elements.{All-append}
 use Rattle.std.specs.Bool.{OnTrue}
 use Rattle.std.specs.List.{flat_map}
-use Rattle.wan_edge.specs.Frames.{Answer, AnswerFrame, CommandFrame, IsAnswer, IsCutAnswer, answer_bytes}
+use Rattle.wan_edge.specs.Frames.{Answer, AnswerFrame, CommandFrame, IsCutAnswer, answer_bytes}
 use Rattle.wan_edge.specs.Ports.{GoesOn, IsHonestStep, IsOffered, IsOneMore, IsPromptState, MovesByRule, NothingToCome, PortTrace, Steps}
 use Rattle.wan_edge.specs.Streams.{Appends, KeepsTelling}
 use Rattle.wan_edge.specs.Switches.{Holdings, after_command, after_commands}

@@ -1,4 +1,5 @@
 pub mod Bytes
 pub mod Offers
 pub mod Reading
+pub mod Standing
 pub mod Sessions

@@ -10,10 +10,11 @@
 
 mod fault;
 mod frames;
+mod heard;
 mod session;
 mod stream;
 pub mod worked;
 
 pub use fault::SessionFault;
+pub use heard::Heard;
 pub use session::Session;
-pub use stream::AnswerList;

@@ -1,13 +1,15 @@
-ghost use Rattle.std.specs.Prelude.{◌≡◌, [], length, None, Some, IfErr, IsErrOf, IsOk, IsTrue, OnErr, OnOk};
-ghost use Rattle.wan_edge.specs.Frames.{IsCutAnswer};
+ghost use Rattle.std.specs.Prelude.{◌≡◌, [], ◌++◌, List, All, length, None, Some, IfErr, IsErrOf, IsOk, IsTrue, OnErr, OnOk};
+ghost use Rattle.wan_edge.specs.Frames.{Answer, IsCutAnswer};
 ghost use Rattle.wan_edge.specs.Ports.{GoesOn};
 ghost use Rattle.wan_edge.specs.Streams.{Appends, Rose};
 ghost use Rattle.port_session.specs.Offers.{OffersUntil, frames_of};
+ghost use Rattle.port_session.specs.Standing.{HasTold};
 ghost use Rattle.port_session.specs.Sessions.{HearsAnswers, IsDone, awaiting, first_talk, listening};
 
+use crate::SessionFault;
 use crate::frames::write_frames;
-use crate::stream::AnswerStream;
-use crate::{AnswerList, SessionFault};
+use crate::heard::Heard;
+use crate::stream::{AnswerList, AnswerStream};
 use std::alloc::Global;
 use std::marker::Model;
 use wan_edge::Port;
@@ -29,13 +31,16 @@ pub struct Session<T: Port> {
 impl<T: Port> Model for Session<T> {
     ghost use Rattle.std.specs.Prelude.{IsTrue};
     ghost use Rattle.wan_edge.specs.Frames.{IsCutAnswer};
+    ghost use Rattle.port_session.specs.Standing.{EndsWith};
     ghost use Rattle.port_session.specs.Sessions.{Talk};
 
     ghost Value = { Talk T };
 
     ghost view = { λ s. record { switch = s.switch; port = s.port; stream = s.stream } };
 
-    ghost invariant = { λ s. IsTrue s.stream.live → IsCutAnswer s.stream.kept };
+    // What is kept is the end of what the port told, so that an answer which ends later stands whole there.
+    ghost invariant = { λ s. (IsTrue s.stream.live → IsCutAnswer s.stream.kept)
+        × (IsTrue s.stream.live → EndsWith s.stream.kept (T.told s.port).heard) };
 }
 
 impl<T: Port> Session<T> {
@@ -109,7 +114,44 @@ impl<T: Port> Session<T> {
     ///
     /// `Port` where the port fails; `NoAnswer` exactly where that byte stands in an answer's first place;
     /// `Memory` for an answer that was to be added. What was read before is told all the same.
-    pub fn hear_all(&mut self, migration: u32, answers: &mut AnswerList) -> Result<(), SessionFault>
+    pub fn hear_all(&mut self, migration: u32, heard: &mut Heard<T>) -> Result<(), SessionFault>
+        requires live { IsTrue self.old.stream.live }
+        requires migration { heard.old.migration ≡ migration }
+        ensures ok { OnOk result
+            (HearsAnswers migration
+            (listening (T.told self.old.port).heard self.old.stream heard.old.answers) None
+            (listening (T.told self.new.port).heard self.new.stream heard.new.answers)) }
+        ensures err { IfErr result
+            (λ fault. HearsAnswers migration
+            (listening (T.told self.old.port).heard self.old.stream heard.old.answers) (Some fault)
+            (listening (T.told self.new.port).heard self.new.stream heard.new.answers)) }
+        ensures done { OnOk result
+            (IsDone (T.told self.old.port) self.old.stream (T.told self.new.port) self.new.stream) }
+        ensures as_quiet { OnErr result
+            ((T.told self.new.port).quiet ≡ (T.told self.old.port).quiet) }
+        ensures live_port { IsErrOf result SessionFault.Port → IsTrue self.new.stream.live }
+        ensures cause { IsErrOf result SessionFault.Port
+            → Rose (T.told self.old.port).faults (T.told self.new.port).faults }
+        ensures cut { IsTrue self.new.stream.live → IsCutAnswer self.new.stream.kept }
+        ensures idle { self.old.stream.awaited ≡ 0
+            → IsOk result × (self.new ≡ self.old) × (heard.new.answers ≡ heard.old.answers) }
+        ensures switch { self.new.switch ≡ self.old.switch }
+        ensures migration { heard.new.migration ≡ migration }
+        ensures port { GoesOn (T.told self.old.port) (T.told self.new.port) }
+        ensures unsent { (T.told self.new.port).offered ≡ (T.told self.old.port).offered }
+    {
+        self.read_all(migration, &mut heard.answers)
+    }
+
+    /// Gives the port back.
+    pub fn into_port(self) -> T
+        ensures { result ≡ self.port }
+    {
+        self.port
+    }
+
+    // Hears, and adds to a plain list. Each answer that was added stands whole in what the port told.
+    fn read_all(&mut self, migration: u32, answers: &mut AnswerList) -> Result<(), SessionFault>
         requires live { IsTrue self.old.stream.live }
         ensures ok { OnOk result
             (HearsAnswers migration
@@ -129,6 +171,9 @@ impl<T: Port> Session<T> {
         ensures cut { IsTrue self.new.stream.live → IsCutAnswer self.new.stream.kept }
         ensures idle { self.old.stream.awaited ≡ 0
             → IsOk result × (self.new ≡ self.old) × (answers.new ≡ answers.old) }
+        ensures stands { (told : List Answer)
+            × (answers.new ≡ answers.old ++ told)
+            × All (λ a. HasTold (T.told self.new.port) (migration, a)) told }
         ensures switch { self.new.switch ≡ self.old.switch }
         ensures port { GoesOn (T.told self.old.port) (T.told self.new.port) }
         ensures unsent { (T.told self.new.port).offered ≡ (T.told self.old.port).offered }
@@ -142,12 +187,5 @@ impl<T: Port> Session<T> {
             self.stream.read(&buffer[..n], migration, answers)?;
         }
         Ok(())
-    }
-
-    /// Gives the port back.
-    pub fn into_port(self) -> T
-        ensures { result ≡ self.port }
-    {
-        self.port
     }
 }

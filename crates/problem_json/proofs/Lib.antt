@@ -6,11 +6,9 @@ pub mod Text
 pub mod Events
 mod Ranges
 mod Plain
-mod Places
 mod Adding
 mod ReadValues
 mod Formats
-mod Lookups
 mod ReadNetwork
 mod ReadPaths
 mod ReadTunnels

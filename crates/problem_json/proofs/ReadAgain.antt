@@ -28,36 +28,16 @@ use Rattle.problem_json.specs.declared.key.Key.TheVariants as key
 use Rattle.problem_json.specs.Writing.{switch_data, link_data, tunnel_data, flow_data, problem_data, document_data, HoldsProblem}
 use Rattle.problem_json.proofs.Adding.{goes_on, held-true, add_each-below, map-below, items_len-items_of, length-list_below}
 use Rattle.problem_json.proofs.ReadValues.{name_in-string, list_in-list}
-use Rattle.problem_json.proofs.Lookups.{flow_is_new}
-use Rattle.problem_json.proofs.ReadNetwork.{switched, linked, one_switch_more, one_link_more}
+use Rattle.wan_model.specs.Fronts.{switched, linked, flowed, begun}
+use Rattle.wan_model.proofs.Lookups.{flow_is_new}
+use Rattle.wan_model.proofs.Fronts.{flow_begins, flow_ends, switches_end, links_end, flows_end}
+use Rattle.problem_json.proofs.ReadNetwork.{one_switch_more, one_link_more}
 use Rattle.problem_json.proofs.Formats.{links_found, switches_found, format_found}
 use Rattle.problem_json.proofs.ReadPlans.{plan_is_read}
 use Rattle.problem_json.proofs.Text.{data_read}
-use Rattle.problem_json.proofs.ReadTunnels.{begun, one_tunnel_more}
-
--- the first f flows of a problem, with their tunnels
-abbrev pub flowed : Problem → ℕ → Problem
-flowed p f = record p { flows = take f p.flows; tunnels = take (sum_below f (tunnels_of p)) p.tunnels }
+use Rattle.problem_json.proofs.ReadTunnels.{one_tunnel_more}
 
 module _ (p : Problem) (net : IsNetwork p) where
-  flow_begins : (f : ℕ) → f < length p.flows → with_flow (flowed p f) (flow_at p f).name ≡ begun p f 0
-  flow_begins f lt =
-      let first = net.flows.in_order f lt in
-      let sum = sum_below f (tunnels_of p) in
-      let inside : sum ≤ length p.tunnels = omega (arith, net.flows.all, sum_below-up f (length p.flows) (tunnels_of p) (omega arith)) in
-      let len : length (take sum p.tunnels) ≡ (flow_at p f).first = length-take-le sum p.tunnels inside ∙ sym first in
-      let none : sum ≡ (flow_at p f).first + 0 = omega arith in
-      let built : ℕ → ℕ → Problem = λ n m. record p { flows = take f p.flows ++ record { name = (flow_at p f).name; first = n; tunnels = 0 } ∷ []; tunnels = take m p.tunnels } in
-      ap₂ built len none
-
-  flow_ends : (f : ℕ) → f < length p.flows → begun p f (tunnels_of p f) ≡ flowed p (f + 1)
-  flow_ends f lt =
-      let first = net.flows.in_order f lt in
-      let more : f + 1 ≡ suc f = omega arith in
-      let built : List Flow → ℕ → Problem = λ fs n. record p { flows = fs; tunnels = take n p.tunnels } in
-      let sum : (flow_at p f).first + tunnels_of p f ≡ sum_below (f + 1) (tunnels_of p) = ap (λ n. n + tunnels_of p f) first ∙ ap (λ n. sum_below n (tunnels_of p)) (sym more) in
-      ap₂ built (sym (take_more p.flows f no_flow lt)) sum
-
   one_flow_more : (f : ℕ) → f < length p.flows → with_one_flow (flow_data p f) (flowed p f) ≡ Ok (flowed p (f + 1))
   unfolding with_one_flow name_of list_of member_in
   one_flow_more f lt =
@@ -74,38 +54,35 @@ module _ (p : Problem) (net : IsNetwork p) where
       ∙ goes_on _ tt _ (held-true (is_none (find_flow q name)) _ (ap is_none (flow_is_new p f net.flows lt)))
       ∙ goes_on _ (items_of written) _ (list_in-list _ MOST_TUNNELS_OF_FLOW written (omega (arith, net.flows.few f lt)))
       ∙ goes_on _ tt _ (held-true _ _ (le-leb (length q.tunnels + items_len (items_of written)) MOST_TUNNELS (omega (arith, net.few))))
-      ∙ ap (add_each with_one_tunnel (items_of written)) (flow_begins f lt)
+      ∙ ap (add_each with_one_tunnel (items_of written)) (flow_begins p net f lt)
       ∙ add_each-below with_one_tunnel tunnel (begun p f) (tunnels_of p f) (one_tunnel_more p net f lt)
-      ∙ ap Ok (flow_ends f lt)
+      ∙ ap Ok (flow_ends p net f lt)
 
   switches_are_read : (object : Place) → with_list object key.Switches (place_of part.Switches) MOST_SWITCHES with_one_switch (problem_data p) (switched p 0) ≡ Ok (linked p 0)
   unfolding with_list list_of
   switches_are_read object =
       let written = map switch_data p.switches in
-      let built : List Switch → Problem = λ ss. record { format = p.format; switches = ss; links = []; flows = []; tunnels = [] } in
       goes_on _ (items_of written) _ (goes_on _ _ (list_in _ MOST_SWITCHES) (switches_found _ (p.format == 1) p.format _ _ _) ∙ list_in-list _ MOST_SWITCHES written (omega (arith, net.switches.count, length-map p.switches switch_data)))
       ∙ ap (λ ds. add_each with_one_switch (items_of ds) (switched p 0)) (map-below switch_data p.switches no_switch)
       ∙ add_each-below with_one_switch (λ k. switch_data (switch_at p k)) (switched p) (length p.switches) (one_switch_more p net)
-      ∙ ap (λ ss. Ok (built ss)) (take_all (length p.switches) p.switches (omega arith))
+      ∙ ap Ok (switches_end p net)
 
   links_are_read : (object : Place) → with_list object key.Links (place_of part.Links) MOST_LINKS with_one_link (problem_data p) (linked p 0) ≡ Ok (flowed p 0)
   unfolding with_list list_of
   links_are_read object =
       let written = map (link_data p) p.links in
-      let built : List Link → Problem = λ ls. record { format = p.format; switches = p.switches; links = ls; flows = []; tunnels = [] } in
       goes_on _ (items_of written) _ (goes_on _ _ (list_in _ MOST_LINKS) (links_found _ (p.format == 1) p.format _ _ _) ∙ list_in-list _ MOST_LINKS written (omega (arith, net.links.count, length-map p.links (link_data p))))
       ∙ ap (λ ds. add_each with_one_link (items_of ds) (linked p 0)) (map-below (link_data p) p.links no_link)
       ∙ add_each-below with_one_link (λ k. link_data p (link_at p k)) (linked p) (length p.links) (one_link_more p net)
-      ∙ ap (λ ls. Ok (built ls)) (take_all (length p.links) p.links (omega arith))
+      ∙ ap Ok (links_end p net)
 
   flows_are_read : (object : Place) → with_list object key.Flows (place_of part.Flows) MOST_FLOWS with_one_flow (problem_data p) (flowed p 0) ≡ Ok p
   unfolding with_list list_of member_in
   flows_are_read object =
       let written = list_below (length p.flows) (flow_data p) in
-      let built : List Flow → List Tunnel → Problem = λ fs ts. record p { flows = fs; tunnels = ts } in
       goes_on _ (items_of written) _ (list_in-list _ MOST_FLOWS written (omega (arith, net.flows.count, length-list_below (length p.flows) (flow_data p))))
       ∙ add_each-below with_one_flow (flow_data p) (flowed p) (length p.flows) one_flow_more
-      ∙ ap Ok (ap₂ built (take_all (length p.flows) p.flows (omega arith)) (take_all (sum_below (length p.flows) (tunnels_of p)) p.tunnels (omega (arith, net.flows.all))))
+      ∙ ap Ok (flows_end p net)
 
   pub problem_is_read : (object : Place) → problem_of object (problem_data p) ≡ Ok p
   unfolding problem_of

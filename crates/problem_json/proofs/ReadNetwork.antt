@@ -12,15 +12,9 @@ use Rattle.problem_json.specs.declared.place.Place.{Place}
 use Rattle.problem_json.specs.declared.fault.InputFault.TheVariants.{UnknownSwitch}
 use Rattle.problem_json.proofs.Adding.{goes_on, held-true}
 use Rattle.problem_json.proofs.ReadValues.{name_in-string, number_in-number}
-use Rattle.problem_json.proofs.Lookups.{switch_found, switch_is_new, link_is_new}
-
--- the first k switches of a network
-abbrev pub switched : Problem → ℕ → Problem
-switched p k = record { format = p.format; switches = take k p.switches; links = []; flows = []; tunnels = [] }
-
--- its switches, and its first k links
-abbrev pub linked : Problem → ℕ → Problem
-linked p k = record { format = p.format; switches = p.switches; links = take k p.links; flows = []; tunnels = [] }
+use Rattle.wan_model.specs.Fronts.{switched, linked}
+use Rattle.wan_model.proofs.Lookups.{switch_found, switch_is_new, link_is_new}
+use Rattle.wan_model.proofs.Fronts.{switch_is_added, link_is_added}
 
 module _ (p : Problem) (net : IsNetwork p) where
   pub one_switch_more : (k : ℕ) → k < length p.switches → with_one_switch (switch_data (switch_at p k)) (switched p k) ≡ Ok (switched p (k + 1))
@@ -30,7 +24,7 @@ module _ (p : Problem) (net : IsNetwork p) where
       goes_on _ s.name _ (name_in-string _ s.name (net.switches.names k lt))
       ∙ goes_on _ tt _ (held-true (is_none (find_switch (switched p k) s.name)) _ (ap is_none (switch_is_new p k net.switches lt)))
       ∙ goes_on _ s.table _ (number_in-number _ LARGEST_TABLE s.table (net.switches.tables k lt))
-      ∙ ap (λ ss. Ok (record { format = p.format; switches = ss; links = []; flows = []; tunnels = [] })) (sym (take_more p.switches k no_switch lt))
+      ∙ ap Ok (switch_is_added p net k lt)
 
   -- the name of a switch is read as its number, where all switches stand
   pub name_is_found : (place : Place) (q : Problem) (w : ℕ) → q.switches ≡ p.switches → w < length p.switches → switch_named place q (name_data p w) ≡ Ok w
@@ -48,4 +42,4 @@ module _ (p : Problem) (net : IsNetwork p) where
       ∙ goes_on _ l.to _ (name_is_found _ (linked p k) l.to refl (net.links.to k lt))
       ∙ goes_on _ l.capacity _ (number_in-number _ LARGEST_CAPACITY l.capacity (net.links.capacities k lt))
       ∙ goes_on _ tt _ (held-true (is_none (find_link (linked p k) l.from l.to)) _ (ap is_none (link_is_new p k net.links lt)))
-      ∙ ap (λ ls. Ok (record { format = p.format; switches = p.switches; links = ls; flows = []; tunnels = [] })) (sym (take_more p.links k no_link lt))
+      ∙ ap Ok (link_is_added p net k lt)

@@ -16,29 +16,13 @@ use Rattle.problem_json.specs.GrammarNetwork.{of_tunnel, with_one_hop, leads_on,
 use Rattle.problem_json.specs.declared.place.Part.TheVariants as part
 use Rattle.problem_json.specs.declared.key.Key.TheVariants as key
 use Rattle.problem_json.specs.Writing.{name_data, list_data}
-use Rattle.wan_model.proofs.Positions.{passes_nowhere}
-use Rattle.problem_json.proofs.Places.{found_nowhere}
+use Rattle.wan_model.proofs.Positions.{passes_nowhere, found_nowhere}
+use Rattle.wan_model.proofs.Fronts.{HasNetwork, link_is_found}
 use Rattle.problem_json.proofs.Adding.{goes_on, held-true, add_each-below, map-below, items_len-items_of}
 use Rattle.problem_json.proofs.ReadValues.{list_in-list}
-use Rattle.problem_json.proofs.Lookups.{link_found}
 use Rattle.problem_json.proofs.ReadNetwork.{name_is_found}
 
--- a problem with the switches and the links of p, in which a path of p is looked up
-pub record HasNetwork (p q : Problem) : Type 0 where
-  pub switches : q.switches ≡ p.switches
-  pub links : q.links ≡ p.links
-
 module _ (p q : Problem) (net : IsNetwork p) (has : HasNetwork p q) (path along : List ℕ) (is : IsPath p path along) where
-  -- the link from the h-th switch of the path to the next is the h-th along it
-  pub link_is_found : (h : ℕ) → h < length along → find_link q (slice_index path h) (slice_index path (suc h)) ≡ Some (slice_index along h)
-  link_is_found h lt =
-      let l = slice_index along h in
-      let more : h + 1 ≡ suc h = omega arith in
-      let there : find_link p (link_at p l).from (link_at p l).to ≡ find_link p (slice_index path h) (slice_index path (suc h)) =
-      ap₂ (find_link p) (is.from h lt) (is.to h lt ∙ ap (slice_index path) more) in
-      ap (λ ls. find_link (record p { links = ls }) (slice_index path h) (slice_index path (suc h))) has.links
-      ∙ sym there ∙ link_found p l net.links (is.links h lt)
-
   hop_is_new : (h : ℕ) → h < length path → list_any (λ s. s == slice_index path h) (take h path) ≡ false
   hop_is_new h lt =
       let len : length (take h path) ≡ h = length-take-le h path (omega arith) in
@@ -54,7 +38,7 @@ module _ (p q : Problem) (net : IsNetwork p) (has : HasNetwork p q) (path along 
       let at : length (take (suc h) path) - 1 ≡ h = omega arith in
       let last : slice_index (take (suc h) path) (length (take (suc h) path) - 1) ≡ slice_index path h =
       ap (slice_index (take (suc h) path)) at ∙ get_or-take (suc h) path h 0 (omega arith) in
-      or_right _ _ (ap is_some (ap (λ a. find_link q a (slice_index path (suc h))) last ∙ link_is_found h (omega (arith, is.between))))
+      or_right _ _ (ap is_some (ap (λ a. find_link q a (slice_index path (suc h))) last ∙ link_is_found p q net has path along is h (omega (arith, is.between))))
 
   one_hop_more : (h : ℕ) → h < length path → with_one_hop q (name_data p (slice_index path h)) (take h path) ≡ Ok (take (h + 1) path)
   unfolding with_one_hop
@@ -76,16 +60,3 @@ module _ (p q : Problem) (net : IsNetwork p) (has : HasNetwork p q) (path along 
       ∙ ap (λ ds. add_each (with_one_hop q) (items_of ds) []) (map-below (name_data p) path 0)
       ∙ add_each-below (with_one_hop q) (λ k. name_data p (slice_index path k)) (λ k. take k path) (length path) one_hop_more
       ∙ ap Ok (take_all (length path) path (omega arith))
-
--- where each link of a path is found, the links along it are these
-along_found : (q : Problem) (path along : List ℕ) → length along + 1 ≡ length path
-    → ((h : ℕ) → h < length along → find_link q (slice_index path h) (slice_index path (suc h)) ≡ Some (slice_index along h)) → links_along q path ≡ along
-along_found q [] along between found = absurd (omega arith)
-along_found q (a ∷ []) [] between found = refl
-along_found q (a ∷ []) (l ∷ along) between found = absurd (omega arith)
-along_found q (a ∷ b ∷ path) [] between found = absurd (omega arith)
-along_found q (a ∷ b ∷ path) (l ∷ along) between found =
-    ap₂ (λ k ks. k ∷ ks) (ap (λ o. unwrap_or o 0) (found 0 (omega arith))) (along_found q (b ∷ path) along (omega arith) (λ h lt. found (suc h) (omega arith)))
-
-pub links_are_found : (p q : Problem) → IsNetwork p → HasNetwork p q → (path along : List ℕ) → IsPath p path along → links_along q path ≡ along
-links_are_found p q net has path along is = along_found q path along is.between (link_is_found p q net has path along is)

@@ -1,5 +1,6 @@
-ghost use Rattle.std.specs.Prelude.{◌≡◌, ◌++◌, OnOk, length};
+ghost use Rattle.std.specs.Prelude.{◌≡◌, ◌++◌, IfOk, OnOk, length};
 ghost use Rattle.rollout_rules.specs.History as rules;
+ghost use Rattle.wan_text.specs.Added.{Adds};
 ghost use Rattle.rollout_peaks.specs.Peaks.{peaks_of};
 ghost use Rattle.rollout_peaks.specs.Ends.{link_lines, table_lines, last_line, end_lines};
 
@@ -12,22 +13,33 @@ use wan_model::CheckedPlan;
 use wan_text::{push_link_peak, push_table_peak};
 
 /// Adds the lines behind a history: the peak of each link in units of 1/scale and of each table in the
-/// widths of its entries, and whether every operation is settled. An Err is want of memory.
+/// widths of its entries, and whether every operation is settled. An Err is want of memory, and changes
+/// nothing.
 pub fn push_end(
     alloc: Global,
     plan: &CheckedPlan,
     history: &History<'_>,
     text: &mut Text,
 ) -> Result<(), Memory>
-    ensures { OnOk result
-        (text.new ≡ text.old ++ end_lines plan.now.problem plan.now.plan history.now) }
+    ensures { Adds result text.old (end_lines plan.now.problem plan.now.plan history.now) text.new }
+{
+    let lines = end_of(alloc, plan, history)?;
+    text.push_str(lines.as_str())?;
+    Ok(())
+}
+
+fn end_of(alloc: Global, plan: &CheckedPlan, history: &History<'_>) -> Result<Text, Memory>
+    ensures { IfOk result
+        (λ lines. lines ≡ end_lines plan.now.problem plan.now.plan history.now) }
 {
     let pass = Pass::over(alloc, plan, history)?;
     let left = pass.left(plan);
     let peaks = pass.into_peaks();
-    push_link_lines(alloc, plan, &peaks, text)?;
-    push_table_lines(alloc, plan, &peaks, text)?;
-    push_last_line(alloc, text, left)
+    let mut lines = Text::new(alloc);
+    push_link_lines(alloc, plan, &peaks, &mut lines)?;
+    push_table_lines(alloc, plan, &peaks, &mut lines)?;
+    push_last_line(alloc, &mut lines, left)?;
+    Ok(lines)
 }
 
 fn push_link_lines(
@@ -74,13 +86,16 @@ fn push_table_lines(
     Ok(())
 }
 
-/// Adds the last line: whether operations are left unsettled, and how many. An Err is want of memory.
+/// Adds the last line: whether operations are left unsettled, and how many. An Err is want of memory, and
+/// changes nothing.
 pub fn push_last_line(alloc: Global, text: &mut Text, left: u64) -> Result<(), Memory>
-    ensures { OnOk result (text.new ≡ text.old ++ last_line left) }
+    ensures { Adds result text.old (last_line left) text.new }
 {
     if left == 0 {
-        return text.push_str("finished\n");
+        text.push_str("finished\n")?;
+        return Ok(());
     }
     let line = format!(in alloc; "unfinished: {left}\n")?;
-    text.push_str(&line)
+    text.push_str(&line)?;
+    Ok(())
 }

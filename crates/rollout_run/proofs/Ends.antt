@@ -1,9 +1,12 @@
 -- How a run ends, by its book and its first stop.
-use Rattle.std.proofs.Common.{◌≡◌, Bool, true, false, List, Option, Some, None, refl, sym, ap, ◌∙◌, subst}
+use Rattle.std.proofs.Common.{◌≡◌, ℕ, Bool, true, false, List, Option, Some, None, refl, sym, ap, ◌∙◌, subst}
 use Rattle.rollout_rules.specs.Legal.{is_finished}
 use Rattle.rollout_rules.specs.Wan.{Rollout}
 use Rattle.rollout_rules.specs.History.{History}
 use Rattle.rollout_book.specs.Chronicles.{Chronicled}
+use Rattle.wan_edge.specs.Frames.{Answer}
+use Rattle.wan_edge.specs.Ports.{PortTrace}
+use Rattle.shared_book.specs.Lasting.{AllHeard, AllTold, CountsNothingElse}
 use Rattle.shared_book.specs.Opened.{IsClosed}
 use Rattle.shared_book.proofs.Unstopped.{unstopped}
 use Rattle.shared_history.specs.declared.note.Written.{Written}
@@ -13,6 +16,12 @@ use Rattle.shared_history.specs.Legal.{is_legal_shared}
 use Rattle.shared_history.specs.Notes.{first_stop}
 use Rattle.rollout_run.specs.Runs.{IsRun, IsRunEnd, end_with}
 use Rattle.rollout_run.specs.declared.end.RunEnd.{RunEnd}
+
+-- where nothing else counts as heard, the answers that were heard were told
+pub was_told : {P : Type 0} (tell : P → PortTrace) (migration : ℕ) (heard : Answer → Type 0) (log : List Written) → CountsNothingElse tell migration heard → AllHeard heard log → AllTold tell migration log
+was_told tell migration heard log only each = λ k d inside op at.
+    let had = each k d inside op at in
+    record { answer = had.answer; item = had.item; covers = had.covers; was_heard = only had.answer had.was_heard }
 
 -- an end that a book and a stop give is that of a run that has begun
 pub has_begun : (halt : Option Halt) (finished : Bool) (begun : RunEnd → Type 0) (unbegun : Type 0) (end : RunEnd) → end ≡ end_with halt finished → begun end → IsRun end (begun end) unbegun

@@ -93,6 +93,7 @@ module _ {D P : Type 0} (trace : D → DiskTrace) (tell : P → PortTrace) (o : 
         legal = runs.legal;
         closed = runs.closed;
         images = runs.images;
+        heard = runs.heard;
         ends = runs.ends;
         berths = berths;
         switches = opens.switches;
@@ -152,6 +153,7 @@ module _ {D P : Type 0} (trace : D → DiskTrace) (tell : P → PortTrace) (o : 
     legal = runs.legal;
     closed = runs.closed;
     images = runs.images;
+    heard = runs.heard;
     made = runs.made;
     worked = worked_over tell o migration (homes_of o.rollout.problem) rounds whole dealt runs.seats runs.log ports deals runs.worked;
     ends = runs.ends;

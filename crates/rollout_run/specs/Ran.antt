@@ -16,6 +16,7 @@ use Rattle.shared_history.specs.Legal.{is_legal_shared}
 use Rattle.shared_book.specs.Calls.{seat_of}
 use Rattle.shared_book.specs.Homes.{homes_of}
 use Rattle.shared_book.specs.Images.{HasImages}
+use Rattle.shared_book.specs.Lasting.{AllTold}
 use Rattle.shared_book.specs.Opened.{IsClosed}
 use Rattle.rollout_run.specs.Causes.{HasCause, IfStopped}
 use Rattle.rollout_run.specs.PortRuns.{AreAtHome, IsBack}
@@ -25,13 +26,14 @@ use Rattle.rollout_run.specs.declared.end.RunEnd.{RunEnd}
 use Rattle.rollout_run.specs.declared.end.RunEnd.TheVariants as run
 
 -- A run that has begun. The book is closed behind a legal history of its workers, which says how the run ended; the disk is what that history
--- leaves. A port was opened to each of these switches, and is back as the run has left it; what is kept at any other switch is as it was. Where the run
+-- leaves, and answers that were told cover each operation that it ended. A port was opened to each of these switches, and is back as the run has left it; what is kept at any other switch is as it was. Where the run
 -- was stopped the cause of the first stop holds. Its workers have worked as the history tells, each over ports of its own.
 pub record Ran {D P : Type 0} (trace : D → DiskTrace) (tell : P → PortTrace) (o : Opening) (from count migration rounds : ℕ) (homes : List ℕ) (before : FleetPorts P) (end : RunEnd) (book : Chronicled D) (now : FleetPorts P) : Type 0 where
   pub log : List Written
   pub legal : is_legal_shared o log ≡ true
   pub closed : IsClosed o log book
   pub images : HasImages trace o from count book.disk log
+  pub heard : AllTold tell migration log
   pub ends : IsRunEnd o log end
   pub berths : List (Berth P)
   pub switches : switches_of berths ≡ homes

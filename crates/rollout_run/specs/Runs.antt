@@ -16,6 +16,7 @@ use Rattle.shared_history.specs.Notes.{first_stop}
 use Rattle.shared_book.specs.Calls.{seat_of}
 use Rattle.shared_book.specs.Homes.{homes_of}
 use Rattle.shared_book.specs.Images.{HasImages}
+use Rattle.shared_book.specs.Lasting.{AllTold}
 use Rattle.shared_book.specs.Opened.{IsClosed}
 use Rattle.shared_book.specs.declared.reply.RoundReply.{RoundReply}
 use Rattle.shared_book.specs.declared.reply.RoundReply.TheVariants as round
@@ -32,13 +33,14 @@ IsRunEnd o log (run.NoPort switch) = ⊥
 IsRunEnd o log run.Memory = ⊥
 
 -- A book was shared by workers, and closed behind a legal history of theirs; the disk is what that history leaves. Each note is of a worker that
--- has worked as the history tells.
+-- has worked as the history tells. An answer that a port of this kind had told covers each operation that its notes end.
 pub record Runs {D P : Type 0} (trace : D → DiskTrace) (tell : P → PortTrace) (o : Opening) (from count migration rounds : ℕ) (whole : List (Talk P)) (end : RunEnd) (book : Chronicled D) (ports : List (Talk P)) : Type 0 where
   pub log : List Written
   pub seats : ℕ
   pub legal : is_legal_shared o log ≡ true
   pub closed : IsClosed o log book
   pub images : HasImages trace o from count book.disk log
+  pub heard : AllTold tell migration log
   pub made : All (λ w. seat_of w < seats) log
   pub worked : HasWorked tell o migration (homes_of o.rollout.problem) rounds whole seats log ports
   pub ends : IsRunEnd o log end

@@ -4,6 +4,7 @@ ghost use Rattle.order_policy.specs.Answers.{rank_by};
 ghost use Rattle.turn_lock.specs.Passes.{IsPassOf, seat_of_pass};
 ghost use Rattle.shared_book.specs.Calls.{IsCounted};
 ghost use Rattle.shared_book.specs.Homes.{homes_of};
+ghost use Rattle.shared_book.specs.Lasting.{CountsAsHeard};
 ghost use Rattle.rollout_run.specs.Teams.{HasReturned};
 
 use crate::job::Job;
@@ -71,7 +72,10 @@ impl<'s, 't, 'd, R: Wait, D: Disk, M: Marker, T: Port> Job
         × (M.opening.policy ≡ rank_by d.book.now.policy.now.answers)
         × IsCounted d.crew.pass.calls d.crew.pass.pass
         × (seat_of_pass d.crew.pass.pass < M.seats)
-        × All (λ s. IsTrue s.stream.live) d.crew.ports };
+        × All (λ s. IsTrue s.stream.live) d.crew.ports
+        × (d.terms.homes.now ≡ homes_of M.opening.rollout.problem)
+        × (d.terms.migration ≡ M.migration)
+        × CountsAsHeard T.told d.terms.migration M.heard };
 
     ghost may_leave = { λ d back. HasReturned T.told M.opening d.terms.migration d.terms.homes.now
         d.terms.rounds d.crew.pass.pass d.crew.ports back.pass.pass back.pass.calls back.end

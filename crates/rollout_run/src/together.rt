@@ -5,6 +5,7 @@ ghost use Rattle.turn_lock.specs.Histories.{Follows};
 ghost use Rattle.turn_lock.specs.Passes.{HasJoined, IsPassOf, IsSamePass, seat_of_pass, seats_of, seen_of};
 ghost use Rattle.shared_book.specs.Calls.{IsCounted, seat_of};
 ghost use Rattle.shared_book.specs.Homes.{homes_of};
+ghost use Rattle.shared_book.specs.Lasting.{CountsAsHeard};
 ghost use Rattle.rollout_run.specs.Shifts.{AreFresh};
 ghost use Rattle.rollout_run.specs.Teams.{Answers, HasLed, HasReturned, IsLeader, IsTeam, team_ports};
 
@@ -54,6 +55,9 @@ where
         pass.calls }
     requires team { IsTeam team.own.ports team.own.spare.items (vec_capacity team.own.spare)
         team.crews.items }
+    requires home { terms.homes.now ≡ homes_of M.opening.rollout.problem }
+    requires migration { terms.migration ≡ M.migration }
+    requires told { CountsAsHeard T.told terms.migration M.heard }
     ensures led { HasLed T.told M.opening terms.entry.migration terms.entry.homes.now
         terms.entry.rounds book.now.lock (length team.crews.items) pass.pass
         (team_ports team.own.ports team.own.spare.items team.crews.items) result.0.pass
@@ -119,6 +123,9 @@ where
     requires calls { IsCounted pass.calls pass.pass }
     requires seat { seat_of_pass pass.pass < M.seats }
     requires fresh { AreFresh ports }
+    requires home { terms.homes.now ≡ homes_of M.opening.rollout.problem }
+    requires migration { terms.migration ≡ M.migration }
+    requires told { CountsAsHeard T.told terms.migration M.heard }
     ensures ok { IfOk result
         (λ thread. (thread.promise.given.value.pass.pass ≡ pass.pass)
         × (thread.promise.given.value.ports ≡ ports)
@@ -158,6 +165,9 @@ fn work_alone<'d, R: Wait, D: Disk, M: Marker, T: Port>(
     requires leader { IsLeader book.now.lock M.seats 0 pass.pass pass.calls }
     requires fresh { AreFresh team.own.ports }
     requires alone { team.crews.items ≡ [] }
+    requires home { terms.homes.now ≡ homes_of M.opening.rollout.problem }
+    requires migration { terms.migration ≡ M.migration }
+    requires told { CountsAsHeard T.told terms.migration M.heard }
     ensures led { HasLed T.told M.opening terms.entry.migration terms.entry.homes.now
         terms.entry.rounds book.now.lock 0 pass.pass
         (team_ports team.own.ports team.own.spare.items team.crews.items) result.0.pass

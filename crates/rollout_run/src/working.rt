@@ -5,6 +5,7 @@ ghost use Rattle.rollout_rules.specs.Legal.{is_finished};
 ghost use Rattle.turn_lock.specs.Passes.{IsFirstPass, IsPassOf, given_of, out_of, seat_of_pass, seen_of};
 ghost use Rattle.shared_book.specs.Calls.{IsCounted};
 ghost use Rattle.shared_book.specs.Homes.{homes_of};
+ghost use Rattle.shared_book.specs.Lasting.{CountsAsHeard, CountsNothingElse};
 ghost use Rattle.shared_book.specs.Opened.{IsOpenedOn};
 ghost use Rattle.rollout_run.specs.Runs.{IsRun, Runs, cause_behind, end_with};
 ghost use Rattle.rollout_run.specs.Teams.{HasLed, IsLeader, IsTeam, team_ports};
@@ -16,6 +17,7 @@ use crate::team::Team;
 use crate::together::work_together;
 use controller_run::Terms;
 use disk_model::Disk;
+use port_session::Heard;
 use rollout_book::{Book, BookFault};
 use shared_book::{BookPass, Marker, RoundReply, SharedBook};
 use shared_history::{Cause, Halt};
@@ -50,6 +52,9 @@ where
     requires opened { IsOpenedOn D.told M.opening M.moment M.faults book.chronicle }
     requires policy { M.opening.policy ≡ rank_by book.policy.now.answers }
     requires seats { M.seats ≡ max 1 limits.workers }
+    requires migration { limits.migration ≡ M.migration }
+    requires told { CountsAsHeard T.told limits.migration M.heard }
+    requires only { CountsNothingElse T.told limits.migration M.heard }
     requires few { length team.crews.items < M.seats }
     requires team { IsTeam team.own.ports team.own.spare.items (vec_capacity team.own.spare)
         team.crews.items }
@@ -115,6 +120,8 @@ where
     requires calls { IsCounted pass.calls pass.pass }
     requires first { IsFirstPass pass.pass }
     requires seats { (length team.crews.items < M.seats) × (M.seats ≤ 4294967295) }
+    requires migration { limits.migration ≡ M.migration }
+    requires told { CountsAsHeard T.told limits.migration M.heard }
     requires team { IsTeam team.own.ports team.own.spare.items (vec_capacity team.own.spare)
         team.crews.items }
     ensures lock { IsPassOf book.now.lock result.0.pass }
@@ -126,7 +133,8 @@ where
         (seen_of result.0.pass)
         (team_ports result.1.own.ports result.1.own.spare.items result.1.crews.items) }
 {
-    let (pass, reply) = book.round(rt, pass, &[]);
+    let nothing = Heard::<T>::new(alloc, limits.migration);
+    let (pass, reply) = book.round(rt, pass, nothing);
     if let Some(cause) = cause_of(reply) {
         return (book.stop(rt, pass, cause).0, team);
     }
@@ -158,6 +166,9 @@ where
         pass.calls }
     requires team { IsTeam team.own.ports team.own.spare.items (vec_capacity team.own.spare)
         team.crews.items }
+    requires home { terms.homes.now ≡ homes_of M.opening.rollout.problem }
+    requires migration { terms.migration ≡ M.migration }
+    requires told { CountsAsHeard T.told terms.migration M.heard }
     ensures led { HasLed T.told M.opening terms.entry.migration terms.entry.homes.now
         terms.entry.rounds book.now.lock (length team.crews.items) pass.pass
         (team_ports team.own.ports team.own.spare.items team.crews.items) result.0.pass
@@ -176,6 +187,9 @@ where
                 pass.calls }
             requires team { IsTeam team.own.ports team.own.spare.items (vec_capacity team.own.spare)
                 team.crews.items }
+            requires home { terms.homes.now ≡ homes_of M.opening.rollout.problem }
+            requires migration { terms.migration ≡ M.migration }
+            requires told { CountsAsHeard T.told terms.migration M.heard }
             ensures led { HasLed T.told M.opening terms.entry.migration terms.entry.homes.now
                 terms.entry.rounds book.entry.now.lock (length team.crews.items) pass.pass
                 (team_ports team.own.ports team.own.spare.items team.crews.items) result.0.pass

@@ -2,7 +2,7 @@ pub mod Sharing
 pub mod Counting
 pub mod Unstopped
 pub mod Rounded
-pub mod Listed
+pub mod ListCalls
 pub mod Asking
 pub mod Firsts
 pub mod HomeRows
@@ -11,3 +11,4 @@ pub mod Waits
 pub mod Locked
 pub mod Imaged
 pub mod RoundImages
+pub mod HeardDones

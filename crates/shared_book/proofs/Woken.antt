@@ -28,7 +28,7 @@ use Rattle.shared_book.specs.Sharing.{IsNoted, IsShared, log_of}
 use Rattle.shared_book.specs.Told.{with_noted}
 use Rattle.shared_book.specs.Waking.{first_of, wake_of, OnTold}
 use Rattle.shared_book.proofs.HomeRows.{home-read}
-use Rattle.shared_book.proofs.Listed.{none-of}
+use Rattle.shared_book.proofs.ListCalls.{none-of}
 use Rattle.shared_book.proofs.Sharing.{still, unnoted, goes-on, first_stop-next, log-is, at-log}
 use Rattle.shared_book.proofs.Unstopped.{unstopped}
 

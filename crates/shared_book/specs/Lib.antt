@@ -6,3 +6,4 @@ pub mod Opened
 pub mod Images
 pub mod Homes
 pub mod Waking
+pub mod Lasting

@@ -4,42 +4,46 @@ ghost use Rattle.order_policy.specs.Answers.{rank_by};
 ghost use Rattle.rollout_book.specs.Aliens.{told_by};
 ghost use Rattle.turn_lock.specs.Passes.{IsPassOf, IsSamePass, seat_of_pass, seats_of, seen_of};
 ghost use Rattle.shared_book.specs.Calls.{IsCounted, IsListCall, IsRoundCall, IsStopCall};
+ghost use Rattle.shared_book.specs.Lasting.{CountsAsHeard};
 ghost use Rattle.shared_book.specs.Told.{list_notes, noted_count, round_notes};
 
 use crate::kept::Kept;
+use crate::listed::Listed;
 use crate::marker::Marker;
 use crate::reply::RoundReply;
 use crate::shared::{CallPass, Shared};
 use disk_model::Disk;
 use order_policy::Policy;
-use rollout_book::CommandList;
+use port_session::Heard;
 use shared_history::{Cause, Halt, ListReply};
 use std::alloc::Global;
 use std::sync::Wait;
 use turn_lock::Counted;
-use wire_frames::Answer;
+use wan_edge::Port;
 
 impl<'d, D: Disk, M: Marker> Shared<Kept<D, M>, &'d Policy> {
-    /// A round, as [`Kept::round`] makes it in this pass's turn.
-    pub fn round<R: Wait>(
+    /// A round, as [`Kept::round`] makes it in this pass's turn. Its answers are those that ports have told.
+    pub fn round<R: Wait, T: Port>(
         &self,
         rt: &R,
         pass: CallPass<Kept<D, M>>,
-        answers: &[Answer],
+        heard: Heard<T>,
     ) -> (CallPass<Kept<D, M>>, RoundReply)
         requires lock { IsPassOf self.now.lock pass.pass }
         requires policy { M.opening.policy ≡ rank_by self.now.policy.now.answers }
         requires calls { IsCounted pass.calls pass.pass }
+        requires told { CountsAsHeard T.told heard.migration M.heard }
         ensures lock { IsPassOf self.now.lock result.0.pass }
         ensures pass { IsSamePass pass.pass result.0.pass }
         ensures calls { IsCounted result.0.calls result.0.pass }
         ensures call { IsRoundCall M.opening (seats_of pass.pass) (seat_of_pass pass.pass)
-            (seen_of pass.pass) (told_by answers.now) result.1 (seen_of result.0.pass) }
+            (seen_of pass.pass) (told_by heard.answers) result.1 (seen_of result.0.pass) }
     {
         let CallPass { pass, calls } = pass;
         let seat = pass.seat();
+        let told = heard.answers();
         let mut held = self.lock.take(rt, pass);
-        let reply = held.value().round(self.policy, seat, calls, answers);
+        let reply = held.value().round(self.policy, seat, calls, told);
         let pass = self.lock.give(held);
         let calls = counted_round(calls, reply, pass.seen());
         (CallPass { pass, calls }, reply)
@@ -52,7 +56,7 @@ impl<'d, D: Disk, M: Marker> Shared<Kept<D, M>, &'d Policy> {
         alloc: Global,
         pass: CallPass<Kept<D, M>>,
         switches: &[u32],
-        out: &mut CommandList,
+        out: &mut Listed<D, M>,
     ) -> (CallPass<Kept<D, M>>, ListReply)
         requires lock { IsPassOf self.now.lock pass.pass }
         requires calls { IsCounted pass.calls pass.pass }

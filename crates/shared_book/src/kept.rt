@@ -21,6 +21,7 @@ pub struct Kept<D: Disk, M: Marker> {
 impl<D: Disk, M: Marker> Model for Kept<D, M> {
     ghost use Rattle.std.specs.Prelude.{vec_capacity};
     ghost use Rattle.shared_book.specs.Images.{HasImages};
+    ghost use Rattle.shared_book.specs.Lasting.{AllHeard};
     ghost use Rattle.shared_book.specs.Sharing.{Sharing, log_of, IsShared};
 
     ghost Value = { Sharing D };
@@ -33,7 +34,8 @@ impl<D: Disk, M: Marker> Model for Kept<D, M> {
     ghost invariant = { λ k. IsShared M.opening M.seats k.chronicle.value k.notes.items k.halted
         k.spare (vec_capacity k.notes) (log_of k.chronicle.value k.notes.items)
         × HasImages D.told M.opening M.moment M.faults k.chronicle.value.disk
-        (log_of k.chronicle.value k.notes.items) };
+        (log_of k.chronicle.value k.notes.items)
+        × AllHeard M.heard (log_of k.chronicle.value k.notes.items) };
 }
 
 impl<D: Disk, M: Marker> Counted for Kept<D, M> {

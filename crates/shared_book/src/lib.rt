@@ -9,6 +9,7 @@
 mod calls;
 mod homes;
 mod kept;
+mod listed;
 mod listing;
 mod marker;
 mod noting;
@@ -22,6 +23,7 @@ mod waiting;
 mod waking;
 
 pub use kept::Kept;
+pub use listed::Listed;
 pub use marker::Marker;
 pub use reply::RoundReply;
 pub use shared::{BookPass, CallPass, Shared, SharedBook};

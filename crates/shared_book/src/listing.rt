@@ -6,6 +6,7 @@ ghost use Rattle.shared_history.specs.Replies.{list_reply};
 ghost use Rattle.shared_book.specs.Told.{commands_at, with_noted, list_notes, if_listed, OnListTold, OnListWant};
 
 use crate::kept::Kept;
+use crate::listed::Listed;
 use crate::marker::Marker;
 use crate::noting::{make_room, write_if};
 use disk_model::Disk;
@@ -22,7 +23,7 @@ impl<D: Disk, M: Marker> Kept<D, M> {
         seat: u32,
         call: u64,
         switches: &[u32],
-        out: &mut CommandList,
+        out: &mut Listed<D, M>,
     ) -> ListReply
         requires call { call ≡ calls_by seat self.old.log }
         ensures legal { IsTrue (is_legal_shared M.opening self.new.log) }
@@ -36,7 +37,13 @@ impl<D: Disk, M: Marker> Kept<D, M> {
         if make_room(&mut self.notes, self.spare).is_err() {
             return ListReply::Memory;
         }
-        let reply = listed(&self.chronicle, alloc, self.halted, switches, out);
+        let reply = listed(
+            &self.chronicle,
+            alloc,
+            self.halted,
+            switches,
+            &mut out.commands,
+        );
         write_if(&mut self.notes, &mut self.halted, seat, call, noted(reply));
         reply
     }

@@ -1,5 +1,6 @@
 ghost use Rattle.std.specs.Prelude.{ℕ};
 ghost use Rattle.shared_history.specs.Histories.{Opening};
+ghost use Rattle.wan_edge.specs.Frames.{Answer};
 
 use std::marker::Brand;
 
@@ -17,6 +18,12 @@ pub trait Marker {
 
     /// How many seats may call.
     ghost seats: { ℕ };
+
+    /// In which migration its commands go out.
+    ghost migration: { ℕ };
+
+    /// Which answers the ports of the rollout have told. No round takes another.
+    ghost heard: { Answer → Type 0 };
 }
 
 // The members that stand where no call picks others.
@@ -30,4 +37,8 @@ impl Marker for Brand {
     ghost faults = { 0 };
 
     ghost seats = { 1 };
+
+    ghost migration = { 0 };
+
+    ghost heard = { λ a. Unit {0} };
 }

@@ -3,6 +3,7 @@ ghost use Rattle.std.specs.Prelude.{◌≡◌, [], IfErr, IfOk, IsTrue};
 ghost use Rattle.shared_history.specs.Legal.{is_legal_shared};
 ghost use Rattle.shared_history.specs.Notes.{first_stop, notes_of};
 ghost use Rattle.shared_book.specs.Images.{HasImages};
+ghost use Rattle.shared_book.specs.Lasting.{AllHeard};
 ghost use Rattle.shared_book.specs.Opened.{IsClosed, IsOpenedOn};
 
 use crate::kept::Kept;
@@ -51,6 +52,7 @@ impl<D: Disk, M: Marker> Kept<D, M> {
         ensures legal { IsTrue (is_legal_shared M.opening self.log) }
         ensures is { IsClosed M.opening self.log self.book }
         ensures images { HasImages D.told M.opening M.moment M.faults self.book.disk self.log }
+        ensures heard { AllHeard M.heard self.log }
     {
         let Kept {
             chronicle,

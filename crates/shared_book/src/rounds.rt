@@ -1,4 +1,4 @@
-ghost use Rattle.std.specs.Prelude.{◌≡◌, ◌≤◌, true, IsTrue, None};
+ghost use Rattle.std.specs.Prelude.{◌≡◌, ◌≤◌, All, true, IsTrue, None};
 ghost use Rattle.order_policy.specs.Answers.{rank_by};
 ghost use Rattle.rollout_book.specs.Aliens.{told_by};
 ghost use Rattle.shared_history.specs.Histories.{history_of};
@@ -26,6 +26,7 @@ impl<D: Disk, M: Marker> Kept<D, M> {
     pub fn round(&mut self, policy: &Policy, seat: u32, call: u64, answers: &[Answer]) -> RoundReply
         requires policy { M.opening.policy ≡ rank_by policy.now.answers }
         requires call { call ≡ calls_by seat self.old.log }
+        requires heard { All M.heard answers.now }
         ensures legal { IsTrue (is_legal_shared M.opening self.new.log) }
         ensures log { self.new.log
             ≡ with_noted seat self.old.log (round_notes result)

@@ -8,6 +8,7 @@ ghost use Rattle.turn_lock.specs.Passes.{IsPassOf, IsFirstPass, HasGiven, HasJoi
 ghost use Rattle.shared_book.specs.Calls.{seat_of, IsCounted};
 ghost use Rattle.shared_book.specs.Homes.{home_if_any, homes_of};
 ghost use Rattle.shared_book.specs.Images.{HasImages};
+ghost use Rattle.shared_book.specs.Lasting.{AllHeard};
 ghost use Rattle.shared_book.specs.Opened.{IsClosed, IsOpenedOn};
 
 use crate::homes::{home_in, homes};
@@ -174,6 +175,7 @@ impl<'d, D: Disk, M: Marker> Shared<Kept<D, M>, &'d Policy> {
         ensures book { IsClosed M.opening (seen_of pass.pass) result.0.chronicle }
         ensures images { HasImages D.told M.opening M.moment M.faults result.0.chronicle.disk
             (seen_of pass.pass) }
+        ensures heard { AllHeard M.heard (seen_of pass.pass) }
         ensures policy { result.0.policy.now ≡ self.entry.policy.now }
         ensures made { All (λ w. seat_of w < given_of pass.pass) (seen_of pass.pass) }
     {

@@ -511,7 +511,8 @@ fn push_lines(
 {
     let start = no_start(alloc, plan)?;
     let history = History::new(start.as_slice(), entries);
-    push_end(alloc, plan, &history, text)
+    push_end(alloc, plan, &history, text)?;
+    Ok(())
 }
 
 /// The start at which nothing is settled.

@@ -34,7 +34,8 @@ pub(crate) fn push_outcome(
     push_counts(alloc, text, graph.op_total(), history.entries().len())?;
     text.push_str("fullest link: ")?;
     push_fullest(alloc, graph.plan(), history, text)?;
-    push_last_line(alloc, text, graph.unsettled())
+    push_last_line(alloc, text, graph.unsettled())?;
+    Ok(())
 }
 
 fn push_counts(

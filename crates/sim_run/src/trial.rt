@@ -1,4 +1,4 @@
-ghost use Rattle.std.specs.Prelude.{◌≡◌, ◌<◌, ◌++◌, IfOk, IsTrue, OnOk, length};
+ghost use Rattle.std.specs.Prelude.{◌≡◌, ◌<◌, ◌++◌, IfOk, IsTrue, OnErr, OnOk, length};
 ghost use Rattle.order_policy.specs.Answers.{rank_by};
 ghost use Rattle.sim_run.specs.Acts.{after_act, first_rehearsal};
 ghost use Rattle.sim_run.specs.Trials.{after_trial};
@@ -18,7 +18,8 @@ use wan_model::CheckedPlan;
 
 /// Makes a trial of a plan of so many rate steps under a policy, and gives its text: for each of the shape's
 /// events an act is drawn and done, and then the rollout is drained. The text tells the shape's numbers, the
-/// plan, the events, and how far the rollout came and how full a link. An Err is want of memory.
+/// plan, the events, and how far the rollout came and how full a link. An Err is want of memory, and leaves
+/// the draws as they were.
 ///
 /// Time: what each act touches, and for each turn of the drain the items.
 pub fn run_trial(
@@ -29,10 +30,38 @@ pub fn run_trial(
     shape: &Shape,
     draws: &mut Draws,
 ) -> Result<Text, Memory>
-    ensures { IfOk result
+    ensures text { IfOk result
         (λ text. text
         ≡ trial_text plan.problem plan.plan rate_steps (rank_by policy.now.answers) shape.now
         draws.old) }
+    ensures behind { OnOk result
+        (draws.new
+        ≡ (after_trial plan.problem plan.plan (rank_by policy.now.answers) draws.old
+        shape.now.events).draws) }
+    ensures kept { OnErr result (draws.new ≡ draws.old) }
+{
+    let mut ahead = draws.copied()?;
+    let text = try_plan(alloc, plan, rate_steps, policy, shape, &mut ahead)?;
+    *draws = ahead;
+    Ok(text)
+}
+
+fn try_plan(
+    alloc: Global,
+    plan: CheckedPlan,
+    rate_steps: u32,
+    policy: &Policy,
+    shape: &Shape,
+    draws: &mut Draws,
+) -> Result<Text, Memory>
+    ensures text { IfOk result
+        (λ text. text
+        ≡ trial_text plan.problem plan.plan rate_steps (rank_by policy.now.answers) shape.now
+        draws.old) }
+    ensures behind { OnOk result
+        (draws.new
+        ≡ (after_trial plan.problem plan.plan (rank_by policy.now.answers) draws.old
+        shape.now.events).draws) }
 {
     match Rehearsal::without_book(alloc, plan) {
         Ok(rehearsal) => of_rehearsal(alloc, rehearsal, rate_steps, policy, shape, draws),
@@ -52,10 +81,14 @@ fn of_rehearsal(
     requires live { IsTrue rehearsal.live }
     requires first { rehearsal.state
         ≡ first_rehearsal rehearsal.rollout.problem rehearsal.rollout.plan }
-    ensures { IfOk result
+    ensures text { IfOk result
         (λ text. text
         ≡ trial_text rehearsal.rollout.problem rehearsal.rollout.plan rate_steps
         (rank_by policy.now.answers) shape.now draws.old) }
+    ensures behind { OnOk result
+        (draws.new
+        ≡ (after_trial rehearsal.rollout.problem rehearsal.rollout.plan
+        (rank_by policy.now.answers) draws.old shape.now.events).draws) }
 {
     let text = text_of(alloc, &mut rehearsal, rate_steps, policy, shape, draws);
     drop(rehearsal);
@@ -73,10 +106,14 @@ fn text_of(
     requires live { IsTrue rehearsal.old.live }
     requires first { rehearsal.old.state
         ≡ first_rehearsal rehearsal.old.rollout.problem rehearsal.old.rollout.plan }
-    ensures { IfOk result
+    ensures text { IfOk result
         (λ text. text
         ≡ trial_text rehearsal.old.rollout.problem rehearsal.old.rollout.plan rate_steps
         (rank_by policy.now.answers) shape.now draws.old) }
+    ensures behind { OnOk result
+        (draws.new
+        ≡ (after_trial rehearsal.old.rollout.problem rehearsal.old.rollout.plan
+        (rank_by policy.now.answers) draws.old shape.now.events).draws) }
 {
     let mut text = Text::new(alloc);
     push_shape(alloc, &mut text, shape)?;
@@ -110,6 +147,10 @@ fn do_events(
         (λ skipped. skipped
         ≡ (after_trial rehearsal.old.rollout.problem rehearsal.old.rollout.plan
         (rank_by policy.now.answers) draws.old events).skipped) }
+    ensures left { OnOk result
+        (draws.new
+        ≡ (after_trial rehearsal.old.rollout.problem rehearsal.old.rollout.plan
+        (rank_by policy.now.answers) draws.old events).draws) }
 {
     let mut skipped = 0;
     for _event in 0..events {

@@ -12,10 +12,6 @@ use swanroll_top::number_in;
 /// How long connecting, hearing and writing may take, in milliseconds, where the environment doesn't say.
 const USUAL: u64 = 1_000;
 
-/// The longest journal that is read, in bytes: a gibibyte. One of the largest plan takes less than a
-/// quarter of it.
-const MOST_JOURNAL: u64 = 1_073_741_824;
-
 /// The most digits of a time limit.
 const MOST_DIGITS: usize = 7;
 
@@ -24,7 +20,7 @@ pub fn journal(rt: HostRuntime) -> Mirror<FileDisk<HostRuntime>>
     ensures { result.faults ≡ 0 }
 {
     let file = FileDisk::new(rt, named(rt, "SWANROLL_JOURNAL"));
-    Mirror::new(rt.alloc(), file, MOST_JOURNAL)
+    Mirror::new(rt.alloc(), file)
 }
 
 /// The switches of the file that `SWANROLL_FLEET` names, and the guests that come to the address

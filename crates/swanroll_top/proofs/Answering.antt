@@ -4,22 +4,25 @@ use Rattle.rollout_rules.specs.Wan.{Problem, Rollout}
 use Rattle.rollout_rules.specs.declared.op.OpView.{OpView}
 use Rattle.plan_check.specs.FirstBroken.{first_broken}
 use Rattle.plan_check.specs.declared.broken.Broken.{Broken}
-use Rattle.plan_choose.specs.Choice.{Choice, chosen}
+use Rattle.plan_choose.specs.Choice.{Choice}
+use Rattle.plan_texts.specs.Explain.{explain_text}
 use Rattle.plan_texts.specs.Loads.{loads_text}
-use Rattle.scratch_plan.specs.declared.no_plan.NoPlan.{NoPlan as Cause}
+use Rattle.fewest_plan.specs.declared.cause.Cause.{Cause}
+use Rattle.fewest_plan.specs.declared.cause.Cause.TheVariants.{Unchosen, Unfound, Stuck}
 use Rattle.scratch_plan.specs.declared.no_plan.NoPlan.TheVariants as cause
 use Rattle.problem_json.specs.Grammar.{problem_in}
 use Rattle.problem_json.specs.GrammarDocuments.{DocumentRead, ScriptedRead, document_in, scripted_in}
 use Rattle.problem_json.specs.declared.fault.InputFault.{InputFault}
 use Rattle.sim_run.specs.Script.{script_text}
-use Rattle.swanroll_top.specs.Answers.{◌>>=◌, or_ending, with_choice, planned, checked, valid_line, judged, loaded, rehearsed, answer_in}
+use Rattle.swanroll_top.specs.Answers.{◌>>=◌, or_ending, with_choice, planned, checked, valid_line, judged, loaded, turned_back, rehearsed, answer_in, chosen_by, explained}
 use Rattle.swanroll_top.specs.Endings.{ending_of}
 use Rattle.swanroll_top.specs.Reports.{rollout_in}
 use Rattle.swanroll_top.specs.Runs.{EndsWith, Follows, Gives}
 use Rattle.swanroll_top.specs.declared.ending.Ending.{Ending}
 use Rattle.swanroll_top.specs.declared.ending.Ending.TheVariants.{Done, Usage, AboveLimit, Input, NotValid, NoPlan, ReadFault, WriteFault, DiskFault, GuestFault, Refused, NotFinished, OutOfMemory}
-use Rattle.swanroll_top.specs.Words.{TextAsked, a_plan, a_check, the_loads, a_rehearsal}
-use Rattle.swanroll_top.proofs.Documents.{as_rollout, checked-by}
+use Rattle.swanroll_top.proofs.Documents.{as_rollout, back_text, checked-by}
+use Rattle.swanroll_top.specs.Words.{TextAsked, a_plan, a_check, the_loads, the_way_back, a_rehearsal, the_explanation}
+use Rattle.swanroll_top.specs.declared.words.Planner.{Planner}
 use Rattle.swanroll_top.proofs.Steps.{fault-ends}
 use Rattle.swanroll_top.specs.declared.unfinished.Unfinished.{Unfinished}
 
@@ -48,14 +51,16 @@ step-answers (Err e) next h = fault-answers e
 
 with-choice-answers : (p : Problem) (choice : Result Choice Cause) → HasAnswer (with_choice p choice)
 with-choice-answers p (Ok choice) = tt
-with-choice-answers p (Err (cause.OverCapacity l side load capacity)) = refl
-with-choice-answers p (Err (cause.TableFull w entries size)) = refl
-with-choice-answers p (Err (cause.NoSlack l side load capacity)) = refl
-with-choice-answers p (Err cause.Memory) = refl
+with-choice-answers p (Err (Unchosen (cause.OverCapacity l side load capacity))) = refl
+with-choice-answers p (Err (Unchosen (cause.TableFull w entries size))) = refl
+with-choice-answers p (Err (Unchosen (cause.NoSlack l side load capacity))) = refl
+with-choice-answers p (Err (Unchosen cause.Memory)) = refl
+with-choice-answers p (Err (Unfound why)) = refl
+with-choice-answers p (Err (Stuck link)) = refl
 
-planned-answers : (p : Problem) → HasAnswer (planned p)
+planned-answers : (planner : Planner) (p : Problem) → HasAnswer (planned planner p)
 unfolding planned
-planned-answers p = with-choice-answers p (chosen p)
+planned-answers planner p = with-choice-answers p (chosen_by planner p)
 
 checked-step-by : (d : DocumentRead) (next : Rollout → Result (List ℕ) Ending) (broken : Option Broken) → first_broken d.problem d.plan ≡ broken → ((o : Rollout) → HasAnswer (next o)) → HasAnswer (checked d >>= next)
 checked-step-by d next None e h = rw (checked-by d None e) (h (as_rollout d))
@@ -69,15 +74,25 @@ loaded-answers : (d : DocumentRead) → HasAnswer (loaded d)
 unfolding loaded
 loaded-answers d = checked-step-by d (λ o. Ok (loads_text o.problem o.plan)) (first_broken d.problem d.plan) refl (λ o. tt)
 
+turned-answers : (d : DocumentRead) → HasAnswer (turned_back d)
+unfolding turned_back
+turned-answers d = checked-step-by d (λ o. Ok (back_text o)) (first_broken d.problem d.plan) refl (λ o. tt)
+
+explained-answers : (d : DocumentRead) → HasAnswer (explained d)
+unfolding explained
+explained-answers d = checked-step-by d (λ o. Ok (explain_text o.problem o.plan)) (first_broken d.problem d.plan) refl (λ o. tt)
+
 rehearsed-answers : (policy : OpView → ℕ) (s : ScriptedRead) → HasAnswer (rehearsed policy s)
 unfolding rehearsed
 rehearsed-answers policy s = checked-step-by s.document (λ o. Ok (script_text o.problem o.plan policy s.script)) (first_broken s.document.problem s.document.plan) refl (λ o. tt)
 
 pub command-answers : (c : TextAsked) (input : List ℕ) → HasAnswer (answer_in c input)
 unfolding answer_in
-command-answers a_plan input = step-answers (problem_in input) planned planned-answers
+command-answers (a_plan planner) input = step-answers (problem_in input) (planned planner) (planned-answers planner)
 command-answers a_check input = step-answers (document_in input) judged judged-answers
 command-answers the_loads input = step-answers (document_in input) loaded loaded-answers
+command-answers the_way_back input = step-answers (document_in input) turned_back turned-answers
+command-answers the_explanation input = step-answers (document_in input) explained explained-answers
 command-answers (a_rehearsal policy) input = step-answers (scripted_in input) (rehearsed policy) (rehearsed-answers policy)
 
 ends-only : (answer : Result (List ℕ) Ending) (e : Ending) (out now : Option (List ℕ)) → HasAnswer answer → EndsWith answer e out now → (e ≡ Done) ⊎ ((e ≡ WriteFault) ⊎ (is_answer e ≡ true))

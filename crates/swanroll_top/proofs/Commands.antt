@@ -7,22 +7,23 @@ use Rattle.problem_json.specs.GrammarDocuments.{DocumentRead, ScriptedRead, docu
 use Rattle.problem_json.specs.GrammarResults as grammar
 use Rattle.problem_json.specs.declared.fault.InputFault.{InputFault}
 use Rattle.sim_run.specs.Rehearsed.{IsSafeRehearsal}
-use Rattle.swanroll_top.specs.Answers.{planned, judged, loaded, rehearsed, checked, answer_in}
+use Rattle.swanroll_top.specs.Answers.{planned, judged, loaded, turned_back, rehearsed, checked, answer_in, explained}
 use Rattle.swanroll_top.specs.Endings.{ending_of}
 use Rattle.swanroll_top.specs.Reports.{rollout_in}
 use Rattle.swanroll_top.specs.Runs.{Gives}
-use Rattle.swanroll_top.specs.Safety.{IsPlanned, PlansSafely, ChecksValid, LoadsSafely, RehearsesSafely, IsLoaded, IsValid}
+use Rattle.swanroll_top.specs.Safety.{IsPlanned, PlansSafely, ChecksValid, LoadsSafely, TurnsSafely, RehearsesSafely, IsLoaded, IsTurned, IsValid, ExplainsTruly, IsExplained}
 use Rattle.swanroll_top.specs.declared.ending.Ending.{Ending}
-use Rattle.swanroll_top.specs.Words.{a_plan, a_check, the_loads, a_rehearsal}
+use Rattle.swanroll_top.specs.Words.{a_plan, a_check, the_loads, the_way_back, a_rehearsal, the_explanation}
+use Rattle.swanroll_top.specs.declared.words.Planner.{Planner}
 use Rattle.swanroll_top.proofs.Steps.{fault-gives, next-is}
 
-pub plan-refuses : (input : List ℕ) (e : InputFault) → grammar.Refuses e (problem_in input) → Gives {A = List ℕ} (Err (ending_of e)) (answer_in a_plan input)
+pub plan-refuses : (planner : Planner) (input : List ℕ) (e : InputFault) → grammar.Refuses e (problem_in input) → Gives {A = List ℕ} (Err (ending_of e)) (answer_in (a_plan planner) input)
 unfolding answer_in
-plan-refuses input e h = fault-gives e (problem_in input) planned h
+plan-refuses planner input e h = fault-gives e (problem_in input) (planned planner) h
 
-pub plan-answers : (input : List ℕ) (p : Problem) → problem_in input ≡ Ok p → answer_in a_plan input ≡ planned p
+pub plan-answers : (planner : Planner) (input : List ℕ) (p : Problem) → problem_in input ≡ Ok p → answer_in (a_plan planner) input ≡ planned planner p
 unfolding answer_in
-plan-answers input p h = next-is (problem_in input) p planned h
+plan-answers planner input p h = next-is (problem_in input) p (planned planner) h
 
 pub check-refuses : (input : List ℕ) (e : InputFault) → grammar.Refuses e (document_in input) → Gives {A = List ℕ} (Err (ending_of e)) (answer_in a_check input)
 unfolding answer_in
@@ -40,6 +41,22 @@ pub loads-answers : (input : List ℕ) (d : DocumentRead) → document_in input 
 unfolding answer_in
 loads-answers input d h = next-is (document_in input) d loaded h
 
+pub back-refuses : (input : List ℕ) (e : InputFault) → grammar.Refuses e (document_in input) → Gives {A = List ℕ} (Err (ending_of e)) (answer_in the_way_back input)
+unfolding answer_in
+back-refuses input e h = fault-gives e (document_in input) turned_back h
+
+pub back-answers : (input : List ℕ) (d : DocumentRead) → document_in input ≡ Ok d → answer_in the_way_back input ≡ turned_back d
+unfolding answer_in
+back-answers input d h = next-is (document_in input) d turned_back h
+
+pub explain-refuses : (input : List ℕ) (e : InputFault) → grammar.Refuses e (document_in input) → Gives {A = List ℕ} (Err (ending_of e)) (answer_in the_explanation input)
+unfolding answer_in
+explain-refuses input e h = fault-gives e (document_in input) explained h
+
+pub explain-answers : (input : List ℕ) (d : DocumentRead) → document_in input ≡ Ok d → answer_in the_explanation input ≡ explained d
+unfolding answer_in
+explain-answers input d h = next-is (document_in input) d explained h
+
 pub sim-refuses : (policy : OpView → ℕ) (input : List ℕ) (e : InputFault) → grammar.Refuses e (scripted_in input) → Gives {A = List ℕ} (Err (ending_of e)) (answer_in (a_rehearsal policy) input)
 unfolding answer_in
 sim-refuses policy input e h = fault-gives e (scripted_in input) (rehearsed policy) h
@@ -50,9 +67,9 @@ sim-answers policy input s h = next-is (scripted_in input) s (rehearsed policy) 
 
 -- ---- what is known of the input where a text was made
 
-pub read-plans-safely : {A : Type 0} (input : List ℕ) (p : Problem) (answer : Result A Ending) → problem_in input ≡ Ok p → IfOk answer (λ text. IsPlanned p) → IfOk answer (λ text. PlansSafely input)
-read-plans-safely input p (Ok text) read planned = record { problem = p; read = read; planned = planned }
-read-plans-safely input p (Err e) read planned = tt
+pub read-plans-safely : {A : Type 0} (planner : Planner) (input : List ℕ) (p : Problem) (answer : Result A Ending) → problem_in input ≡ Ok p → IfOk answer (λ text. IsPlanned planner p) → IfOk answer (λ text. PlansSafely planner input)
+read-plans-safely planner input p (Ok text) read planned = record { problem = p; read = read; planned = planned }
+read-plans-safely planner input p (Err e) read planned = tt
 
 pub read-checks-valid : {A : Type 0} (input : List ℕ) (d : DocumentRead) (answer : Result A Ending) → document_in input ≡ Ok d → IfOk answer (λ text. IsValid d.problem d.plan) → IfOk answer (λ text. ChecksValid input)
 read-checks-valid input d (Ok text) read valid = record { document = d; read = read; valid = valid }
@@ -61,6 +78,14 @@ read-checks-valid input d (Err e) read valid = tt
 pub read-loads-safely : {A : Type 0} (input : List ℕ) (d : DocumentRead) (answer : Result A Ending) → document_in input ≡ Ok d → IfOk answer (λ text. IsLoaded d.problem d.plan) → IfOk answer (λ text. LoadsSafely input)
 read-loads-safely input d (Ok text) read is = record { document = d; read = read; loaded = is }
 read-loads-safely input d (Err e) read is = tt
+
+pub read-turns-safely : {A : Type 0} (input : List ℕ) (d : DocumentRead) (answer : Result A Ending) → document_in input ≡ Ok d → IfOk answer (λ text. IsTurned d.problem d.plan) → IfOk answer (λ text. TurnsSafely input)
+read-turns-safely input d (Ok text) read is = record { document = d; read = read; turned = is }
+read-turns-safely input d (Err e) read is = tt
+
+pub read-explains-truly : {A : Type 0} (input : List ℕ) (d : DocumentRead) (answer : Result A Ending) → document_in input ≡ Ok d → IfOk answer (λ text. IsExplained d.problem d.plan) → IfOk answer (λ text. ExplainsTruly input)
+read-explains-truly input d (Ok text) read is = record { document = d; read = read; explained = is }
+read-explains-truly input d (Err e) read is = tt
 
 pub read-rehearses-safely : {A : Type 0} (policy : OpView → ℕ) (input : List ℕ) (s : ScriptedRead) (answer : Result A Ending) → scripted_in input ≡ Ok s
     → IfOk answer (λ text. IsSafeRehearsal s.document.problem s.document.plan policy s.script) → IfOk answer (λ text. RehearsesSafely policy input)

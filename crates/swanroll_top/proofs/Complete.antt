@@ -1,6 +1,8 @@
 -- What is enough for an answer, and that an answer is written.
-use Rattle.std.proofs.Common.{◌≡◌, ◌≢◌, ℕ, ◌≤◌, List, length, true, false, Option, Some, None, Result, Ok, Err, IsOk, refl, sym, subst, ap, ◌∙◌, inl, inr}
-use Rattle.rollout_rules.specs.Wan.{Problem, Rollout}
+use Rattle.std.proofs.Common.{◌≡◌, ◌≢◌, ℕ, ◌≤◌, List, length, Bool, true, false, nat_lt, if◌then◌else◌, Option, Some, None, Result, Ok, Err, IsOk, refl, sym, subst, ap, ◌∙◌, inl, inr}
+use Rattle.rollout_rules.specs.Wan.{Problem, Plan, Rollout}
+use Rattle.rollout_rules.specs.Network.{IsNetwork}
+use Rattle.rollout_rules.specs.Valid.{is_valid_plan}
 use Rattle.rollout_rules.specs.declared.limits.TheConstants.{MOST_INPUT}
 use Rattle.rollout_rules.specs.declared.op.OpView.{OpView}
 use Rattle.plan_check.specs.FirstBroken.{first_broken}
@@ -8,11 +10,14 @@ use Rattle.plan_check.specs.declared.broken.Broken.{Broken}
 use Rattle.plan_check.proofs.Firsts.{broken-invalid}
 use Rattle.problem_json.specs.Grammar.{problem_in}
 use Rattle.problem_json.specs.GrammarDocuments.{DocumentRead, ScriptedRead}
+use Rattle.problem_json.specs.declared.fault.InputFault.{InputFault}
 use Rattle.sim_run.specs.Script.{script_text}
 use Rattle.intent_journal.specs.declared.fault.JournalFault.{JournalFault}
 use Rattle.rollout_report.specs.Journals.{journal_report}
-use Rattle.scratch_plan.specs.declared.no_plan.NoPlan.{NoPlan as Cause}
+use Rattle.fewest_plan.specs.declared.cause.Cause.{Cause}
+use Rattle.fewest_plan.specs.declared.cause.Cause.TheVariants.{Stuck}
 use Rattle.plan_choose.specs.Choice.{Choice, chosen}
+use Rattle.plan_texts.specs.Explain.{explain_text}
 use Rattle.plan_texts.specs.Loads.{loads_text}
 use Rattle.sim_run.specs.declared.shape.Shape.{Shape}
 use Rattle.agent_service.specs.Services.{Guests, Tells}
@@ -20,7 +25,7 @@ use Rattle.agent_service.specs.declared.service.Service.{Service}
 use Rattle.agent_service.specs.declared.service.ServiceFault.{ServiceFault}
 use Rattle.agent_service.specs.declared.service.ServiceFault.TheVariants as service
 use Rattle.swanroll_top.specs.Agents.{ServesAs, service_answer}
-use Rattle.swanroll_top.specs.Answers.{◌>>=◌, with_choice, planned, checked, valid_line, judged, loaded, rehearsed, answer_to}
+use Rattle.swanroll_top.specs.Answers.{◌>>=◌, with_choice, planned, checked, valid_line, judged, loaded, turned_back, rehearsed, answer_to, or_ending, chosen_by, answer_in, explained}
 use Rattle.swanroll_top.specs.Endings.{status_of}
 use Rattle.swanroll_top.specs.Program.{Streams}
 use Rattle.swanroll_top.specs.ReportPromise.{ReportsAndNotes, ReportsBy}
@@ -32,10 +37,14 @@ use Rattle.swanroll_top.specs.Safety.{IsValid}
 use Rattle.swanroll_top.specs.Tries.{IsShape, tried}
 use Rattle.swanroll_top.specs.Taken.{IsValidDocument, IsValidScript}
 use Rattle.swanroll_top.specs.declared.ending.Ending.{Ending}
-use Rattle.swanroll_top.specs.Words.{TextAsked, a_plan, a_check, the_loads, a_rehearsal}
-use Rattle.swanroll_top.proofs.Commands.{plan-answers, check-answers, loads-answers, sim-answers}
-use Rattle.swanroll_top.proofs.Documents.{checked-by}
+use Rattle.swanroll_top.proofs.Commands.{plan-answers, check-answers, loads-answers, back-answers, sim-answers, explain-answers}
+use Rattle.swanroll_top.proofs.Documents.{checked-by, back_text}
+use Rattle.swanroll_top.specs.Words.{TextAsked, a_plan, a_check, the_loads, the_way_back, a_rehearsal, the_explanation}
+use Rattle.swanroll_top.specs.declared.ending.Ending.TheVariants.{AboveLimit, NoPlan}
+use Rattle.swanroll_top.specs.declared.words.Planner.{Planner}
+use Rattle.swanroll_top.specs.declared.words.Planner.TheVariants.{Slack}
 use Rattle.swanroll_top.proofs.Inputs.{answered-within, short-answered, told-within}
+use Rattle.swanroll_top.proofs.Planned.{there-by, chosen-ok, said-stuck, said-none}
 use Rattle.swanroll_top.proofs.Programs.{follows-ends}
 use Rattle.swanroll_top.proofs.Reporting.{rolled-within}
 use Rattle.swanroll_top.proofs.Tried.{is-tried}
@@ -44,12 +53,41 @@ choice-answers : (p : Problem) (found : Result Choice Cause) → IsOk found → 
 choice-answers p (Ok choice) ok = refl
 choice-answers p (Err cause) ok = absurd cc
 
-planned-answers : (p : Problem) → IsOk (chosen p) → IsOk (planned p)
+planned-answers : (planner : Planner) (p : Problem) → IsOk (chosen p) → IsOk (planned planner p)
 unfolding planned
-planned-answers p ok = choice-answers p (chosen p) ok
+planned-answers planner p ok = choice-answers p (chosen_by planner p) (there-by planner p ok)
 
-pub enough-answers : (input : List ℕ) (p : Problem) → length input ≤ MOST_INPUT → problem_in input ≡ Ok p → IsOk (chosen p) → IsOk (answer_to a_plan input)
-enough-answers input p short read ok = subst (λ r. IsOk r) (sym (short-answered a_plan input short ∙ plan-answers input p read)) (planned-answers p ok)
+pub enough-answers : (planner : Planner) (input : List ℕ) (p : Problem) → length input ≤ MOST_INPUT → problem_in input ≡ Ok p → IsOk (chosen p) → IsOk (answer_to (a_plan planner) input)
+enough-answers planner input p short read ok = subst (λ r. IsOk r) (sym (short-answered (a_plan planner) input short ∙ plan-answers planner input p read)) (planned-answers planner p ok)
+
+-- where there is an answer by `slack`, there is one by each planner
+choice-there : (p : Problem) (found : Result Choice Cause) → IsOk (with_choice p found) → IsOk found
+choice-there p (Ok choice) ok = refl
+choice-there p (Err cause) ok = absurd cc
+
+slack-planned : (planner : Planner) (p : Problem) → IsOk (planned Slack p) → IsOk (planned planner p)
+unfolding planned
+slack-planned planner p ok = planned-answers planner p (chosen-ok (chosen p) (choice-there p (chosen_by Slack p) ok))
+
+read-planned : (planner : Planner) (read : Result Problem InputFault) → IsOk (or_ending read >>= planned Slack) → IsOk (or_ending read >>= planned planner)
+read-planned planner (Ok p) ok = slack-planned planner p ok
+read-planned planner (Err e) ok = absurd cc
+
+unless-long : (long : Bool) (e : Ending) (one other : Result (List ℕ) Ending) → (IsOk one → IsOk other) → IsOk (if long then Err e else one) → IsOk (if long then Err e else other)
+unless-long true e one other h ok = ok
+unless-long false e one other h ok = h ok
+
+pub slack-answers : (planner : Planner) (input : List ℕ) → IsOk (answer_to (a_plan Slack) input) → IsOk (answer_to (a_plan planner) input)
+unfolding answer_to answer_in
+slack-answers planner input ok =
+    unless-long (nat_lt MOST_INPUT (length input)) AboveLimit (or_ending (problem_in input) >>= planned Slack) (or_ending (problem_in input) >>= planned planner)
+    (read-planned planner (problem_in input)) ok
+
+-- where the answer is that none exists there is none
+pub none-exists : (planner : Planner) (input : List ℕ) (p : Problem) (link : ℕ) → length input ≤ MOST_INPUT → problem_in input ≡ Ok p → IsNetwork p → answer_to (a_plan planner) input ≡ Err (NoPlan (record { problem = p; cause = Stuck link })) → (plan : Plan) → is_valid_plan p plan ≡ true → ⊥
+unfolding planned
+none-exists planner input p link short read net said plan valid =
+    said-none planner p link net (said-stuck p (chosen_by planner p) link (sym (short-answered (a_plan planner) input short ∙ plan-answers planner input p read) ∙ said)) plan valid
 
 -- ---- a valid document, alone or with a script
 
@@ -65,6 +103,14 @@ valid-loaded : (d : DocumentRead) → IsValid d.problem d.plan → IsOk (loaded 
 unfolding loaded
 valid-loaded d valid = valid-goes-on d (λ o. loads_text o.problem o.plan) (first_broken d.problem d.plan) refl valid
 
+valid-turned : (d : DocumentRead) → IsValid d.problem d.plan → IsOk (turned_back d)
+unfolding turned_back
+valid-turned d valid = valid-goes-on d back_text (first_broken d.problem d.plan) refl valid
+
+valid-explained : (d : DocumentRead) → IsValid d.problem d.plan → IsOk (explained d)
+unfolding explained
+valid-explained d valid = valid-goes-on d (λ o. explain_text o.problem o.plan) (first_broken d.problem d.plan) refl valid
+
 valid-rehearsed : (policy : OpView → ℕ) (s : ScriptedRead) → IsValid s.document.problem s.document.plan → IsOk (rehearsed policy s)
 unfolding rehearsed
 valid-rehearsed policy s valid = valid-goes-on s.document (λ o. script_text o.problem o.plan policy s.script) (first_broken s.document.problem s.document.plan) refl valid
@@ -74,6 +120,12 @@ valid-document-answers input t = subst (λ r. IsOk r) (sym (short-answered a_che
 
 pub valid-document-loads : (input : List ℕ) → IsValidDocument input → IsOk (answer_to the_loads input)
 valid-document-loads input t = subst (λ r. IsOk r) (sym (short-answered the_loads input t.within ∙ loads-answers input t.document t.read)) (valid-loaded t.document t.valid)
+
+pub valid-document-back : (input : List ℕ) → IsValidDocument input → IsOk (answer_to the_way_back input)
+valid-document-back input t = subst (λ r. IsOk r) (sym (short-answered the_way_back input t.within ∙ back-answers input t.document t.read)) (valid-turned t.document t.valid)
+
+pub valid-document-explains : (input : List ℕ) → IsValidDocument input → IsOk (answer_to the_explanation input)
+valid-document-explains input t = subst (λ r. IsOk r) (sym (short-answered the_explanation input t.within ∙ explain-answers input t.document t.read)) (valid-explained t.document t.valid)
 
 pub valid-script-answers : (policy : OpView → ℕ) (input : List ℕ) → IsValidScript input → IsOk (answer_to (a_rehearsal policy) input)
 valid-script-answers policy input t = subst (λ r. IsOk r) (sym (short-answered (a_rehearsal policy) input t.within ∙ sim-answers policy input t.scripted t.read)) (valid-rehearsed policy t.scripted t.valid)

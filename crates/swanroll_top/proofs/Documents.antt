@@ -1,20 +1,23 @@
 -- A document whose plan is checked, and what is made of it.
-use Rattle.std.proofs.Common.{◌≡◌, ℕ, List, true, Option, Some, None, Ok, Err, ap, sym, ◌∙◌, subst}
+use Rattle.std.proofs.Common.{◌≡◌, ℕ, ◌≤◌, ◌++◌, ◌∷◌, [], List, true, Option, Some, None, Ok, Err, ap, sym, ◌∙◌, subst}
 use Rattle.rollout_rules.specs.Wan.{Problem, Plan, Rollout, last_stage}
 use Rattle.rollout_rules.specs.Valid.{is_valid_plan}
 use Rattle.rollout_rules.specs.declared.op.OpView.{OpView}
 use Rattle.plan_check.specs.FirstBroken.{first_broken}
+use Rattle.plan_texts.specs.Explain.{explain_text}
 use Rattle.plan_texts.specs.Loads.{loads_text}
 use Rattle.plan_check.specs.Verdict.{IsVerdict}
 use Rattle.plan_check.specs.declared.broken.Broken.{Broken}
 use Rattle.plan_check.specs.declared.fault.PlanFault.{PlanFault}
 use Rattle.plan_check.specs.declared.fault.PlanFault.TheVariants as plan_fault
+use Rattle.problem_json.specs.Writing.{document_text}
+use Rattle.rollback_plan.specs.Turning.{back_problem, back_plan, back}
 use Rattle.problem_json.specs.GrammarDocuments.{DocumentRead, ScriptedRead}
 use Rattle.sim_run.specs.Rehearsed.{IsSafeRehearsal}
 use Rattle.sim_run.specs.Script.{script_text}
-use Rattle.swanroll_top.specs.Answers.{◌>>=◌, unless_broken, checked, valid_text, valid_line, judged, loaded, rehearsed}
+use Rattle.swanroll_top.specs.Answers.{◌>>=◌, unless_broken, checked, valid_text, valid_line, judged, loaded, turned_back, rehearsed, explained}
 use Rattle.swanroll_top.specs.Runs.{Gives}
-use Rattle.swanroll_top.specs.Safety.{HoldsItsLoads, IsLoaded, IsSealed}
+use Rattle.swanroll_top.specs.Safety.{HoldsItsLoads, MayBeginBack, IsLoaded, IsSealed, IsSafePlan, IsTurned, IsValid, IsExplained, TellsEachNext}
 use Rattle.swanroll_top.specs.declared.ending.Ending.{Ending}
 use Rattle.swanroll_top.specs.declared.ending.Ending.TheVariants.{NotValid}
 use Rattle.swanroll_top.proofs.Steps.{step-gives}
@@ -66,6 +69,51 @@ refused-loaded d e h = step-gives e (checked d) (λ o. Ok (loads_text o.problem 
 pub sealed-loads : (d : DocumentRead) (o : Rollout) → IsSealed d o → HoldsItsLoads o.problem o.plan → IsLoaded d.problem d.plan
 sealed-loads d o sealed holds = record { valid = sealed.valid; holds = subst (λ r. HoldsItsLoads r.problem r.plan) sealed.same holds }
 
+-- ---- the way back of a valid plan
+
+abbrev pub back_text : Rollout → List ℕ
+back_text o = document_text (back_problem o.problem) (back_plan o.plan) ++ 10 ∷ []
+
+pub back-document : (o there : Rollout) (text : List ℕ) → there ≡ back o → text ≡ document_text there.problem there.plan ++ 10 ∷ [] → text ≡ back_text o
+back-document o there text turned is = is ∙ ap (λ (x : Rollout). document_text x.problem x.plan ++ 10 ∷ []) turned
+
+pub checked-turned : (d : DocumentRead) (o : Rollout) (text : List ℕ) → checked d ≡ Ok o → text ≡ back_text o → turned_back d ≡ Ok text
+unfolding turned_back
+checked-turned d o text e is = ap (λ r. r >>= λ o. Ok (back_text o)) e ∙ sym (ap Ok is)
+
+pub refused-turned : (d : DocumentRead) (e : Ending) → Gives {A = Rollout} (Err e) (checked d) → Gives {A = List ℕ} (Err e) (turned_back d)
+unfolding turned_back
+refused-turned d e h = step-gives e (checked d) (λ o. Ok (back_text o)) h
+
+-- what is known of the way back
+abbrev pub MayStart : Rollout → Type 0
+MayStart o = (s : ℕ) → s ≤ last_stage o.plan → MayBeginBack o.problem o.plan s
+
+pub is-turned : (o there : Rollout) → IsValid o.problem o.plan → MayStart o → there ≡ back o → IsValid there.problem there.plan → IsSafePlan there.problem there.plan → IsTurned o.problem o.plan
+is-turned o there valid starts turned there_valid safe = record {
+  valid = valid;
+  back = subst (λ (x : Rollout). IsValid x.problem x.plan) turned there_valid;
+  safe = subst (λ (x : Rollout). IsSafePlan x.problem x.plan) turned safe;
+  starts = starts;
+}
+
+-- of the rollout that was sealed it is known of the document's
+pub sealed-turned : (d : DocumentRead) (o : Rollout) → IsSealed d o → IsTurned o.problem o.plan → IsTurned d.problem d.plan
+sealed-turned d o sealed is = subst (λ (x : Rollout). IsTurned x.problem x.plan) sealed.same is
+
+-- ---- what a valid plan has to be done
+
+pub checked-explained : (d : DocumentRead) (o : Rollout) (text : List ℕ) → checked d ≡ Ok o → text ≡ explain_text o.problem o.plan → explained d ≡ Ok text
+unfolding explained
+checked-explained d o text e is = ap (λ r. r >>= λ o. Ok (explain_text o.problem o.plan)) e ∙ sym (ap Ok is)
+
+pub refused-explained : (d : DocumentRead) (e : Ending) → Gives {A = Rollout} (Err e) (checked d) → Gives {A = List ℕ} (Err e) (explained d)
+unfolding explained
+refused-explained d e h = step-gives e (checked d) (λ o. Ok (explain_text o.problem o.plan)) h
+
+pub sealed-explained : (d : DocumentRead) (o : Rollout) → IsSealed d o → TellsEachNext d.problem d.plan → IsExplained d.problem d.plan
+sealed-explained d o sealed tells = record { valid = sealed.valid; tells = tells }
+
 -- ---- the text of a script over a valid plan
 
 pub checked-rehearsed : (policy : OpView → ℕ) (s : ScriptedRead) (o : Rollout) (text : List ℕ) → checked s.document ≡ Ok o → text ≡ script_text o.problem o.plan policy s.script → rehearsed policy s ≡ Ok text
@@ -85,5 +133,9 @@ pub ruleset checking = (unbroken-checked, valid-sealed)
 pub ruleset judging = (checked-judged, refused-judged)
 
 pub ruleset loading = (checked-loaded, refused-loaded, sealed-loads)
+
+pub ruleset turning = (checked-turned, refused-turned, sealed-turned)
+
+pub ruleset explaining = (checked-explained, refused-explained, sealed-explained)
 
 pub ruleset rehearsing = (checked-rehearsed, refused-rehearsed, sealed-rehearsal)

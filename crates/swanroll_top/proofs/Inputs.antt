@@ -16,7 +16,7 @@ use Rattle.swanroll_top.specs.Taken.{IsTaken}
 use Rattle.swanroll_top.specs.Reading.{IsShortInput, IsCut}
 use Rattle.swanroll_top.specs.declared.ending.Ending.{Ending}
 use Rattle.swanroll_top.specs.declared.ending.Ending.TheVariants.{AboveLimit}
-use Rattle.swanroll_top.specs.Words.{TextAsked, a_plan, a_check, the_loads, a_rehearsal}
+use Rattle.swanroll_top.specs.Words.{TextAsked, a_plan, a_check, the_loads, the_way_back, a_rehearsal, the_explanation}
 
 pub long-refused : (c : TextAsked) (input : List ℕ) → MOST_INPUT < length input → answer_to c input ≡ Err AboveLimit
 unfolding answer_to
@@ -38,9 +38,11 @@ read-cut before now reading.Memory r = tt
 
 -- an input above the limit is taken by no command
 pub long-untaken : (c : TextAsked) (input : List ℕ) → MOST_INPUT < length input → IsTaken c input → ⊥
-long-untaken a_plan input long t = omega (arith, long, t.within)
+long-untaken (a_plan planner) input long t = omega (arith, long, t.within)
 long-untaken a_check input long t = omega (arith, long, t.within)
 long-untaken the_loads input long t = omega (arith, long, t.within)
+long-untaken the_way_back input long t = omega (arith, long, t.within)
+long-untaken the_explanation input long t = omega (arith, long, t.within)
 long-untaken (a_rehearsal policy) input long t = omega (arith, long, t.within)
 
 -- where more than the limit was read, the answer to the input is that it is too long

@@ -1,5 +1,6 @@
 pub mod Steps
 pub mod Opening
+pub mod JournalRooms
 pub mod Planned
 pub mod Documents
 pub mod Commands

@@ -111,7 +111,7 @@ module _ (m : ℕ) (source source_now : SourceTrace) (stored out out_now : Optio
   report-unwritten (NoPlan u) r done cut = r.silent done cut
   report-unwritten ReadFault r done cut = r
   report-unwritten WriteFault r done cut = r.silent done cut
-  report-unwritten DiskFault r done cut = r
+  report-unwritten DiskFault r done cut = r.1
   report-unwritten GuestFault r done cut = r.silent done cut
   report-unwritten (Refused f) r done cut = r.silent done cut
   report-unwritten (NotFinished u) r done cut = r.silent done cut

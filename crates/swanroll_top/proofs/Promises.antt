@@ -23,11 +23,13 @@ use Rattle.swanroll_top.specs.Words.{Asked, TextAsked, a_report, a_run, a_text, 
 use Rattle.swanroll_top.specs.declared.arguments.Unread.{Unread}
 use Rattle.swanroll_top.specs.declared.arguments.Unread.TheVariants as unread
 use Rattle.swanroll_top.specs.declared.ending.Ending.{Ending}
-use Rattle.swanroll_top.specs.declared.ending.Ending.TheVariants.{Usage, OutOfMemory}
+use Rattle.swanroll_top.specs.declared.ending.Ending.TheVariants.{Usage, DiskFault, OutOfMemory}
 use Rattle.swanroll_top.proofs.Agents.{serves-as}
 use Rattle.swanroll_top.proofs.Leaving.{told-leaves, told-status}
 use Rattle.swanroll_top.proofs.Programs.{command-run, ended, follows-ends, follows-of, follows-unwritten, not-usage, report-unwritten, reports-of, rollout-unwritten, rollouts-of, text-unwritten, told-brings, usage-run}
 use Rattle.swanroll_top.proofs.Reaching.{rolls-safe, rolls-target}
+use Rattle.swanroll_top.proofs.Rolling.{rolls-behind}
+use Rattle.swanroll_top.proofs.Statuses.{is-disk-fault}
 
 -- what is told alike is the same
 
@@ -104,6 +106,9 @@ module _ {S K D F P G : Type 0} (views : Views S K D F P G) where
         leaves = told-leaves views.disk
             brings.opened after.disk m source source_now e status _ _ _ _ told brings.leaves;
         untouched = λ three. brings.untouched (told-status e status _ _ _ _ told 3 (λ n. omega (arith, n)) three);
+        failed = λ eight.
+            let failing : RunsReport m source source_now stored DiskFault out out_now = subst (λ x. RunsReport m source source_now stored x out out_now) (is-disk-fault told.told (sym told.is_status ∙ eight)) told_runs in
+            failing.0;
       }
 
   -- `run`
@@ -128,6 +133,9 @@ module _ {S K D F P G : Type 0} (views : Views S K D F P G) where
         };
         serves = brings.guests;
         rolls = rolls;
+        failed = λ eight.
+            rolls-behind views.disk views.port
+            source source_now limits policy before.disk after.disk fleet fleet_now e out out_now (is-disk-fault e (told-status e status _ _ _ _ told 8 (λ n. omega (arith, n)) eight)) brings.rolls;
         safe = λ of.
             rolls-safe views.disk views.port
             (IsInput source source_now) before.disk after.disk fleet fleet_now out out_now limits policy status rolls of;

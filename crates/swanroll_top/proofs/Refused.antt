@@ -7,23 +7,26 @@ use Rattle.rollout_rules.specs.declared.op.OpView.{OpView}
 use Rattle.plan_check.specs.FirstBroken.{first_broken}
 use Rattle.plan_check.specs.declared.broken.Broken.{Broken}
 use Rattle.plan_check.proofs.Firsts.{unbroken-valid, broken-invalid}
-use Rattle.plan_choose.specs.Choice.{Choice, chosen}
+use Rattle.plan_choose.specs.Choice.{Choice}
+use Rattle.plan_texts.specs.Explain.{explain_text}
 use Rattle.plan_texts.specs.Loads.{loads_text}
-use Rattle.scratch_plan.specs.declared.no_plan.NoPlan.{NoPlan as Cause}
+use Rattle.fewest_plan.specs.declared.cause.Cause.{Cause}
+use Rattle.fewest_plan.specs.declared.cause.Cause.TheVariants.{Unchosen, Unfound, Stuck}
 use Rattle.scratch_plan.specs.declared.no_plan.NoPlan.TheVariants as cause
 use Rattle.problem_json.specs.Grammar.{problem_in}
 use Rattle.problem_json.specs.GrammarDocuments.{DocumentRead, ScriptedRead, document_in, scripted_in}
 use Rattle.problem_json.specs.declared.fault.InputFault.{InputFault}
 use Rattle.sim_run.specs.Script.{script_text}
-use Rattle.swanroll_top.specs.Answers.{◌>>=◌, or_ending, with_choice, planned, checked, valid_line, judged, loaded, rehearsed, answer_in}
+use Rattle.swanroll_top.specs.Answers.{◌>>=◌, or_ending, with_choice, planned, checked, valid_line, judged, loaded, turned_back, rehearsed, answer_in, chosen_by, explained}
 use Rattle.swanroll_top.specs.Endings.{ending_of, status_of}
 use Rattle.swanroll_top.specs.Runs.{EndsWith}
 use Rattle.swanroll_top.specs.Safety.{IsValid}
 use Rattle.swanroll_top.specs.Taken.{IsTaken, IsValidDocument, IsValidScript}
 use Rattle.swanroll_top.specs.declared.ending.Ending.{Ending}
 use Rattle.swanroll_top.specs.declared.ending.Ending.TheVariants.{OutOfMemory}
-use Rattle.swanroll_top.specs.Words.{TextAsked, a_plan, a_check, the_loads, a_rehearsal}
-use Rattle.swanroll_top.proofs.Documents.{checked-by}
+use Rattle.swanroll_top.proofs.Documents.{checked-by, back_text}
+use Rattle.swanroll_top.specs.Words.{TextAsked, a_plan, a_check, the_loads, the_way_back, a_rehearsal, the_explanation}
+use Rattle.swanroll_top.specs.declared.words.Planner.{Planner}
 use Rattle.swanroll_top.proofs.Steps.{fault-ends}
 
 -- whether an answer refuses the input
@@ -42,18 +45,20 @@ fault-judged taken e h = elim (fault-ends e) [ inl is ↦ inr (inl (h, ap (λ x.
 
 choice-is-no-refusal : (p : Problem) (choice : Result Choice Cause) → is_refusal (with_choice p choice) ≡ false
 choice-is-no-refusal p (Ok choice) = refl
-choice-is-no-refusal p (Err (cause.OverCapacity l side load capacity)) = refl
-choice-is-no-refusal p (Err (cause.TableFull w entries size)) = refl
-choice-is-no-refusal p (Err (cause.NoSlack l side load capacity)) = refl
-choice-is-no-refusal p (Err cause.Memory) = refl
+choice-is-no-refusal p (Err (Unchosen (cause.OverCapacity l side load capacity))) = refl
+choice-is-no-refusal p (Err (Unchosen (cause.TableFull w entries size))) = refl
+choice-is-no-refusal p (Err (Unchosen (cause.NoSlack l side load capacity))) = refl
+choice-is-no-refusal p (Err (Unchosen cause.Memory)) = refl
+choice-is-no-refusal p (Err (Unfound why)) = refl
+choice-is-no-refusal p (Err (Stuck link)) = refl
 
-planned-is-no-refusal : (p : Problem) → is_refusal (planned p) ≡ false
+planned-is-no-refusal : (planner : Planner) (p : Problem) → is_refusal (planned planner p) ≡ false
 unfolding planned
-planned-is-no-refusal p = choice-is-no-refusal p (chosen p)
+planned-is-no-refusal planner p = choice-is-no-refusal p (chosen_by planner p)
 
-plan-judged : (input : List ℕ) (read : Result Problem InputFault) → problem_in input ≡ read → length input ≤ MOST_INPUT → IsJudged (IsTaken a_plan input) (or_ending read >>= planned)
-plan-judged input (Ok p) is within = inl (record { within = within; problem = p; read = is }, planned-is-no-refusal p)
-plan-judged input (Err e) is within = fault-judged (IsTaken a_plan input) e (λ t. elim_read is t.read)
+plan-judged : (planner : Planner) (input : List ℕ) (read : Result Problem InputFault) → problem_in input ≡ read → length input ≤ MOST_INPUT → IsJudged (IsTaken (a_plan planner) input) (or_ending read >>= planned planner)
+plan-judged planner input (Ok p) is within = inl (record { within = within; problem = p; read = is }, planned-is-no-refusal planner p)
+plan-judged planner input (Err e) is within = fault-judged (IsTaken (a_plan planner) input) e (λ t. elim_read is t.read)
   where
     elim_read : {p : Problem} → problem_in input ≡ Err e → problem_in input ≡ Ok p → ⊥
     elim_read a b = cc
@@ -92,6 +97,28 @@ loads-judged input (Err e) is within = fault-judged (IsTaken the_loads input) e 
     elim_read : {d : DocumentRead} → document_in input ≡ Err e → document_in input ≡ Ok d → ⊥
     elim_read a b = cc
 
+back-judged : (input : List ℕ) (read : Result DocumentRead InputFault) → document_in input ≡ read → length input ≤ MOST_INPUT → IsJudged (IsTaken the_way_back input) (or_ending read >>= turned_back)
+unfolding turned_back
+back-judged input (Ok d) is within =
+    checked-judging (IsTaken the_way_back input) d back_text (first_broken d.problem d.plan) refl
+    (λ valid. record { within = within; document = d; read = is; valid = valid })
+    (same-document input d is)
+back-judged input (Err e) is within = fault-judged (IsTaken the_way_back input) e (λ t. elim_read is t.read)
+  where
+    elim_read : {d : DocumentRead} → document_in input ≡ Err e → document_in input ≡ Ok d → ⊥
+    elim_read a b = cc
+
+explain-judged : (input : List ℕ) (read : Result DocumentRead InputFault) → document_in input ≡ read → length input ≤ MOST_INPUT → IsJudged (IsTaken the_explanation input) (or_ending read >>= explained)
+unfolding explained
+explain-judged input (Ok d) is within =
+    checked-judging (IsTaken the_explanation input) d (λ o. explain_text o.problem o.plan) (first_broken d.problem d.plan) refl
+    (λ valid. record { within = within; document = d; read = is; valid = valid })
+    (same-document input d is)
+explain-judged input (Err e) is within = fault-judged (IsTaken the_explanation input) e (λ t. elim_read is t.read)
+  where
+    elim_read : {d : DocumentRead} → document_in input ≡ Err e → document_in input ≡ Ok d → ⊥
+    elim_read a b = cc
+
 same-script : (input : List ℕ) (s : ScriptedRead) → scripted_in input ≡ Ok s → IsValidScript input → IsValid s.document.problem s.document.plan
 same-script input s is t =
     let same : t.scripted ≡ s = cc (is, t.read) in
@@ -110,9 +137,11 @@ sim-judged policy input (Err e) is within = fault-judged (IsValidScript input) e
 
 pub answer-judged : (c : TextAsked) (input : List ℕ) → length input ≤ MOST_INPUT → IsJudged (IsTaken c input) (answer_in c input)
 unfolding answer_in
-answer-judged a_plan input within = plan-judged input (problem_in input) refl within
+answer-judged (a_plan planner) input within = plan-judged planner input (problem_in input) refl within
 answer-judged a_check input within = check-judged input (document_in input) refl within
 answer-judged the_loads input within = loads-judged input (document_in input) refl within
+answer-judged the_way_back input within = back-judged input (document_in input) refl within
+answer-judged the_explanation input within = explain-judged input (document_in input) refl within
 answer-judged (a_rehearsal policy) input within = sim-judged policy input (scripted_in input) refl within
 
 -- ---- the status of a run

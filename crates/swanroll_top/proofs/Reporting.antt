@@ -1,5 +1,5 @@
 -- How a report follows from its input and from the journal.
-use Rattle.std.proofs.Common.{◌≡◌, ◌⊎◌, ℕ, ◌<◌, ◌≤◌, List, ◌++◌, length, true, false, Option, Some, None, IfSome, Result, Ok, Err, refl, sym, ap, ◌∙◌, subst, inl, inr, arith}
+use Rattle.std.proofs.Common.{◌≡◌, ◌⊎◌, ℕ, ◌<◌, ◌≤◌, List, ◌++◌, length, length-append, true, false, Option, Some, None, IfSome, Result, Ok, Err, refl, sym, ap, ◌∙◌, subst, inl, inr, arith}
 use Rattle.std.proofs.lemmas.Bool.{cases_lt, le-ltb, lt-ltb}
 use Rattle.wan_edge.specs.Streams.{SourceTrace}
 use Rattle.rollout_rules.specs.Wan.{Rollout}
@@ -17,8 +17,8 @@ use Rattle.rollout_report.specs.Journals.{Tells, journal_report}
 use Rattle.swanroll_top.specs.Answers.{◌>>=◌, checked, or_ending, unless_broken}
 use Rattle.swanroll_top.specs.Endings.{ending_of, ending_of_journal, status_of}
 use Rattle.swanroll_top.specs.Reading.{IsCut, IsShortInput}
-use Rattle.swanroll_top.specs.Reports.{EndsJournal, EndsReport, FollowsReport, FollowsReported, IsLate, RunsReport, or_journal, rollout_in, rollout_to}
-use Rattle.swanroll_top.specs.Runs.{EndsWith, Gives, IsInput}
+use Rattle.swanroll_top.specs.Reports.{EndsJournal, EndsReport, FollowsReport, FollowsReported, IsLate, ReadsDocument, RunsReport, or_journal, rollout_in, rollout_to}
+use Rattle.swanroll_top.specs.Runs.{EndsWith, Gives, IsInput, IsReadToEnd}
 use Rattle.swanroll_top.specs.Safety.{IsValid}
 use Rattle.swanroll_top.specs.Taken.{IsValidDocument}
 use Rattle.swanroll_top.specs.declared.ending.Ending.{Ending}
@@ -105,12 +105,30 @@ module _ (m : ℕ) (told out out_now : Option (List ℕ)) (input : List ℕ) (e 
   ends-silent (Ok o) ends zero seven = unwritten ends.answer e out out_now ends.ends zero seven
   ends-silent (Err x) ends zero seven = ends.1
 
+-- a source of which no more than the limit was read was read to its end
+read-to-end : (source source_now : SourceTrace) (input : List ℕ) → IsInput source source_now input → length input ≤ MOST_INPUT → IsReadToEnd source source_now input
+read-to-end source source_now input is within = elim is.read [
+  | inl end ↦ end
+  | inr far ↦ absurd (omega (arith, within, far.goes.beyond, ap length far.parts, length-append far.goes.bytes far.behind))
+]
+
 -- the input of a rollout is within the limit
 pub rolled-within : (input : List ℕ) (o : Rollout) → rollout_to input ≡ Ok o → length input ≤ MOST_INPUT
 rolled-within input o is = elim (cases_lt MOST_INPUT (length input)) [
   | inr within ↦ within
   | inl long ↦ absurd (let no : Err AboveLimit ≡ Ok o = sym (long-rollout input long) ∙ is in cc)
 ]
+
+-- a rollout's input is a document with a valid plan, and was read to its end
+pub reads-document : (source source_now : SourceTrace) (input : List ℕ) (o : Rollout) → IsInput source source_now input → rollout_to input ≡ Ok o → ReadsDocument source source_now
+reads-document source source_now input o read is =
+    let within = rolled-within input o is in
+    record {
+      input = input;
+      whole = read.whole;
+      read = read-to-end source source_now input read within;
+      valid = subst (IsJudgedAs input) (sym (short-rollout input within) ∙ is) (rollout-judged input within);
+    }
 
 -- ---- a source that was read to its end, and one that wasn't
 
@@ -133,7 +151,7 @@ module _ (m : ℕ) (source source_now : SourceTrace) (told out out_now : Option 
   short-reports (NoPlan u) s h = follows-report (NoPlan u) s h (λ e. cc)
   short-reports ReadFault s h = ends-silent m told out out_now input ReadFault (rollout_in input) h (λ e. omega (arith, e)) (λ e. omega (arith, e))
   short-reports WriteFault s h = follows-report WriteFault s h (λ e. cc)
-  short-reports DiskFault s h = h
+  short-reports DiskFault s h = (reads-document source source_now input h.0.0 s.input (short-rollout input s.within ∙ h.0.1), h.1)
   short-reports GuestFault s h = follows-report GuestFault s h (λ e. cc)
   short-reports (Refused f) s h = follows-report (Refused f) s h (λ e. cc)
   short-reports (NotFinished u) s h = follows-report (NotFinished u) s h (λ e. cc)
@@ -180,7 +198,7 @@ module _ (m : ℕ) (o : Rollout) (image : List ℕ) (out : Option (List ℕ)) wh
       (record { image = image; stored = refl; answer = Ok text; late = tt; is = ap or_journal tells; ends = inr (refl, cut.1) })
 
   reported-fault : (cause : JournalFault) → Tells (Err cause) (journal_report o m image) → FollowsReported m (Ok o) (Some image) (ending_of_journal cause) out out
-  reported-fault journal.Disk tells = refl
+  reported-fault journal.Disk tells = ((o, refl), refl)
   reported-fault journal.Memory tells = refl
   reported-fault (journal.NotJournal first) tells =
       record { image = image; stored = refl; answer = Err (Refused (journal.NotJournal first)); late = tt; is = ap or_journal tells; ends = (refl, refl) }
@@ -242,20 +260,20 @@ module _ (m : ℕ) (told out : Option (List ℕ)) (r : Result Rollout Ending) wh
   refused-by : (e : Ending) → r ≡ Err e → EndsReport m r told e out out
   refused-by e is = subst (λ x. EndsReport m x told e out out) (sym is) (refl, refl)
 
-  pub input-refused : (e : Ending) → Gives {A = Rollout} (Err e) r → FollowsReported m r told e out out
-  input-refused Done g = refused-by Done g
-  input-refused Usage g = refused-by Usage g
-  input-refused AboveLimit g = refused-by AboveLimit g
-  input-refused (Input f) g = refused-by (Input f) g
-  input-refused (NotValid p b) g = refused-by (NotValid p b) g
-  input-refused (NoPlan u) g = refused-by (NoPlan u) g
-  input-refused ReadFault g = refused-by ReadFault g
-  input-refused WriteFault g = refused-by WriteFault g
-  input-refused DiskFault g = refl
-  input-refused GuestFault g = refused-by GuestFault g
-  input-refused (Refused f) g = refused-by (Refused f) g
-  input-refused (NotFinished u) g = refused-by (NotFinished u) g
-  input-refused OutOfMemory g = refl
+  pub input-refused : (e : Ending) → (r ≡ Err DiskFault → ⊥) → Gives {A = Rollout} (Err e) r → FollowsReported m r told e out out
+  input-refused Done never g = refused-by Done g
+  input-refused Usage never g = refused-by Usage g
+  input-refused AboveLimit never g = refused-by AboveLimit g
+  input-refused (Input f) never g = refused-by (Input f) g
+  input-refused (NotValid p b) never g = refused-by (NotValid p b) g
+  input-refused (NoPlan u) never g = refused-by (NoPlan u) g
+  input-refused ReadFault never g = refused-by ReadFault g
+  input-refused WriteFault never g = refused-by WriteFault g
+  input-refused DiskFault never g = absurd (never g)
+  input-refused GuestFault never g = refused-by GuestFault g
+  input-refused (Refused f) never g = refused-by (Refused f) g
+  input-refused (NotFinished u) never g = refused-by (NotFinished u) g
+  input-refused OutOfMemory never g = refl
 
 pub input-no-disk : (input : List ℕ) (e : Ending) → Gives {A = Rollout} (Err e) (rollout_in input) → e ≡ DiskFault → ⊥
 input-no-disk input e g is = let no : is_answer DiskFault ≡ true = ap is_answer (sym is) ∙ rollout-gives input e g in cc

@@ -1,5 +1,6 @@
 -- How a rollout follows from its input, and what is left where nothing was begun.
 use Rattle.std.proofs.Common.{◌≡◌, ◌⊎◌, ℕ, List, ◌++◌, length, true, false, Option, Some, None, IfSome, Result, Ok, Err, refl, sym, ap, ◌∙◌, subst, inl, inr, arith}
+use Rattle.std.proofs.lemmas.Bool.{cases_lt}
 use Rattle.rollout_rules.specs.Wan.{Rollout}
 use Rattle.rollout_rules.specs.declared.limits.TheConstants.{MOST_INPUT}
 use Rattle.rollout_rules.specs.declared.op.OpView.{OpView}
@@ -10,7 +11,7 @@ use Rattle.wan_edge.specs.ReadAll.{GoesBeyond}
 use Rattle.rollout_run.specs.declared.running.Limits.{Limits}
 use Rattle.swanroll_top.specs.Endings.{status_of}
 use Rattle.swanroll_top.specs.Reading.{IsCut, IsShortInput}
-use Rattle.swanroll_top.specs.Reports.{rollout_in, rollout_to}
+use Rattle.swanroll_top.specs.Reports.{ReadsDocument, rollout_in, rollout_to}
 use Rattle.swanroll_top.specs.Rollouts.{EndsRollout, FleetSeen, FollowsRollout, FollowsRolled, IsRefused, IsUnbegun, LeavesAll, RefusesAs, Rolls, RollsIn, RollsOut, RunsRollout, may_end}
 use Rattle.swanroll_top.specs.Runs.{EndsWith, Gives, IsInput}
 use Rattle.swanroll_top.specs.Taken.{IsValidDocument}
@@ -18,7 +19,7 @@ use Rattle.swanroll_top.specs.declared.ending.Ending.{Ending}
 use Rattle.swanroll_top.specs.declared.ending.Ending.TheVariants.{Done, Usage, AboveLimit, Input, NotValid, NoPlan, ReadFault, WriteFault, DiskFault, GuestFault, Refused, NotFinished, OutOfMemory}
 use Rattle.swanroll_top.proofs.Answering.{is_answer, rollout-answers}
 use Rattle.swanroll_top.proofs.Inputs.{beyond-input}
-use Rattle.swanroll_top.proofs.Reporting.{IsJudgedAs, beyond-reports, long-rollout, rollout-judged, short-rollout}
+use Rattle.swanroll_top.proofs.Reporting.{IsJudgedAs, beyond-reports, long-rollout, reads-document, rollout-judged, short-rollout}
 use Rattle.swanroll_top.proofs.Statuses.{not-status}
 
 -- ---- an input that is refused
@@ -220,3 +221,21 @@ module _ {D P : Type 0} (trace : D → DiskTrace) (tell : P → PortTrace)
     is = short-rollout input short.within ∙ begun.1;
     rolls = begun.2;
   })
+
+-- ---- a disk that failed
+
+-- no input is refused as if the disk had failed
+never-disk : (input : List ℕ) → rollout_to input ≡ Err DiskFault → ⊥
+never-disk input is = elim (cases_lt MOST_INPUT (length input)) [
+  | inl long ↦ let no : ◌≡◌ {A = Result Rollout Ending} (Err AboveLimit) (Err DiskFault) = sym (long-rollout input long) ∙ is in cc
+  | inr within ↦ let no : is_answer DiskFault ≡ true = rollout-answers input DiskFault (sym (short-rollout input within) ∙ is) in cc
+]
+
+-- behind which input it failed
+pub rolls-behind : {D P : Type 0} (trace : D → DiskTrace) (tell : P → PortTrace)
+    (source source_now : SourceTrace) (limits : Limits) (policy : OpView → ℕ) (disk disk_now : D) (before now : FleetSeen P) (e : Ending) (out out_now : Option (List ℕ)) → e ≡ DiskFault
+    → Rolls trace tell (IsInput source source_now) limits policy disk disk_now before now e out out_now → ReadsDocument source source_now
+rolls-behind trace tell source source_now limits policy disk disk_now before now e out out_now is (inl unbegun) =
+    let why : RefusesAs (IsInput source source_now) DiskFault = subst (IsUnbegun (IsInput source source_now)) is unbegun.why in
+    absurd (never-disk why.input why.refused)
+rolls-behind trace tell source source_now limits policy disk disk_now before now e out out_now is (inr roll) = reads-document source source_now roll.input roll.r roll.given roll.is

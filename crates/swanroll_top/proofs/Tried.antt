@@ -3,20 +3,23 @@ use Rattle.std.proofs.Common.{◌≡◌, ℕ, List, Option, Result, Ok, Err, IsO
 use Rattle.rand_pcg.specs.Lcg.{Lcg}
 use Rattle.rollout_rules.specs.Wan.{Problem, Rollout}
 use Rattle.rollout_rules.specs.declared.op.OpView.{OpView}
-use Rattle.plan_choose.specs.Choice.{Choice, chosen}
-use Rattle.scratch_plan.specs.Refusals.{Refuses}
-use Rattle.scratch_plan.specs.declared.no_plan.NoPlan.{NoPlan as Cause}
+use Rattle.plan_choose.specs.Choice.{Choice}
+use Rattle.fewest_plan.specs.declared.cause.Cause.{Cause}
+use Rattle.fewest_plan.specs.declared.cause.Cause.TheVariants.{Unchosen, Unfound, Stuck}
+use Rattle.fewest_plan.specs.Found.{Refuses}
 use Rattle.scratch_plan.specs.declared.no_plan.NoPlan.TheVariants.{OverCapacity, TableFull, NoSlack, Memory}
 use Rattle.case_gen.specs.Draws.{seeded}
 use Rattle.case_gen.proofs.Planned.{has_plan}
 use Rattle.sim_run.specs.TrialText.{trial_text}
 use Rattle.sim_run.specs.declared.shape.Shape.{Shape}
+use Rattle.swanroll_top.specs.Answers.{chosen_by}
 use Rattle.swanroll_top.specs.Endings.{ending_without}
 use Rattle.swanroll_top.specs.Runs.{Follows, Gives}
 use Rattle.swanroll_top.specs.Tries.{IsShape, case_of, events_of, tried, with_plan}
 use Rattle.swanroll_top.specs.declared.ending.Ending.{Ending}
 use Rattle.swanroll_top.specs.declared.ending.Ending.TheVariants.{Done, Usage, AboveLimit, Input, NotValid, NoPlan, ReadFault, WriteFault, DiskFault, GuestFault, Refused, NotFinished, OutOfMemory}
-use Rattle.swanroll_top.proofs.Planned.{IsChoice}
+use Rattle.swanroll_top.specs.declared.words.Planner.TheVariants.{Slack}
+use Rattle.swanroll_top.proofs.Planned.{IsChoice, there-by}
 
 not-ok : (r : Result (List ℕ) Ending) (e : Ending) → IsOk r → r ≡ Err e → ⊥
 not-ok (Ok text) e ok is = cc
@@ -30,20 +33,22 @@ module _ (policy : OpView → ℕ) (s : Shape) where
   -- each trial has a text
   pub is-tried : IsShape s → IsOk (tried policy s)
   unfolding tried
-  is-tried is = ok-plan (chosen (case_of s)) (has_plan s.k s.switches s.flows (seeded s.seed) is.least_k is.most_k)
+  is-tried is = ok-plan (chosen_by Slack (case_of s)) (there-by Slack (case_of s) (has_plan s.k s.switches s.flows (seeded s.seed) is.least_k is.most_k))
 
-  pub tried-text : (o : Rollout) (steps : ℕ) (p : Problem) (draws : Lcg) (text : List ℕ) → p ≡ case_of s → draws ≡ events_of s → IsChoice p o steps → text ≡ trial_text o.problem o.plan steps policy s draws → tried policy s ≡ Ok text
+  pub tried-text : (o : Rollout) (steps : ℕ) (p : Problem) (draws : Lcg) (text : List ℕ) → p ≡ case_of s → draws ≡ events_of s → IsChoice Slack p o steps → text ≡ trial_text o.problem o.plan steps policy s draws → tried policy s ≡ Ok text
   unfolding tried
   tried-text o steps p draws text made behind choice is =
-      ap (with_plan policy s) (ap chosen (sym made) ∙ choice.is_chosen)
+      ap (with_plan policy s) (ap (chosen_by Slack) (sym made) ∙ choice.is_chosen)
       ∙ ap Ok (sym (is ∙ ap (λ q. trial_text q o.plan steps policy s draws) (choice.same ∙ made) ∙ ap (λ (d : Lcg). trial_text (case_of s) o.plan steps policy s d) behind))
 
-  pub tried-unplanned : (p q : Problem) (cause : Cause) → p ≡ case_of s → q ≡ p → Refuses cause (chosen p) → Gives {A = List ℕ} (Err (ending_without q cause)) (tried policy s)
+  pub tried-unplanned : (p q : Problem) (cause : Cause) → p ≡ case_of s → q ≡ p → Refuses cause (chosen_by Slack p) → Gives {A = List ℕ} (Err (ending_without q cause)) (tried policy s)
   unfolding tried
-  tried-unplanned p q (OverCapacity l side load capacity) made same is = ap (with_plan policy s) (ap chosen (sym made) ∙ is) ∙ ap (λ x. Err (NoPlan (record { problem = x; cause = OverCapacity l side load capacity }))) (sym (same ∙ made))
-  tried-unplanned p q (TableFull w entries size) made same is = ap (with_plan policy s) (ap chosen (sym made) ∙ is) ∙ ap (λ x. Err (NoPlan (record { problem = x; cause = TableFull w entries size }))) (sym (same ∙ made))
-  tried-unplanned p q (NoSlack l side load capacity) made same is = ap (with_plan policy s) (ap chosen (sym made) ∙ is) ∙ ap (λ x. Err (NoPlan (record { problem = x; cause = NoSlack l side load capacity }))) (sym (same ∙ made))
-  tried-unplanned p q Memory made same is = tt
+  tried-unplanned p q (Unchosen (OverCapacity l side load capacity)) made same is = ap (with_plan policy s) (ap (chosen_by Slack) (sym made) ∙ is) ∙ ap (λ x. Err (NoPlan (record { problem = x; cause = Unchosen (OverCapacity l side load capacity) }))) (sym (same ∙ made))
+  tried-unplanned p q (Unchosen (TableFull w entries size)) made same is = ap (with_plan policy s) (ap (chosen_by Slack) (sym made) ∙ is) ∙ ap (λ x. Err (NoPlan (record { problem = x; cause = Unchosen (TableFull w entries size) }))) (sym (same ∙ made))
+  tried-unplanned p q (Unchosen (NoSlack l side load capacity)) made same is = ap (with_plan policy s) (ap (chosen_by Slack) (sym made) ∙ is) ∙ ap (λ x. Err (NoPlan (record { problem = x; cause = Unchosen (NoSlack l side load capacity) }))) (sym (same ∙ made))
+  tried-unplanned p q (Unchosen Memory) made same is = tt
+  tried-unplanned p q (Unfound why) made same is = ap (with_plan policy s) (ap (chosen_by Slack) (sym made) ∙ is) ∙ ap (λ x. Err (NoPlan (record { problem = x; cause = Unfound why }))) (sym (same ∙ made))
+  tried-unplanned p q (Stuck link) made same is = ap (with_plan policy s) (ap (chosen_by Slack) (sym made) ∙ is) ∙ ap (λ x. Err (NoPlan (record { problem = x; cause = Stuck link }))) (sym (same ∙ made))
 
   -- so a trial that gives no text ran out of memory
   no-ending : (e : Ending) → IsShape s → tried policy s ≡ Err e → ⊥

@@ -10,5 +10,6 @@ BringsService views guests before ending after =
     RunsAgent views.guest guests (guests_of (views.fleet before.fleet)) (guests_of (views.fleet after.fleet)) ending (written_at views before) (written_at views after)
 
 pub record AgentPromise {S K D F P G : Type 0} (views : Views S K D F P G) (guests : ℕ) (before : Outside S K D F) (status : ℕ) (after : Outside S K D F) : Type 0 where
-  -- one agent serves so many guests in turn, and gives each back; the line says what came of it
+  -- One agent serves so many guests in turn, and gives each back; the line says what came of it. Behind each guest it keeps no more items than a
+  -- document within the limits has (`few` of `IsVisit`).
   pub serves : ServesAs views.guest guests (guests_of (views.fleet before.fleet)) (guests_of (views.fleet after.fleet)) status (written_at views (used before)) (written_at views (used after))

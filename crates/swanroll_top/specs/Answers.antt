@@ -1,22 +1,32 @@
 -- What each command makes of its input: a text, or how the run ends without one.
-use Rattle.std.specs.Prelude.{ℕ, List, [], ◌∷◌, ◌++◌, length, codes, decimal, nat_lt, if◌then◌else◌, Option, Some, None, Result, Ok, Err}
+use Rattle.std.specs.Prelude.{◌≡◌, ℕ, List, [], ◌∷◌, ◌++◌, length, codes, decimal, nat_lt, if◌then◌else◌, Option, Some, None, Result, Ok, Err}
 use Rattle.rollout_rules.specs.Wan.{Problem, Plan, Rollout, last_stage}
 use Rattle.rollout_rules.specs.declared.limits.TheConstants.{MOST_INPUT}
 use Rattle.rollout_rules.specs.declared.op.OpView.{OpView}
 use Rattle.plan_check.specs.FirstBroken.{first_broken}
 use Rattle.plan_check.specs.declared.broken.Broken.{Broken}
 use Rattle.plan_choose.specs.Choice.{Choice, chosen}
+use Rattle.plan_choose.specs.declared.chosen.Chosen.{Chosen}
+use Rattle.fewest_plan.specs.declared.cause.Cause.{Cause}
+use Rattle.fewest_plan.specs.declared.cause.Cause.TheVariants.{Unchosen}
+use Rattle.fewest_plan.specs.declared.cause.NotFound.{NotFound}
+use Rattle.fewest_plan.specs.Fewest.{fewest}
+use Rattle.fewest_plan.specs.Found.{Refuses}
+use Rattle.plan_texts.specs.Explain.{explain_text}
 use Rattle.plan_texts.specs.Loads.{loads_text}
 use Rattle.scratch_plan.specs.declared.no_plan.NoPlan.{NoPlan}
 use Rattle.problem_json.specs.Grammar.{problem_in}
 use Rattle.problem_json.specs.GrammarDocuments.{DocumentRead, ScriptedRead, document_in, scripted_in}
 use Rattle.problem_json.specs.Writing.{document_text}
 use Rattle.problem_json.specs.declared.fault.InputFault.{InputFault}
+use Rattle.rollback_plan.specs.Turning.{back_problem, back_plan}
 use Rattle.sim_run.specs.Script.{script_text}
 use Rattle.swanroll_top.specs.Endings.{ending_of, ending_without}
 use Rattle.swanroll_top.specs.declared.ending.Ending.{Ending}
 use Rattle.swanroll_top.specs.declared.ending.Ending.TheVariants.{AboveLimit, NotValid}
-use Rattle.swanroll_top.specs.Words.{TextAsked, a_plan, a_check, the_loads, a_rehearsal}
+use Rattle.swanroll_top.specs.Words.{TextAsked, a_plan, a_check, the_loads, the_way_back, a_rehearsal, the_explanation}
+use Rattle.swanroll_top.specs.declared.words.Planner.{Planner}
+use Rattle.swanroll_top.specs.declared.words.Planner.TheVariants.{Slack, Fewest}
 
 infixl 10 ◌>>=◌
 -- the next step at the value; an ending stays
@@ -28,13 +38,28 @@ abbrev pub or_ending : {A : Type 0} → Result A InputFault → Result A Ending
 or_ending (Ok a) = Ok a
 or_ending (Err e) = Err (ending_of e)
 
+-- what is chosen without the greedy rule, or the cause that there is none
+abbrev pub or_unchosen : Result Choice NoPlan → Result Choice Cause
+or_unchosen (Ok choice) = Ok choice
+or_unchosen (Err cause) = Err (Unchosen cause)
+
+-- what a planner chooses for a problem
+abbrev pub chosen_by : Planner → Problem → Result Choice Cause
+chosen_by Slack p = or_unchosen (chosen p)
+chosen_by Fewest p = fewest p
+
+-- what is chosen in code, with the problem itself, or the cause; want of memory says nothing
+abbrev pub IsChosenBy : Planner → Problem → Result Chosen NotFound → Type 0
+IsChosenBy planner p (Ok c) = (c.plan.problem ≡ p) × (chosen_by planner p ≡ Ok (record { plan = c.plan.plan; rate_steps = c.rate_steps }))
+IsChosenBy planner p (Err u) = (u.problem ≡ p) × Refuses u.cause (chosen_by planner p)
+
 -- the document of a problem with the plan chosen for it, and a line feed
-abbrev pub with_choice : Problem → Result Choice NoPlan → Result (List ℕ) Ending
+abbrev pub with_choice : Problem → Result Choice Cause → Result (List ℕ) Ending
 with_choice p (Ok choice) = Ok (document_text p choice.plan ++ 10 ∷ [])
 with_choice p (Err cause) = Err (ending_without p cause)
 
-unfoldable pub planned : Problem → Result (List ℕ) Ending
-planned p = with_choice p (chosen p)
+unfoldable pub planned : Planner → Problem → Result (List ℕ) Ending
+planned planner p = with_choice p (chosen_by planner p)
 
 -- a document as a rollout, unless its plan breaks a clause
 abbrev pub unless_broken : DocumentRead → Option Broken → Result Rollout Ending
@@ -59,15 +84,25 @@ judged d = checked d >>= λ o. Ok (valid_line o.plan)
 unfoldable pub loaded : DocumentRead → Result (List ℕ) Ending
 loaded d = checked d >>= λ o. Ok (loads_text o.problem o.plan)
 
+-- the document of the rollout back, where the plan of this one is valid, and a line feed
+unfoldable pub turned_back : DocumentRead → Result (List ℕ) Ending
+turned_back d = checked d >>= λ o. Ok (document_text (back_problem o.problem) (back_plan o.plan) ++ 10 ∷ [])
+
+-- what the plan of a document has to be done, where that is valid
+unfoldable pub explained : DocumentRead → Result (List ℕ) Ending
+explained d = checked d >>= λ o. Ok (explain_text o.problem o.plan)
+
 -- the text of a script over the plan of its document, where that is valid, under a policy
 unfoldable pub rehearsed : (OpView → ℕ) → ScriptedRead → Result (List ℕ) Ending
 rehearsed policy s = checked s.document >>= λ o. Ok (script_text o.problem o.plan policy s.script)
 
 -- the answer to an input within the limit
 unfoldable pub answer_in : TextAsked → List ℕ → Result (List ℕ) Ending
-answer_in a_plan input = or_ending (problem_in input) >>= planned
+answer_in (a_plan planner) input = or_ending (problem_in input) >>= planned planner
 answer_in a_check input = or_ending (document_in input) >>= judged
 answer_in the_loads input = or_ending (document_in input) >>= loaded
+answer_in the_way_back input = or_ending (document_in input) >>= turned_back
+answer_in the_explanation input = or_ending (document_in input) >>= explained
 answer_in (a_rehearsal policy) input = or_ending (scripted_in input) >>= rehearsed policy
 
 -- the answer to an input

@@ -8,10 +8,11 @@ use Rattle.intent_journal.specs.declared.fault.JournalFault.{JournalFault}
 use Rattle.intent_journal.specs.declared.fault.JournalFault.TheVariants as journal
 use Rattle.swanroll_top.specs.FaultLines.{input_line, broken_line}
 use Rattle.swanroll_top.specs.JournalLines.{journal_line}
-use Rattle.scratch_plan.specs.declared.no_plan.NoPlan.{NoPlan as Cause}
+use Rattle.fewest_plan.specs.declared.cause.Cause.{Cause}
+use Rattle.fewest_plan.specs.declared.cause.Cause.TheVariants.{Unchosen}
 use Rattle.scratch_plan.specs.declared.no_plan.NoPlan.TheVariants as cause
 use Rattle.rollout_rules.specs.Wan.{Problem}
-use Rattle.swanroll_top.specs.NoPlanLines.{no_plan_line}
+use Rattle.swanroll_top.specs.NoPlanLines.{not_found_line}
 use Rattle.swanroll_top.specs.Unfinished.{unfinished_line, unfinished_status}
 use Rattle.swanroll_top.specs.declared.ending.Ending.{Ending}
 use Rattle.swanroll_top.specs.declared.ending.Ending.TheVariants.{Done, Usage, AboveLimit, Input, NotValid, NoPlan, ReadFault, WriteFault, DiskFault, GuestFault, Refused, NotFinished, OutOfMemory}
@@ -37,7 +38,7 @@ line_of Usage = codes "usage: swanroll COMMAND [--NAME VALUE]\n"
 line_of AboveLimit = codes "input: above 16777216 bytes\n"
 line_of (Input e) = input_line e
 line_of (NotValid p b) = broken_line p b
-line_of (NoPlan u) = no_plan_line u.problem u.cause
+line_of (NoPlan u) = not_found_line u.problem u.cause
 line_of ReadFault = codes "read fault\n"
 line_of WriteFault = codes "write fault\n"
 line_of DiskFault = codes "journal device fault\n"
@@ -80,5 +81,5 @@ ending_of_journal e = Refused e
 
 -- how a run ends for a problem without a plan
 abbrev pub ending_without : Problem → Cause → Ending
-ending_without p cause.Memory = OutOfMemory
+ending_without p (Unchosen cause.Memory) = OutOfMemory
 ending_without p why = NoPlan (record { problem = p; cause = why })

@@ -14,6 +14,7 @@ pub mod Runs
 pub mod Agents
 pub mod Tries
 pub mod Unfinished
+pub mod JournalRoom
 pub mod Rollouts
 pub mod Targets
 pub mod Ready

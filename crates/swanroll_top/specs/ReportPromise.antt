@@ -7,7 +7,7 @@ use Rattle.wan_edge.specs.Streams.{SourceTrace}
 use Rattle.swanroll_top.specs.Endings.{status_of}
 use Rattle.swanroll_top.specs.Leavings.{LeavesRead, LeavesReported}
 use Rattle.swanroll_top.specs.Program.{NotesLine, Streams}
-use Rattle.swanroll_top.specs.Reports.{FollowsReport, FollowsReported, RunsReport}
+use Rattle.swanroll_top.specs.Reports.{FollowsReport, FollowsReported, ReadsDocument, RunsReport}
 use Rattle.swanroll_top.specs.Views.{Objects, Outside, Views, over, source_at, streams, used, written_at}
 use Rattle.swanroll_top.specs.declared.ending.Ending.{Ending}
 
@@ -59,3 +59,5 @@ pub record ReportPromise {S K D F P G : Type 0} (views : Views S K D F P G) (mig
   pub leaves : LeavesList views migration (used (over opened before)) status (used after)
   -- an input that is refused leaves the disk as it was
   pub untouched : status ≡ 3 → after.disk ≡ before.disk
+  -- a disk fails only behind an input that was read to its end and isn't refused
+  pub failed : status ≡ 8 → ReadsDocument (views.source before.source) (views.source after.source)

@@ -1,5 +1,5 @@
 -- What the command `report` reads and writes.
-use Rattle.std.specs.Prelude.{◌≡◌, ⊤, ◌↔◌, ℕ, List, length, nat_lt, Option, Some, Result, Ok, Err, if◌then◌else◌}
+use Rattle.std.specs.Prelude.{◌≡◌, ⊤, ◌↔◌, ℕ, List, length, nat_lt, Option, Some, Result, Ok, Err, IfSome, if◌then◌else◌}
 use Rattle.rollout_rules.specs.Wan.{Rollout}
 use Rattle.rollout_rules.specs.declared.limits.TheConstants.{MOST_INPUT}
 use Rattle.problem_json.specs.GrammarDocuments.{document_in}
@@ -8,7 +8,7 @@ use Rattle.intent_journal.specs.declared.fault.JournalFault.{JournalFault}
 use Rattle.rollout_report.specs.Journals.{journal_report}
 use Rattle.swanroll_top.specs.Answers.{◌>>=◌, checked, or_ending}
 use Rattle.swanroll_top.specs.Endings.{ending_of_journal, status_of}
-use Rattle.swanroll_top.specs.Runs.{EndsWith, IsInput}
+use Rattle.swanroll_top.specs.Runs.{EndsWith, IsInput, IsReadToEnd}
 use Rattle.swanroll_top.specs.Taken.{IsValidDocument}
 use Rattle.swanroll_top.specs.declared.ending.Ending.{Ending}
 use Rattle.swanroll_top.specs.declared.ending.Ending.TheVariants.{AboveLimit, DiskFault, OutOfMemory, ReadFault, Refused}
@@ -49,10 +49,21 @@ abbrev pub EndsReport : ℕ → Result Rollout Ending → Option (List ℕ) → 
 EndsReport migration (Err e) told ending out out_now = (ending ≡ e) × (out_now ≡ out)
 EndsReport migration (Ok o) told ending out out_now = Reports migration o told ending out out_now
 
--- the same, where the disk may have failed or memory have run out: then nothing was written
+-- An input that is a document with a valid plan was read, and with it the source to its end.
+pub record ReadsDocument (source source_now : SourceTrace) : Type 0 where
+  pub input : List ℕ
+  pub whole : IfSome source.left (λ left. left ≡ input)
+  pub read : IsReadToEnd source source_now input
+  pub valid : IsValidDocument input
+
+-- the input is this rollout, whichever it is
+abbrev pub IsRollout : Result Rollout Ending → Type 0
+IsRollout rollout = (o : Rollout) × (rollout ≡ Ok o)
+
+-- The same, where the disk may have failed or memory have run out: then nothing was written. A disk fails only behind an input that isn't refused.
 abbrev pub FollowsReported : ℕ → Result Rollout Ending → Option (List ℕ) → Ending → Option (List ℕ) → Option (List ℕ) → Type 0
 FollowsReported migration rollout told OutOfMemory out out_now = out_now ≡ out
-FollowsReported migration rollout told DiskFault out out_now = out_now ≡ out
+FollowsReported migration rollout told DiskFault out out_now = IsRollout rollout × (out_now ≡ out)
 FollowsReported migration rollout told ending out out_now = EndsReport migration rollout told ending out out_now
 
 -- The input of a report, and how the run follows from it. It is refused exactly where it is no document with a valid plan.
@@ -63,9 +74,10 @@ pub record FollowsReport (migration : ℕ) (source source_now : SourceTrace) (to
   pub refused : (status_of ending ≡ 3) ↔ (IsValidDocument input → ⊥)
   pub silent : (status_of ending ≡ 0 → ⊥) → (status_of ending ≡ 7 → ⊥) → out_now ≡ out
 
--- what an ending of a report says: after a fault of the source or of the disk, and for want of memory, that nothing was written
+-- What an ending of a report says: after a fault of the source or of the disk, and for want of memory, that nothing was written; and of the disk, that it
+-- failed behind an input that isn't refused.
 abbrev pub RunsReport : ℕ → SourceTrace → SourceTrace → Option (List ℕ) → Ending → Option (List ℕ) → Option (List ℕ) → Type 0
 RunsReport migration source source_now told ReadFault out out_now = out_now ≡ out
-RunsReport migration source source_now told DiskFault out out_now = out_now ≡ out
+RunsReport migration source source_now told DiskFault out out_now = ReadsDocument source source_now × (out_now ≡ out)
 RunsReport migration source source_now told OutOfMemory out out_now = out_now ≡ out
 RunsReport migration source source_now told ending out out_now = FollowsReport migration source source_now told ending out out_now

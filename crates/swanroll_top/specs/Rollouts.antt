@@ -4,7 +4,7 @@ use Rattle.rollout_rules.specs.Wan.{Rollout}
 use Rattle.rollout_rules.specs.Network.{IsNetwork}
 use Rattle.rollout_rules.specs.declared.op.OpView.{OpView}
 use Rattle.disk_model.specs.Traces.{DiskTrace}
-use Rattle.disk_mirror.specs.Openings.{IsTold, Opens}
+use Rattle.disk_mirror.specs.Openings.{IsTold, Opens, OpensWithin}
 use Rattle.intent_journal.specs.declared.fault.JournalFault.TheVariants as fault
 use Rattle.shared_history.specs.declared.note.Cause.{Cause}
 use Rattle.shared_history.specs.declared.note.Cause.TheVariants as cause
@@ -18,6 +18,7 @@ use Rattle.rollout_service.specs.Outcomes.{HasRolled, IfRolled, OnUnopened}
 use Rattle.rollout_service.specs.declared.answer.RunAnswer.{RunAnswer}
 use Rattle.rollout_service.specs.declared.answer.RunAnswer.TheVariants as outcome
 use Rattle.swanroll_top.specs.Endings.{ending_of_journal, status_of}
+use Rattle.swanroll_top.specs.JournalRoom.{journal_room}
 use Rattle.swanroll_top.specs.Lines.{IsToldAs}
 use Rattle.swanroll_top.specs.Reports.{rollout_to}
 use Rattle.swanroll_top.specs.Runs.{Follows, IsInput}
@@ -90,12 +91,13 @@ pub record FailsToOpen {D P : Type 0} (trace : D → DiskTrace) (disk disk_now :
   pub fleet_is : now ≡ before
   pub silent : out_now ≡ out
 
--- The disk was opened, tells its bytes since, and the rollout was run from these.
+-- The disk was opened, tells its bytes since, no more than there is room for a journal of this rollout, and the rollout was run from these.
 pub record RollsOpened {D P : Type 0} (trace : D → DiskTrace) (tell : P → PortTrace)
     (r : Rollout) (limits : Limits) (policy : OpView → ℕ) (disk disk_now : D) (before now : FleetSeen P) (ending : Ending) (out out_now : Option (List ℕ)) : Type 0 where
   pub opened : D
   pub opens : Opens (trace disk) (trace opened)
   pub told : IsTold (trace opened).bytes
+  pub within : OpensWithin (journal_room r) (trace disk) (trace opened)
   pub rolls : RollsOut trace tell r limits policy opened disk_now before now ending out out_now
 
 -- either way

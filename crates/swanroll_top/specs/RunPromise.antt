@@ -4,6 +4,7 @@ use Rattle.rollout_rules.specs.declared.op.OpView.{OpView}
 use Rattle.rollout_run.specs.declared.running.Limits.{Limits}
 use Rattle.swanroll_top.specs.Endings.{status_of}
 use Rattle.swanroll_top.specs.Program.{NotesLine, Streams}
+use Rattle.swanroll_top.specs.Reports.{ReadsDocument}
 use Rattle.swanroll_top.specs.Rollouts.{FollowsRollout, Rolls, RollsAs, RunsRollout}
 use Rattle.swanroll_top.specs.Targets.{IsOfBegun, ReachesTarget, StaysSafe}
 use Rattle.swanroll_top.specs.Views.{Objects, Outside, Views, guests_of, input_of, seen, source_at, streams, used, written_at}
@@ -31,6 +32,8 @@ pub record RunPromise {S K D F P G : Type 0} (views : Views S K D F P G) (limits
   -- the plan is rolled out from what the journal had, or disk and ports are as they were
   pub rolls : RollsAs views.disk views.port
       (input_of views (used before) (used after)) limits policy before.disk after.disk (seen (views.fleet before.fleet)) (seen (views.fleet after.fleet)) status (written_at views (used before)) (written_at views (used after))
+  -- a disk fails only behind an input that was read to its end and isn't refused
+  pub failed : status ≡ 8 → ReadsDocument (views.source before.source) (views.source after.source)
   -- the network is safe behind every rollout that was begun
   pub safe : IsOfBegun status
       → StaysSafe views.disk views.port limits (input_of views (used before) (used after)) before.disk (views.fleet before.fleet).ports (views.fleet after.fleet).ports

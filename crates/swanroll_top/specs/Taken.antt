@@ -5,7 +5,7 @@ use Rattle.rollout_rules.specs.declared.limits.TheConstants.{MOST_INPUT}
 use Rattle.problem_json.specs.Grammar.{problem_in}
 use Rattle.problem_json.specs.GrammarDocuments.{DocumentRead, ScriptedRead, document_in, scripted_in}
 use Rattle.swanroll_top.specs.Safety.{IsValid}
-use Rattle.swanroll_top.specs.Words.{TextAsked, a_plan, a_check, the_loads, a_rehearsal}
+use Rattle.swanroll_top.specs.Words.{TextAsked, a_plan, a_check, the_loads, the_way_back, a_rehearsal, the_explanation}
 
 pub record IsProblem (input : List ℕ) : Type 0 where
   pub within : length input ≤ MOST_INPUT
@@ -25,7 +25,9 @@ pub record IsValidScript (input : List ℕ) : Type 0 where
   pub valid : IsValid scripted.document.problem scripted.document.plan
 
 abbrev pub IsTaken : TextAsked → List ℕ → Type 0
-IsTaken a_plan input = IsProblem input
+IsTaken (a_plan planner) input = IsProblem input
 IsTaken a_check input = IsValidDocument input
 IsTaken the_loads input = IsValidDocument input
+IsTaken the_way_back input = IsValidDocument input
+IsTaken the_explanation input = IsValidDocument input
 IsTaken (a_rehearsal policy) input = IsValidScript input

@@ -4,17 +4,19 @@ use Rattle.rand_pcg.specs.Lcg.{Lcg}
 use Rattle.rollout_rules.specs.Wan.{Problem}
 use Rattle.rollout_rules.specs.declared.limits.TheConstants.{MOST_FLOWS, MOST_SWITCHES}
 use Rattle.rollout_rules.specs.declared.op.OpView.{OpView}
-use Rattle.plan_choose.specs.Choice.{Choice, chosen}
-use Rattle.scratch_plan.specs.declared.no_plan.NoPlan.{NoPlan}
+use Rattle.plan_choose.specs.Choice.{Choice}
+use Rattle.fewest_plan.specs.declared.cause.Cause.{Cause}
 use Rattle.wan_edge.specs.Streams.{SourceTrace}
 use Rattle.case_gen.specs.Cases.{after_case, case}
 use Rattle.case_gen.specs.Draws.{seeded}
 use Rattle.sim_run.specs.TrialText.{trial_text}
 use Rattle.sim_run.specs.declared.shape.Shape.{Shape}
+use Rattle.swanroll_top.specs.Answers.{chosen_by}
 use Rattle.swanroll_top.specs.Endings.{ending_without}
 use Rattle.swanroll_top.specs.Runs.{EndsWith, Follows}
 use Rattle.swanroll_top.specs.Words.{Asked, a_trial}
 use Rattle.swanroll_top.specs.declared.ending.Ending.{Ending}
+use Rattle.swanroll_top.specs.declared.words.Planner.TheVariants.{Slack}
 
 -- the numbers of which a case can be made
 pub record IsShape (s : Shape) : Type 0 where
@@ -37,12 +39,12 @@ abbrev pub events_of : Shape → Lcg
 events_of s = after_case s.flows (seeded s.seed)
 
 -- the text of the trial with the plan chosen for its case
-abbrev pub with_plan : (OpView → ℕ) → Shape → Result Choice NoPlan → Result (List ℕ) Ending
+abbrev pub with_plan : (OpView → ℕ) → Shape → Result Choice Cause → Result (List ℕ) Ending
 with_plan policy s (Ok choice) = Ok (trial_text (case_of s) choice.plan choice.rate_steps policy s (events_of s))
 with_plan policy s (Err cause) = Err (ending_without (case_of s) cause)
 
 unfoldable pub tried : (OpView → ℕ) → Shape → Result (List ℕ) Ending
-tried policy s = with_plan policy s (chosen (case_of s))
+tried policy s = with_plan policy s (chosen_by Slack (case_of s))
 
 -- nothing was read, and the run ends as that says; where memory ran out nothing was written
 pub record RunsTrial (policy : OpView → ℕ) (s : Shape) (source source_now : SourceTrace) (ending : Ending) (out out_now : Option (List ℕ)) : Type 0 where

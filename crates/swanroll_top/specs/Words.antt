@@ -12,7 +12,9 @@ use Rattle.order_policy.specs.Named.{policy_named}
 use Rattle.rollout_run.specs.declared.running.Limits.{Limits}
 use Rattle.sim_run.specs.declared.shape.Shape.{Shape}
 use Rattle.swanroll_top.specs.declared.words.Kind.{Kind}
-use Rattle.swanroll_top.specs.declared.words.Kind.TheVariants.{Plan, Check, Loads, Sim, Report, Agent, Trial, Run}
+use Rattle.swanroll_top.specs.declared.words.Kind.TheVariants.{Plan, Check, Loads, Back, Sim, Report, Agent, Trial, Run, Explain}
+use Rattle.swanroll_top.specs.declared.words.Planner.{Planner}
+use Rattle.swanroll_top.specs.declared.words.Planner.TheVariants.{Slack, Fewest}
 use Rattle.swanroll_top.specs.declared.words.Command.{Command}
 use Rattle.swanroll_top.specs.declared.words.Command.TheVariants as command
 use Rattle.swanroll_top.specs.declared.words.TextCommand.{TextCommand}
@@ -20,9 +22,11 @@ use Rattle.swanroll_top.specs.declared.words.TextCommand.TheVariants as text_com
 
 -- what a command line asks for that wants a text of the input alone
 pub data TextAsked : Type 0 where
-  a_plan : TextAsked
+  a_plan : (planner : Planner) → TextAsked
   a_check : TextAsked
   the_loads : TextAsked
+  the_way_back : TextAsked
+  the_explanation : TextAsked
   a_rehearsal : (policy : OpView → ℕ) → TextAsked
 
 -- what a command line asks for: a command, and what its pairs say
@@ -36,9 +40,11 @@ pub data Asked : Type 0 where
 -- a command in code asks for this: a policy is what it answers
 module _ {X : Type 0} {F : X → Type 0} {M : Mut ((x : X) × F x) (OpView × Unit {0}) u64-field.Value} where
   abbrev pub text_asked : TextCommand X F M → TextAsked
-  text_asked text_command.Plan = a_plan
+  text_asked (text_command.Plan planner) = a_plan planner
   text_asked text_command.Check = a_check
   text_asked text_command.Loads = the_loads
+  text_asked text_command.Back = the_way_back
+  text_asked text_command.Explain = the_explanation
   text_asked (text_command.Sim policy) = a_rehearsal (rank_by policy.now.answers)
 
   abbrev pub asked : Command X F M → Asked
@@ -55,6 +61,8 @@ kind_named word =
     if bytes_eq word (codes "plan") then Some Plan
     else if bytes_eq word (codes "check") then Some Check
     else if bytes_eq word (codes "loads") then Some Loads
+    else if bytes_eq word (codes "back") then Some Back
+    else if bytes_eq word (codes "explain") then Some Explain
     else if bytes_eq word (codes "sim") then Some Sim
     else if bytes_eq word (codes "report") then Some Report
     else if bytes_eq word (codes "agent") then Some Agent
@@ -66,9 +74,11 @@ abbrev pub trial_numbers : List (List ℕ)
 trial_numbers = codes "--k" ∷ codes "--switches" ∷ codes "--flows" ∷ codes "--seed" ∷ codes "--events" ∷ []
 
 abbrev pub names_of : Kind → List (List ℕ)
-names_of Plan = []
+names_of Plan = codes "--planner" ∷ []
 names_of Check = []
 names_of Loads = []
+names_of Back = []
+names_of Explain = []
 names_of Sim = codes "--policy" ∷ []
 names_of Report = codes "--migration" ∷ []
 names_of Agent = codes "--guests" ∷ []
@@ -120,6 +130,13 @@ number_in word = number_of 32 word
 
 -- ---- what is asked for, with these policies: a name, and what the policy under it answers
 
+-- the planner under a name, and the one that the pairs name
+abbrev pub planner_named : List ℕ → Option Planner
+planner_named word = if bytes_eq word (codes "slack") then Some Slack else if bytes_eq word (codes "fewest") then Some Fewest else None
+
+abbrev pub planner_in : List (List ℕ) → Option Planner
+planner_in pairs = option_and_then planner_named (value_or (codes "--planner") (codes "slack") pairs)
+
 -- what the policy answers that the pairs name, where it is there
 abbrev pub policy_in : List (List ℕ × (OpView → ℕ)) → List (List ℕ) → Option (OpView → ℕ)
 policy_in policies pairs = option_and_then (λ name. policy_named name policies) (value_or (codes "--policy") (codes "critical") pairs)
@@ -167,9 +184,11 @@ abbrev pub limits_in : List (List ℕ) → Option Limits
 limits_in pairs = option_and_then (λ workers. option_and_then (λ rounds. option_map (λ migration. record { workers = workers; rounds = rounds; migration = migration }) (migration_in pairs)) (rounds_in pairs)) (workers_in pairs)
 
 abbrev pub with_pairs : List (List ℕ × (OpView → ℕ)) → List (List ℕ) → Kind → Option Asked
-with_pairs policies pairs Plan = Some (a_text a_plan)
+with_pairs policies pairs Plan = option_map (λ planner. a_text (a_plan planner)) (planner_in pairs)
 with_pairs policies pairs Check = Some (a_text a_check)
 with_pairs policies pairs Loads = Some (a_text the_loads)
+with_pairs policies pairs Back = Some (a_text the_way_back)
+with_pairs policies pairs Explain = Some (a_text the_explanation)
 with_pairs policies pairs Sim = option_map (λ policy. a_text (a_rehearsal policy)) (policy_in policies pairs)
 with_pairs policies pairs Report = option_map a_report (migration_in pairs)
 with_pairs policies pairs Agent = option_map an_agent (guests_in pairs)

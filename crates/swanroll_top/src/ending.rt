@@ -5,10 +5,10 @@ use crate::journal_line::journal_line;
 use crate::line::{Line, out_of_memory};
 use crate::no_plan_line::no_plan_line;
 use crate::unfinished::{Unfinished, unfinished_line};
+use fewest_plan::{Cause, NotFound};
 use intent_journal::JournalFault;
 use lists::Memory;
 use plan_check::Broken;
-use plan_choose::Unplanned;
 use problem_json::InputFault;
 use scratch_plan::NoPlan;
 use std::alloc::Global;
@@ -27,8 +27,8 @@ pub enum Ending {
     Input(InputFault),
     /// The plan of a document isn't valid: its problem, and the first clause that the plan breaks.
     NotValid(Problem, Broken),
-    /// No plan is chosen for the problem.
-    NoPlan(Unplanned),
+    /// No plan is found for the problem.
+    NoPlan(NotFound),
     ReadFault,
     WriteFault,
     /// The disk of the journal failed.
@@ -78,7 +78,7 @@ impl Ending {
             Ending::AboveLimit => Ok(Line::Known("input: above 16777216 bytes\n")),
             Ending::Input(fault) => input_line(alloc, fault),
             Ending::NotValid(problem, broken) => broken_line(alloc, problem, broken),
-            Ending::NoPlan(unplanned) => no_plan_line(alloc, unplanned),
+            Ending::NoPlan(missed) => no_plan_line(alloc, missed),
             Ending::ReadFault => Ok(Line::Known("read fault\n")),
             Ending::WriteFault => Ok(Line::Known("write fault\n")),
             Ending::DiskFault => Ok(Line::Known("journal device fault\n")),
@@ -119,17 +119,16 @@ impl From<InputFault> for Ending {
     }
 }
 
-impl From<Unplanned> for Ending {
+impl From<NotFound> for Ending {
     ghost use Rattle.std.specs.Prelude.{◌≡◌};
     ghost use Rattle.swanroll_top.specs.Endings.{ending_without};
 
-    ghost from_gives = { λ unplanned ending. ending
-        ≡ ending_without unplanned.problem unplanned.cause };
+    ghost from_gives = { λ missed ending. ending ≡ ending_without missed.problem missed.cause };
 
-    fn from(unplanned: Unplanned) -> Ending {
-        match unplanned.cause {
-            NoPlan::Memory => Ending::OutOfMemory,
-            _ => Ending::NoPlan(unplanned),
+    fn from(missed: NotFound) -> Ending {
+        match missed.cause {
+            Cause::Unchosen(NoPlan::Memory) => Ending::OutOfMemory,
+            _ => Ending::NoPlan(missed),
         }
     }
 }

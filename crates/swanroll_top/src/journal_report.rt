@@ -12,6 +12,7 @@ ghost use Rattle.swanroll_top.specs.ReportPromise.{ReportsIn, ReportsOn};
 ghost use Rattle.swanroll_top.specs.Reports.{EndsJournal, FollowsReported, rollout_in};
 
 use crate::ending::Ending;
+use crate::journal_room::journal_room;
 use crate::reading::read_input;
 use crate::run::Closed;
 use crate::texts::rollout_of;
@@ -87,7 +88,7 @@ fn report_plan<K: Sink, D: Openable>(
     ensures disk_fault { result.ending ≡ Ending.DiskFault
         → Rose (D.told disk).faults (D.told result.disk).faults }
 {
-    match disk.open() {
+    match disk.open(journal_room(&plan)) {
         Ok(()) => report_opened(alloc, plan, migration, sink, disk),
         Err(_) => {
             drop(plan);

@@ -1,8 +1,10 @@
 //! What the contract of the call says together with the rules, as functions that only say it.
 
-ghost use Rattle.std.specs.Prelude.{◌≡◌, ◌≢◌, ℕ, ◌≤◌, List, length, Option, Some, None, Ok, IsTrue, IsSome, IsOk};
-ghost use Rattle.rollout_rules.specs.Wan.{Problem, Rollout};
+ghost use Rattle.rollout_rules.specs.Network.{IsNetwork};
+ghost use Rattle.rollout_rules.specs.Wan.{Problem, Rollout, Plan};
+ghost use Rattle.std.specs.Prelude.{◌≡◌, ◌≢◌, ℕ, ◌+◌, ◌*◌, ◌≤◌, List, length, Option, Some, None, Ok, IsTrue, IsSome, IsOk, Err};
 ghost use Rattle.rollout_rules.specs.History.{History};
+ghost use Rattle.rollout_rules.specs.Items.{item_count};
 ghost use Rattle.rollout_rules.specs.Valid.{is_valid_plan};
 ghost use Rattle.rollout_rules.specs.Slack.{has_slack};
 ghost use Rattle.rollout_rules.specs.declared.limits.TheConstants.{MOST_INPUT};
@@ -10,6 +12,8 @@ ghost use Rattle.plan_check.specs.LeastSlack.{least_slack};
 ghost use Rattle.scratch_plan.specs.Frame.{has_equal_rates};
 ghost use Rattle.scratch_plan.specs.Refusals.{refusal};
 ghost use Rattle.plan_choose.specs.Choice.{direct_plan, step_plan, most_tried};
+ghost use Rattle.dependency_graph.specs.Graph.{op_total};
+ghost use Rattle.fewest_plan.specs.declared.cause.Cause.TheVariants.{Stuck};
 ghost use Rattle.problem_json.specs.Grammar.{problem_in};
 ghost use Rattle.rollout_rules.specs.declared.op.OpView.{OpView};
 ghost use Rattle.agent_service.specs.Services.{Guests};
@@ -17,6 +21,7 @@ ghost use Rattle.wan_edge.specs.Streams.{SourceTrace};
 ghost use Rattle.rollout_run.specs.declared.running.Limits.{Limits};
 ghost use Rattle.swanroll_top.specs.Agents.{ServesAs};
 ghost use Rattle.swanroll_top.specs.Answers.{answer_to};
+ghost use Rattle.swanroll_top.specs.JournalRoom.{journal_room};
 ghost use Rattle.rollout_report.specs.Journals.{journal_report};
 ghost use Rattle.swanroll_top.specs.Reports.{rollout_to};
 ghost use Rattle.swanroll_top.specs.Program.{Streams};
@@ -28,7 +33,10 @@ ghost use Rattle.swanroll_top.specs.Ready.{CountsNoFault, GoesOnFrom, IsReadyFor
 ghost use Rattle.swanroll_top.specs.Rollouts.{FleetSeen, RollsAs};
 ghost use Rattle.swanroll_top.specs.Taken.{IsValidDocument, IsValidScript};
 ghost use Rattle.swanroll_top.specs.Targets.{RestsHeld};
-ghost use Rattle.swanroll_top.specs.Words.{TextAsked, a_plan, a_check, the_loads, a_rehearsal};
+ghost use Rattle.swanroll_top.specs.Words.{TextAsked, a_plan, a_check, the_loads, the_way_back, a_rehearsal, the_explanation};
+ghost use Rattle.swanroll_top.specs.declared.ending.Ending.TheVariants.{NoPlan};
+ghost use Rattle.swanroll_top.specs.declared.words.Planner.{Planner};
+ghost use Rattle.swanroll_top.specs.declared.words.Planner.TheVariants.{Slack};
 ghost use Rattle.sim_run.specs.declared.shape.Shape.{Shape};
 ghost use Rattle.swanroll_top.specs.Tries.{IsShape, tried};
 
@@ -36,44 +44,69 @@ use disk_model::Disk;
 use wan_edge::Fleet;
 
 /// Where the input is a problem whose loads and entries fit, each of these is enough for `plan` to have an
-/// answer: equal rates, a direct plan that is valid, a number of steps with a plan, slack 1/k for some k
-/// from 2 to 64.
+/// answer, whoever plans: equal rates, a direct plan that is valid, a number of steps with a plan, slack 1/k
+/// for some k from 2 to 64.
 pub fn what_fits_is_planned()
-    ensures still { (input : List ℕ) (p : Problem)
+    ensures still { (planner : Planner) (input : List ℕ) (p : Problem)
         → length input ≤ MOST_INPUT
         → problem_in input ≡ Ok p
         → refusal p ≡ None
         → IsTrue (has_equal_rates p)
-        → IsOk (answer_to a_plan input) }
-    ensures direct { (input : List ℕ) (p : Problem)
+        → IsOk (answer_to (a_plan planner) input) }
+    ensures direct { (planner : Planner) (input : List ℕ) (p : Problem)
         → length input ≤ MOST_INPUT
         → problem_in input ≡ Ok p
         → refusal p ≡ None
         → IsTrue (is_valid_plan p (direct_plan p))
-        → IsOk (answer_to a_plan input) }
-    ensures steps { (input : List ℕ) (p : Problem) (q : ℕ)
+        → IsOk (answer_to (a_plan planner) input) }
+    ensures steps { (planner : Planner) (input : List ℕ) (p : Problem) (q : ℕ)
         → length input ≤ MOST_INPUT
         → problem_in input ≡ Ok p
         → refusal p ≡ None
         → 2 ≤ q
         → q ≤ most_tried (least_slack p)
         → IsSome (step_plan p q)
-        → IsOk (answer_to a_plan input) }
-    ensures slack { (input : List ℕ) (p : Problem) (k : ℕ)
+        → IsOk (answer_to (a_plan planner) input) }
+    ensures slack { (planner : Planner) (input : List ℕ) (p : Problem) (k : ℕ)
         → length input ≤ MOST_INPUT
         → problem_in input ≡ Ok p
         → refusal p ≡ None
         → 2 ≤ k
         → k ≤ 64
         → IsTrue (has_slack p k)
-        → IsOk (answer_to a_plan input) }
+        → IsOk (answer_to (a_plan planner) input) }
 {}
 
-/// Every document with a valid plan has an answer of `check` and one of `loads`, and every script on one of
-/// `sim`, whatever the policy.
+/// Where `plan` has an answer by `slack`, it has one by every planner; that its plan never has more rate
+/// steps is a part of the promise.
+pub fn each_planner_plans_what_slack_does()
+    ensures { (planner : Planner) (input : List ℕ)
+        → IsOk (answer_to (a_plan Slack) input)
+        → IsOk (answer_to (a_plan planner) input) }
+{}
+
+/// Where the answer of `plan` is that none exists, the problem has no valid plan, of any number of steps.
+pub fn where_none_exists_there_is_no_valid_plan()
+    ensures { (planner : Planner) (input : List ℕ) (p : Problem) (link : ℕ)
+        → length input ≤ MOST_INPUT
+        → problem_in input ≡ Ok p
+        → IsNetwork p
+        → answer_to (a_plan planner) input
+        ≡ Err (NoPlan (record { problem = p; cause = Stuck link }))
+        → (plan : Plan)
+        → IsTrue (is_valid_plan p plan)
+        → ⊥ }
+{}
+
+/// Every document with a valid plan has an answer of `check`, `loads`, `explain` and `back`, and every
+/// script on one of `sim`, whatever the policy.
 pub fn what_is_valid_is_answered()
     ensures check { (input : List ℕ) → IsValidDocument input → IsOk (answer_to a_check input) }
     ensures loads { (input : List ℕ) → IsValidDocument input → IsOk (answer_to the_loads input) }
+    ensures back { (input : List ℕ) → IsValidDocument input → IsOk (answer_to the_way_back input) }
+    ensures explain { (input : List ℕ)
+        → IsValidDocument input
+        → IsOk (answer_to the_explanation input) }
     ensures sim { (policy : OpView → ℕ) (input : List ℕ)
         → IsValidScript input
         → IsOk (answer_to (a_rehearsal policy) input) }
@@ -168,6 +201,13 @@ pub fn a_run_over_ready_ports_ends_well<D: Disk, F: Fleet>()
         → status ≢ 7
         → status ≢ 12
         → status ≡ 0 }
+{}
+
+/// The room that the journal of a rollout is given is enough for the slots and three parts, each with every
+/// operation begun and done in a batch of its own: so no journal of it is refused for its length.
+pub fn a_journal_has_room()
+    ensures { (r : Rollout)
+        → 35 + 3 * (45 + 4 * item_count r.problem + 28 * op_total r) ≤ journal_room r }
 {}
 
 /// Where a run says that the rest is held back, the network is safe as behind every rollout that was begun,

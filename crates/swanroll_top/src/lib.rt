@@ -15,6 +15,7 @@ mod ending;
 mod fault_lines;
 mod journal_line;
 mod journal_report;
+mod journal_room;
 pub mod laws;
 mod line;
 mod no_plan_line;

@@ -1,23 +1,69 @@
 ghost use Rattle.std.specs.Prelude.{◌≡◌, ◌++◌, IfOk, OnOk};
 ghost use Rattle.swanroll_top.specs.Lines.{bytes_of};
-ghost use Rattle.swanroll_top.specs.NoPlanLines.{side_text, load_on, link_load, above, leaves_no_slack, wants, no_plan_line};
+ghost use Rattle.swanroll_top.specs.NoPlanLines.{side_text, load_on, link_load, above, leaves_no_slack, wants, no_plan_line, none_found_line, stuck_line, not_found_line};
 
 use crate::line::Line;
+use fewest_plan::{Cause, NotFound};
 use lists::{Memory, Text};
-use plan_choose::Unplanned;
 use scratch_plan::NoPlan;
 use std::alloc::Global;
 use wan_model::{Problem, Side};
 use wan_text::{push_link, push_switch};
 
-/// The line of a problem for which no plan is chosen.
-pub fn no_plan_line(alloc: Global, unplanned: &Unplanned) -> Result<Line, Memory>
+/// The line of a problem for which no plan is found.
+pub fn no_plan_line(alloc: Global, missed: &NotFound) -> Result<Line, Memory>
     ensures { IfOk result
-        (λ line. bytes_of line ≡ no_plan_line unplanned.now.problem unplanned.now.cause) }
+        (λ line. bytes_of line ≡ not_found_line missed.now.problem missed.now.cause) }
 {
     let mut line = Text::new(alloc);
-    push_cause(alloc, &mut line, &unplanned.problem, unplanned.cause)?;
+    push_not_found(alloc, &mut line, &missed.problem, missed.cause)?;
     Ok(Line::Made(line))
+}
+
+fn push_not_found(
+    alloc: Global,
+    line: &mut Text,
+    problem: &Problem,
+    cause: Cause,
+) -> Result<(), Memory>
+    ensures { OnOk result (line.new ≡ line.old ++ not_found_line problem.now cause) }
+{
+    match cause {
+        Cause::Unchosen(cause) => push_cause(alloc, line, problem, cause),
+        Cause::Unfound(cause) => push_none_found(alloc, line, problem, cause),
+        Cause::Stuck(link) => push_stuck(alloc, line, problem, link),
+    }
+}
+
+fn push_none_found(
+    alloc: Global,
+    line: &mut Text,
+    problem: &Problem,
+    cause: NoPlan,
+) -> Result<(), Memory>
+    ensures { OnOk result (line.new ≡ line.old ++ none_found_line problem.now cause) }
+{
+    match cause {
+        NoPlan::NoSlack {
+            link,
+            side,
+            load,
+            capacity,
+        } => {
+            let start = "no plan: none found, link ";
+            push_link_load(alloc, line, start, problem, link, side, load)?;
+            push_leaves_no_slack(alloc, line, capacity)
+        }
+        _ => push_cause(alloc, line, problem, cause),
+    }
+}
+
+fn push_stuck(alloc: Global, line: &mut Text, problem: &Problem, link: u32) -> Result<(), Memory>
+    ensures { OnOk result (line.new ≡ line.old ++ stuck_line problem.now link) }
+{
+    line.push_str("no plan: none exists, link ")?;
+    push_link(alloc, line, problem, link as usize)?;
+    line.push_str(" stays full\n")
 }
 
 fn push_cause(
@@ -35,7 +81,8 @@ fn push_cause(
             load,
             capacity,
         } => {
-            push_link_load(alloc, line, problem, link, side, load)?;
+            let start = "no plan: link ";
+            push_link_load(alloc, line, start, problem, link, side, load)?;
             push_above(alloc, line, capacity)
         }
         NoPlan::TableFull {
@@ -54,7 +101,8 @@ fn push_cause(
             load,
             capacity,
         } => {
-            push_link_load(alloc, line, problem, link, side, load)?;
+            let start = "no plan: link ";
+            push_link_load(alloc, line, start, problem, link, side, load)?;
             push_leaves_no_slack(alloc, line, capacity)
         }
         NoPlan::Memory => line.push_str("out of memory\n"),
@@ -64,14 +112,15 @@ fn push_cause(
 fn push_link_load(
     alloc: Global,
     line: &mut Text,
+    start: &str,
     problem: &Problem,
     link: u32,
     side: Side,
     load: u64,
 ) -> Result<(), Memory>
-    ensures { OnOk result (line.new ≡ line.old ++ link_load problem.now link side load) }
+    ensures { OnOk result (line.new ≡ line.old ++ link_load start.now problem.now link side load) }
 {
-    line.push_str("no plan: link ")?;
+    line.push_str(start)?;
     push_link(alloc, line, problem, link as usize)?;
     push_load(alloc, line, side, load)
 }

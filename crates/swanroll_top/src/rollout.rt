@@ -8,6 +8,7 @@ ghost use Rattle.swanroll_top.specs.Rollouts.{EndsRollout, FollowsRolled, IsDisk
 ghost use Rattle.swanroll_top.specs.Runs.{Follows, Gives, IsInput};
 
 use crate::ending::Ending;
+use crate::journal_room::journal_room;
 use crate::reading::read_input;
 use crate::run::Closed;
 use crate::texts::rollout_of;
@@ -124,7 +125,7 @@ where
     ensures disk_fault { result.ending ≡ Ending.DiskFault
         → Rose (D.told disk).faults (D.told result.disk).faults }
 {
-    match disk.open() {
+    match disk.open(journal_room(&plan)) {
         Ok(()) => roll_out_opened(rt, alloc, limits, policy, plan, sink, disk, fleet),
         Err(_) => {
             drop(plan);

@@ -1,7 +1,9 @@
 //! The commands that make a text of their input: none of them needs a device.
 
+mod back;
 mod check;
 mod checking;
+mod explain;
 mod loads;
 mod plan;
 mod sim;
@@ -16,6 +18,7 @@ use crate::ending::Ending;
 use crate::words::TextCommand;
 pub use checking::rollout_of;
 use lists::Text;
+pub use plan::by_slack;
 use std::alloc::Global;
 use wan_edge::Nums8;
 
@@ -26,9 +29,11 @@ pub fn text_of(alloc: Global, command: TextCommand<'_>, input: Nums8) -> Result<
     ensures safe { IfOk result (λ text. DoesSafely (text_asked command.entry) input) }
 {
     match command {
-        TextCommand::Plan => plan::plan(alloc, input),
+        TextCommand::Plan(planner) => plan::plan(alloc, planner, input),
         TextCommand::Check => check::check(alloc, input),
         TextCommand::Loads => loads::loads(alloc, input),
+        TextCommand::Back => back::back(alloc, input),
+        TextCommand::Explain => explain::explain(alloc, input),
         TextCommand::Sim(policy) => sim::sim(alloc, policy, input),
     }
 }

@@ -24,11 +24,11 @@ pub struct Ended<D> {
 
 /// Does all that the program does, and answers its exit status and the disk of the journal. The policies
 /// are those that the words may name. A command leaves each of source, disk and fleet that it doesn't name
-/// as it was: `plan`, `check`, `loads` and `sim` name the source, `report` the source and the disk, `run` all
-/// three, `agent` the fleet, whose ports it leaves and whose guests it gives back, and `trial` none. `report`
-/// keeps the journal's list on the disk. `report` and `run` open the disk once their input is judged, and what
-/// they promise of it is said of the disk as it was opened. Each command's own promise has a file of its own
-/// in `specs`: what `run` does with disk and ports is in `RunPromise`.
+/// as it was: `plan`, `check`, `loads`, `explain`, `back` and `sim` name the source, `report` the source and the
+/// disk, `run` all three, `agent` the fleet, whose ports it leaves and whose guests it gives back, and `trial`
+/// none. `report` keeps the journal's list on the disk. `report` and `run` open the disk once their input is
+/// judged, and what they promise of it is said of the disk as it was opened. Each command's own promise has a
+/// file of its own in `specs`: what `run` does with disk and ports is in `RunPromise`.
 ///
 /// | Status | Comes |
 /// |---|---|

@@ -8,11 +8,11 @@ ghost use Rattle.swanroll_top.specs.declared.unfinished.Unfinished.{Unfinished};
 ghost use Rattle.swanroll_top.specs.Tries.{IsShape, tried};
 
 use crate::ending::Ending;
+use crate::texts::by_slack;
 use crate::writing::write_text;
 use case_gen::{Draws, make_case};
 use lists::Text;
 use order_policy::Policy;
-use plan_choose::choose;
 use sim_run::{Shape, run_trial};
 use std::alloc::Global;
 use wan_edge::Sink;
@@ -42,7 +42,7 @@ fn text_of(alloc: Global, shape: &Shape, policy: &Policy) -> Result<Text, Ending
 {
     let mut draws = Draws::new(shape.seed);
     let problem = make_case(alloc, shape.k, shape.switches, shape.flows, &mut draws)?;
-    let chosen = choose(alloc, problem)?;
+    let chosen = by_slack(alloc, problem)?;
     Ok(run_trial(
         alloc,
         chosen.plan,

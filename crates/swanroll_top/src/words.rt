@@ -2,7 +2,7 @@ ghost use Rattle.std.specs.Prelude.{◌≡◌, ◌≤◌, map, string_bytes, byt
 ghost use Rattle.std.specs.List.{list_any};
 ghost use Rattle.order_policy.specs.Answers.{rank_by};
 ghost use Rattle.order_policy.specs.Named.{answers_in, policy_named};
-ghost use Rattle.swanroll_top.specs.Words.{asked, asked_by, kind_named, names_of, begins_with_dash, are_pairs, value_or, policy_in, migration_in, guests_in, in_millions, number_in, number_of, in_range, numbered, limits_in, shape_in, are_digits, trial_numbers, with_kind};
+ghost use Rattle.swanroll_top.specs.Words.{asked, asked_by, kind_named, names_of, begins_with_dash, are_pairs, value_or, planner_in, planner_named, policy_in, migration_in, guests_in, in_millions, number_in, number_of, in_range, numbered, limits_in, shape_in, are_digits, trial_numbers, with_kind};
 ghost use Rattle.swanroll_top.specs.Tries.{IsAskedShape, IsShape};
 
 use order_policy::{Policies, Policy};
@@ -46,11 +46,23 @@ pub enum Command<'a> {
 /// A command that makes a text of its input alone.
 #[derive(Clone, Copy)]
 pub enum TextCommand<'a> {
-    Plan,
+    /// A plan by a planner.
+    Plan(Planner),
     Check,
     Loads,
+    Back,
+    Explain,
     /// A rehearsal under a policy.
     Sim(&'a Policy),
+}
+
+/// Who chooses a plan.
+#[derive(Clone, Copy, Debug, PartialEq, Eq)]
+pub enum Planner {
+    /// By few steps of a linear program, else from scratch by the least slack.
+    Slack,
+    /// The same, or the greedy rule's plan in its place where that has fewer rate steps.
+    Fewest,
 }
 
 /// A command by its word.
@@ -59,6 +71,8 @@ pub enum Kind {
     Plan,
     Check,
     Loads,
+    Back,
+    Explain,
     Sim,
     Report,
     Agent,
@@ -87,6 +101,8 @@ fn kind_named(word: &str) -> Option<Kind>
         "plan" => Some(Kind::Plan),
         "check" => Some(Kind::Check),
         "loads" => Some(Kind::Loads),
+        "back" => Some(Kind::Back),
+        "explain" => Some(Kind::Explain),
         "sim" => Some(Kind::Sim),
         "report" => Some(Kind::Report),
         "agent" => Some(Kind::Agent),
@@ -109,9 +125,11 @@ fn command_with<'a>(
         return None;
     }
     match kind {
-        Kind::Plan => Some(Command::Text(TextCommand::Plan)),
+        Kind::Plan => Some(Command::Text(TextCommand::Plan(planner_of(pairs)?))),
         Kind::Check => Some(Command::Text(TextCommand::Check)),
         Kind::Loads => Some(Command::Text(TextCommand::Loads)),
+        Kind::Back => Some(Command::Text(TextCommand::Back)),
+        Kind::Explain => Some(Command::Text(TextCommand::Explain)),
         Kind::Sim => Some(Command::Text(TextCommand::Sim(policy_of(pairs, policies)?))),
         Kind::Report => Some(Command::Report(migration_of(pairs)?)),
         Kind::Agent => Some(Command::Agent(guests_of(pairs)?)),
@@ -125,7 +143,8 @@ fn takes(kind: Kind, name: &str) -> bool
     ensures { result ≡ list_any (bytes_eq name.now) (names_of kind) }
 {
     match kind {
-        Kind::Plan | Kind::Check | Kind::Loads => false,
+        Kind::Plan => name == "--planner",
+        Kind::Check | Kind::Loads | Kind::Explain | Kind::Back => false,
         Kind::Sim => name == "--policy",
         Kind::Report => name == "--migration",
         Kind::Agent => name == "--guests",
@@ -162,6 +181,23 @@ fn begins_with_dash(word: &str) -> bool
     ensures { result ≡ begins_with_dash word.now }
 {
     matches!(word.as_bytes(), [b'-', ..])
+}
+
+/// The planner that the pairs name; `slack` where they name none.
+fn planner_of(pairs: &[String]) -> Option<Planner>
+    ensures { result ≡ planner_in (map string_bytes pairs.now) }
+{
+    planner_named(value_or(pairs, "--planner", "slack")?)
+}
+
+fn planner_named(word: &str) -> Option<Planner>
+    ensures { result ≡ planner_named word.now }
+{
+    match word {
+        "slack" => Some(Planner::Slack),
+        "fewest" => Some(Planner::Fewest),
+        _ => None,
+    }
 }
 
 /// The policy that the pairs name, if it is there.

@@ -5,14 +5,21 @@ ghost use Rattle.rollout_rules.specs.Worked.{fresh};
 ghost use Rattle.switch_laws.specs.Worked.{two_flows};
 ghost use Rattle.completion_laws.specs.Worked.{begun_one};
 ghost use Rattle.swanroll_top.specs.Ready.{CountsNoFault, IsReadyFor};
-ghost use Rattle.swanroll_top.specs.Words.{a_plan, a_check, the_loads, a_rehearsal, a_report, a_text, a_trial, an_agent, asked_in};
+ghost use Rattle.swanroll_top.specs.Words.{a_plan, a_check, the_loads, the_way_back, a_rehearsal, a_report, a_text, a_trial, an_agent, asked_in, the_explanation};
+ghost use Rattle.swanroll_top.specs.declared.words.Planner.TheVariants.{Slack, Fewest};
 ghost use Rattle.swanroll_top.specs.Worked.{answered_once, by_item, chain_first, failed_once, fleet_with, in_rounds, itself, never_used, none_begins, two_policies, unanswered, waiting_at_first};
 
 /// A command alone, and a rehearsal under the policy that is named.
 pub fn command_lines()
-    ensures plan { asked_in two_policies (codes "plan" ∷ []) ≡ Some (a_text a_plan) }
+    ensures plan { asked_in two_policies (codes "plan" ∷ []) ≡ Some (a_text (a_plan Slack)) }
+    ensures slack { asked_in two_policies (codes "plan" ∷ codes "--planner" ∷ codes "slack" ∷ [])
+        ≡ Some (a_text (a_plan Slack)) }
+    ensures fewest { asked_in two_policies (codes "plan" ∷ codes "--planner" ∷ codes "fewest" ∷ [])
+        ≡ Some (a_text (a_plan Fewest)) }
     ensures check { asked_in two_policies (codes "check" ∷ []) ≡ Some (a_text a_check) }
     ensures loads { asked_in two_policies (codes "loads" ∷ []) ≡ Some (a_text the_loads) }
+    ensures back { asked_in two_policies (codes "back" ∷ []) ≡ Some (a_text the_way_back) }
+    ensures explain { asked_in two_policies (codes "explain" ∷ []) ≡ Some (a_text the_explanation) }
     ensures sim { asked_in two_policies (codes "sim" ∷ [])
         ≡ Some (a_text (a_rehearsal chain_first)) }
     ensures critical { asked_in two_policies
@@ -62,6 +69,8 @@ pub fn words_with_a_wrong_value()
         (codes "sim" ∷ codes "order" ∷ codes "--policy" ∷ [])
         ≡ None }
     ensures dash { asked_in two_policies (codes "sim" ∷ codes "--policy" ∷ codes "-" ∷ []) ≡ None }
+    ensures planner { asked_in two_policies (codes "plan" ∷ codes "--planner" ∷ codes "best" ∷ [])
+        ≡ None }
     ensures unknown { asked_in two_policies (codes "sim" ∷ codes "--policy" ∷ codes "none" ∷ [])
         ≡ None }
     ensures empty { asked_in two_policies (codes "sim" ∷ codes "--policy" ∷ [] ∷ []) ≡ None }

@@ -1,13 +1,18 @@
 -- What an agent holds, item by item, in the order in which it saw them.
-use Rattle.std.specs.Prelude.{ℕ, ◌==◌, Bool, List, Option, Some, None, is_some, unwrap_or, if◌then◌else◌}
+use Rattle.std.specs.Prelude.{ℕ, ◌+◌, ◌*◌, ◌==◌, Bool, List, Option, Some, None, is_some, unwrap_or, if◌then◌else◌}
 use Rattle.std.specs.Map.{lookup}
 use Rattle.rollout_rules.specs.Agent.{Holding, nothing_held}
+use Rattle.rollout_rules.specs.declared.limits.TheConstants.{MOST_FLOWS, MOST_HOPS, MOST_TUNNELS}
 use Rattle.wan_edge.specs.Frames.{CommandFrame}
 use Rattle.wan_edge.specs.Switches.{Holdings, pair_asked}
 
 -- each item that came, with the last command that was carried out
 abbrev pub Items : Type 0
 Items = List (ℕ × Option CommandFrame)
+
+-- how many items a document within the limits has at most: a flow each, and an entry at each switch of each tunnel's path
+abbrev pub most_items : ℕ
+most_items = MOST_FLOWS + MOST_TUNNELS * MOST_HOPS
 
 -- what is held by the last command
 abbrev pub held_by : Option CommandFrame → Holding

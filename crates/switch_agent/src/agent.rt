@@ -1,31 +1,40 @@
-ghost use Rattle.std.specs.Prelude.{◌≡◌, ◌||◌, ◌==◌, [], ℕ, false, option_map, IfOk, OnErr, OnOk};
+ghost use Rattle.std.specs.Prelude.{◌≡◌, ◌≤◌, ◌||◌, ◌==◌, [], ℕ, false, length, nat_eq, nat_lt, option_map, IfOk, OnErr, OnOk};
+ghost use Rattle.std.specs.List.{IsDistinct};
+ghost use Rattle.std.specs.Map.{keys_of};
 ghost use Rattle.rollout_rules.specs.Agent.{is_next_command};
-ghost use Rattle.switch_agent.specs.Items.{content_of, held_by, holding, last_command, seen};
+ghost use Rattle.switch_agent.specs.Items.{content_of, held_by, holding, last_command, most_items, seen};
 ghost use Rattle.wan_edge.specs.Switches.{after_command, answer_to, pair_asked};
 
 use indexmap::IndexMap;
 use lists::Memory;
-use rollout_rules::Held;
-use std::alloc::Global;
+use rollout_rules::{Held, MOST_FLOWS, MOST_HOPS, MOST_TUNNELS};
+use std::alloc::{AllocError, Global};
 use std::marker::Model;
 use wire_frames::{Answer, Command};
+
+/// For how many items there is room: as many as the largest document within the limits has.
+const MOST_ITEMS: usize = MOST_FLOWS + MOST_TUNNELS * MOST_HOPS;
 
 /// What a switch holds of each item, by the agent rule: the next number of a migration only, in order
 /// and once, and any operation of a later migration.
 ///
 /// Of each item that came it keeps the command that it carried out last, in place: so a longer content
-/// takes no memory.
+/// takes no memory. It keeps no more items than a document within the limits has, so that whoever
+/// connects can't take any amount of memory.
 #[derive(Debug, Drop)]
 pub struct Agent {
     items: IndexMap<u32, Option<(u32, Command)>>,
 }
 
 impl Model for Agent {
-    ghost use Rattle.switch_agent.specs.Items.{Items};
+    ghost use Rattle.std.specs.Prelude.{◌≤◌, length};
+    ghost use Rattle.switch_agent.specs.Items.{Items, most_items};
 
     ghost Value = { Items };
 
     ghost view = { λ a. a.items.entries };
+
+    ghost invariant = { λ a. length a.items.entries ≤ most_items };
 }
 
 impl Agent {
@@ -39,7 +48,7 @@ impl Agent {
 
     /// Carries the command of this migration out, if it is the next of its item, and answers the
     /// migration and the number then held. Memory is taken for an item that wasn't seen before alone;
-    /// want of it changes nothing.
+    /// want of it changes nothing. There is none for more items than a document within the limits has.
     pub fn apply(&mut self, migration: u32, command: &Command) -> Result<(u32, Answer), Memory>
         ensures applied { OnOk result
             (holding self.new ≡ after_command (holding self.old) (migration, command.now)) }
@@ -50,6 +59,9 @@ impl Agent {
         ensures err { OnErr result (self.new ≡ self.old) }
         ensures memory { OnErr result (seen self.old command.now.item ≡ false) }
     {
+        if !self.has_room(command.item) {
+            return Err(AllocError);
+        }
         let mut last = self.last(command.item);
         if is_next(held_by(&last), pair(migration, command)) {
             last = Some((migration, *command));
@@ -78,6 +90,21 @@ impl Agent {
             Some(last) => content_by(last),
             None => None,
         }
+    }
+
+    /// It keeps no more items than a document within the limits has, each once.
+    pub fn keeps_few_items(&self)
+        ensures few { length self.now ≤ most_items }
+        ensures apart { IsDistinct nat_eq (keys_of self.now) }
+    {
+        let _ = self.items.len();
+    }
+
+    // Whether an item is kept already, or there is a place for one more.
+    fn has_room(&self, item: u32) -> bool
+        ensures { result ≡ (seen self.now item || nat_lt (length self.now) most_items) }
+    {
+        self.items.contains_key(&item) || self.items.len() < MOST_ITEMS
     }
 
     // The command of an item that was carried out last.

@@ -1,8 +1,10 @@
--- Where a test first passes: the same over mapped rows, and nowhere where there is no such place.
+-- Where a test first passes: at a place where it passes and at none before, the same over mapped rows, and nowhere where there
+-- is no such place.
 use Rattle.std.proofs.Common.{◌≡◌, ℕ, suc, nat_lt, ◌+◌, ◌<◌, Bool, true, false, cond, not, ◌&&◌, ◌==◌, List, [], ◌∷◌, ◌++◌, map, length, get_or, Some, None, nat_eq, bytes_eq, refl, sym, ap, ap₂, ◌∙◌, ⊎_elim, lt-ltb, position, arith}
-use Rattle.std.proofs.lemmas.Bool.{cases_lt, cond-true, cond-false, or_from}
+use Rattle.std.proofs.lemmas.Bool.{cases_lt, cond-true, cond-false, le-ltb, or_from}
 use Rattle.std.proofs.lemmas.List.{length-map, map_push}
-use Rattle.std.proofs.lemmas.List.Sums.{fails_before_first}
+use Rattle.std.proofs.lemmas.List.Sums.{fails_before_first, position_or_len_is}
+use Rattle.std.proofs.lemmas.Slice.Eq.{bytes_eq-Decides}
 use Rattle.std.proofs.lemmas.Option.{none-some}
 use Rattle.std.specs.List.{list_any, position_or_len}
 use Rattle.std.specs.Cmp.Lexicographic.{nat_list_eq_equiv}
@@ -40,6 +42,18 @@ module _ {X Y : Type 0} (test : Y → Bool) (f : X → Y) where
   pub position-map : (xs : List X) → position test (map f xs) ≡ position (λ x. test (f x)) xs
   position-map xs = ap₂ (λ n m. cond (nat_lt n m) (Some n) None) (position_or_len-map xs) (length-map xs f)
 
+-- where a test passes and at no place before, it first passes
+module _ {X : Type 0} (test : X → Bool) (xs : List X) (d : X) where
+  pub found_at : (w : ℕ) → w < length xs → test (get_or xs w d) ≡ true → ((k : ℕ) → k < w → test (get_or xs k d) ≡ false) → position test xs ≡ Some w
+  found_at w lt here before =
+      let is : position_or_len test xs ≡ w = position_or_len_is test xs w d (omega arith) before (λ _. here) in
+      rw is (cond-true _ _ _ (lt-ltb w (length xs) lt))
+
+  pub found_nowhere : ((k : ℕ) → k < length xs → test (get_or xs k d) ≡ false) → position test xs ≡ None
+  found_nowhere fails =
+      let is : position_or_len test xs ≡ length xs = position_or_len_is test xs (length xs) d (omega arith) fails (λ lt. absurd (omega arith)) in
+      rw is (cond-false _ _ _ (le-ltb (length xs) (length xs) (omega arith)))
+
 -- two texts are the same where their bytes are
 pub same_numbers-bytes_eq : (xs ys : List ℕ) → same_numbers xs ys ≡ bytes_eq ys xs
 same_numbers-bytes_eq [] [] = refl
@@ -49,6 +63,9 @@ same_numbers-bytes_eq (x ∷ xs) (y ∷ ys) = ap₂ (λ a b. a && b) (nat_eq_equ
 
 pub same_numbers-refl : (xs : List ℕ) → same_numbers xs xs ≡ true
 same_numbers-refl xs = same_numbers-bytes_eq xs xs ∙ nat_list_eq_equiv.refl xs
+
+pub same_name : (xs ys : List ℕ) → same_numbers xs ys ≡ true → xs ≡ ys
+same_name xs ys e = sym ((bytes_eq-Decides ys xs).0 (sym (same_numbers-bytes_eq xs ys) ∙ e))
 
 -- what a set of keys holds after an insert of one that it hasn't: that one behind the others
 pub insert_key-absent : {K : Type 0} (eq : K → K → Bool) (keys : List K) (k : K) → position (eq k) keys ≡ None → insert_key eq keys k ≡ keys ++ k ∷ []

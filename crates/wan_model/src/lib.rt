@@ -6,6 +6,7 @@
 #![tactic(auto)]
 
 mod checked;
+mod copying;
 mod ends;
 mod flow;
 mod items;
@@ -20,6 +21,7 @@ mod switch;
 mod tunnel;
 
 pub use checked::CheckedPlan;
+pub use copying::{rates_on, with_rates};
 pub use flow::Flow;
 pub use items::{home_of, home_of_item, item_at, item_count};
 pub use link::Link;

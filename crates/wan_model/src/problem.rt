@@ -69,7 +69,7 @@ impl Problem {
         Problem::of_format(alloc, 2)
     }
 
-    fn of_format(alloc: Global, format: u32) -> Problem
+    pub(crate) fn of_format(alloc: Global, format: u32) -> Problem
         requires { IsFormat format }
         ensures { result ≡ record no_problem { format = format } }
     {

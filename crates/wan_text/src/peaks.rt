@@ -1,13 +1,13 @@
-ghost use Rattle.std.specs.Prelude.{◌≡◌, ◌++◌, codes, decimal, OnOk};
-ghost use Rattle.wan_text.specs.Names.{link_text, switch_text};
-ghost use Rattle.wan_text.specs.Peaks.{link_peak_line, table_peak_line};
+ghost use Rattle.std.specs.Prelude.{◌≡◌};
+ghost use Rattle.wan_text.specs.Added.{Adds};
+ghost use Rattle.wan_text.specs.Peaks.{link_peak_line, peak_line, table_peak_line};
 
-use crate::switch::{push_link, push_switch};
+use crate::switch::{link_piece, switch_piece};
 use lists::{Memory, Text};
 use std::alloc::Global;
 use wan_model::Problem;
 
-/// Adds the peak line of a link, with its line feed.
+/// Adds the peak line of a link, with its line feed. Want of memory changes nothing.
 pub fn push_link_peak(
     alloc: Global,
     text: &mut Text,
@@ -16,14 +16,14 @@ pub fn push_link_peak(
     peak: u128,
     capacity: u128,
 ) -> Result<(), Memory>
-    ensures { OnOk result (text.new ≡ text.old ++ link_peak_line problem.now link peak capacity) }
+    ensures { Adds result text.old (link_peak_line problem.now link peak capacity) text.new }
 {
-    text.push_str("peak ")?;
-    push_link(alloc, text, problem, link)?;
-    push_fullness(alloc, text, peak, capacity)
+    let name = link_piece(alloc, problem, link)?;
+    push_peak(alloc, text, &name, peak, capacity)?;
+    Ok(())
 }
 
-/// Adds the peak line of a switch's table, with its line feed.
+/// Adds the peak line of a switch's table, with its line feed. Want of memory changes nothing.
 pub fn push_table_peak(
     alloc: Global,
     text: &mut Text,
@@ -32,19 +32,24 @@ pub fn push_table_peak(
     peak: u128,
     size: u128,
 ) -> Result<(), Memory>
-    ensures { OnOk result (text.new ≡ text.old ++ table_peak_line problem.now switch peak size) }
+    ensures { Adds result text.old (table_peak_line problem.now switch peak size) text.new }
 {
-    text.push_str("peak table ")?;
-    push_switch(alloc, text, problem, switch)?;
-    push_fullness(alloc, text, peak, size)
+    let switch = switch_piece(alloc, problem, switch)?;
+    let name = format!(in alloc; "table {switch}")?;
+    push_peak(alloc, text, &name, peak, size)?;
+    Ok(())
 }
 
-fn push_fullness(alloc: Global, text: &mut Text, peak: u128, capacity: u128) -> Result<(), Memory>
-    ensures { OnOk result
-        (text.new
-        ≡ text.old
-        ++ (codes " " ++ decimal peak ++ codes " of " ++ decimal capacity ++ codes "\n")) }
+fn push_peak(
+    alloc: Global,
+    text: &mut Text,
+    name: &str,
+    peak: u128,
+    capacity: u128,
+) -> Result<(), Memory>
+    ensures { Adds result text.old (peak_line name.now peak capacity) text.new }
 {
-    let line = format!(in alloc; " {peak} of {capacity}\n")?;
-    text.push_str(&line)
+    let line = format!(in alloc; "peak {name} {peak} of {capacity}\n")?;
+    text.push_str(&line)?;
+    Ok(())
 }

@@ -1,38 +1,42 @@
-ghost use Rattle.std.specs.Prelude.{◌≡◌, ◌++◌, codes, decimal, OnOk};
+ghost use Rattle.std.specs.Prelude.{◌≡◌, IfOk, string_bytes};
+ghost use Rattle.wan_text.specs.Added.{Adds};
 ghost use Rattle.wan_text.specs.Names.{spot_text};
 
-use crate::switch::{push_link, push_switch};
+use crate::switch::{link_piece, switch_piece};
 use lists::{Memory, Text};
 use std::alloc::Global;
 use wan_model::{Problem, Spot};
 
-/// Adds the spot of a broken clause.
+/// Adds the spot of a broken clause. Want of memory changes nothing.
 pub fn push_spot(
     alloc: Global,
     text: &mut Text,
     problem: &Problem,
     spot: Spot,
 ) -> Result<(), Memory>
-    ensures { OnOk result (text.new ≡ text.old ++ spot_text problem.now spot) }
+    ensures { Adds result text.old (spot_text problem.now spot) text.new }
 {
-    match spot {
-        Spot::Whole => text.push_str("whole"),
-        Spot::Tunnel(tunnel) => push_number(alloc, text, "tunnel ", tunnel),
-        Spot::Link(link) => {
-            text.push_str("link ")?;
-            push_link(alloc, text, problem, link as usize)
-        }
-        Spot::Table(switch) => {
-            text.push_str("table ")?;
-            push_switch(alloc, text, problem, switch as usize)
-        }
-        Spot::Flow(flow) => push_number(alloc, text, "flow ", flow),
-    }
+    let piece = spot_piece(alloc, problem, spot)?;
+    text.push_str(&piece)?;
+    Ok(())
 }
 
-fn push_number(alloc: Global, text: &mut Text, kind: &str, number: u32) -> Result<(), Memory>
-    ensures { OnOk result (text.new ≡ text.old ++ (kind.now ++ decimal number)) }
+fn spot_piece(alloc: Global, problem: &Problem, spot: Spot) -> Result<String, Memory>
+    ensures { IfOk result (λ s. string_bytes s ≡ spot_text problem.now spot) }
 {
-    let part = format!(in alloc; "{kind}{number}")?;
-    text.push_str(&part)
+    match spot {
+        Spot::Whole => String::from_str(alloc, "whole"),
+        Spot::Tunnel(tunnel) => format!(in alloc; "tunnel {tunnel}"),
+        Spot::Link(link) => {
+            let name = link_piece(alloc, problem, link as usize)?;
+            let piece = format!(in alloc; "link {name}")?;
+            Ok(piece)
+        }
+        Spot::Table(switch) => {
+            let name = switch_piece(alloc, problem, switch as usize)?;
+            let piece = format!(in alloc; "table {name}")?;
+            Ok(piece)
+        }
+        Spot::Flow(flow) => format!(in alloc; "flow {flow}"),
+    }
 }

@@ -1,5 +1,6 @@
-ghost use Rattle.std.specs.Prelude.{◌≡◌, ◌++◌, IfOk, OnOk, string_bytes};
+ghost use Rattle.std.specs.Prelude.{◌≡◌, IfOk, string_bytes};
 ghost use Rattle.rollout_rules.specs.Wan.{link_at, switch_at};
+ghost use Rattle.wan_text.specs.Added.{Adds};
 ghost use Rattle.wan_text.specs.Names.{link_text, name_text, switch_text};
 
 use lists::{Memory, Text};
@@ -7,19 +8,29 @@ use serde_json::Value;
 use std::alloc::Global;
 use wan_model::Problem;
 
-/// Adds a link: the names of its ends with `>` between them.
+/// Adds a link: the names of its ends with `>` between them. Want of memory changes nothing.
 pub fn push_link(
     alloc: Global,
     text: &mut Text,
     problem: &Problem,
     link: usize,
 ) -> Result<(), Memory>
-    ensures { OnOk result (text.new ≡ text.old ++ link_text problem.now link) }
+    ensures { Adds result text.old (link_text problem.now link) text.new }
+{
+    let piece = link_piece(alloc, problem, link)?;
+    text.push_str(&piece)?;
+    Ok(())
+}
+
+/// What a link is printed as.
+pub(crate) fn link_piece(alloc: Global, problem: &Problem, link: usize) -> Result<String, Memory>
+    ensures { IfOk result (λ s. string_bytes s ≡ link_text problem.now link) }
 {
     let (from, to) = ends_of(problem, link);
-    push_switch(alloc, text, problem, from)?;
-    text.push_str(">")?;
-    push_switch(alloc, text, problem, to)
+    let from = quoted(alloc, name_of(problem, from))?;
+    let to = quoted(alloc, name_of(problem, to))?;
+    let piece = format!(in alloc; "{from}>{to}")?;
+    Ok(piece)
 }
 
 fn ends_of(problem: &Problem, link: usize) -> (usize, usize)
@@ -34,16 +45,28 @@ fn ends_of(problem: &Problem, link: usize) -> (usize, usize)
     (0, 0)
 }
 
-/// Adds a switch: its name.
+/// Adds a switch: its name. Want of memory changes nothing.
 pub fn push_switch(
     alloc: Global,
     text: &mut Text,
     problem: &Problem,
     switch: usize,
 ) -> Result<(), Memory>
-    ensures { OnOk result (text.new ≡ text.old ++ switch_text problem.now switch) }
+    ensures { Adds result text.old (switch_text problem.now switch) text.new }
 {
-    push_name(alloc, text, name_of(problem, switch))
+    push_name(alloc, text, name_of(problem, switch))?;
+    Ok(())
+}
+
+/// What a switch is printed as.
+pub(crate) fn switch_piece(
+    alloc: Global,
+    problem: &Problem,
+    switch: usize,
+) -> Result<String, Memory>
+    ensures { IfOk result (λ s. string_bytes s ≡ switch_text problem.now switch) }
+{
+    quoted(alloc, name_of(problem, switch))
 }
 
 fn name_of(problem: &Problem, switch: usize) -> &str
@@ -55,12 +78,13 @@ fn name_of(problem: &Problem, switch: usize) -> &str
     ""
 }
 
-/// Adds a name as its JSON text, with quotes.
+/// Adds a name as its JSON text, with quotes. Want of memory changes nothing.
 pub fn push_name(alloc: Global, text: &mut Text, name: &str) -> Result<(), Memory>
-    ensures { OnOk result (text.new ≡ text.old ++ name_text name.now) }
+    ensures { Adds result text.old (name_text name.now) text.new }
 {
     let quoted = quoted(alloc, name)?;
-    text.push_str(quoted.as_str())
+    text.push_str(quoted.as_str())?;
+    Ok(())
 }
 
 fn quoted(alloc: Global, name: &str) -> Result<String, Memory>

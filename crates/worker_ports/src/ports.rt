@@ -1,17 +1,18 @@
-ghost use Rattle.std.specs.Prelude.{◌≡◌, ◌==◌, ◌++◌, [], ◌∷◌, List, All, length, map, take, IfErr, IfSome, IsTrue, MatchOption, OnErr, OnOk, false};
+ghost use Rattle.std.specs.Prelude.{◌≡◌, ◌==◌, ◌++◌, [], ◌∷◌, All, length, map, take, IfErr, IfOk, IfSome, IsTrue, MatchOption, OnErr, OnOk, false};
 ghost use Rattle.std.specs.List.{list_any};
-ghost use Rattle.wan_edge.specs.Frames.{Answer};
 ghost use Rattle.port_session.specs.Sessions.{first_talk};
+ghost use Rattle.shared_book.specs.Homes.{homes_of};
 ghost use Rattle.worker_ports.specs.Rows.{IsLast, HearsEach, IsCauseOfHear, IsCauseOfOffer, ListensEach, OffersAllEach, OffersEach};
 
 use crate::lots::Lots;
 use crate::round::{hear_each, offer_each};
-use port_session::{AnswerList, Session};
+use disk_model::Disk;
+use port_session::{Heard, Session};
+use shared_book::{Listed, Marker};
 use shared_history::Cause;
 use std::alloc::Global;
 use std::marker::Model;
 use wan_edge::Port;
-use wire_frames::Command;
 
 /// A switch, and the port to it.
 #[derive(Drop)]
@@ -84,20 +85,23 @@ impl<T: Port> WorkerPorts<T> {
     }
 
     /// Begins a round: each port is offered the commands whose items' home is its switch, in order and in
-    /// one call. `homes` has the home of each item.
+    /// one call. The commands are such as a turn of a book has listed; `homes` and the migration are those
+    /// of its opening.
     ///
     /// # Errors
     ///
     /// `Port` with the switch whose port fails, `Memory`. Ports behind it are offered nothing.
-    pub fn offer(
+    pub fn offer<D: Disk, M: Marker>(
         &mut self,
-        commands: &[Command],
+        listed: &Listed<D, M>,
         homes: &[Option<u32>],
         migration: u32,
     ) -> Result<(), Cause>
-        ensures each { OffersEach T.told migration homes.now commands.now self.old self.new }
+        requires homes { homes.now ≡ homes_of M.opening.rollout.problem }
+        requires migration { migration ≡ M.migration }
+        ensures each { OffersEach T.told migration homes.now listed.now self.old self.new }
         ensures all { OnOk result
-            (OffersAllEach T.told migration homes.now commands.now self.old self.new) }
+            (OffersAllEach T.told migration homes.now listed.now self.old self.new) }
         ensures live { All (λ s. IsTrue s.stream.live) self.old
             → All (λ s. IsTrue s.stream.live) self.new }
         ensures cause { IfErr result (λ cause. IsCauseOfOffer T.told cause self.old self.new) }
@@ -105,36 +109,42 @@ impl<T: Port> WorkerPorts<T> {
         offer_each(
             self.sessions.as_mut_slice(),
             &mut self.lots,
-            commands,
+            listed.commands(),
             homes,
             migration,
         )
     }
 
     /// Ends a round: each port in turn is heard out, until as many answers were read as commands were
-    /// offered there, or nothing comes. Those of the migration are added in this order.
+    /// offered there, or nothing comes. Those of the migration are told in this order, and none where one
+    /// port fails or tells what it may not. `homes` and the migration are those of the opening.
     ///
     /// # Errors
     ///
     /// `Port` with the switch whose port fails, `NotMine` with that of a port that tells of an item whose
     /// home is another, `NoAnswer` with that of one that gives a byte with which no answer begins, `Memory`.
     /// Ports behind it aren't heard.
-    pub fn hear(
+    pub fn hear<M: Marker>(
         &mut self,
+        alloc: Global,
         homes: &[Option<u32>],
         migration: u32,
-        answers: &mut AnswerList,
-    ) -> Result<(), Cause>
+    ) -> Result<Heard<T>, Cause>
         requires live { All (λ s. IsTrue s.stream.live) self.old }
+        requires homes { homes.now ≡ homes_of M.opening.rollout.problem }
+        requires migration { migration ≡ M.migration }
         ensures each { ListensEach T.told self.old self.new }
-        ensures ok { OnOk result
-            ((told : List Answer)
-            × (answers.new ≡ answers.old ++ told)
-            × HearsEach T.told migration homes.now self.old self.new told) }
+        ensures ok { IfOk result
+            (λ heard. HearsEach T.told migration homes.now self.old self.new heard.answers) }
+        ensures migration { IfOk result (λ heard. heard.migration ≡ migration) }
         ensures live { OnOk result (All (λ s. IsTrue s.stream.live) self.new) }
         ensures cause { IfErr result
             (λ cause. IsCauseOfHear T.told migration homes.now cause self.old self.new) }
     {
-        hear_each(self.sessions.as_mut_slice(), homes, migration, answers)
+        let mut heard = Heard::new(alloc, migration);
+        match hear_each(self.sessions.as_mut_slice(), homes, migration, &mut heard) {
+            Ok(()) => Ok(heard),
+            Err(cause) => Err(cause),
+        }
     }
 }

@@ -5,7 +5,7 @@ ghost use Rattle.worker_ports.specs.Rows.{HearsEach, IsCauseOfHear, IsCauseOfOff
 
 use crate::lots::Lots;
 use crate::talk::{hear_at, offer_at};
-use port_session::{AnswerList, Session};
+use port_session::{Heard, Session};
 use shared_history::Cause;
 use wan_edge::Port;
 use wire_frames::Command;
@@ -39,20 +39,22 @@ pub(crate) fn hear_each<T: Port>(
     sessions: &mut [Session<T>],
     homes: &[Option<u32>],
     migration: u32,
-    answers: &mut AnswerList,
+    heard: &mut Heard<T>,
 ) -> Result<(), Cause>
     requires live { All (λ s. IsTrue s.stream.live) sessions.old }
+    requires migration { heard.old.migration ≡ migration }
     ensures each { ListensEach T.told sessions.old sessions.new }
     ensures ok { OnOk result
         ((told : List Answer)
-        × (answers.new ≡ answers.old ++ told)
+        × (heard.new.answers ≡ heard.old.answers ++ told)
         × HearsEach T.told migration homes.now sessions.old sessions.new told) }
     ensures live { OnOk result (All (λ s. IsTrue s.stream.live) sessions.new) }
+    ensures migration { heard.new.migration ≡ migration }
     ensures cause { IfErr result
         (λ cause. IsCauseOfHear T.told migration homes.now cause sessions.old sessions.new) }
 {
     for session in sessions.iter_mut() {
-        hear_at(session, homes, migration, answers)?;
+        hear_at(session, homes, migration, heard)?;
     }
     Ok(())
 }

@@ -8,7 +8,7 @@ ghost use Rattle.worker_ports.specs.Offering.{IsOfferCause, Offers, OffersAll};
 ghost use Rattle.worker_ports.specs.Views.{view};
 
 use crate::lots::home_at;
-use port_session::{AnswerList, Session, SessionFault};
+use port_session::{Heard, Session, SessionFault};
 use shared_history::Cause;
 use wan_edge::Port;
 use wire_frames::{Answer, Command};
@@ -37,24 +37,26 @@ pub(crate) fn hear_at<T: Port>(
     session: &mut Session<T>,
     homes: &[Option<u32>],
     migration: u32,
-    answers: &mut AnswerList,
+    heard: &mut Heard<T>,
 ) -> Result<(), Cause>
     requires live { IsTrue session.old.stream.live }
+    requires migration { heard.old.migration ≡ migration }
     ensures some { Listens (view T.told session.old) (view T.told session.new) }
     ensures ok { OnOk result
         ((told : List Answer)
-        × (answers.new ≡ answers.old ++ told)
+        × (heard.new.answers ≡ heard.old.answers ++ told)
         × HearsOut migration homes.now (view T.told session.old) told (view T.told session.new)) }
+    ensures migration { heard.new.migration ≡ migration }
     ensures cause { IfErr result
         (λ cause. IsHearCause migration homes.now cause (view T.told session.old)
         (view T.told session.new)) }
 {
-    let before = answers.as_slice().len();
-    if let Err(fault) = session.hear_all(migration, answers) {
+    let before = heard.answers().len();
+    if let Err(fault) = session.hear_all(migration, heard) {
         return Err(cause_at(session.switch(), fault));
     }
     let switch = session.switch();
-    match alien_item(homes, switch, &answers.as_slice()[before..]) {
+    match alien_item(homes, switch, &heard.answers()[before..]) {
         Some(item) => Err(Cause::NotMine { switch, item }),
         None => Ok(()),
     }

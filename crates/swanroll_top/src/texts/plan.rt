@@ -2,27 +2,31 @@ ghost use Rattle.std.specs.Prelude.{◌≡◌, [], ◌∷◌, ◌++◌, IfOk};
 ghost use Rattle.problem_json.specs.Writing.{document_text};
 ghost use Rattle.problem_json.specs.Grammar.{problem_in};
 ghost use Rattle.problem_json.specs.GrammarResults.{Reads};
-ghost use Rattle.swanroll_top.specs.Answers.{answer_in, planned};
+ghost use Rattle.swanroll_top.specs.Answers.{answer_in, planned, IsChosenBy};
 ghost use Rattle.swanroll_top.specs.Runs.{Gives};
 ghost use Rattle.swanroll_top.specs.Safety.{IsPlanned, IsSafePlan, IsValid, PlansSafely};
 ghost use Rattle.swanroll_top.specs.Words.{a_plan};
+ghost use Rattle.swanroll_top.specs.declared.words.Planner.TheVariants.{Slack};
+ghost use Rattle.fewest_plan.specs.declared.cause.Cause.TheVariants.{Unchosen};
 
 use crate::ending::Ending;
+use crate::words::Planner;
+use fewest_plan::{Cause, NotFound, fewest};
 use lists::{Memory, Text};
-use plan_choose::choose;
+use plan_choose::{Chosen, Unplanned, choose};
 use problem_json::{InputFault, read_problem, write_document};
 use std::alloc::Global;
 use wan_edge::Nums8;
 use wan_model::{CheckedPlan, Problem};
 
-/// The command `plan`: the document of the problem that the bytes are with the plan that is chosen for
-/// it, and a line feed.
-pub fn plan(alloc: Global, input: Nums8) -> Result<Text, Ending>
-    ensures gives { Gives result (answer_in a_plan input) }
-    ensures safe { IfOk result (λ text. PlansSafely input) }
+/// The command `plan`: the document of the problem that the bytes are with the plan that the planner
+/// chooses for it, and a line feed.
+pub fn plan(alloc: Global, planner: Planner, input: Nums8) -> Result<Text, Ending>
+    ensures gives { Gives result (answer_in (a_plan planner) input) }
+    ensures safe { IfOk result (λ text. PlansSafely planner input) }
 {
     let problem = given(alloc, input)?;
-    planned(alloc, problem)
+    planned(alloc, planner, problem)
 }
 
 /// The problem that the bytes are. They are given up as soon as they are read.
@@ -32,11 +36,11 @@ fn given(alloc: Global, input: Nums8) -> Result<Problem, InputFault>
     read_problem(alloc, input.as_slice())
 }
 
-fn planned(alloc: Global, problem: Problem) -> Result<Text, Ending>
-    ensures gives { Gives result (planned problem) }
-    ensures safe { IfOk result (λ text. IsPlanned problem) }
+fn planned(alloc: Global, planner: Planner, problem: Problem) -> Result<Text, Ending>
+    ensures gives { Gives result (planned planner problem) }
+    ensures safe { IfOk result (λ text. IsPlanned planner problem) }
 {
-    let chosen = choose(alloc, problem)?;
+    let chosen = chosen_by(alloc, planner, problem)?;
     every_rollout_is_safe(&chosen.plan);
     match document_of(alloc, &chosen.plan) {
         Ok(document) => {
@@ -50,8 +54,38 @@ fn planned(alloc: Global, problem: Problem) -> Result<Text, Ending>
     }
 }
 
+fn chosen_by(alloc: Global, planner: Planner, problem: Problem) -> Result<Chosen, NotFound>
+    ensures { IsChosenBy planner problem result }
+{
+    match planner {
+        Planner::Slack => by_slack(alloc, problem),
+        Planner::Fewest => fewest(alloc, problem),
+    }
+}
+
+/// The plan that is chosen for a problem without the greedy rule.
+pub fn by_slack(alloc: Global, problem: Problem) -> Result<Chosen, NotFound>
+    ensures { IsChosenBy Slack problem result }
+{
+    match choose(alloc, problem) {
+        Ok(chosen) => Ok(chosen),
+        Err(unplanned) => Err(unchosen(unplanned)),
+    }
+}
+
+fn unchosen(unplanned: Unplanned) -> NotFound
+    ensures problem { result.problem ≡ unplanned.problem }
+    ensures cause { result.cause ≡ Unchosen unplanned.cause }
+{
+    let Unplanned { problem, cause } = unplanned;
+    NotFound {
+        problem,
+        cause: Cause::Unchosen(cause),
+    }
+}
+
 /// What the plan's type keeps makes every world of its rollouts safe.
-fn every_rollout_is_safe(plan: &CheckedPlan)
+pub fn every_rollout_is_safe(plan: &CheckedPlan)
     ensures valid { IsValid plan.now.problem plan.now.plan }
     ensures safe { IsSafePlan plan.now.problem plan.now.plan }
 {
@@ -59,7 +93,8 @@ fn every_rollout_is_safe(plan: &CheckedPlan)
     let _ = plan.plan();
 }
 
-fn document_of(alloc: Global, plan: &CheckedPlan) -> Result<Text, Memory>
+/// The document of a plan with its problem, and a line feed.
+pub fn document_of(alloc: Global, plan: &CheckedPlan) -> Result<Text, Memory>
     ensures { IfOk result (λ text. text ≡ document_text plan.now.problem plan.now.plan ++ 10 ∷ []) }
 {
     let mut text = write_document(alloc, plan.problem(), plan.plan())?;

@@ -1,7 +1,7 @@
-use Rattle.std.proofs.lemmas.Result.{IfOk-weaker}
-use Rattle.fewest_plan.proofs.Chosen.{by_rule-is}
+use Rattle.std.proofs.Common.{sym, ap, ◌∙◌}
+use Rattle.fewest_plan.specs.Fewest.{by_rule}
+use Rattle.fewest_plan.proofs.Chosen.{by_rule-none}
 use Rattle.fewest_plan.proofs.rule.by_rule.Goals as goal
 
-pub returns : goal.returns
-returns c =
-    IfOk-weaker c.least_of.result _ _ (λ found e. by_rule-is c.args.problem.now c.in_ok-slack.slack c.most_steps.result found c.in_ok-slack.ensures c.most_steps.ensures.value e) c.least_of.ensures
+pub returns-then-most-eq0 : goal.returns-then-most-eq0
+returns-then-most-eq0 c = sym (ap (by_rule c.args.problem.now) c.if-most-eq0.true ∙ by_rule-none c.args.problem.now)

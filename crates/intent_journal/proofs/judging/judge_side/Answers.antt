@@ -1,8 +1,10 @@
-use Rattle.std.proofs.Common.{ap, ◌∙◌, List, true, ℕ, subst}
+use Rattle.std.proofs.Common.{rules, ap, ◌∙◌, List, true, ℕ, subst}
+use Rattle.intent_journal.specs.Judging.{LeavesGraphOf}
 use Rattle.intent_journal.specs.Parts.{is_whole}
 use Rattle.intent_journal.specs.Reading.{IsRead}
 use Rattle.intent_journal.proofs.Blanks.{side_whole}
 use Rattle.intent_journal.proofs.Judgements.{judged_side}
+use Rattle.intent_journal.proofs.LeftGraphs.{part_left}
 use Rattle.intent_journal.proofs.judging.judge_side.Goals as goal
 
 pub judge_part-requires-clause-whole : goal.judge_part-requires-clause-whole
@@ -17,3 +19,9 @@ returns-clause-ok c =
       found = c.found_at-found.ensures _ (subst (λ (p : List ℕ). IsRead c.at-slot.result p (record { entries = c.in_ok-kept.kept.list; whole = true }) c.in_ok-kept.kept.gate) c.part_of.ensures kept.read);
       graph = kept.graph;
     }
+
+pub returns-in_err-kept-clause-left : goal.returns-in_err-kept-clause-left
+returns-in_err-kept-clause-left c =
+    let fact : LeavesGraphOf c.args.image.now c.in_err-kept.field-0.0 c.args.graph.now c.judge_part.new.graph =
+    part_left c.args.image.now c.args.side c.at-slot.result c.part_of.result.now c.in_err-kept.field-0.0 c.args.graph.now c.judge_part.new.graph c.requires.side c.at-slot.ensures c.part_of.ensures c.in_err-kept.ensures.left in
+    search (rules, fact)

@@ -2,9 +2,11 @@ use Rattle.std.proofs.Common.{rules, ◌≡◌, ◌*◌, inr, length, List, ℕ,
 use Rattle.dependency_graph.specs.Graph.{Followed, op_total}
 use Rattle.wan_edge.specs.Streams.{Rose}
 use Rattle.intent_journal.specs.declared.fault.JournalFault.TheVariants as fault
+use Rattle.intent_journal.specs.Judging.{LeavesGraphOf}
 use Rattle.intent_journal.specs.Phases.{IsFound, Planned, kept_of}
 use Rattle.intent_journal.specs.Recovered.{IsCause, OnRefusal}
 use Rattle.intent_journal.specs.Verdicts.{judged_journal}
+use Rattle.intent_journal.proofs.LeftGraphs.{along_judged, leaves_memory}
 use Rattle.intent_journal.proofs.Recoveries.{brought, cause_of, end_small, given_err, holds_of, kept_is, keeps_now, never_disk, no_refusal, not_refused, other_small, refused, rewritten, room_now, still}
 use Rattle.intent_journal.proofs.Rows.{length-entry_rows}
 use Rattle.intent_journal.proofs.recovering.go_on.Goals as goal
@@ -111,3 +113,23 @@ returns-clause-ok g c =
           c.in_ok-prepared.ensures.room;
       keeps = keeps_now _ _ part _ _ _ (kept_is r digest v start list judged.stands ∙ ap Some (sym kept)) done;
     }
+
+pub returns-in_err-judged-clause-graph : goal.returns-in_err-judged-clause-graph
+returns-in_err-judged-clause-graph g c =
+    let fact : LeavesGraphOf c.args.image.now c.in_err-judged.field-0.0 c.args.graph.now c.judge.new.graph = c.in_err-judged.ensures.left in
+    search (rules, fact)
+
+pub returns-then-judged-gt-LATEST_START-clause-graph : goal.returns-then-judged-gt-LATEST_START-clause-graph
+returns-then-judged-gt-LATEST_START-clause-graph g c =
+    along_judged c.args.digest.now c.args.image.now c.in_ok-judged.judged.start.items c.in_ok-judged.judged.list c.args.graph.now c.judge.new.graph c.in_ok-judged.ensures.ok.stands c.in_ok-judged.ensures.ok.graph
+
+pub returns-in_err-prepared-clause-graph : goal.returns-in_err-prepared-clause-graph
+returns-in_err-prepared-clause-graph g c =
+    let along = along_judged c.args.digest.now c.args.image.now c.in_ok-judged.judged.start.items c.in_ok-judged.judged.list c.args.graph.now c.judge.new.graph c.in_ok-judged.ensures.ok.stands c.in_ok-judged.ensures.ok.graph in
+    given_err c.from_residual-in_err-prepared.result c.in_err-prepared.field-0.0 (λ fault. LeavesGraphOf c.args.image.now fault c.args.graph.now c.judge.new.graph) c.from_residual-in_err-prepared.ensures.1
+    (leaves_memory _ _ c.args.graph.now c.judge.new.graph c.in_err-prepared.field-0.0 c.in_err-prepared.ensures.err along)
+
+pub returns-in_err-rest-clause-graph : goal.returns-in_err-rest-clause-graph
+returns-in_err-rest-clause-graph g c =
+    let along = along_judged c.args.digest.now c.args.image.now c.in_ok-judged.judged.start.items c.in_ok-judged.judged.list c.args.graph.now c.judge.new.graph c.in_ok-judged.ensures.ok.stands c.in_ok-judged.ensures.ok.graph in
+    given_err c.from_residual-in_err-rest.result fault.Disk (λ given. LeavesGraphOf c.args.image.now given c.args.graph.now c.judge.new.graph) c.from_residual-in_err-rest.ensures.1 along

@@ -1,7 +1,9 @@
 use Rattle.std.proofs.Common.{rules, ◌≡◌, ℕ, List, IfSome, sym, subst}
+use Rattle.intent_journal.specs.Judging.{LeavesGraphOf}
 use Rattle.intent_journal.specs.Openings.{IsLeft}
+use Rattle.intent_journal.proofs.LeftGraphs.{leaves_read, leaves_unread}
 use Rattle.intent_journal.proofs.Openings.{left_read, left_unread, opened_read}
-use Rattle.intent_journal.proofs.Recoveries.{err_of_three, holds_read, ok_as, ok_both}
+use Rattle.intent_journal.proofs.Recoveries.{err_as, err_of_three, holds_read, ok_as, ok_both}
 use Rattle.intent_journal.proofs.recovering.open.Goals as goal
 
 pub returns-in_err-image-clause-left : goal.returns-in_err-image-clause-left
@@ -35,3 +37,15 @@ returns-clause-left g c =
     (λ cause rose is unwritten. left_read g.D.Disk.told c.args.digest.now c.args.graph.now.rollout c.as_slice.result.now cause
     c.args.disk.now c.read_image.new.disk c.open_read.new.disk read c.read_image.ensures.quiet c.read_image.ensures.count c.open_read.ensures.any_moment is rose unwritten
     c.open_read.ensures.told c.open_read.ensures.count)
+
+pub returns-in_err-image-clause-graph : goal.returns-in_err-image-clause-graph
+returns-in_err-image-clause-graph g c =
+    let fact : IfSome (g.D.Disk.told c.args.disk.now).bytes (λ image. LeavesGraphOf image c.in_err-image.field-0.0 c.args.graph.now c.args.graph.now) =
+    leaves_unread (g.D.Disk.told c.args.disk.now).bytes c.in_err-image.field-0.0 _ _ c.args.graph.now c.in_err-image.ensures.cause in
+    search (rules, fact)
+
+pub returns-clause-graph : goal.returns-clause-graph
+returns-clause-graph g c =
+    let read = subst (λ (image : List ℕ). IfSome (g.D.Disk.told c.args.disk.now).bytes (λ all. image ≡ all)) (sym c.as_slice.ensures.value) c.in_ok-image.ensures.read in
+    err_as _ _ c.open_read.result c.open_read.ensures.graph
+    (λ cause left. leaves_read (g.D.Disk.told c.args.disk.now).bytes c.as_slice.result.now cause c.args.graph.now c.open_read.new.graph read left)

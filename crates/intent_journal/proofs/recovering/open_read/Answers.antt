@@ -1,8 +1,9 @@
-use Rattle.std.proofs.Common.{◌∙◌, IfSome, refl, sym, subst}
+use Rattle.std.proofs.Common.{◌∙◌, IfSome, inl, refl, sym, subst}
 use Rattle.std.specs.Prelude.{IfErr, IfOk, vec_capacity}
 use Rattle.intent_journal.specs.Recovered.{IsCause, IsReady, MayStand, kept_for}
 use Rattle.intent_journal.specs.Verdicts.{Verdict, verdict}
 use Rattle.disk_model.specs.Moments.{LeavesOnly}
+use Rattle.intent_journal.proofs.LeftGraphs.{leaves_cause}
 use Rattle.intent_journal.proofs.Recoveries.{cause_rose, causes_either, err_as, no_refusal, not_refused, still, verdict_blank, verdict_journal}
 use Rattle.intent_journal.proofs.recovering.open_read.Goals as goal
 
@@ -59,3 +60,6 @@ returns-clause-refusal g c =
     let r = c.args.graph.now.rollout in
     let digest = c.args.digest.now in
     subst (λ (v : Verdict). IfErr c.go_on.result (λ fault. IsCause fault digest v)) (sym (verdict_journal r digest c.args.image.now (sym c.in_ok-blank.ensures ∙ c.if-blank.false))) c.go_on.ensures.refusal
+
+pub returns-then-blank-clause-graph : goal.returns-then-blank-clause-graph
+returns-then-blank-clause-graph g c = err_as _ _ c.make_anew.result c.make_anew.ensures.cause (λ fault cause. leaves_cause _ _ c.args.graph.now c.args.graph.now fault _ _ cause (inl refl))

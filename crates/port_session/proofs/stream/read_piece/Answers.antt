@@ -1,5 +1,5 @@
-use Rattle.std.proofs.Common.{◌≡◌, ◌-◌, length, drop, arith}
-use Rattle.port_session.specs.Reading.{Reckoning, ReadsAnswers}
+use Rattle.std.proofs.Common.{arith}
+use Rattle.port_session.specs.Reading.{Reckoning}
 use Rattle.port_session.proofs.Chaining.{behind_on, if_err, none_behind, reads_further, reads_none_yet, reads_until, reckoning, rest_on}
 use Rattle.port_session.proofs.stream.read_piece.Goals as goal
 

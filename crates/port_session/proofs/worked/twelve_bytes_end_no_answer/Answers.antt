@@ -1,4 +1,4 @@
-use Rattle.std.proofs.Common.{ℕ, List, Option, Some, length, ap, arith, length-append}
+use Rattle.std.proofs.Common.{ℕ, List, Option, length, ap, arith, length-append}
 use Rattle.std.specs.Prelude.{unwrap_or, []}
 use Rattle.std.specs.List.{flat_map}
 use Rattle.wan_edge.specs.Frames.{answer_bytes}

@@ -16,7 +16,7 @@ use Rattle.rollout_run.proofs.Sends.{kept_send, policy_sync}
 use Rattle.rollout_run.proofs.together.send.Goals as goal
 
 pub start-requires-clause-begins : goal.start-requires-clause-begins
-start-requires-clause-begins g c κs within = (c.requires.lock, c.requires.homes, c.requires.policy, c.requires.calls, c.requires.seat, λ k d inside. subst (λ (t : Talk g.row.T.Denot). IsTrue t.stream.live) (sym (c.requires.fresh k d inside)) refl)
+start-requires-clause-begins g c κs within = (c.requires.lock, c.requires.homes, c.requires.policy, c.requires.calls, c.requires.seat, λ k d inside. subst (λ (t : Talk g.row.T.Denot). IsTrue t.stream.live) (sym (c.requires.fresh k d inside)) refl, c.requires.home, c.requires.migration, c.requires.told)
 
 pub start-requires-send-J : goal.start-requires-send-J
 start-requires-send-J g c κs within =

@@ -5,7 +5,7 @@ use Rattle.shared_book.specs.Homes.{homes_of}
 use Rattle.rollout_run.specs.Runs.{Runs}
 use Rattle.rollout_run.specs.Teams.{team_ports}
 use Rattle.rollout_run.specs.declared.end.RunEnd.{RunEnd}
-use Rattle.rollout_run.proofs.Ends.{ends, has_begun}
+use Rattle.rollout_run.proofs.Ends.{ends, has_begun, was_told}
 use Rattle.rollout_run.proofs.Over.{same_switches}
 use Rattle.rollout_run.proofs.working.run_named.Goals as goal
 
@@ -38,6 +38,7 @@ returns-in-Ok-clause-ran g c =
       legal = closed.legal;
       closed = closed.book;
       images = closed.images;
+      heard = was_told g.T.Port.told c.args.limits.migration g.M.Marker.heard (seen_of pass) c.requires.only closed.heard;
       made = closed.made;
       worked = c.work-pass.ensures.worked;
       ends = end;

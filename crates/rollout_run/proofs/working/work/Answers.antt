@@ -1,11 +1,19 @@
-use Rattle.std.proofs.Common.{ℕ, List, Option, ◌∷◌, ◌∙◌, length, sym, ap₂, subst, arith}
+use Rattle.std.proofs.Common.{ℕ, List, Option, ◌∷◌, ◌∙◌, length, sym, ap, ap₂, subst, arith}
 use Rattle.turn_lock.specs.Passes.{given_of, seat_of_pass, seats_of, seen_of}
+use Rattle.rollout_book.specs.Aliens.{told_by}
+use Rattle.port_session.specs.Standing.{HeardAnswers}
+use Rattle.shared_book.specs.Calls.{IsRoundCall}
 use Rattle.shared_book.specs.Homes.{homes_of}
+use Rattle.shared_book.specs.Lasting.{CountsAsHeard}
 use Rattle.rollout_run.specs.Teams.{Gathers, team_ports}
 use Rattle.rollout_run.proofs.Alone.{halted_after, quiet_after, quiet_first, stopped_nothing, turned_first, unserved}
 use Rattle.rollout_run.proofs.Early.{early_stop}
 use Rattle.rollout_run.proofs.Gathering.{all_in}
 use Rattle.rollout_run.proofs.working.work.Goals as goal
+
+-- no answer was heard, so none of another migration
+pub round-pass-requires-clause-told : goal.round-pass-requires-clause-told
+round-pass-requires-clause-told g c = subst (λ (m : ℕ). CountsAsHeard g.T.Port.told m g.M.Marker.heard) (sym (ap (λ (h : HeardAnswers). h.migration) c.new-nothing.ensures)) c.requires.told
 
 pub returns-in-Some-clause-worked : goal.returns-in-Some-clause-worked
 returns-in-Some-clause-worked g c =
@@ -14,11 +22,12 @@ returns-in-Some-clause-worked g c =
     let passed = c.round-pass.ensures.pass in
     let turned = c.round-pass.result.0.pass in
     let stopped = c.stop.result.0.pass in
+    let call = subst (λ (h : HeardAnswers). IsRoundCall o (seats_of c.args.pass.pass) (seat_of_pass c.args.pass.pass) (seen_of c.args.pass.pass) (told_by h.answers) c.round-pass.result.1 (seen_of turned)) c.new-nothing.ensures c.round-pass.ensures.call in
     let own = ap₂ (λ (n : ℕ) (ns : List ℕ). n ∷ ns) first.seat first.joined in
     let own' = ap₂ (λ (n : ℕ) (ns : List ℕ). n ∷ ns) (passed.seat ∙ first.seat) (passed.joined ∙ first.joined) in
-    let quiet = quiet_first o 0 (seats_of c.args.pass.pass) (seat_of_pass c.args.pass.pass) (seen_of c.args.pass.pass) (seen_of turned) c.round-pass.result.1 own first.seat first.seen c.round-pass.ensures.call in
+    let quiet = quiet_first o 0 (seats_of c.args.pass.pass) (seat_of_pass c.args.pass.pass) (seen_of c.args.pass.pass) (seen_of turned) c.round-pass.result.1 own first.seat first.seen call in
     let after = quiet_after o 0 (seats_of turned) (seat_of_pass turned) (seen_of turned) (seen_of stopped) c.in-Some.cause c.stop.result.1 own' (passed.seat ∙ first.seat) quiet c.stop.ensures.call in
-    let early = early_stop o 0 (seats_of c.args.pass.pass) (seats_of turned) (seat_of_pass c.args.pass.pass) (seat_of_pass turned) (seen_of c.args.pass.pass) (seen_of turned) (seen_of stopped) c.round-pass.result.1 c.in-Some.cause c.stop.result.1 own first.seat own' (passed.seat ∙ first.seat) first.seen (sym c.cause_of.ensures ∙ c.in-Some.is) c.round-pass.ensures.call c.stop.ensures.call in
+    let early = early_stop o 0 (seats_of c.args.pass.pass) (seats_of turned) (seat_of_pass c.args.pass.pass) (seat_of_pass turned) (seen_of c.args.pass.pass) (seen_of turned) (seen_of stopped) c.round-pass.result.1 c.in-Some.cause c.stop.result.1 own first.seat own' (passed.seat ∙ first.seat) first.seen (sym c.cause_of.ensures ∙ c.in-Some.is) call c.stop.ensures.call in
     unserved g.T.Port.told o c.args.limits.migration (homes_of o.rollout.problem) c.args.limits.rounds
     (team_ports c.args.team.own.ports c.args.team.own.spare.items c.args.team.crews.items) (given_of stopped) (seen_of stopped) (c.stop.ensures.pass.given ∙ passed.given ∙ first.given) after early
     (halted_after o 0 (seats_of turned) (seat_of_pass turned) (seen_of turned) (seen_of stopped) c.in-Some.cause c.stop.result.1 c.stop.ensures.call)
@@ -29,6 +38,7 @@ work_in_scope-requires-clause-leader g c κs within =
     let first = c.requires.first in
     let passed = c.round-pass.ensures.pass in
     let turned = c.round-pass.result.0.pass in
+    let call = subst (λ (h : HeardAnswers). IsRoundCall o (seats_of c.args.pass.pass) (seat_of_pass c.args.pass.pass) (seen_of c.args.pass.pass) (told_by h.answers) c.round-pass.result.1 (seen_of turned)) c.new-nothing.ensures c.round-pass.ensures.call in
     let own = ap₂ (λ (n : ℕ) (ns : List ℕ). n ∷ ns) first.seat first.joined in
     record {
       of_lock = c.round-pass.ensures.lock;
@@ -38,10 +48,14 @@ work_in_scope-requires-clause-leader g c κs within =
       some_seat = omega (arith, passed.given, first.given);
       room = omega (arith, passed.given, first.given, c.requires.seats.0);
       few = c.requires.seats.1;
-      quiet = quiet_first o 0 (seats_of c.args.pass.pass) (seat_of_pass c.args.pass.pass) (seen_of c.args.pass.pass) (seen_of turned) c.round-pass.result.1 own first.seat first.seen c.round-pass.ensures.call;
-      stops_nothing = stopped_nothing o 0 (seats_of c.args.pass.pass) (seat_of_pass c.args.pass.pass) (seen_of c.args.pass.pass) (seen_of turned) c.round-pass.result.1 own first.seat first.seen (λ why is. c.in_default.not-Some why (c.cause_of.ensures ∙ is)) c.round-pass.ensures.call;
-      turned = turned_first o 0 (seats_of c.args.pass.pass) (seat_of_pass c.args.pass.pass) (seen_of c.args.pass.pass) (seen_of turned) c.round-pass.result.1 (λ why is. c.in_default.not-Some why (c.cause_of.ensures ∙ is)) c.round-pass.ensures.call;
+      quiet = quiet_first o 0 (seats_of c.args.pass.pass) (seat_of_pass c.args.pass.pass) (seen_of c.args.pass.pass) (seen_of turned) c.round-pass.result.1 own first.seat first.seen call;
+      stops_nothing = stopped_nothing o 0 (seats_of c.args.pass.pass) (seat_of_pass c.args.pass.pass) (seen_of c.args.pass.pass) (seen_of turned) c.round-pass.result.1 own first.seat first.seen (λ why is. c.in_default.not-Some why (c.cause_of.ensures ∙ is)) call;
+      turned = turned_first o 0 (seats_of c.args.pass.pass) (seat_of_pass c.args.pass.pass) (seen_of c.args.pass.pass) (seen_of turned) c.round-pass.result.1 (λ why is. c.in_default.not-Some why (c.cause_of.ensures ∙ is)) call;
     }
+
+-- the homes are the book's, and so the opening's
+pub work_in_scope-requires-clause-home : goal.work_in_scope-requires-clause-home
+work_in_scope-requires-clause-home g c κs within = c.homes.ensures ∙ c.requires.homes
 
 pub returns-clause-lock : goal.returns-clause-lock
 returns-clause-lock g c = c.work_in_scope.ensures.led.of_lock

@@ -14,10 +14,19 @@ scoped-requires g c = record {
         (
           c.requires.team,
           (
-            param_send 1 _ (arg_send _ no _ c.type_bounds.send-D),
-            param_send 2 _ (arg_send _ no _ c.type_bounds.send-M),
-            param_send 3 _ (arg_send _ no _ c.type_bounds.send-T),
-            param_sync 0 _ (arg_sync _ no _ c.type_bounds.sync-R),
+            c.requires.home,
+            (
+              c.requires.migration,
+              (
+                c.requires.told,
+                (
+                  param_send 1 _ (arg_send _ no _ c.type_bounds.send-D),
+                  param_send 2 _ (arg_send _ no _ c.type_bounds.send-M),
+                  param_send 3 _ (arg_send _ no _ c.type_bounds.send-T),
+                  param_sync 0 _ (arg_sync _ no _ c.type_bounds.sync-R),
+                ),
+              ),
+            ),
           ),
         ),
       ),

@@ -7,8 +7,8 @@ use Rattle.std.proofs.Common.{◌++◌}
 use Rattle.sim_run.proofs.Told.{told}
 use Rattle.sim_run.proofs.trial.text_of.Goals as goal
 
-pub returns : goal.returns
-returns g c =
+pub returns-clause-text : goal.returns-clause-text
+returns-clause-text g c =
     told c.args.rehearsal.now (rank_by c.args.policy.now.answers) c.args.rate_steps c.args.shape.now c.args.draws.now
     c.new-text.result c.push_shape.new.text c.push_plan.new.text c.push_events.new.text c.push_outcome.new.text c.do_events.new.rehearsal c.drain.new.rehearsal c.in_ok-skipped.skipped c.in_ok-turns.turns
     c.new-text.ensures c.in_ok-push_shape.ensures

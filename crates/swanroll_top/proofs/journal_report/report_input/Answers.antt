@@ -1,5 +1,6 @@
 use Rattle.std.proofs.Common.{refl, subst, sym}
 use Rattle.swanroll_top.specs.ReportPromise.{ReportsIn}
+use Rattle.swanroll_top.specs.declared.ending.Ending.TheVariants.{DiskFault}
 use Rattle.swanroll_top.proofs.Leaving.{unread-leaves}
 use Rattle.swanroll_top.proofs.Opening.{opens-nothing}
 use Rattle.swanroll_top.proofs.Reporting.{input-no-disk, input-no-write, input-refused}
@@ -13,7 +14,7 @@ pub returns-in-Err-clause-reports : goal.returns-in-Err-clause-reports
 returns-in-Err-clause-reports g c = record {
   opened = c.args.disk;
   opens = opens-nothing (g.D.Disk.told c.args.disk);
-  follows = input-refused _ _ _ _ _ c.in-Err.ensures;
+  follows = input-refused _ _ _ _ _ (λ is. input-no-disk _ DiskFault is refl) c.in-Err.ensures;
   leaves = unread-leaves g.D.Disk.told _ _ _ _ _ c.in-Err.ensures (g.met.D.Disk.only_now c.args.disk) refl;
   untouched = λ three. refl;
 }

@@ -20,7 +20,7 @@ pub returns-in-Err-clause-reports : goal.returns-in-Err-clause-reports
 returns-in-Err-clause-reports g c = record {
   opened = c.open.new.self;
   opens = c.open.ensures.opens;
-  follows = refl;
+  follows = ((c.args.plan, refl), refl);
   leaves = untouched-leaves g.D.Disk.told c.open.new.self c.open.new.self c.args.migration (Ok c.args.plan) 8 (g.met.D.Disk.only_now c.open.new.self) refl (λ h. omega (arith, h), (λ h. omega (arith, h), λ h. omega (arith, h)));
   untouched = λ three. absurd (omega (arith, three));
 }

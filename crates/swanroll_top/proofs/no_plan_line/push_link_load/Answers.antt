@@ -1,4 +1,4 @@
-use Rattle.std.proofs.Common.{◌≡◌, ℕ, List, ◌++◌, codes, append_assoc, ap, ◌∙◌}
+use Rattle.std.proofs.Common.{◌≡◌, ℕ, List, ◌++◌, append_assoc, ap, ◌∙◌}
 use Rattle.std.proofs.lemmas.Result.{on_ok_weaker}
 use Rattle.wan_text.specs.Names.{link_text}
 use Rattle.swanroll_top.specs.NoPlanLines.{load_on}
@@ -12,7 +12,7 @@ pub returns : goal.returns
 returns c =
     let link = link_text c.args.problem.now c.args.link in
     let load = load_on c.args.side c.args.load in
-    let name : c.push_link.new.text ≡ (c.args.line.now ++ codes "no plan: link ") ++ link = c.in_ok-push_link.ensures ∙ ap (λ l. l ++ link) c.in_ok-push_str.ensures.ok in
+    let name : c.push_link.new.text ≡ (c.args.line.now ++ c.args.start.now) ++ link = c.in_ok-push_link.ensures ∙ ap (λ l. l ++ link) c.in_ok-push_str.ensures.ok in
     on_ok_weaker c.push_load.result
-    (λ e. e ∙ ap (λ l. l ++ load) name ∙ behind c.args.line.now (codes "no plan: link ") link load)
+    (λ e. e ∙ ap (λ l. l ++ load) name ∙ behind c.args.line.now (c.args.start.now) link load)
     c.push_load.ensures

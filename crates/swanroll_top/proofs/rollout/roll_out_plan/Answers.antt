@@ -1,9 +1,16 @@
-use Rattle.std.proofs.Common.{refl, inl, inr}
+use Rattle.std.proofs.Common.{ℕ, refl, subst, inl, inr}
+use Rattle.disk_mirror.specs.Openings.{OpensWithin}
 use Rattle.swanroll_top.proofs.Outcomes.{rose-later}
 use Rattle.swanroll_top.proofs.rollout.roll_out_plan.Goals as goal
 
 pub returns-in-Ok-clause-rolls : goal.returns-in-Ok-clause-rolls
-returns-in-Ok-clause-rolls g c = inr (record { opened = c.open.new.self; opens = c.open.ensures.opens; told = c.in-Ok.ensures.tells; rolls = c.roll_out_opened.ensures.rolls })
+returns-in-Ok-clause-rolls g c = inr (record {
+  opened = c.open.new.self;
+  opens = c.open.ensures.opens;
+  told = c.in-Ok.ensures.tells;
+  within = subst (λ (room : ℕ). OpensWithin room (g.D.Disk.told c.args.disk) (g.D.Disk.told c.open.new.self)) c.journal_room.ensures c.in-Ok.ensures.within;
+  rolls = c.roll_out_opened.ensures.rolls;
+})
 
 pub returns-in-Ok-clause-disk_fault : goal.returns-in-Ok-clause-disk_fault
 returns-in-Ok-clause-disk_fault g c = λ e. rose-later _ _ _ c.open.ensures.opens.count (c.roll_out_opened.ensures.disk_fault e)

@@ -19,4 +19,4 @@ pub returns : goal.returns
 returns g c =
     let s = c.args.shape.now in
     tried-text (rank_by c.args.policy.now.answers) s _ _ _ _ _ (c.in_ok-problem.ensures.case ∙ ap (λ (d : Lcg). case s.k s.switches s.flows d) c.new-draws.ensures) (c.in_ok-problem.ensures.behind ∙ ap (λ (d : Lcg). after_case s.flows d) c.new-draws.ensures)
-    (record { same = c.in_ok-chosen.ensures.0; is_chosen = c.in_ok-chosen.ensures.1 }) c.in_ok-run_trial.ensures
+    (record { same = c.in_ok-chosen.ensures.0; is_chosen = c.in_ok-chosen.ensures.1 }) c.in_ok-run_trial.ensures.text

@@ -9,7 +9,7 @@ use Rattle.worker_ports.proofs.Told.{listens_to_nothing}
 use Rattle.worker_ports.proofs.round.hear_each.Goals as goal
 
 pub loop-session-init : goal.loop-session-init
-loop-session-init g c = ([], sym (append-nil c.args.answers.now), (refl, refl))
+loop-session-init g c = ([], sym (append-nil c.args.heard.now.answers), (refl, refl), c.requires.migration)
 
 pub hear_at-requires : goal.hear_at-requires
 hear_at-requires g c =
@@ -18,6 +18,7 @@ hear_at-requires g c =
       live = of_next (λ a b. Listens (view tell a) (view tell b)) (λ s. IsTrue s.stream.live) c.loop-session.session-index c.args.sessions.now c.loop-session.sessions c.session-item.result
           (heard_so tell c.args.migration c.args.homes.now (λ a b. Listens (view tell a) (view tell b)) (λ a b mine out. out.listens) c.loop-session.session-index c.args.sessions.now c.loop-session.sessions c.loop-session.invariant.0 c.loop-session.invariant.2)
           (omega (arith, c.loop-session-test.true, c.loop-session.auto.sessions)) c.requires.live;
+      migration = c.loop-session.invariant.3;
     }
 
 pub loop-session-preserved : goal.loop-session-preserved
@@ -26,9 +27,10 @@ loop-session-preserved g c =
     let heard = c.in_ok-hear_at.ensures.ok in
     let so = c.loop-session.invariant in (
       so.0 ++ heard.0,
-      heard.1 ∙ ap (λ told. told ++ heard.0) so.1 ∙ append_assoc c.args.answers.now so.0 heard.0,
+      heard.1 ∙ ap (λ told. told ++ heard.0) so.1 ∙ append_assoc c.args.heard.now.answers so.0 heard.0,
       heard_next tell c.args.migration c.args.homes.now c.loop-session.session-index c.args.sessions.now c.loop-session.sessions so.0 heard.0 c.hear_at.new.session c.session-item.result so.2
           (omega (arith, c.loop-session-test.true, c.loop-session.auto.sessions)) heard.2,
+      c.hear_at.ensures.migration,
     )
 
 pub returns-in_err-hear_at-clause-each : goal.returns-in_err-hear_at-clause-each

@@ -17,7 +17,7 @@ returns-in-Err-clause-cause g c =
     let tell = g.T.Port.told in
     subst (λ why. IsHearCause c.args.migration c.args.homes.now why (view tell c.args.session.now) (view tell c.hear_all.new.self))
     (sym (c.cause_at.ensures ∙ ap (λ w. cause_of w c.in-Err.fault) (c.switch.ensures ∙ c.hear_all.ensures.switch)))
-    (hear_cause tell c.args.migration c.args.homes.now c.args.session.now c.hear_all.new.self c.args.answers.now c.hear_all.new.answers c.in-Err.fault c.in-Err.ensures.err (λ same. c.in-Err.ensures.cause (ap Err same)))
+    (hear_cause tell c.args.migration c.args.homes.now c.args.session.now c.hear_all.new.self c.args.heard.now.answers c.hear_all.new.heard.answers c.in-Err.fault c.in-Err.ensures.err (λ same. c.in-Err.ensures.cause (ap Err same)))
 
 pub returns-in-Some-clause-some : goal.returns-in-Some-clause-some
 returns-in-Some-clause-some g c =
@@ -30,7 +30,7 @@ returns-in-None-clause-some g c =
 pub returns-in-None-clause-ok : goal.returns-in-None-clause-ok
 returns-in-None-clause-ok g c =
     let tell = g.T.Port.told in
-    let apart = told_apart c.args.migration (tell c.args.session.now.port).heard (tell c.hear_all.new.self.port).heard c.args.session.now.stream c.hear_all.new.self.stream c.args.answers.now c.hear_all.new.answers None c.in_default.ensures.ok in (
+    let apart = told_apart c.args.migration (tell c.args.session.now.port).heard (tell c.hear_all.new.self.port).heard c.args.session.now.stream c.hear_all.new.self.stream c.args.heard.now.answers c.hear_all.new.heard.answers None c.in_default.ensures.ok in (
       apart.0,
       apart.1,
       record {
@@ -38,10 +38,10 @@ returns-in-None-clause-ok g c =
         reads = apart.2;
         own = subst (λ w. All (IsOwn c.args.homes.now w) apart.0) (c.switch-switch.ensures ∙ c.hear_all.ensures.switch)
             (subst (λ xs. All (IsOwn c.args.homes.now c.switch-switch.result) xs)
-            (tail_told c.args.answers.now apart.0 c.hear_all.new.answers c.as_slice-before.result.now c.as_slice.result.now c.as_slice-before.ensures c.as_slice.ensures apart.1) c.in-None.ensures.none);
+            (tail_told c.args.heard.now.answers apart.0 c.hear_all.new.heard.answers c.answers-before.result.now c.answers.result.now c.answers-before.ensures.answers c.answers.ensures.answers apart.1) c.in-None.ensures.none);
         live = c.in_default.ensures.done.live;
         cut = c.hear_all.ensures.cut c.in_default.ensures.done.live;
-        idle = λ none. (ap (view tell) (c.in_default.ensures.idle none).1, sym (behind c.args.answers.now apart.0 c.hear_all.new.answers apart.1) ∙ ap (drop (length c.args.answers.now)) (c.in_default.ensures.idle none).2 ∙ drop-length c.args.answers.now);
+        idle = λ none. (ap (view tell) (c.in_default.ensures.idle none).1, sym (behind c.args.heard.now.answers apart.0 c.hear_all.new.heard.answers apart.1) ∙ ap (drop (length c.args.heard.now.answers)) (c.in_default.ensures.idle none).2 ∙ drop-length c.args.heard.now.answers);
         heard_out = c.in_default.ensures.done.heard_out;
         comes = c.in_default.ensures.done.comes;
         all_given = c.in_default.ensures.done.all_given;

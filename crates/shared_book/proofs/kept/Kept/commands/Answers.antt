@@ -1,6 +1,8 @@
-use Rattle.std.proofs.Common.{List, ◌++◌, rules, ap, ◌∙◌, vec_capacity}
+use Rattle.std.proofs.Common.{arith, List, [], ◌++◌, rules, ap, ◌∙◌, vec_capacity}
 use Rattle.wan_edge.specs.Frames.{Command}
-use Rattle.shared_book.proofs.Listed.{list-leaves, listed-at}
+use Rattle.shared_book.specs.Told.{commands_at, if_listed, list_notes}
+use Rattle.shared_book.proofs.HeardDones.{grown, heard-at, none-heard, noted-heard}
+use Rattle.shared_book.proofs.ListCalls.{list-lasts, list-leaves, listed-at}
 use Rattle.shared_book.proofs.RoundImages.{images-at, images-of, list-images}
 use Rattle.shared_book.proofs.Sharing.{shared-as, shared-at}
 use Rattle.shared_book.proofs.kept.Kept.commands.Goals as goal
@@ -16,6 +18,7 @@ invariant_of-self-2 g c =
           c.args.self.now.log c.self.inside.chronicle.value.disk
           (images-at g.D.Disk.told g.M.Marker.opening g.M.Marker.moment g.M.Marker.faults c.self.inside.chronicle.value.disk _ _ c.self.view_is c.self.invariant.1)
           c.args.seat c.listed-reply.result),
+      noted-heard g.M.Marker.heard c.args.seat c.args.self.now.log _ (list_notes c.listed-reply.result) [] (heard-at g.M.Marker.heard _ _ c.self.view_is c.self.invariant.2) (none-heard g.M.Marker.heard) leaves.noted,
     )
 
 pub returns-clause-legal : goal.returns-clause-legal
@@ -31,5 +34,21 @@ returns-clause-log g c =
 pub returns-clause-out : goal.returns-clause-out
 returns-clause-out g c =
     c.listed-reply.ensures.out
-    ∙ ap (λ (added : List Command). c.args.out.now ++ added)
+    ∙ ap (λ (added : List Command). c.out.inside.commands ++ added)
     (listed-at _ _ _ _ _ _ _ _ (shared-as _ c.deref.ensures (shared-at _ _ c.self.view_is c.self.invariant.0)) c.args.switches.now c.listed-reply.result c.listed-reply.ensures.told)
+    ∙ ap (λ (earlier : List Command). earlier ++ if_listed c.listed-reply.result (commands_at g.M.Marker.opening c.args.self.now.log c.args.switches.now)) c.out.view_is
+
+pub invariant_of-out : goal.invariant_of-out
+invariant_of-out g c =
+    let s = shared-at _ _ c.self.view_is c.self.invariant.0 in
+    let o = g.M.Marker.opening in
+    list-lasts g.D.Disk.told o g.M.Marker.moment g.M.Marker.faults c.self.inside.chronicle.value.disk c.args.self.now.log c.args.switches.now c.out.inside.commands c.listed-reply.new.out c.listed-reply.result s.legal
+    (images-at g.D.Disk.told o g.M.Marker.moment g.M.Marker.faults c.self.inside.chronicle.value.disk _ _ c.self.view_is c.self.invariant.1)
+    (c.listed-reply.ensures.out
+    ∙ ap (λ (added : List Command). c.out.inside.commands ++ added)
+    (listed-at _ _ _ _ _ _ _ _ (shared-as _ c.deref.ensures s) c.args.switches.now c.listed-reply.result c.listed-reply.ensures.told)) c.out.invariant
+
+pub invariant_of-self : goal.invariant_of-self
+invariant_of-self g c =
+    grown g.D.Disk.told g.M.Marker.opening g.M.Marker.seats g.M.Marker.moment g.M.Marker.faults g.M.Marker.heard c.self.inside.chronicle.value c.self.inside.notes.items c.make_room.new.notes.items c.self.inside.halted c.self.inside.spare
+    (vec_capacity c.self.inside.notes) (vec_capacity c.make_room.new.notes) c.self.invariant c.make_room.ensures.same (omega (arith, c.self.invariant.0.room, c.make_room.ensures.kept))

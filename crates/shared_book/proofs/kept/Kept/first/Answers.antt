@@ -1,6 +1,7 @@
 use Rattle.std.proofs.Common.{rules, subst, sym, vec_capacity}
 use Rattle.rollout_book.specs.Chronicles.{Chronicled}
 use Rattle.shared_book.specs.Opened.{IsOpenedOn}
+use Rattle.shared_book.proofs.HeardDones.{first-heard}
 use Rattle.shared_book.proofs.Firsts.{first-images, first-shares}
 use Rattle.shared_book.proofs.kept.Kept.first.Goals as goal
 
@@ -11,4 +12,5 @@ invariant_of-result g c =
       first-shares g.M.Marker.opening g.M.Marker.seats c.args.seats c.in-Ok.chronicle.value c.reserve.new.self.items (vec_capacity c.reserve.new.self) opened.opened c.requires.seats (search rules) (search rules),
       first-images g.D.Disk.told g.M.Marker.opening g.M.Marker.moment g.M.Marker.faults
           c.in-Ok.chronicle.value c.reserve.new.self.items opened (search rules) (g.met.D.Disk.only_now c.in-Ok.chronicle.value.disk),
+      first-heard g.M.Marker.heard c.in-Ok.chronicle.value c.reserve.new.self.items (search rules),
     )

@@ -1,6 +1,8 @@
-use Rattle.std.proofs.Common.{rules, ap, sym, ◌∙◌, vec_capacity}
+use Rattle.std.proofs.Common.{arith, [], rules, ap, sym, ◌∙◌, vec_capacity}
 use Rattle.rollout_book.specs.Chronicles.{Chronicled}
 use Rattle.shared_book.specs.Waking.{wake_of}
+use Rattle.shared_history.specs.Replies.{wake_says}
+use Rattle.shared_book.proofs.HeardDones.{grown, heard-at, none-heard, noted-heard}
 use Rattle.shared_book.proofs.RoundImages.{images-at, images-of, wake-images}
 use Rattle.shared_book.proofs.Sharing.{shared-as, shared-at}
 use Rattle.shared_book.proofs.Woken.{wake-is, wake-leaves}
@@ -21,6 +23,7 @@ invariant_of-self-2 g c =
           c.args.self.now.log c.self.inside.chronicle.value.disk
           (images-at g.D.Disk.told g.M.Marker.opening g.M.Marker.moment g.M.Marker.faults c.self.inside.chronicle.value.disk _ _ c.self.view_is c.self.invariant.1)
           c.args.seat c.in-Some.woken),
+      noted-heard g.M.Marker.heard c.args.seat c.args.self.now.log _ (wake_says c.in-Some.woken) [] (heard-at g.M.Marker.heard _ _ c.self.view_is c.self.invariant.2) (none-heard g.M.Marker.heard) leaves.noted,
     )
 
 pub returns-clause-legal : goal.returns-clause-legal
@@ -37,3 +40,8 @@ pub returns-clause-told : goal.returns-clause-told
 returns-clause-told g c =
     (wake-leaves _ _ _ _ _ _ _ _ _ _ (vec_capacity c.write_if.new.notes) _ c.args.seat c.args.call c.args.switches.now c.in-Some.woken c.noted.result (shared-at _ _ c.self.view_is c.self.invariant.0) c.requires.call (sym c.in-Some.is ∙ c.woken.ensures ∙ ap (λ (b : Chronicled g.row.D.Denot). wake_of b c.self.inside.halted c.args.switches.now) c.deref.ensures)
     c.noted.ensures c.make_room.ensures.same c.write_if.ensures.written (search rules)).told
+
+pub invariant_of-self : goal.invariant_of-self
+invariant_of-self g c =
+    grown g.D.Disk.told g.M.Marker.opening g.M.Marker.seats g.M.Marker.moment g.M.Marker.faults g.M.Marker.heard c.self.inside.chronicle.value c.self.inside.notes.items c.make_room.new.notes.items c.self.inside.halted c.self.inside.spare
+    (vec_capacity c.self.inside.notes) (vec_capacity c.make_room.new.notes) c.self.invariant c.make_room.ensures.same (omega (arith, c.self.invariant.0.room, c.make_room.ensures.kept))

@@ -1,7 +1,11 @@
-use Rattle.std.proofs.Common.{rules, vec_capacity, ◌≤◌}
+use Rattle.std.proofs.Common.{arith, rules, vec_capacity, ◌≤◌}
 use Rattle.order_policy.specs.Answers.{rank_by}
 use Rattle.wan_edge.specs.Streams.{Rose}
-use Rattle.shared_book.specs.Told.{OnFailed}
+use Rattle.rollout_book.specs.Aliens.{told_by}
+use Rattle.shared_history.specs.Histories.{history_of}
+use Rattle.shared_history.specs.Replies.{batch_at}
+use Rattle.shared_book.specs.Told.{OnFailed, round_notes}
+use Rattle.shared_book.proofs.HeardDones.{grown, heard-at, noted-heard, round-heard}
 use Rattle.shared_book.proofs.RoundImages.{grows-of, images-as, images-at, rose-of, round-images-by}
 use Rattle.shared_book.proofs.Rounded.{made-plain, round-leaves}
 use Rattle.shared_book.proofs.Sharing.{shared-as, shared-at}
@@ -19,6 +23,8 @@ invariant_of-self-2 g c =
           (images-as g.D.Disk.told g.M.Marker.opening g.M.Marker.moment g.M.Marker.faults c.self.inside.chronicle.value c.deref_mut.result.now _ c.deref_mut.ensures.value
           (images-at g.D.Disk.told g.M.Marker.opening g.M.Marker.moment g.M.Marker.faults c.self.inside.chronicle.value.disk _ _ c.self.view_is c.self.invariant.1))
           (g.met.D.Disk.counts_now c.made-reply.new.chronicle.disk) c.made-reply.ensures leaves.shared.legal leaves.noted,
+      noted-heard g.M.Marker.heard c.args.seat c.args.self.now.log _ (round_notes c.made-reply.result) (batch_at g.M.Marker.opening (history_of g.M.Marker.opening c.args.self.now.log) (told_by c.args.answers.now)) (heard-at g.M.Marker.heard _ _ c.self.view_is c.self.invariant.2)
+          (round-heard g.M.Marker.heard g.M.Marker.opening (history_of g.M.Marker.opening c.args.self.now.log) c.args.answers.now c.requires.heard) leaves.noted,
     )
 
 pub returns-clause-legal : goal.returns-clause-legal
@@ -55,3 +61,8 @@ returns-clause-count g c =
     grows-of g.D.Disk.told g.M.Marker.opening g.M.Marker.moment g.M.Marker.faults _ (rank_by c.args.policy.now.answers) c.args.answers.now
     c.deref_mut.result.now c.made-reply.new.chronicle c.made-reply.result c.made-reply.ensures in
     search (rules, fact)
+
+pub invariant_of-self : goal.invariant_of-self
+invariant_of-self g c =
+    grown g.D.Disk.told g.M.Marker.opening g.M.Marker.seats g.M.Marker.moment g.M.Marker.faults g.M.Marker.heard c.self.inside.chronicle.value c.self.inside.notes.items c.make_room.new.notes.items c.self.inside.halted c.self.inside.spare
+    (vec_capacity c.self.inside.notes) (vec_capacity c.make_room.new.notes) c.self.invariant c.make_room.ensures.same (omega (arith, c.self.invariant.0.room, c.make_room.ensures.kept))

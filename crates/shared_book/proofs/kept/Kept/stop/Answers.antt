@@ -1,6 +1,8 @@
-use Rattle.std.proofs.Common.{◌≡◌, true, false, rules, arith, length, vec_len, vec_capacity}
+use Rattle.std.proofs.Common.{◌≡◌, true, false, [], Some, rules, arith, length, vec_len, vec_capacity}
 use Rattle.shared_history.specs.Notes.{has_asked}
 use Rattle.shared_book.proofs.Asking.{asked-is, has-place, stop-leaves, asked-log, unasked-log}
+use Rattle.shared_history.specs.declared.note.What.TheVariants as what
+use Rattle.shared_book.proofs.HeardDones.{heard-at, none-heard, noted-heard}
 use Rattle.shared_book.proofs.RoundImages.{images-at, images-of, stop-images}
 use Rattle.shared_book.proofs.Sharing.{shared-at}
 use Rattle.shared_book.proofs.kept.Kept.stop.Goals as goal
@@ -31,6 +33,7 @@ invariant_of-self g c =
           c.args.self.now.log c.self.inside.chronicle.value.disk
           (images-at g.D.Disk.told g.M.Marker.opening g.M.Marker.moment g.M.Marker.faults c.self.inside.chronicle.value.disk _ _ c.self.view_is c.self.invariant.1)
           c.args.seat c.args.cause),
+      noted-heard g.M.Marker.heard c.args.seat c.args.self.now.log _ (Some (what.Stop c.args.cause)) [] (heard-at g.M.Marker.heard _ _ c.self.view_is c.self.invariant.2) (none-heard g.M.Marker.heard) leaves.noted,
     )
 
 pub returns-then-not-has_asked-clause-legal : goal.returns-then-not-has_asked-clause-legal

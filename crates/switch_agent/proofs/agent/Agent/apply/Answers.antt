@@ -1,9 +1,10 @@
-use Rattle.std.proofs.Common.{◌≡◌, ◌∙◌, ◌==◌, ◌||◌, ℕ, Option, Some, is_some, sym, ap, ap₂}
+use Rattle.std.proofs.Common.{◌≡◌, ◌∙◌, ◌==◌, ◌||◌, ℕ, Option, Some, is_some, length, nat_lt, sym, ap, ap₂}
 use Rattle.rollout_rules.specs.Agent.{held_after, is_next_command}
 use Rattle.wan_edge.specs.Frames.{Command, CommandFrame}
 use Rattle.wan_edge.specs.Switches.{after_command, pair_asked}
-use Rattle.switch_agent.specs.Items.{Items, held_by, holding, last_command, seen}
+use Rattle.switch_agent.specs.Items.{Items, held_by, holding, last_command, most_items, seen}
 use Rattle.switch_agent.proofs.Carrying.{carried, passed_over, holding_now, on_err, seen_now}
+use Rattle.switch_agent.proofs.Rooms.{few-more, unseen-without}
 use Rattle.switch_agent.proofs.agent.Agent.apply.Goals as goal
 use Rattle.switch_agent.proofs.agent.Agent.apply.Goals.{then-is_next, else-is_next}
 
@@ -38,3 +39,13 @@ pub returns-in_err-insert-clause-memory : goal.returns-in_err-insert-clause-memo
 returns-in_err-insert-clause-memory c =
     on_err c.from_residual.result
     (ap₂ (λ (xs : Items) (x : Command). seen xs x.item) (sym c.self.view_is) (sym c.command.view_is) ∙ ap is_some c.in_err-insert.ensures.absent)
+
+pub returns-then-not-has_room-clause-memory : goal.returns-then-not-has_room-clause-memory
+returns-then-not-has_room-clause-memory c =
+    ap (λ (x : Command). seen c.args.self.now x.item) (sym c.command.view_is) ∙ unseen-without (seen c.args.self.now c.command.inside.item) _ c.has_room.result c.has_room.ensures c.if-not-has_room.true
+
+-- an item that wasn't seen has a place
+pub invariant_of-self-2 : goal.invariant_of-self-2
+invariant_of-self-2 c =
+    few-more c.self.inside.items.entries c.insert.new.self.entries c.command.inside.item c.if-is_next.last c.has_room.result c.in_ok-insert.ensures.entries
+    (c.has_room.ensures ∙ ap (λ (xs : Items). seen xs c.command.inside.item || nat_lt (length xs) most_items) (sym c.self.view_is)) c.if-not-has_room.false c.self.invariant

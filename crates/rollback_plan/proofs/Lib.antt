@@ -1,0 +1,10 @@
+pub mod Alike
+pub mod Mirror
+pub mod Networks
+pub mod Ways
+pub mod StageStarts
+pub mod Ceilings
+pub mod Views
+pub mod Levelling
+pub mod Leading
+pub mod Calls

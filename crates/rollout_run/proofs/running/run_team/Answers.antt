@@ -1,0 +1,8 @@
+use Rattle.rollout_run.proofs.running.run_team.Goals as goal
+
+-- what these ports have told counts as heard, and nothing else
+pub run_named-requires-clause-told : goal.run_named-requires-clause-told
+run_named-requires-clause-told g c κs within = λ port answer told. record { port = port; told = told }
+
+pub run_named-requires-clause-only : goal.run_named-requires-clause-only
+run_named-requires-clause-only g c κs within = λ answer heard. heard
