@@ -7,7 +7,9 @@ _swanroll_options() {
         sim) echo --policy ;;
         trial) echo --k --switches --flows --seed --events --policy ;;
         run) echo --workers --rounds --policy --migration ;;
+        rollback) echo --workers --rounds --migration ;;
         report) echo --migration ;;
+        held) echo --rounds ;;
         agent) echo --guests ;;
     esac
 }
@@ -17,7 +19,7 @@ _swanroll() {
     if [[ $before == [\<\>]* ]]; then
         : # a file, by the default
     elif [ "$COMP_CWORD" -eq 1 ]; then
-        words="plan check loads explain back sim trial run report agent"
+        words="plan check loads explain back least sim trial run rollback report held agent"
     elif [ "$before" = --policy ]; then
         words="critical order freeze"
     elif [ "$before" = --planner ]; then

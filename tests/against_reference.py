@@ -17,11 +17,11 @@ import tempfile
 
 from fractions_of_plans import problems
 
-KINDS = {"plan": 3000, "bad": 3000, "check": 2000, "back": 2000, "sim": 2000, "report": 2000, "trial": 1000, "words": 2000, "mutated": 2000}
+KINDS = {"plan": 3000, "bad": 3000, "check": 2000, "least": 2000, "back": 2000, "sim": 2000, "report": 2000, "trial": 1000, "words": 2000, "mutated": 2000}
 # Scales that the plans of linear programs have to have, and how many such plans there have to be.
 SCALES, PROGRAMS = (2, 3, 4, 5, 6), 200
 # What the program does by now.
-FEATURES = "none,places,planner,lp,widths,marks,crashes,sim,check,back,policies,freeze,migration,report,agent,trial,run,journal=r16"
+FEATURES = "none,places,planner,lp,widths,marks,crashes,sim,check,least,back,policies,freeze,migration,report,agent,trial,run,rollback,journal=r16"
 PIECES = [b"null", b"true", b"-", b"1", b"1.5", b"99999999999", b'"A"', b"[]", b"{}", b",", b":", b"[", b"}", b'"', b"\\", b"\xff", b" "]
 
 

@@ -2,8 +2,8 @@
 
     python3 tests/growths.py [PROGRAM]
 
-With the program: `plan`, `check`, `sim`, `trial`, `report`, `run` and `agent` over small inputs end as they would, or with status 12 and its line, and with nothing else; the
-journal of a `run` has what its switches carried out, and the next start goes on to the end; where a worker's thread can't be started, the others serve its ports. Without: the calls of a journal, made by `measure journal` (which has to be
+With the program: `plan`, `check`, `sim`, `trial`, `report`, `run`, `rollback`, `held` and `agent` over small inputs end as they would, or with status 12 and its line, and with nothing else; the
+journal of a `run` has what its switches carried out, and the next start goes on to the end; a `rollback` is gone on with by the journal that is there; where a worker's thread can't be started, the others serve its ports. Without: the calls of a journal, made by `measure journal` (which has to be
 built, by `rt run -- linear < stdin` in its folder), and whether each image that is left is still a journal with the list before or after the batch, or with the journal
 that was placed. A few lines of C that refuse one allocation or thread stand before the C library's; where there is no C compiler nothing is tried, and it is said.
 """
@@ -23,6 +23,7 @@ from carried import Items
 from journal_files import BEGIN, entries_in
 from named import EXCHANGE, FULL_TABLES, ONE, TWO, read
 from outcomes import report
+from rollbacks import came_to, gone_on, journal, taken_back
 from rolling import finished, planned, rollout, same
 
 HERE = os.path.dirname(os.path.abspath(__file__))
@@ -193,6 +194,35 @@ def rollouts(program, refusing):
                 yield f"allocation {refused} of run of {name}, again", None if end == finished(operations, len(entries)) and not one.misses() else f"{end}, {one.misses()}"
 
 
+def taken(program, refusing):
+    """A rollback at which one allocation is refused, and what is done behind it."""
+    front = [(BEGIN, 0, 1)]
+    stage, image = came_to(TWO, front), journal(TWO, front)
+    with rollout(program, TWO, image) as one:
+        one.run("rollback --workers 1", refusing.environment(0, one.environment))
+        count = refusing.count()
+    for refused in range(1, count + 1):
+        with rollout(program, TWO, image) as one:
+            end = one.run("rollback --workers 1", refusing.environment(refused, one.environment))
+            ends = (taken_back(TWO), (12, "", "out of memory\n"), (8, "", "journal device fault\n"), (9, "", "port fault at \"A\"\n"), (9, "", "port fault at \"B\"\n"))
+            yield f"allocation {refused} of rollback", None if end in ends else f"{end}"
+            yield f"allocation {refused} of rollback, gone on with", gone_on(one, front, stage)
+
+
+def holdings(program, refusing):
+    """What switches hold is asked where one allocation is refused: all of it is told, or nothing, and nothing is moved."""
+    with rollout(program, TWO) as one:
+        one.run()
+        given, stands = one.having(SWANROLL_TIMEOUT="1000"), [dict(switch.held) for switch in one.switches.values()]
+        whole = one.run("held", refusing.environment(0, given))
+        ends = (whole, (12, "", "out of memory\n"), (9, "", "port fault at \"A\"\n"), (9, "", "port fault at \"B\"\n"))
+        yield "held", None if whole[0] == 0 else f"{whole}"
+        for refused in range(1, refusing.count() + 1):
+            end = one.run("held", refusing.environment(refused, given))
+            yield f"allocation {refused} of held", None if end in ends else f"{end}"
+        yield "held after all of them", same([switch.held for switch in one.switches.values()], stands)
+
+
 def threads(program, refusing):
     """A rollout by four workers of which one has no thread, or all but the caller: their ports are served all the same."""
     document = planned(program, FULL_TABLES)
@@ -247,7 +277,7 @@ def outcomes(program):
         if program is None:
             yield from journals(refusing)
             return
-        for kind in (texts, reports, rollouts, threads, agents):
+        for kind in (texts, reports, rollouts, taken, holdings, threads, agents):
             yield from kind(program, refusing)
 
 

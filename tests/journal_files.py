@@ -73,6 +73,13 @@ def entries_in(image):
     return found
 
 
+def kept_in(image):
+    """What a journal of the second format keeps that is whole: digest, migration, start and list."""
+    at, _ = live(image)
+    migration, count = struct.unpack_from(">II", image, at + 32)
+    return image[at:at + 32], migration, list(struct.unpack_from(f">{count}I", image, at + 40)), entries_in(image)
+
+
 def entries_at(image, at):
     count, = struct.unpack_from(">I", image, at)
     return [struct.unpack_from(">BII", image, at + 4 + 9 * nth) for nth in range(count)]

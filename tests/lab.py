@@ -88,9 +88,12 @@ def killed(program):
         yield "a lab in the middle", None if started.poll() is None else f"it ended with {started.returncode}"
         started.kill()
         started.wait()
-        while processes() and time.monotonic() < end:
-            time.sleep(0.02)
-        yield "a lab that is killed leaves no process", None if not processes() else f"{processes()} are there still"
+        # A process that was being started as the lab was killed shows up, and ends, a moment later: so none has to be there twice.
+        seen = [True, True]
+        while any(seen) and time.monotonic() < end:
+            time.sleep(0.1)
+            seen = [seen[1], bool(processes())]
+        yield "a lab that is killed leaves no process", None if not any(seen) else f"{processes()} are there still"
 
 
 def outcomes(program):

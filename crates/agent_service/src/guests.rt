@@ -26,7 +26,8 @@ pub fn serve_guests<F: Fleet>(
     ensures visiting { F.visiting fleet.new ≡ F.visiting fleet.old }
     ensures ports { (F.waiting fleet.new ≡ F.waiting fleet.old)
         × (F.kept fleet.new ≡ F.kept fleet.old)
-        × (F.lent fleet.new ≡ F.lent fleet.old) }
+        × (F.lent fleet.new ≡ F.lent fleet.old)
+        × (F.named fleet.new ≡ F.named fleet.old) }
     ensures cause { IsErrOf result ServiceFault.Fleet
         → Rose (F.faults fleet.old) (F.faults fleet.new) }
     ensures count { F.faults fleet.old ≤ F.faults fleet.new }
@@ -61,7 +62,8 @@ fn serve_next<F: Fleet>(agent: &mut Agent, fleet: &mut F) -> Result<Option<Serve
     ensures visiting { F.visiting fleet.new ≡ F.visiting fleet.old }
     ensures ports { (F.waiting fleet.new ≡ F.waiting fleet.old)
         × (F.kept fleet.new ≡ F.kept fleet.old)
-        × (F.lent fleet.new ≡ F.lent fleet.old) }
+        × (F.lent fleet.new ≡ F.lent fleet.old)
+        × (F.named fleet.new ≡ F.named fleet.old) }
     ensures cause { OnErr result (Rose (F.faults fleet.old) (F.faults fleet.new)) }
     ensures count { F.faults fleet.old ≤ F.faults fleet.new }
 {

@@ -20,6 +20,7 @@ impl Port for Nowhere {
       heard = None;
       held = None;
       quiet = None;
+      waits = None;
       faults = 0;
       honest = false;
       prompt = false;
@@ -35,6 +36,12 @@ impl Port for Nowhere {
     fn hear(&mut self, _into: &mut [u8]) -> Result<usize, Failed> {
         Ok(0)
     }
+
+    fn is_ready(&mut self) -> bool {
+        true
+    }
+
+    fn rest(&self) {}
 }
 
 /// These answers, as heard over such a port in migration 0.

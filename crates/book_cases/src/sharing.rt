@@ -5,6 +5,7 @@ ghost use Rattle.order_policy.specs.Answers.{rank_by};
 ghost use Rattle.rollout_book.specs.Lists.{IsKeptList};
 ghost use Rattle.turn_lock.specs.Passes.{IsFirstPass};
 ghost use Rattle.shared_book.specs.Homes.{homes_of};
+ghost use Rattle.shared_book.specs.Images.{StandsSo};
 ghost use Rattle.shared_book.specs.Opened.{IsOpened, IsOpenedOn, opening_of};
 ghost use Rattle.book_cases.specs.Seats.{AllAreIn, MayCall, TakesAny};
 
@@ -94,6 +95,7 @@ fn share_named<'d, R: Abort + Threads + Wait + Sync, D: Disk + Drop + Send, M: M
     task: Task<'_>,
 ) -> Left<'d, D>
     requires opened { IsOpenedOn D.told M.opening M.moment M.faults book.chronicle }
+    requires stood { StandsSo M.stood (D.told book.chronicle.disk) }
     requires policy { M.opening.policy ≡ rank_by book.policy.now.answers }
     requires any { TakesAny M.heard }
     requires seats { M.seats ≡ 4 }

@@ -1,5 +1,5 @@
 -- What a shared history counts behind further notes.
-use Rattle.std.proofs.Common.{◌≡◌, ◌≢◌, ◌⊎◌, ℕ, zero, suc, ◌+◌, ◌-◌, ◌<◌, ◌≤◌, true, ◌==◌, List, [], ◌∷◌, ◌++◌, Option, Some, refl, sym, ap, ◌∙◌, subst, ⊎_elim, arith, eqb-true, eq-eqb}
+use Rattle.std.proofs.Common.{◌≡◌, ℕ, zero, suc, ◌+◌, ◌-◌, ◌<◌, ◌≤◌, true, ◌==◌, List, [], ◌∷◌, ◌++◌, Option, Some, refl, ap, ◌∙◌, subst, ⊎_elim, arith, eqb-true}
 use Rattle.std.proofs.lemmas.Bool.{cases_lt, cond_both}
 use Rattle.std.proofs.lemmas.List.Elements.{All-head, All-tail}
 use Rattle.std.specs.List.{All, Contains}
@@ -7,20 +7,20 @@ use Rattle.rollout_rules.specs.Sums.{sum_below}
 use Rattle.rollout_rules.specs.Wan.{Rollout}
 use Rattle.rollout_rules.specs.Items.{item_at, item_count}
 use Rattle.rollout_rules.specs.Operations.{operations}
-use Rattle.rollout_rules.specs.History.{History, begun, dones_in, flies, settled, with_entries}
+use Rattle.rollout_rules.specs.History.{History, begun, dones_in, flies, settled}
 use Rattle.rollout_rules.specs.Legal.{is_legal, unsettled}
 use Rattle.rollout_rules.specs.declared.op.Op.{Op}
 use Rattle.rollout_rules.specs.declared.op.Entry.{Entry}
 use Rattle.rollout_rules.specs.declared.op.Entry.TheVariants.{Begin, Done}
 use Rattle.rollout_rules.proofs.Below.{sum_below-mono}
-use Rattle.rollout_laws.proofs.Histories.{begun-with, dones_in-append, is_counted, settled-with, with_both}
+use Rattle.rollout_laws.proofs.Histories.{dones_in-append, is_counted}
 use Rattle.shared_history.specs.declared.note.What.{What}
 use Rattle.shared_history.specs.declared.note.What.TheVariants as what
 use Rattle.shared_history.specs.declared.note.Written.{Written}
 use Rattle.shared_history.specs.Histories.{Opening, added, history_of, segment_of}
-use Rattle.shared_history.proofs.Stops.{added-append}
 use Rattle.worker_ports.specs.Lots.{home_at}
-use Rattle.controller_run.proofs.Elements.{inside-later, none-inside}
+use Rattle.controller_run.proofs.Behind.{settled-behind}
+use Rattle.controller_run.proofs.Elements.{inside-later}
 use Rattle.completion_laws.specs.Turns.{EndsNoneAt}
 
 -- ---- Dones among entries
@@ -33,23 +33,8 @@ no-dones n (Done op ∷ es) none =
     (λ same. absurd (none op (0, omega arith, refl) (eqb-true op.item n same)))
     (λ _. omega (arith, rest))
 
-pub some-done : (es : List Entry) (op : Op) → Contains es (Done op) → 1 ≤ dones_in es op.item
-some-done [] op at = absurd (none-inside (Done op) at)
-some-done (e ∷ es) op (zero, inside, is) = subst (λ (x : Entry). 1 ≤ dones_in (x ∷ es) op.item) (sym is) (let here : (op.item == op.item) ≡ true = eq-eqb op.item op.item refl in rw here (omega arith))
-some-done (Begin other ∷ es) op (suc k, inside, is) = some-done es op (k, omega (arith, inside), is)
-some-done (Done other ∷ es) op (suc k, inside, is) = omega (arith, some-done es op (k, omega (arith, inside), is))
-
 -- ---- further notes
 module _ (o : Opening) where
-  pub history-behind : (ws more : List Written) → history_of o (ws ++ more) ≡ with_entries (history_of o ws) (added more)
-  history-behind ws more = ap (with_entries o.found) (added-append o ws more) ∙ sym (with_both o.found (added ws) (added more))
-
-  pub settled-behind : (ws more : List Written) (n : ℕ) → settled (history_of o (ws ++ more)) n ≡ settled (history_of o ws) n + dones_in (added more) n
-  settled-behind ws more n = ap (λ (h : History). settled h n) (history-behind ws more) ∙ settled-with (history_of o ws) (added more) n
-
-  pub begun-behind : (ws more : List Written) (n : ℕ) → begun (history_of o ws) n ≤ begun (history_of o (ws ++ more)) n
-  begun-behind ws more n = omega (arith, ap (λ (h : History). begun h n) (history-behind ws more), begun-with (history_of o ws) (added more) n)
-
   module _ (homes : List (Option ℕ)) (switches : List ℕ) where
     segment-none : (n switch : ℕ) → home_at homes n ≡ Some switch → Contains switches switch → (said : What) (es : List Entry) → ((op : Op) → Contains es (Done op) → op.item ≡ n → ⊥) → dones_in (segment_of said es) n ≡ 0
     segment-none n switch home among (what.Turned dones begins) es none = no-dones n es none
@@ -72,7 +57,7 @@ module _ (o : Opening) where
 
     -- where none of them ends an operation of these switches, as much is settled of their items
     pub settled-same : (ws more : List Written) → All (EndsNoneAt homes switches) more → (n switch : ℕ) → home_at homes n ≡ Some switch → Contains switches switch → settled (history_of o (ws ++ more)) n ≡ settled (history_of o ws) n
-    settled-same ws more none n switch home among = omega (arith, settled-behind ws more n, added-none n switch home among more none)
+    settled-same ws more none n switch home among = omega (arith, settled-behind o ws more n, added-none n switch home among more none)
 
 -- ---- how much is unsettled
 sum-less : (k : ℕ) (f g : ℕ → ℕ) (n : ℕ) → n < k → ((m : ℕ) → m < k → f m ≤ g m) → f n + 1 ≤ g n → sum_below k f + 1 ≤ sum_below k g

@@ -1,5 +1,5 @@
 -- Small ports and notes, of which the worked examples speak.
-use Rattle.std.proofs.Common.{◌≡◌, ℕ, zero, suc, ◌*◌, ◌<◌, ◌^◌, List, [], ◌∷◌, ◌++◌, length, Option, Some, refl, sym, ap, ◌∙◌, arith, append-nil, length-append}
+use Rattle.std.proofs.Common.{◌≡◌, ℕ, zero, suc, ◌<◌, ◌^◌, List, [], ◌∷◌, ◌++◌, length, Option, Some, refl, sym, ap, ◌∙◌, arith, append-nil, length-append}
 use Rattle.std.proofs.lemmas.List.Elements.{All-cons, All-nil}
 use Rattle.std.proofs.lemmas.Option.{same_Some}
 use Rattle.std.specs.List.{All, Contains, flat_map}
@@ -56,6 +56,7 @@ unused-ready = record {
   held = refl;
   in_order = record { commands = []; rest = []; whole = record { fit = All-nil IsCommand; parts = refl }; no_more = no-command; carried_out = 0; holds = refl; to_come = []; heard_front = refl };
   no_more = none-offered;
+  none_owed = refl;
 }
 
 unheard : (answers : List AnswerFrame) → 0 < length answers → [] ≡ flat_map answer_bytes answers → ⊥
@@ -72,6 +73,7 @@ answering-answered = record {
   heard = ap told (sym (append-nil (answer_bytes (4, first_answer))));
   held = refl;
   none_kept = refl;
+  none_owed = refl;
 }
   where
     told : List ℕ → Option (List ℕ)

@@ -18,7 +18,7 @@ use Rattle.completion_laws.proofs.Excused.{ends-excused}
 use Rattle.completion_laws.proofs.NoFaults.{no-fault}
 
 -- an excuse that is no fault is want of memory
-only-want : (why : Cause) → IsExcused why → IsNoFault why → IsWant why
+pub only-want : (why : Cause) → IsExcused why → IsNoFault why → IsWant why
 only-want (cause.Spent given item number) excused no_fault = excused
 only-want (cause.Port switch) excused no_fault = no_fault
 only-want (cause.Above item held begun) excused no_fault = excused

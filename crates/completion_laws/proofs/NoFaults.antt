@@ -1,5 +1,5 @@
 -- A run without a fault has no failure as its cause.
-use Rattle.std.proofs.Common.{◌≡◌, ◌⊎◌, ℕ, List, [], ◌∷◌, Option, Some, inl, inr, refl, arith}
+use Rattle.std.proofs.Common.{◌≡◌, ℕ, List, [], ◌∷◌, Option, Some, inl, inr, refl, arith}
 use Rattle.std.specs.List.{AllZip, Contains}
 use Rattle.port_session.specs.Sessions.{Talk}
 use Rattle.shared_history.specs.declared.note.Cause.{Cause}

@@ -2,7 +2,7 @@
 use Rattle.std.proofs.Common.{◌≡◌, ◌⊎◌, ℕ, ◌<◌, true, false, List, [], ◌∷◌, ◌++◌, map, Option, Some, None, inl, inr, refl, sym, ap, ◌∙◌, subst, arith, append_assoc}
 use Rattle.std.proofs.lemmas.Bool.{both_ways}
 use Rattle.std.proofs.lemmas.List.Elements.{All-contains}
-use Rattle.std.specs.List.{All, Contains, IsDistinct}
+use Rattle.std.specs.List.{All, IsDistinct}
 use Rattle.std.specs.Prelude.{IsTrue, nat_eq}
 use Rattle.rollout_rules.specs.Legal.{is_finished}
 use Rattle.port_session.specs.Sessions.{Talk}
@@ -17,7 +17,7 @@ use Rattle.shared_history.proofs.Stops.{first_stop-stays}
 use Rattle.shared_book.specs.Calls.{seat_of}
 use Rattle.wan_edge.specs.Ports.{PortTrace}
 use Rattle.worker_ports.specs.declared.ports.Berth.{Berth}
-use Rattle.rollout_ports.specs.Berths.{AreApart, switches_of}
+use Rattle.rollout_ports.specs.Berths.{AreApart}
 use Rattle.rollout_ports.specs.Hands.{first_talks}
 use Rattle.controller_run.specs.Promises.{IsEndAt, Promises}
 use Rattle.controller_run.proofs.Keeps.{serves-keeps}

@@ -1,7 +1,7 @@
 -- Notes that end no operation of a worker's switches, and what they leave as it was.
-use Rattle.std.proofs.Common.{◌≡◌, ◌≢◌, ◌⊎◌, ℕ, suc, ◌+◌, ◌<◌, ◌≤◌, ◌^◌, Bool, true, ◌&&◌, ◌==◌, nat_le, List, [], ◌∷◌, ◌++◌, slice_index_or, slice_get, get_or, Option, Some, None, inl, inr, refl, sym, ap, ◌∙◌, subst, ⊎_elim, arith, append_assoc, eqb-true, eq-eqb, lt-ltb, zero, if◌then◌else◌}
-use Rattle.std.proofs.lemmas.Bool.{and_from, cases_eq, false≢true, le-leb, or_left, or_right}
-use Rattle.std.proofs.lemmas.List.Elements.{All-append, All-contains, All-cons, All-filter, All-map, All-nil, All-weaker, Contains-append_left, Contains-append_right, Contains-get_or, Contains-push, filter_passes}
+use Rattle.std.proofs.Common.{◌≡◌, ℕ, suc, ◌+◌, ◌<◌, ◌≤◌, ◌^◌, Bool, true, ◌&&◌, ◌==◌, nat_le, List, [], ◌∷◌, ◌++◌, slice_index_or, slice_get, get_or, Option, Some, None, inl, inr, refl, sym, ap, ◌∙◌, subst, arith, append_assoc, eqb-true, eq-eqb, lt-ltb, zero, if◌then◌else◌}
+use Rattle.std.proofs.lemmas.Bool.{and_from, false≢true, le-leb}
+use Rattle.std.proofs.lemmas.List.Elements.{All-append, All-contains, All-cons, All-filter, All-map, All-nil, All-weaker, Contains-append_left, Contains-append_right, Contains-get_or, filter_passes}
 use Rattle.std.specs.List.{All, Contains, filter, list_any}
 use Rattle.rollout_rules.specs.Sums.{list_below}
 use Rattle.rollout_rules.specs.Wan.{Problem, Rollout}
@@ -38,12 +38,13 @@ use Rattle.switch_laws.proofs.Begun.{settled_told}
 use Rattle.switch_laws.proofs.Fitting.{has_frame}
 use Rattle.switch_laws.proofs.Listed.{listed_are_begun}
 use Rattle.controller_run.proofs.Answered.{batch-covered, told-answer}
-use Rattle.controller_run.proofs.Elements.{any-found, inside-cons, none-inside}
+use Rattle.controller_run.proofs.Behind.{begun-behind, settled-behind, some-done}
+use Rattle.controller_run.proofs.Elements.{any-found, any-has, below-has, filter-has, map-has, none-inside}
 use Rattle.completion_laws.specs.Answering.{IsOnTheWay, IsUpToDate, answer_for}
 use Rattle.completion_laws.specs.Turns.{EndsNoneAt, OthersEndElsewhere}
-use Rattle.completion_laws.proofs.Between.{begun-behind, settled-behind, settled-same, some-done, unsettled-later, unsettled-less}
+use Rattle.completion_laws.proofs.Between.{settled-same, unsettled-later, unsettled-less}
 use Rattle.completion_laws.proofs.PortTurns.{IsFlying}
-use Rattle.completion_laws.proofs.RowTurns.{IsFor, IsThrough, filter-has, map-has, own-has}
+use Rattle.completion_laws.proofs.RowTurns.{IsFor, IsThrough, own-has}
 
 -- ---- what is listed
 read-home : (homes : List (Option ℕ)) (n : ℕ) → home_in (slice_get homes n) ≡ get_or homes n None
@@ -154,17 +155,6 @@ module _ (o : Opening) (homes : List (Option ℕ)) (switches : List ℕ) where
     }
 
 -- ---- the batch of a round behind which such a row of ports is
-any-has : {A : Type 0} (test : A → Bool) (xs : List A) (x : A) → Contains xs x → test x ≡ true → list_any test xs ≡ true
-any-has test [] x at passes = absurd (none-inside x at)
-any-has test (y ∷ ys) x at passes =
-    ⊎_elim (λ (same : y ≡ x). or_left (test y) (list_any test ys) (ap test same ∙ passes)) (λ (later : Contains ys x). or_right (test y) (list_any test ys) (any-has test ys x later passes)) (inside-cons y x ys at)
-
-below-has : (k n : ℕ) → n < k → Contains (list_below k (λ m. m)) n
-below-has zero n low = absurd (omega (arith, low))
-below-has (suc k) n low =
-    ⊎_elim (λ (same : k ≡ n). subst (Contains (list_below k (λ m. m) ++ k ∷ [])) same (Contains-push (list_below k (λ m. m)) k))
-    (λ (other : k ≡ n → ⊥). Contains-append_left (list_below k (λ m. m)) (k ∷ []) n (below-has k n (omega (arith, low, other)))) (cases_eq k n)
-
 module _ (o : Opening) (migration : ℕ) (homes : List (Option ℕ)) (h g : History) (commands : List Command) (told : List Answer) (each_for : All (IsFor o.rollout migration homes h commands) told) (legal : is_legal o.rollout.problem o.rollout.plan g ≡ true) where
   abbrev pub added_by : List Entry
   added_by = batch_at o g (told_by told)

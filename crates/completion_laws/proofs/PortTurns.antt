@@ -1,6 +1,6 @@
 -- A round at a prompt port that has answered all before: each of its own commands is answered by its own number.
-use Rattle.std.proofs.Common.{◌≡◌, ◌≢◌, ◌⊎◌, ℕ, suc, ◌+◌, ◌*◌, ◌-◌, ◌<◌, ◌≤◌, true, ◌==◌, List, [], ◌∷◌, ◌++◌, length, map, get_or, slice_index_or, Option, Some, IfSome, inl, inr, refl, sym, ap, ◌∙◌, subst, ⊎_elim, arith, append_assoc, append-nil, length-append}
-use Rattle.std.proofs.lemmas.Bool.{OnTrue_at, cases_Bool, cases_lt}
+use Rattle.std.proofs.Common.{◌≡◌, ◌≢◌, ℕ, suc, ◌+◌, ◌*◌, ◌<◌, ◌≤◌, true, ◌==◌, List, [], ◌∷◌, ◌++◌, length, map, get_or, slice_index_or, Option, Some, IfSome, inl, inr, refl, sym, ap, ◌∙◌, subst, ⊎_elim, arith, append_assoc, append-nil, length-append}
+use Rattle.std.proofs.lemmas.Bool.{OnTrue_at, cases_Bool, cases_lt, false≢true}
 use Rattle.std.proofs.lemmas.List.Elements.{All-cons, All-filter, All-head, All-map, All-nil, All-tail, All-weaker, filter_passes}
 use Rattle.std.specs.List.{All, Contains, flat_map}
 use Rattle.rollout_rules.specs.Wan.{Rollout}
@@ -13,6 +13,7 @@ use Rattle.wan_edge.specs.Ports.{AllAnswered, BeginsNoCommand, NothingToCome}
 use Rattle.wan_edge.specs.Switches.{Holdings, after_commands, answers_to}
 use Rattle.port_session.specs.Reading.{answers_of}
 use Rattle.port_session.specs.declared.fault.SessionFault.{SessionFault}
+use Rattle.port_session.proofs.Awaited.{awaited_none, awaited_some}
 use Rattle.worker_ports.specs.Hearing.{HearsOut, IsOwn, Listens, Reads}
 use Rattle.worker_ports.specs.Lots.{home_at, is_switch, own}
 use Rattle.worker_ports.specs.Offering.{OffersAll}
@@ -151,14 +152,25 @@ module _ (r : Rollout) (migration : ℕ) (homes : List (Option ℕ)) (h : Histor
           let is : earlier ++ bytes ≡ flat_map answer_bytes (answers_to mid.port.start all) = answered all [] (record { fit = fit-now; parts = sym (append-nil (flat_map command_bytes all)) }) no-command in
           omega (arith, ap length is, length-append earlier bytes, long-answers (answers_to before.port.start up.commands), as-many before.port.start up.commands, long-answers (answers_to mid.port.start all), as-many mid.port.start all, length-append up.commands (framed migration mine))
 
+      -- as many answers are awaited as commands went out
+      awaits-all : mid.stream.awaited ≡ length mine
+      awaits-all =
+          ⊎_elim (λ (some : 0 < length mine). out.awaits ∙ awaited_some before.stream.awaited (length mine) some)
+          (λ (few : length mine ≤ 0). let empty : length mine ≡ 0 = omega (arith, few) in out.awaits ∙ awaited_none before.stream.awaited (length mine) empty ∙ up.answered.none_owed ∙ sym empty)
+          (cases_lt 0 (length mine))
+
       many : 13 * length (framed migration mine) ≤ length bytes
       many =
           ⊎_elim
-          (λ (awaits : 0 < now.stream.awaited). all-given (OnTrue_at (out.some.goes_on.prompt ∙ up.answered.prompt) hears.all_given awaits))
-          (λ (none : now.stream.awaited ≤ 0).
-          let less : now.stream.awaited ≡ mid.stream.awaited - length read = hears.reads.reads.awaited_less in
-          omega (arith, none, less, out.awaits, long-framed migration mine, ap length parts, length-append (flat_map answer_bytes read) hears.reads.reads.rest, long-answers read))
-          (cases_lt 0 now.stream.awaited)
+          (λ (enough : mid.stream.awaited ≤ length read).
+          omega (arith, enough, awaits-all, long-framed migration mine, ap length parts, length-append (flat_map answer_bytes read) hears.reads.reads.rest, long-answers read))
+          (λ given. all-given given) (OnTrue_at (out.some.goes_on.prompt ∙ up.answered.prompt) hears.all_given)
+
+      -- none is awaited any more
+      none-owed : now.stream.awaited ≡ 0
+      none-owed =
+          ⊎_elim (λ all. all.none_left)
+          (λ other. ⊎_elim (λ quiet. quiet.none_left) (λ late. absurd (false≢true (sym late.unprompt ∙ out.some.goes_on.prompt ∙ up.answered.prompt))) other) hears.over
 
       came : bytes ≡ flat_map answer_bytes (answers_to holdings (framed migration mine))
       came = all-came migration mine up.commands before mid now up.answered mine-fit out hears.listens.goes_on hears.listens.unsent bytes hears.reads.appended many
@@ -193,6 +205,7 @@ module _ (r : Rollout) (migration : ℕ) (homes : List (Option ℕ)) (h : Histor
             heard = heard-all migration mine up.commands before mid now up.answered mine-fit out hears.listens.goes_on hears.listens.unsent bytes hears.reads.appended many ∙ ap (λ (s : Holdings). Some (flat_map answer_bytes (answers_to s all))) (sym start-now);
             held = now-held migration mine up.commands before mid now up.answered mine-fit out hears.listens.goes_on hears.listens.unsent bytes hears.reads.appended many ∙ ap (λ (s : Holdings). Some (after_commands s all)) (sym start-now);
             none_kept = sym hears.reads.reads.ends ∙ read-all.1;
+            none_owed = none-owed;
           } in
           record {
             switch = switch-now;

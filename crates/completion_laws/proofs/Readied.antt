@@ -1,5 +1,5 @@
 -- A port that is ready for a run is up to date.
-use Rattle.std.proofs.Common.{◌≡◌, ◌⊎◌, ℕ, ◌*◌, ◌<◌, ◌≤◌, true, List, [], ◌++◌, length, Option, Some, None, IfSome, is_some, inl, inr, refl, ap, ◌∙◌, subst, arith, append-nil}
+use Rattle.std.proofs.Common.{◌≡◌, ℕ, true, List, [], length, Option, Some, None, IfSome, is_some, inl, inr, refl, ap, ◌∙◌, subst, arith, append-nil}
 use Rattle.std.proofs.lemmas.Bool.{false≢true}
 use Rattle.std.specs.List.{flat_map}
 use Rattle.rollout_rules.specs.Wan.{Rollout}
@@ -83,6 +83,7 @@ module _ (r : Rollout) (migration : ℕ) (homes : List (Option ℕ)) (found : Hi
       heard = heard-is ∙ ap Some answered;
       held = held-is ∙ ap Some carried;
       none_kept = ready.starts.none_kept;
+      none_owed = ready.none_owed;
     };
     held = λ n low home. subst (λ (hs : Holdings). IsOnTheWay migration found n (hs n).held) carried (on-the-way n (held n) (some_at (AreHeldAt r migration homes first.switch found) first.port.held held held-is ready.starts.held n low home));
   }

@@ -1,8 +1,8 @@
 -- A round over a row of prompt ports that have answered all before.
-use Rattle.std.proofs.Common.{◌≡◌, ◌⊎◌, ℕ, ◌+◌, ◌<◌, ◌≤◌, Bool, true, List, [], ◌∷◌, ◌++◌, map, Option, Some, None, inl, inr, refl, sym, ap, ap₂, ◌∙◌, subst, ⊎_elim, arith, eq-eqb}
-use Rattle.std.proofs.lemmas.Bool.{cond_both, both_ways}
+use Rattle.std.proofs.Common.{◌≡◌, ℕ, List, [], ◌∷◌, ◌++◌, map, Option, Some, None, inl, inr, refl, sym, ap, ap₂, ◌∙◌, subst, ⊎_elim, arith, eq-eqb}
+use Rattle.std.proofs.lemmas.Bool.{both_ways}
 use Rattle.std.proofs.lemmas.List.Elements.{All-append, All-cons, All-contains, All-contains_itself, All-filter, All-head, All-map, All-nil, All-tail, All-weaker, Contains-append_left, Contains-append_right}
-use Rattle.std.specs.List.{All, Contains, filter}
+use Rattle.std.specs.List.{All, Contains}
 use Rattle.rollout_rules.specs.Wan.{Rollout}
 use Rattle.rollout_rules.specs.History.{History}
 use Rattle.rollout_rules.specs.Agent.{pair_of}
@@ -20,26 +20,10 @@ use Rattle.worker_ports.specs.Rows.{AtOne, HearsEach, IsCauseOfOffer, ListensEac
 use Rattle.worker_ports.specs.Views.{PortView, view}
 use Rattle.controller_run.specs.Exchanging.{StopsInHear}
 use Rattle.controller_run.proofs.Keeps.{no-one}
-use Rattle.controller_run.proofs.Elements.{inside-cons, inside-later, none-inside}
+use Rattle.controller_run.proofs.Elements.{filter-has, inside-cons, map-has, none-inside}
 use Rattle.completion_laws.specs.Answering.{IsUpToDate, answer_for}
 use Rattle.completion_laws.specs.Faults.{IsExcused}
 use Rattle.completion_laws.proofs.PortTurns.{IsFlying, TurnsPort, no-other-kind, reads-own, turns-port}
-
--- ---- elements
-pub filter-has : {A : Type 0} (test : A → Bool) (xs : List A) (x : A) → test x ≡ true → Contains xs x → Contains (filter test xs) x
-filter-has test [] x passes at = absurd (none-inside x at)
-filter-has test (y ∷ ys) x passes at =
-    ⊎_elim
-    (λ (same : y ≡ x). cond_both (test y) (y ∷ filter test ys) (filter test ys) (λ zs. Contains zs x) (λ _. (0, omega arith, same)) (λ fails. absurd (both_ways (test y) fails (ap test same ∙ passes))))
-    (λ (later : Contains ys x).
-    let rest = filter-has test ys x passes later in
-    cond_both (test y) (y ∷ filter test ys) (filter test ys) (λ zs. Contains zs x) (λ _. inside-later y x (filter test ys) rest) (λ _. rest))
-    (inside-cons y x ys at)
-
-pub map-has : {A B : Type 0} (f : A → B) (xs : List A) (x : A) → Contains xs x → Contains (map f xs) (f x)
-map-has f [] x at = absurd (none-inside x at)
-map-has f (y ∷ ys) x at =
-    ⊎_elim (λ (same : y ≡ x). (0, omega arith, ap f same)) (λ (later : Contains ys x). inside-later (f y) (f x) (map f ys) (map-has f ys x later)) (inside-cons y x ys at)
 
 module _ (r : Rollout) (migration : ℕ) (homes : List (Option ℕ)) (h : History) where
   -- an answer is the one for one of these commands

@@ -1,10 +1,9 @@
 -- Whose note the first stop of a history is.
-use Rattle.std.proofs.Common.{◌≡◌, ◌≢◌, ◌⊎◌, ℕ, List, [], ◌∷◌, ◌++◌, All, slice_index_or, Option, Some, None, option_map, refl, sym, ap, ◌∙◌, subst, arith, if◌then◌else◌}
+use Rattle.std.proofs.Common.{◌≡◌, ℕ, List, [], ◌∷◌, ◌++◌, All, slice_index_or, Option, Some, None, option_map, refl, sym, ap, ◌∙◌, subst, arith}
 use Rattle.std.proofs.lemmas.List.Elements.{All-append, All-cons, All-head, All-nil, All-tail}
 use Rattle.std.specs.Option.{option_or}
 use Rattle.turn_lock.specs.Histories.{Follows}
 use Rattle.shared_history.specs.declared.note.Cause.{Cause}
-use Rattle.shared_history.specs.declared.note.What.TheVariants as what
 use Rattle.shared_history.specs.declared.note.Written.{Written}
 use Rattle.shared_history.specs.declared.reply.Halt.{Halt}
 use Rattle.shared_history.specs.Histories.{Opening}

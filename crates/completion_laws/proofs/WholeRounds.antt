@@ -1,7 +1,7 @@
 -- A worker over prompt ports that have answered all: each round that lists a command settles an operation, and no stop comes without an excuse.
-use Rattle.std.proofs.Common.{◌≡◌, ◌≢◌, ◌⊎◌, ℕ, ◌+◌, ◌^◌, ◌<◌, ◌≤◌, Bool, true, false, List, [], ◌∷◌, ◌++◌, length, slice_index_or, nat_le, nat_lt, Option, Some, inl, inr, refl, sym, ap, ◌∙◌, subst, ⊎_elim, arith, append_assoc, append-nil, le-leb, lt-ltb, if◌then◌else◌}
-use Rattle.std.proofs.lemmas.Bool.{both_ways, not_from_true}
-use Rattle.std.proofs.lemmas.List.Elements.{All-contains, All-filter, All-head, All-map, Contains-get_or, filter_passes}
+use Rattle.std.proofs.Common.{◌≡◌, ◌⊎◌, ℕ, ◌+◌, ◌^◌, ◌<◌, ◌≤◌, Bool, true, false, List, [], ◌∷◌, ◌++◌, length, slice_index_or, nat_le, nat_lt, Option, Some, inl, inr, refl, sym, ap, ◌∙◌, subst, ⊎_elim, arith, append_assoc, append-nil, le-leb, lt-ltb, if◌then◌else◌}
+use Rattle.std.proofs.lemmas.Bool.{both_ways, false≢true, not_from_true}
+use Rattle.std.proofs.lemmas.List.Elements.{All-contains, All-filter, All-head, All-map, All-tail, Contains-get_or, filter_passes}
 use Rattle.std.specs.List.{All, Contains, filter}
 use Rattle.rollout_rules.specs.Network.{IsNetwork}
 use Rattle.rollout_rules.specs.Items.{item_count}
@@ -38,16 +38,19 @@ use Rattle.shared_history.proofs.Lists.{history-next, list-is_legal}
 use Rattle.shared_book.specs.Calls.{IsStopCall, seat_of}
 use Rattle.shared_book.specs.Homes.{homes_of}
 use Rattle.shared_book.specs.Told.{commands_at}
+use Rattle.worker_ports.specs.Due.{any_late, due_of, late_count}
 use Rattle.worker_ports.specs.Lots.{home_at}
+use Rattle.worker_ports.proofs.Lateness.{all_due, bit_none, none_late}
 use Rattle.worker_ports.specs.Views.{view}
 use Rattle.controller_run.specs.Exchanging.{Exchanges}
 use Rattle.controller_run.specs.Finding.{Lists, Looks}
 use Rattle.controller_run.specs.Promises.{switches_of}
 use Rattle.controller_run.specs.Serving.{AreWhole, IsLast, Moment, Served, Whole, Worked, caller_of}
 use Rattle.controller_run.specs.Settling.{StopsRound}
-use Rattle.controller_run.specs.Working.{Breaks, RestsFor, Settles, Standing, Works, is_some_command}
+use Rattle.controller_run.specs.Working.{ListsNone, ListsSome, RestsFor, Settles, Standing, Untold, Works, is_some_command}
 use Rattle.controller_run.specs.declared.outcome.Outcome.TheVariants as outcome
 use Rattle.controller_run.proofs.Answered.{told-answer}
+use Rattle.controller_run.proofs.Elements.{map-has}
 use Rattle.controller_run.proofs.Endings.{list-stopped, look-stopped, look-works}
 use Rattle.controller_run.proofs.Reasoned.{round-alien}
 use Rattle.completion_laws.specs.Answering.{IsUpToDate, answer_for}
@@ -56,7 +59,7 @@ use Rattle.completion_laws.specs.Turns.{OthersEndElsewhere}
 use Rattle.completion_laws.proofs.Between.{unsettled-flying, unsettled-later}
 use Rattle.completion_laws.proofs.Passing.{IsAtHome, Passes, home-here, listed-fly, listed-home, passes-begun, passes-chain, passes-note, passes-others, passes-settled, passes-unsettled, passes-up, settles-one, through-up}
 use Rattle.completion_laws.proofs.PortTurns.{IsFlying}
-use Rattle.completion_laws.proofs.RowTurns.{IsFor, TurnsRow, hear-excused, map-has, offer-excused, turns-row}
+use Rattle.completion_laws.proofs.RowTurns.{IsFor, TurnsRow, hear-excused, offer-excused, turns-row}
 use Rattle.completion_laws.proofs.Stopping.{AreExcused, asked-excused, excused-note, excused-past, first-excused, plain}
 
 -- the history goes on to another
@@ -93,6 +96,24 @@ module _ {P : Type 0} (tell : P → PortTrace) (o : Opening) (seat : ℕ) (joine
   up-past a b ports same past ups = λ k d inside.
       passes-up o homes switches a b past migration (view tell (slice_index_or ports k d)) (subst (λ (ws : List ℕ). Contains ws (slice_index_or ports k d).switch) same (has-switch ports k d inside)) (ups k d inside)
 
+  -- no such port's switch is late
+  up-none : (ws : List Written) (ports : List (Talk P)) → AreUp ws ports → late_count ports ≡ 0
+  up-none ws [] ups = refl
+  up-none ws (t ∷ ports) ups =
+      let Up : Talk P → Type 0 = λ u. IsUpToDate o.rollout migration homes (hist ws) (view tell u) in
+      let own = bit_none t.stream.awaited (All-head Up t ports ups).answered.none_owed in
+      let others = up-none ws ports (All-tail Up t ports ups) in
+      omega (arith, own, others)
+
+  up-due : (ws : List Written) (ports : List (Talk P)) → AreUp ws ports → due_of ports ≡ switches_of ports
+  up-due ws ports ups = (all_due ports (none_late ports (up-none ws ports ups))).due
+
+  -- so work was found where something was
+  work-found : (ws : List Written) (ports : List (Talk P)) (left : ℕ) (seen : List Written) (commands : List Command) (log : List Written) → AreUp ws ports
+      → ListsSome (caller_of o (seat ∷ joined) seat ports) left seen commands log ⊎ ListsNone (caller_of o (seat ∷ joined) seat ports) left seen commands log → ListsSome (caller_of o (seat ∷ joined) seat ports) left seen commands log
+  work-found ws ports left seen commands log ups (inl found) = found
+  work-found ws ports left seen commands log ups (inr found) = absurd (false≢true (sym (none_late ports (up-none ws ports ups)) ∙ found.late))
+
   -- ---- a look, and a listing
   record Listed (seen log : List Written) (commands : List Command) : Type 0 where
     at : List Written
@@ -102,7 +123,7 @@ module _ {P : Type 0} (tell : P → PortTrace) (o : Opening) (seat : ℕ) (joine
     legal : is_legal_shared o at ≡ true
     excused : AreExcused seat log
 
-  looked : (seen after : List Written) (op : Op) (ports : List (Talk P)) → switches_of ports ≡ switches → GoesTo final after → AreExcused seat seen → Looks (caller_of o (seat ∷ joined) seat ports) seen (wake.Work op) after → Past seen after × AreExcused seat after
+  looked : (seen after : List Written) (op : Op) (ports : List (Talk P)) → due_of ports ≡ switches → GoesTo final after → AreExcused seat seen → Looks (caller_of o (seat ∷ joined) seat ports) seen (wake.Work op) after → Past seen after × AreExcused seat after
   looked seen after op ports same goes excused call =
       let w = next_note seat call.log what.Work [] in
       let noted = passes-note o homes switches seat call.log after what.Work call.noted in (
@@ -110,7 +131,7 @@ module _ {P : Type 0} (tell : P → PortTrace) (o : Opening) (seat : ℕ) (joine
         excused-note seat call.log after w (excused-past seat joined seen call.log excused call.past) call.noted (plain w refl),
       )
 
-  listed : (seen log : List Written) (op : Op) (commands : List Command) (ports : List (Talk P)) → switches_of ports ≡ switches → GoesTo final log → AreExcused seat seen → Lists (caller_of o (seat ∷ joined) seat ports) op seen commands list.Listed log → Listed seen log commands
+  listed : (seen log : List Written) (op : Op) (commands : List Command) (ports : List (Talk P)) → due_of ports ≡ switches → GoesTo final log → AreExcused seat seen → Lists (caller_of o (seat ∷ joined) seat ports) op seen commands list.Listed log → Listed seen log commands
   listed seen log op commands ports same goes excused lists =
       let call = lists.listed in
       let w = next_note seat call.log what.Listed [] in
@@ -219,7 +240,9 @@ module _ {P : Type 0} (tell : P → PortTrace) (o : Opening) (seat : ℕ) (joine
           let w = next_note seat call.log (what.Turned turn.dones turn.begins) (batch_at o (hist call.log) (told_by settles.told)) in
           let goes_log = goes-before final call.log n.stands.seen (w ∷ []) call.noted goes in
           let goes_works = goes-before final works.log call.log call.past.past call.past.is goes_log in
-          let lists = listed m.stands.seen works.log works.op works.commands m.stands.ports stands.switches_are goes_works stands.excused works.lists in
+          let found = work-found m.stands.seen m.stands.ports m.left m.stands.seen works.commands works.log stands.ports works.found in
+          let due = up-due m.stands.seen m.stands.ports stands.ports ∙ stands.switches_are in
+          let lists = listed m.stands.seen works.log found.op works.commands m.stands.ports due goes_works stands.excused found.lists in
           let legal_log : is_legal_shared o call.log ≡ true = front_is_legal o call.log (w ∷ []) (subst (λ (ws : List Written). is_legal_shared o ws ≡ true) call.noted call.legal) in
           let behind : with_entries (hist call.log) (batch_at o (hist call.log) (told_by settles.told)) ≡ hist n.stands.seen = sym (history-next o call.log w) ∙ ap hist (sym call.noted) in
           let rows = row m.stands.seen works.log works.commands m.stands.ports stands.switches_are stands.ports lists settles.told n.stands.ports settles.exchanges in
@@ -243,29 +266,43 @@ module _ {P : Type 0} (tell : P → PortTrace) (o : Opening) (seat : ℕ) (joine
           counts [] g h is fewer more = let none = ap {B = ℕ} (λ (b : Bool). if b then 1 else 0) is in omega (arith, none, unsettled-later o.rollout h g more)
           counts (c ∷ cs) g h is fewer more = let one = ap {B = ℕ} (λ (b : Bool). if b then 1 else 0) is in omega (arith, one, fewer c cs refl)
 
+    goes-chain : (a b c : List Written) → GoesTo b a → GoesTo c b → GoesTo c a
+    goes-chain a b c first second = goes-before c a b first.0 first.1 second
+
+    goes-look : (seen after : List Written) (op : Op) (ports : List (Talk P)) → Looks (caller_of o (seat ∷ joined) seat ports) seen (wake.Work op) after → GoesTo after seen
+    goes-look seen after op ports call = goes-before after seen call.log call.past.past call.past.is (next_note seat call.log what.Work [] ∷ [], call.noted)
+
+    goes-lists : (seen log : List Written) (op : Op) (commands : List Command) (ports : List (Talk P)) → Lists (caller_of o (seat ∷ joined) seat ports) op seen commands list.Listed log → GoesTo log seen
+    goes-lists seen log op commands ports lists =
+        let call = lists.listed in
+        goes-chain seen lists.awake log (goes-look seen lists.awake op ports lists.looks) (goes-before log lists.awake call.log call.past.past call.past.is (next_note seat call.log what.Listed [] ∷ [], call.noted))
+
+    -- what was seen when something was found
+    goes-found : (m : Moment P) (commands : List Command) (log : List Written) → ListsSome (caller_of o (seat ∷ joined) seat m.stands.ports) m.left m.stands.seen commands log ⊎ ListsNone (caller_of o (seat ∷ joined) seat m.stands.ports) m.left m.stands.seen commands log → GoesTo log m.stands.seen
+    goes-found m commands log (inl found) = goes-lists m.stands.seen log found.op commands m.stands.ports found.lists
+    goes-found m commands log (inr found) = ⊎_elim (λ none. ([], none.1 ∙ sym (append-nil m.stands.seen))) (λ call. (call.past.past, call.noted ∙ call.past.is)) found.looks_on
+
+    -- where a worker stands no switch is late
+    never-late : (m : Moment P) → Stands m → any_late m.stands.ports ≡ true → ⊥
+    never-late m stands late = false≢true (sym (none_late m.stands.ports (up-none m.stands.seen m.stands.ports stands.ports)) ∙ late)
+
     stands-next : (m n : Moment P) → Stands m → Whole tell o (seat ∷ joined) seat migration homes rounds m n → GoesTo final n.stands.seen → Stands n
     stands-next m n stands whole goes =
         ⊎_elim (λ rests. absurd rests.1)
-        (λ works. ⊎_elim (λ settles. turned m n whole.offered stands whole.less goes works settles) (λ breaks. absurd breaks) works.exchanged) whole.worked
+        (λ works. ⊎_elim (λ settles. turned m n whole.offered stands whole.less goes works settles) (λ idle. absurd (never-late m stands idle.late)) works.exchanged) whole.worked
 
     -- what was seen before a round is seen behind it
     goes-whole : (m n : Moment P) → Whole tell o (seat ∷ joined) seat migration homes rounds m n → GoesTo n.stands.seen m.stands.seen
     goes-whole m n whole =
         ⊎_elim (λ rests. absurd rests.1)
-        (λ works. ⊎_elim
+        (λ works.
+        goes-chain m.stands.seen works.log n.stands.seen (goes-found m works.commands works.log works.found)
+        (⊎_elim
         (λ settles.
         let call = settles.settled.1.1 in
-        let lists = works.lists in
-        goes-before n.stands.seen m.stands.seen lists.looks.log lists.looks.past.past lists.looks.past.is
-        (goes-before n.stands.seen lists.looks.log lists.awake (next_note seat lists.looks.log what.Work [] ∷ []) lists.looks.noted
-        (goes-before n.stands.seen lists.awake lists.listed.log lists.listed.past.past lists.listed.past.is
-        (goes-before n.stands.seen lists.listed.log works.log (next_note seat lists.listed.log what.Listed [] ∷ []) lists.listed.noted
-        (goes-before n.stands.seen works.log call.log call.past.past call.past.is
-        (next_note seat call.log (what.Turned settles.settled.1.0.dones settles.settled.1.0.begins) (batch_at o (hist call.log) (told_by settles.told)) ∷ [], call.noted))))))
-        (λ breaks. absurd breaks) works.exchanged) whole.worked
-
-    goes-chain : (a b c : List Written) → GoesTo b a → GoesTo c b → GoesTo c a
-    goes-chain a b c first second = goes-before c a b first.0 first.1 second
+        goes-before n.stands.seen works.log call.log call.past.past call.past.is
+        (next_note seat call.log (what.Turned settles.settled.1.0.dones settles.settled.1.0.begins) (batch_at o (hist call.log) (told_by settles.told)) ∷ [], call.noted))
+        (λ idle. ([], idle.same ∙ sym (append-nil works.log))) works.exchanged)) whole.worked
 
     goes-all : (m : Moment P) (moments : List (Moment P)) (at : Moment P) → AreWhole tell o (seat ∷ joined) seat migration homes rounds m moments at → GoesTo at.stands.seen m.stands.seen
     goes-all m [] at are = subst (λ (n : Moment P). GoesTo n.stands.seen m.stands.seen) (sym are) ([], sym (append-nil m.stands.seen))
@@ -289,14 +326,6 @@ module _ {P : Type 0} (tell : P → PortTrace) (o : Opening) (seat : ℕ) (joine
     goes-works : (m : Moment P) (why : Cause) (now : Standing P) (works : Works tell (caller_of o (seat ∷ joined) seat m.stands.ports) migration homes m.left m.stands (outcome.Stops why) now) → GoesTo now.seen works.log
     goes-works m why now works = ⊎_elim (λ settles. goes-round why (told_by settles.told) works.log now.seen settles.settled) (λ breaks. ([], breaks.0 ∙ sym (append-nil works.log))) works.exchanged
 
-    goes-look : (seen after : List Written) (op : Op) (ports : List (Talk P)) → Looks (caller_of o (seat ∷ joined) seat ports) seen (wake.Work op) after → GoesTo after seen
-    goes-look seen after op ports call = goes-before after seen call.log call.past.past call.past.is (next_note seat call.log what.Work [] ∷ [], call.noted)
-
-    goes-lists : (seen log : List Written) (op : Op) (commands : List Command) (ports : List (Talk P)) → Lists (caller_of o (seat ∷ joined) seat ports) op seen commands list.Listed log → GoesTo log seen
-    goes-lists seen log op commands ports lists =
-        let call = lists.listed in
-        goes-chain seen lists.awake log (goes-look seen lists.awake op ports lists.looks) (goes-before log lists.awake call.log call.past.past call.past.is (next_note seat call.log what.Listed [] ∷ [], call.noted))
-
     goes-rests : (m : Moment P) (why : Cause) (after : List Written) → RestsFor (caller_of o (seat ∷ joined) seat m.stands.ports) m.left rounds m.stands.seen why after → GoesTo after m.stands.seen
     goes-rests m (cause.Spent given item number) after rests = goes-look m.stands.seen after (record { item = item; number = number }) m.stands.ports rests.2
     goes-rests m (cause.Port switch) after rests = absurd rests
@@ -306,10 +335,13 @@ module _ {P : Type 0} (tell : P → PortTrace) (o : Opening) (seat : ℕ) (joine
     goes-rests m cause.Disk after rests = absurd rests
     goes-rests m cause.Memory after rests =
         ⊎_elim
+        (λ same. ([], same ∙ sym (append-nil m.stands.seen)))
+        (λ called. ⊎_elim
         (λ looks. (looks.past.past, looks.noted ∙ looks.past.is))
         (λ lists.
         let call = lists.1.listed in
         goes-chain m.stands.seen lists.1.awake after (goes-look m.stands.seen lists.1.awake lists.0 m.stands.ports lists.1.looks) (call.past.past, call.noted ∙ call.past.is))
+        called)
         rests.1
 
     -- what was seen when it asked is seen behind it
@@ -332,12 +364,12 @@ module _ {P : Type 0} (tell : P → PortTrace) (o : Opening) (seat : ℕ) (joine
         ⊎_elim
         (λ settles.
         let call = settles.settled in
-        goes-chain m.stands.seen works.log now.seen (goes-lists m.stands.seen works.log works.op works.commands m.stands.ports works.lists) (goes-before now.seen works.log call.log call.past.past call.past.is (next_note seat call.log what.Stopped [] ∷ [], call.noted)))
+        goes-chain m.stands.seen works.log now.seen (goes-found m works.commands works.log works.found) (goes-before now.seen works.log call.log call.past.past call.past.is (next_note seat call.log what.Stopped [] ∷ [], call.noted)))
         (λ breaks. absurd breaks) works.exchanged
 
     goes-stops : (m : Moment P) (why : Cause) (now : Standing P) → Worked tell o (seat ∷ joined) seat migration homes rounds m (outcome.Stops why) now → GoesTo now.seen m.stands.seen
     goes-stops m why now (inl rests) = goes-rests m why now.seen rests.1
-    goes-stops m why now (inr works) = goes-chain m.stands.seen works.log now.seen (goes-lists m.stands.seen works.log works.op works.commands m.stands.ports works.lists) (goes-works m why now works)
+    goes-stops m why now (inr works) = goes-chain m.stands.seen works.log now.seen (goes-found m works.commands works.log works.found) (goes-works m why now works)
 
     pub goes-last : (halt : Halt) (m : Moment P) (now : Standing P) → IsLast tell o (seat ∷ joined) seat migration homes rounds m (wake.Stopped halt) now → GoesTo now.seen m.stands.seen
     goes-last halt m now (inl worked) = goes-ended m halt now worked
@@ -349,7 +381,7 @@ module _ {P : Type 0} (tell : P → PortTrace) (o : Opening) (seat : ℕ) (joine
       -- a stop that another's note was, or the seat's with an excuse
       look-excused : (halt : Halt) (seen after : List Written) (ports : List (Talk P)) → AreExcused seat seen → Looks (caller_of o (seat ∷ joined) seat ports) seen (wake.Stopped halt) after → halt.seat ≡ seat → IsExcused halt.cause
       look-excused halt seen after ports excused call mine =
-          first-excused seat call.log halt (excused-past seat joined seen call.log excused call.past) (look-stopped o seat call.log (switches_of ports) halt call.told) mine
+          first-excused seat call.log halt (excused-past seat joined seen call.log excused call.past) (look-stopped o seat call.log (due_of ports) halt call.told) mine
 
       -- a look that found work, where no more is known of what was seen later
       awake-excused : (op : Op) (seen after : List Written) (ports : List (Talk P)) → AreExcused seat seen → Looks (caller_of o (seat ∷ joined) seat ports) seen (wake.Work op) after → AreExcused seat after
@@ -376,13 +408,14 @@ module _ {P : Type 0} (tell : P → PortTrace) (o : Opening) (seat : ℕ) (joine
           ⊎_elim
           (λ settles.
           let call = settles.settled in
-          first-excused seat call.log halt (excused-past seat joined works.log call.log (listed-excused works.op m.stands.seen works.log works.commands m.stands.ports stands.excused works.lists) call.past) call.told mine)
+          let found = work-found m.stands.seen m.stands.ports m.left m.stands.seen works.commands works.log stands.ports works.found in
+          first-excused seat call.log halt (excused-past seat joined works.log call.log (listed-excused found.op m.stands.seen works.log works.commands m.stands.ports stands.excused found.lists) call.past) call.told mine)
           (λ breaks. absurd breaks) works.exchanged
 
       -- the rounds aren't spent while an operation is in flight
       never-spent : (op : Op) (after : List Written) → GoesTo final after → m.left ≡ 0 → Looks (caller_of o (seat ∷ joined) seat m.stands.ports) m.stands.seen (wake.Work op) after → ⊥
       never-spent op after goes none call =
-          let works = look-works o seat call.log (switches_of m.stands.ports) op call.told in
+          let works = look-works o seat call.log (due_of m.stands.ports) op call.told in
           let goes_log = goes-before final call.log after (next_note seat call.log what.Work [] ∷ []) call.noted goes in
           let p = o.rollout.problem in
           let h = hist call.log in
@@ -391,10 +424,10 @@ module _ {P : Type 0} (tell : P → PortTrace) (o : Opening) (seat : ℕ) (joine
           let legal : is_legal_shared o call.log ≡ true = front_is_legal o call.log (next_note seat call.log what.Work [] ∷ []) (subst (λ (ws : List Written). is_legal_shared o ws ≡ true) call.noted call.legal) in
           omega (arith, unsettled-flying o.rollout h op.item (list-is_legal o call.log legal) flying.1 flying.0, passes-unsettled o homes switches m.stands.seen call.log (past-others m.stands.seen call.log goes_log call.past), stands.spent, none, enough)
         where
-          asked-fly : (h : History) → All (λ (x : Op). (flies h x.item ≡ true) × (x.item < item_count o.rollout.problem)) (asked_at o.rollout.problem h (switches_of m.stands.ports))
+          asked-fly : (h : History) → All (λ (x : Op). (flies h x.item ≡ true) × (x.item < item_count o.rollout.problem)) (asked_at o.rollout.problem h (due_of m.stands.ports))
           asked-fly h =
               let items = list_below (item_count o.rollout.problem) (λ n. n) in
-              All-filter (is_asked o.rollout.problem (switches_of m.stands.ports)) (λ (x : Op). (flies h x.item ≡ true) × (x.item < item_count o.rollout.problem)) (in_flight o.rollout.problem h)
+              All-filter (is_asked o.rollout.problem (due_of m.stands.ports)) (λ (x : Op). (flies h x.item ≡ true) × (x.item < item_count o.rollout.problem)) (in_flight o.rollout.problem h)
               (All-map (λ (x : Op). (flies h x.item ≡ true) × (x.item < item_count o.rollout.problem)) (next_op h) (filter (flies h) items)
               (λ k d inside. (filter_passes (flies h) items k d inside, All-filter (flies h) (λ n. n < item_count o.rollout.problem) items (numbers_below (item_count o.rollout.problem)) k d inside)))
 
@@ -409,10 +442,13 @@ module _ {P : Type 0} (tell : P → PortTrace) (o : Opening) (seat : ℕ) (joine
       rests-excused cause.Memory after goes rests = (
         tt,
         ⊎_elim
+            (λ same. subst (AreExcused seat) (sym same) stands.excused)
+            (λ called. ⊎_elim
             (λ looks. subst (AreExcused seat) (sym looks.noted) (excused-past seat joined m.stands.seen looks.log stands.excused looks.past))
             (λ lists.
             let call = lists.1.listed in
             subst (AreExcused seat) (sym call.noted) (excused-past seat joined lists.1.awake call.log (awake-excused lists.0 m.stands.seen lists.1.awake m.stands.ports stands.excused lists.1.looks) call.past))
+            called)
             rests.1,
       )
 
@@ -441,7 +477,7 @@ module _ {P : Type 0} (tell : P → PortTrace) (o : Opening) (seat : ℕ) (joine
           (tt, subst (AreExcused seat) (sym stops.noted) (excused-past seat joined log stops.log lists.excused stops.past))
 
       breaks-excused : (why : Cause) (log after : List Written) (commands : List Command) (ns : List (Talk P)) → Listed m.stands.seen log commands
-          → Breaks tell migration homes commands (record { seen = log; ports = m.stands.ports }) (outcome.Stops why) (record { seen = after; ports = ns }) → IsExcused why × AreExcused seat after
+          → Untold tell migration homes commands (record { seen = log; ports = m.stands.ports }) (outcome.Stops why) (record { seen = after; ports = ns }) → IsExcused why × AreExcused seat after
       breaks-excused why log after commands ns lists breaks = (
         ⊎_elim
             (λ offer. offer-excused tell why m.stands.ports ns offer.cause)
@@ -454,7 +490,9 @@ module _ {P : Type 0} (tell : P → PortTrace) (o : Opening) (seat : ℕ) (joine
       stops-excused why now goes (inl rests) = rests-excused why now.seen goes rests.1
       stops-excused why now goes (inr works) =
           let goes_log : GoesTo final works.log = goes-chain works.log now.seen final (goes-works m why now works) goes in
-          let lists = listed m.stands.seen works.log works.op works.commands m.stands.ports stands.switches_are goes_log stands.excused works.lists in
+          let found = work-found m.stands.seen m.stands.ports m.left m.stands.seen works.commands works.log stands.ports works.found in
+          let due = up-due m.stands.seen m.stands.ports stands.ports ∙ stands.switches_are in
+          let lists = listed m.stands.seen works.log found.op works.commands m.stands.ports due goes_log stands.excused found.lists in
           ⊎_elim
           (λ settles. round-excused why works.log now.seen works.commands now.ports settles.told goes lists settles.exchanges settles.settled)
           (λ breaks. breaks-excused why works.log now.seen works.commands now.ports lists breaks)

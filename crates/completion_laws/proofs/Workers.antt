@@ -1,5 +1,5 @@
 -- A run over ports that are ready: what stops it has an excuse.
-use Rattle.std.proofs.Common.{◌≡◌, ◌≢◌, ◌⊎◌, ℕ, zero, suc, ◌+◌, ◌<◌, ◌≤◌, ◌^◌, true, List, [], ◌∷◌, ◌++◌, map, length, slice_index_or, Option, Some, None, option_map, inl, inr, ⊎_elim, refl, sym, ap, ◌∙◌, subst, arith, if◌then◌else◌}
+use Rattle.std.proofs.Common.{◌≡◌, ◌≢◌, ℕ, zero, suc, ◌<◌, ◌≤◌, true, List, [], ◌∷◌, ◌++◌, map, length, slice_index_or, Option, Some, None, option_map, inl, inr, ⊎_elim, refl, sym, ap, ◌∙◌, subst, arith}
 use Rattle.std.proofs.lemmas.List.Elements.{All-contains, Contains-append_left, Contains-get_or}
 use Rattle.std.proofs.lemmas.List.Sorted.{Contains-permutation, IsPermutation-sym}
 use Rattle.std.proofs.lemmas.Bool.{cases_eq}
@@ -32,7 +32,7 @@ use Rattle.worker_ports.specs.Views.{view}
 use Rattle.controller_run.specs.Promises.{AreAnswered, IsEndAt, Promises, StopsNothing, WasTold, switches_of}
 use Rattle.controller_run.specs.Serving.{Served}
 use Rattle.controller_run.proofs.Keeps.{serves-keeps}
-use Rattle.controller_run.proofs.Elements.{inside-later}
+use Rattle.controller_run.proofs.Elements.{inside-later, map-has}
 use Rattle.controller_run.proofs.Quiet.{quiet-first}
 use Rattle.rollout_run.specs.Shifts.{IsEarlyCause, IsShift, Returns, Shift}
 use Rattle.rollout_run.specs.Together.{given_ports}
@@ -40,11 +40,10 @@ use Rattle.rollout_run.proofs.Keeping.{keeps}
 use Rattle.rollout_run.proofs.Ports.{in_all, of_one}
 use Rattle.completion_laws.specs.Answering.{IsReady, IsUpToDate}
 use Rattle.completion_laws.specs.Faults.{IsExcused}
-use Rattle.completion_laws.specs.Finishing.{AreServedApart, IsOfWorkers, IsSure}
+use Rattle.completion_laws.specs.Finishing.{AreServedApart, IsOfWorkers, IsProvided}
 use Rattle.completion_laws.specs.Turns.{OthersEndElsewhere}
 use Rattle.completion_laws.proofs.Passing.{Passes, passes-unsettled, passes-up}
 use Rattle.completion_laws.proofs.Readied.{ready-up}
-use Rattle.completion_laws.proofs.RowTurns.{map-has}
 use Rattle.completion_laws.proofs.WholeRounds.{worker-excused}
 use Rattle.completion_laws.proofs.Stopping.{excused-quiet}
 
@@ -83,7 +82,7 @@ early-excused seen cause.Disk early = tt
 early-excused seen cause.Memory early = tt
 
 -- ---- a worker
-module _ {P : Type 0} (tell : P → PortTrace) (o : Opening) (migration : ℕ) (homes : List (Option ℕ)) (rounds : ℕ) (same_homes : homes ≡ homes_of o.rollout.problem) (log : List Written) (legal : is_legal_shared o log ≡ true) (opened : List (Talk P)) (sure : IsSure tell o migration homes rounds opened)
+module _ {P : Type 0} (tell : P → PortTrace) (o : Opening) (migration : ℕ) (homes : List (Option ℕ)) (rounds : ℕ) (same_homes : homes ≡ homes_of o.rollout.problem) (log : List Written) (legal : is_legal_shared o log ≡ true) (opened : List (Talk P)) (sure : IsProvided tell o migration homes rounds opened)
     (s : Shift P) (shift : IsShift tell o migration homes rounds log s) (elsewhere : OthersEndElsewhere homes (switches_of s.given.before.ports) s.given.seat log) (among : (t : Talk P) → Contains s.given.before.ports t → Contains opened t) where
   abbrev seat : ℕ
   seat = s.given.seat
@@ -166,7 +165,7 @@ one-told tell migration switch answer (b ∷ bs) (n ∷ ns) (inl here) = (0, ome
 one-told tell migration switch answer (b ∷ bs) (n ∷ ns) (inr later) = inside-later b.switch switch (switches_of bs) (one-told tell migration switch answer bs ns later)
 
 -- ---- all of them
-module _ {P : Type 0} (tell : P → PortTrace) (o : Opening) (migration : ℕ) (homes : List (Option ℕ)) (rounds : ℕ) (same_homes : homes ≡ homes_of o.rollout.problem) (log : List Written) (legal : is_legal_shared o log ≡ true) (opened : List (Talk P)) (sure : IsSure tell o migration homes rounds opened)
+module _ {P : Type 0} (tell : P → PortTrace) (o : Opening) (migration : ℕ) (homes : List (Option ℕ)) (rounds : ℕ) (same_homes : homes ≡ homes_of o.rollout.problem) (log : List Written) (legal : is_legal_shared o log ≡ true) (opened : List (Talk P)) (sure : IsProvided tell o migration homes rounds opened)
     (one : IsOfWorkers tell o migration homes rounds opened log) where
   abbrev shifts : List (Shift P)
   shifts = one.worked.shifts

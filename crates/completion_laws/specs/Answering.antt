@@ -13,7 +13,7 @@ use Rattle.worker_ports.specs.Views.{PortView}
 use Rattle.switch_laws.specs.Runs.{StartsAsFound}
 
 -- A port as a run must find it to be sure that it finishes. It is found as the history allows; it is prompt, tells all, and keeps to what a prompt
--- port keeps to; and none of its answers is still to come.
+-- port keeps to; none of its answers is still to come, and none is awaited.
 pub record IsReady (r : Rollout) (migration : ℕ) (homes : List (Option ℕ)) (found : History) (first : PortView) : Type 0 where
   pub starts : StartsAsFound r migration homes found first
   pub prompt : IsTrue first.port.prompt
@@ -22,9 +22,10 @@ pub record IsReady (r : Rollout) (migration : ℕ) (homes : List (Option ℕ)) (
   pub held : IsTrue (is_some first.port.held)
   pub in_order : IsPromptState first.port.start first.port.offered first.port.heard first.port.held
   pub no_more : NothingToCome first.port.start first.port.offered first.port.heard
+  pub none_owed : first.stream.awaited ≡ 0
 
 -- A prompt port that has answered all. It tells everything; these whole commands were offered, its switch has carried out all of them in order, and
--- what was heard is the answers to them, none of which is kept half read.
+-- what was heard is the answers to them, none of which is kept half read or awaited: the switch isn't late.
 pub record HasAnswered (commands : List CommandFrame) (now : PortView) : Type 0 where
   pub prompt : IsTrue now.port.prompt
   pub fit : All IsCommand commands
@@ -32,6 +33,7 @@ pub record HasAnswered (commands : List CommandFrame) (now : PortView) : Type 0 
   pub heard : now.port.heard ≡ Some (flat_map answer_bytes (answers_to now.port.start commands))
   pub held : now.port.held ≡ Some (after_commands now.port.start commands)
   pub none_kept : now.stream.kept ≡ []
+  pub none_owed : now.stream.awaited ≡ 0
 
 -- the answer that says that the operation of a command was carried out, and no later one
 abbrev pub answer_for : Command → Answer

@@ -33,6 +33,14 @@ pub record IsSure {P : Type 0} (tell : P → PortTrace) (o : Opening) (migration
   pub enough : unsettled o.rollout.problem o.rollout.plan o.found ≤ rounds
   pub free : HoldsNothing o.policy
 
+-- The same but for the policy: such a run ends, whatever its policy holds back.
+pub record IsProvided {P : Type 0} (tell : P → PortTrace) (o : Opening) (migration : ℕ) (homes : List (Option ℕ)) (rounds : ℕ) (opened : List (Talk P)) : Type 0 where
+  pub network : IsNetwork o.rollout.problem
+  pub plan : IsTrue (is_valid_plan o.rollout.problem o.rollout.plan)
+  pub small : migration < 2 ^ 32
+  pub ready : All (λ t. IsReady o.rollout migration homes o.found (view tell t)) opened
+  pub enough : unsettled o.rollout.problem o.rollout.plan o.found ≤ rounds
+
 -- a stop for want of memory, and for nothing else
 abbrev pub IsWant : Cause → Type 0
 IsWant (cause.Spent given item number) = ⊥
@@ -58,6 +66,14 @@ FinishesOrIsExcused run.Held = ⊥
 FinishesOrIsExcused (run.Stopped halt) = IsExcused halt.cause
 FinishesOrIsExcused (run.NoPort switch) = ⊥
 FinishesOrIsExcused run.Memory = ⊤
+
+-- a run that has finished or was held by its policy, was stopped where the disk or a port failed, or ended for want of memory
+abbrev pub EndsOrIsExcused : RunEnd → Type 0
+EndsOrIsExcused run.Finished = ⊤
+EndsOrIsExcused run.Held = ⊤
+EndsOrIsExcused (run.Stopped halt) = IsExcused halt.cause
+EndsOrIsExcused (run.NoPort switch) = ⊥
+EndsOrIsExcused run.Memory = ⊤
 
 -- The ports of workers with different seats are to different switches.
 abbrev pub AreServedApart : {P : Type 0} → List (Shift P) → Type 0

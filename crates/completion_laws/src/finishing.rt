@@ -17,7 +17,7 @@ ghost use Rattle.rollout_run.specs.Together.{given_ports};
 ghost use Rattle.rollout_run.specs.declared.end.RunEnd.{RunEnd};
 ghost use Rattle.rollout_run.specs.declared.end.RunEnd.TheVariants as run;
 ghost use Rattle.completion_laws.specs.Faults.{IsWithoutFault};
-ghost use Rattle.completion_laws.specs.Finishing.{AreServedApart, FinishesOrIsExcused, FinishesOrWants, IsSure};
+ghost use Rattle.completion_laws.specs.Finishing.{AreServedApart, EndsOrIsExcused, FinishesOrIsExcused, FinishesOrWants, IsProvided, IsSure};
 
 use disk_model::Disk;
 use wan_edge::Port;
@@ -31,6 +31,16 @@ pub fn a_run_over_ready_ports_stops_for_an_excuse<D: Disk, T: Port>()
         (ran : Ran D.told T.told o from count migration rounds homes before end book now)
         → IsSure T.told o migration (homes_of o.rollout.problem) rounds (first_talks ran.berths)
         → FinishesOrIsExcused end }
+{}
+
+/// Whatever its policy, a run over ports that are ready, with a round for each operation that isn't settled,
+/// finishes, or is held by its policy, or ends for such an excuse.
+pub fn a_run_over_ready_ports_ends_for_an_excuse<D: Disk, T: Port>()
+    ensures { (o : Opening) (from count migration rounds : ℕ) (homes : List ℕ)
+        (before : FleetPorts T) (end : RunEnd) (book : Chronicled D) (now : FleetPorts T)
+        (ran : Ran D.told T.told o from count migration rounds homes before end book now)
+        → IsProvided T.told o migration (homes_of o.rollout.problem) rounds (first_talks ran.berths)
+        → EndsOrIsExcused end }
 {}
 
 /// So where no count of faults has risen such a run finishes, or ends for want of memory.

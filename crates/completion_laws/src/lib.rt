@@ -17,9 +17,9 @@ mod worked;
 
 pub use faults::a_run_without_faults_is_stopped_by_none;
 pub use finishing::{
-    a_held_run_is_held_by_its_policy, a_run_over_ready_ports_finishes,
-    a_run_over_ready_ports_stops_for_an_excuse, one_worker_serves_apart,
-    ports_that_are_apart_are_served_apart,
+    a_held_run_is_held_by_its_policy, a_run_over_ready_ports_ends_for_an_excuse,
+    a_run_over_ready_ports_finishes, a_run_over_ready_ports_stops_for_an_excuse,
+    one_worker_serves_apart, ports_that_are_apart_are_served_apart,
 };
 pub use ports::{a_port_that_is_up_to_date_answers_each_command, a_ready_port_is_up_to_date};
 pub use rounds::{a_worker_stops_for_an_excuse, each_round_settles_an_operation};

@@ -9,7 +9,7 @@ use Rattle.worker_ports.specs.Lots.{home_at, home_in, is_switch, own}
 use Rattle.controller_run.proofs.Chains.{is-home}
 use Rattle.controller_run.proofs.Elements.{inside-cons, inside-later, none-inside}
 
-read-home : (homes : List (Option ℕ)) (n : ℕ) → home_in (slice_get homes n) ≡ get_or homes n None
+pub read-home : (homes : List (Option ℕ)) (n : ℕ) → home_in (slice_get homes n) ≡ get_or homes n None
 read-home [] n = refl
 read-home (home ∷ homes) zero = refl
 read-home (home ∷ homes) (suc n) = read-home homes n

@@ -25,7 +25,7 @@ use Rattle.shared_history.proofs.Lists.{list-is_legal}
 use Rattle.shared_history.proofs.Stops.{added-append}
 use Rattle.shared_book.specs.Told.{commands_at}
 use Rattle.controller_run.proofs.Elements.{any-found, none-inside}
-use Rattle.controller_run.specs.Promises.{IsListedIn, IsOfBegun, listed_at, listed_by, says_listed}
+use Rattle.controller_run.specs.Promises.{AreListed, IsListedAt, IsListedIn, IsOfBegun, says_listed}
 
 -- ---- the note by which a command was listed
 says-listed : (said : What) → says_listed said ≡ true → said ≡ what.Listed
@@ -44,28 +44,37 @@ inside-if true cs c at = (refl, at)
 inside-if false cs c at = absurd (none-inside c at)
 
 module _ (o : Opening) (seat : ℕ) (switches : List ℕ) where
-  here : (log later : List Written) (w : Written) (c : Command) → Contains (listed_at o seat switches log w) c → IsListedIn o seat switches (log ++ w ∷ later) c
-  here log later w c mine =
-      let both = inside-if ((w.note.seat == seat) && says_listed w.note.what) (commands_at o log switches) c mine in
+  here : (log later : List Written) (w : Written) (mine : List Command) (c : Command) → IsListedAt o seat switches log w mine → Contains mine c → IsListedIn o seat switches (log ++ w ∷ later) c
+  here log later w mine c at inside =
+      let both = inside-if ((w.note.seat == seat) && says_listed w.note.what) (commands_at o log at.asked) c (subst (λ (cs : List Command). Contains cs c) at.is inside) in
       let parts = and_parts (w.note.seat == seat) (says_listed w.note.what) both.0 in
-      record { log = log; note = w; later = later; is = refl; own = eqb-true w.note.seat seat parts.0; says = says-listed w.note.what parts.1; among = both.1 }
+      record { log = log; note = w; later = later; is = refl; own = eqb-true w.note.seat seat parts.0; says = says-listed w.note.what parts.1; asked = at.asked; some = at.some; among = both.1 }
 
   behind : (log later : List Written) (w : Written) (c : Command) → IsListedIn o seat switches ((log ++ w ∷ []) ++ later) c → IsListedIn o seat switches (log ++ w ∷ later) c
-  behind log later w c found =
-      record { log = found.log; note = found.note; later = found.later; is = sym (append_assoc log (w ∷ []) later) ∙ found.is; own = found.own; says = found.says; among = found.among }
+  behind log later w c found = record {
+    log = found.log;
+    note = found.note;
+    later = found.later;
+    is = sym (append_assoc log (w ∷ []) later) ∙ found.is;
+    own = found.own;
+    says = found.says;
+    asked = found.asked;
+    some = found.some;
+    among = found.among;
+  }
 
-  pub listed-in : (log more : List Written) (c : Command) → Contains (listed_by o seat switches log more) c → IsListedIn o seat switches (log ++ more) c
-  listed-in log [] c at = absurd (none-inside c at)
-  listed-in log (w ∷ later) c at =
-      ⊎_elim (here log later w c) (λ (theirs : Contains (listed_by o seat switches (log ++ w ∷ []) later) c). behind log later w c (listed-in (log ++ w ∷ []) later c theirs))
-      (Contains-append_cases (listed_at o seat switches log w) (listed_by o seat switches (log ++ w ∷ []) later) c at)
+  pub listed-in : (log more : List Written) (listed : List Command) (rounds : ℕ) (c : Command) → AreListed o seat switches log more listed rounds → Contains listed c → IsListedIn o seat switches (log ++ more) c
+  listed-in log [] listed rounds c lists at = absurd (none-inside c (subst (λ (cs : List Command). Contains cs c) lists.0 at))
+  listed-in log (w ∷ later) listed rounds c lists at =
+      ⊎_elim (λ (mine : Contains lists.0 c). here log later w lists.0 c lists.3 mine) (λ (theirs : Contains lists.1 c). behind log later w c (listed-in (log ++ w ∷ []) later lists.1 lists.2 c lists.6 theirs))
+      (Contains-append_cases lists.0 lists.1 c (subst (λ (cs : List Command). Contains cs c) lists.4 at))
 
 -- ---- an operation in flight was begun
 -- the home for which a test passes is among the switches
 any-inside : (home : ℕ) (switches : List ℕ) → list_any (λ w. w == home) switches ≡ true → Contains switches home
 any-inside home switches e = let found = any-found (λ w. w == home) switches e in subst (Contains switches) (eqb-true found.0 home found.2) found.1
 
-home-among : (switches : List ℕ) (home : Option ℕ) → is_among switches home ≡ true → (switch : ℕ) × (home ≡ Some switch) × Contains switches switch
+pub home-among : (switches : List ℕ) (home : Option ℕ) → is_among switches home ≡ true → (switch : ℕ) × (home ≡ Some switch) × Contains switches switch
 home-among switches None e = absurd (false≢true e)
 home-among switches (Some home) e = (home, refl, any-inside home switches e)
 
@@ -103,17 +112,18 @@ begun-stays o log later e at =
     ap (λ (es : List Entry). mine ++ es) (added-append o log later) ∙ sym (append_assoc mine (added log) (added later)) in
     subst (λ (es : List Entry). Contains es e) (sym is) (Contains-append_left (mine ++ added log) (added later) e at)
 
-pub listed-begun : (o : Opening) (seat : ℕ) (switches : List ℕ) (log more : List Written) (c : Command) → is_legal_shared o (log ++ more) ≡ true → Contains (listed_by o seat switches log more) c → IsOfBegun o switches (history_of o (log ++ more)) c
-listed-begun o seat switches log more c legal at =
-    let found = listed-in o seat switches log more c at in
+pub listed-begun : (o : Opening) (seat : ℕ) (switches : List ℕ) (log more : List Written) (listed : List Command) (rounds : ℕ) (c : Command) → is_legal_shared o (log ++ more) ≡ true → AreListed o seat switches log more listed rounds → Contains listed c
+    → IsOfBegun o switches (history_of o (log ++ more)) c
+listed-begun o seat switches log more listed rounds c legal lists at =
+    let found = listed-in o seat switches log more listed rounds c lists at in
     let at_front : is_legal_shared o found.log ≡ true = front_is_legal o found.log (found.note ∷ found.later) (subst (λ (ws : List Written). is_legal_shared o ws ≡ true) found.is legal) in
-    let all = all-begun o switches (history_of o found.log) (list-is_legal o found.log at_front) in
-    let mine = All-contains (IsOfBegun o switches (history_of o found.log)) (commands_at o found.log switches) c all found.among in
+    let all = all-begun o found.asked (history_of o found.log) (list-is_legal o found.log at_front) in
+    let mine = All-contains (IsOfBegun o found.asked (history_of o found.log)) (commands_at o found.log found.asked) c all found.among in
     record {
       op = mine.op;
       is = mine.is;
       begun = subst (λ (ws : List Written). Contains (history_of o ws).entries (Begin mine.op)) (sym found.is) (begun-stays o found.log (found.note ∷ found.later) (Begin mine.op) mine.begun);
       switch = mine.switch;
       home = mine.home;
-      among = mine.among;
+      among = All-contains (Contains switches) found.asked mine.switch found.some mine.among;
     }

@@ -1,7 +1,9 @@
 -- Whose the first stop is that ends a worker, and why.
-use Rattle.std.proofs.Common.{◌≡◌, ◌≢◌, ◌⊎◌, ℕ, ◌+◌, ◌<◌, ◌≤◌, Bool, List, [], ◌∷◌, ◌++◌, map, All, Option, Some, None, refl, sym, ap, ◌∙◌, ⊎_elim, inl, inr, subst, arith, append_assoc, if◌then◌else◌}
+use Rattle.std.proofs.Common.{◌≡◌, ◌≢◌, ◌⊎◌, ℕ, ◌+◌, ◌<◌, ◌≤◌, Bool, false, List, [], ◌∷◌, ◌++◌, map, All, Option, Some, None, refl, sym, ap, ◌∙◌, ⊎_elim, inl, inr, subst, arith, append_assoc, slice_index_or, if◌then◌else◌}
+use Rattle.std.proofs.lemmas.List.Elements.{Contains-get_or}
 use Rattle.std.specs.List.{AllZip, Contains}
 use Rattle.std.specs.Prelude.{IsTrue}
+use Rattle.rollout_rules.specs.History.{settled}
 use Rattle.rollout_rules.specs.declared.op.Op.{Op}
 use Rattle.rollout_rules.specs.declared.op.Entry.{Entry}
 use Rattle.wan_edge.specs.Frames.{Answer, Command}
@@ -26,6 +28,7 @@ use Rattle.shared_history.specs.Replies.{asked_at, batch_at, halt_or}
 use Rattle.shared_history.proofs.Stops.{first_stop-stays}
 use Rattle.shared_book.specs.Calls.{IsRoundCall, IsStopCall}
 use Rattle.shared_book.specs.declared.reply.RoundReply.TheVariants as round
+use Rattle.worker_ports.specs.Due.{any_late, due_of}
 use Rattle.worker_ports.specs.Hearing.{IsHearCause}
 use Rattle.worker_ports.specs.Lots.{own}
 use Rattle.worker_ports.specs.Offering.{IsOfferCause, OffersAll}
@@ -34,16 +37,20 @@ use Rattle.worker_ports.specs.Stories.{Story, StoryEach}
 use Rattle.worker_ports.specs.Views.{view}
 use Rattle.controller_run.specs.Exchanging.{StopsInHear, StopsInOffer}
 use Rattle.controller_run.specs.Finding.{Lists, Looks}
-use Rattle.controller_run.specs.Promises.{IsToldAtHome, StopsNothing, switches_of}
-use Rattle.controller_run.specs.Reasons.{FailedAt, HasFailed, IsReason}
+use Rattle.controller_run.specs.Promises.{AreListed, IsToldAtHome, StopsNothing, switches_of}
+use Rattle.controller_run.specs.Reasons.{AreHeardOut, FailedAt, HasCome, HasFailed, IsReason}
 use Rattle.controller_run.specs.Serving.{HasStopped, IsLast, Moment, Served, caller_of}
 use Rattle.controller_run.specs.Settling.{StopsRound}
 use Rattle.controller_run.specs.Working.{RestsFor, Settles, Standing, Works, is_some_command}
 use Rattle.controller_run.specs.declared.outcome.Outcome.{Outcome}
 use Rattle.controller_run.specs.declared.outcome.Outcome.TheVariants as outcome
+use Rattle.worker_ports.proofs.Lateness.{all_due}
+use Rattle.controller_run.proofs.Enough.{owed-come}
+use Rattle.controller_run.proofs.HeardOut.{IsRow, row-of}
+use Rattle.controller_run.proofs.Passed.{asked-next, passed-behind}
 use Rattle.controller_run.proofs.Answered.{told-answer}
 use Rattle.controller_run.proofs.Endings.{first-stops, list-stopped, look-stopped, look-works}
-use Rattle.controller_run.proofs.Keeps.{Adds, IsWork, hear-breaks, lists-first, no-one, quiet-here, rests-add, rests-quiet, round-adds, seats, stop-adds, stop-ends, ws}
+use Rattle.controller_run.proofs.Keeps.{Adds, IsWork, hear-breaks, no-one, quiet-here, rests-add, rests-quiet, round-adds, seats, stop-adds, stop-ends, ws}
 use Rattle.controller_run.proofs.Noted.{looked, then-none}
 use Rattle.controller_run.proofs.Ports.{GoOn, home-now, hear-goes, offer-goes, one-behind, same-switches, zip-chain, zip-weaker}
 use Rattle.controller_run.proofs.Quiet.{quiet-first, quiet-past}
@@ -99,7 +106,11 @@ module _ {P : Type 0} (tell : P → PortTrace) (o : Opening) (seat : ℕ) (joine
   abbrev Reasons : Cause → Standing P → Type 0
   Reasons why now = IsReason tell o seat migration homes rounds before why now
 
-  module _ (at : Moment P) (reaches : Reaches tell o seat joined migration homes before rounds at) where
+  -- the rounds so far, each heard out, and how many of them offered commands
+  abbrev Row : Moment P → Type 0
+  Row m = IsRow tell o (seat ∷ joined) seat migration homes rounds (record { stands = before; left = rounds }) m
+
+  module _ (at : Moment P) (reaches : Reaches tell o seat joined migration homes before rounds at) (row : Row at) where
     abbrev Mine : Outcome → Standing P → Type 0
     Mine given now = IsWork tell o seat joined migration homes rounds before quiet_before at reaches given now
 
@@ -107,35 +118,55 @@ module _ {P : Type 0} (tell : P → PortTrace) (o : Opening) (seat : ℕ) (joine
     Adding ports seen after = Tally o seat (switches_of before.ports) (Answers tell o seat joined migration homes before ports) seen after [] 0
 
     -- ---- a last round in which nothing went out
-    spent-reason : (given : ℕ) (op : Op) (log seen : List Written) → at.left ≡ 0 → given ≡ rounds → Looks (caller_of o (seat ∷ joined) seat at.stands.ports) at.stands.seen (wake.Work op) log → Adding at.stands.ports log seen
+    spent-reason : (given : ℕ) (op : Op) (log seen : List Written) → at.left ≡ 0 → given ≡ rounds → Looks (caller_of o (seat ∷ joined) seat at.stands.ports) at.stands.seen (wake.Work op) log → any_late at.stands.ports ≡ false → Adding at.stands.ports log seen
         → Reasons (cause.Spent given op.item op.number) (record { seen = seen; ports = at.stands.ports })
-    spent-reason given op log seen none given_is call adds =
+    spent-reason given op log seen none given_is call prompt adds =
         let ps = at.stands.ports in
         let sw = switches_of before.ports in
+        let due = due_of ps in
+        let all_are = all_due ps prompt in
+        let all_first : due ≡ sw = all_are.due ∙ same-switches tell migration homes reaches.commands before.ports ps reaches.story in
         let G = Answers tell o seat joined migration homes before ps in
         let plain = λ (l : List Written) (said : What) (quiet : cause_of said ≡ None). plain-answers tell o seat joined migration homes before ps l said in
         let first = tally-weaker o seat sw (Good tell o seat joined migration homes before ps) G before.seen at.stands.seen reaches.commands reaches.count (λ w good. good.0) reaches.tally in
-        let mid = then-none o seat joined sw G plain before.seen at.stands.seen log reaches.commands reaches.count first (looked o seat joined sw G plain (switches_of ps) (wake.Work op) at.stands.seen log call) in
+        let mid = then-none o seat joined sw G plain before.seen at.stands.seen log reaches.commands reaches.count first (looked o seat joined sw G plain due (wake.Work op) at.stands.seen log call) in
         let all = then-none o seat joined sw G plain before.seen log seen reaches.commands reaches.count mid adds in
-        let found = look-works o seat call.log (switches_of ps) op call.told in
+        let found = look-works o seat call.log due op call.told in
         let note = next_note seat call.log what.Work [] in
-        let counted = all.counted in
         let had = reaches.left in
+        let all_given : reaches.count ≡ rounds = omega (arith, had, none) in
+        let count = row.less in
+        let spent : row.used ≡ rounds = omega (arith, count, none) in
+        let h = history_of o call.log in
+        let flying : Contains (asked_at o.rollout.problem h sw) op
+        = subst (λ (ws : List ℕ). Contains (asked_at o.rollout.problem h ws) op) all_first
+        (subst (λ (ops : List Op). Contains ops op) (sym found.2) (0, omega arith, refl)) in
+        let next = asked-next o.rollout.problem h sw op flying in
         record {
           given_is = given_is;
           more = all.more;
           goes_on = all.is;
-          used = omega (arith, counted, had, none);
-          sent = subst (λ (cs : List Command). StoryEach tell migration homes cs before.ports ps) (sym all.listed) reaches.story;
+          listed = reaches.commands;
+          lists = subst (λ (n : ℕ). AreListed o seat sw before.seen all.more reaches.commands n) all_given all.lists;
+          sent = reaches.story;
+          due = prompt;
+          rows = row.rows;
+          told = row.told;
+          heard_out = subst (λ (n : ℕ). AreHeardOut tell migration homes row.rows n row.told before.ports ps) spent row.heard_out;
+          uncovered = λ k d inside same.
+              let a = slice_index_or row.told k d in
+              let passed = passed-behind o at.stands.seen call.log call.past.past call.past.is a (row.passed a (Contains-get_or row.told k d inside)) in
+              let few : a.held ≤ settled h op.item = subst (λ (n : ℕ). a.held ≤ settled h n) same passed in
+              omega (arith, few, next);
+          come = λ same. subst (λ (n : ℕ). HasCome tell n before.ports ps) spent (owed-come tell row.used before.ports ps all_are.none (row.come same));
           log = call.log;
           later = note ∷ adds.more;
           is = adds.is ∙ ap (λ (ws : List Written). ws ++ adds.more) call.noted ∙ append_assoc call.log (note ∷ []) adds.more;
-          flies = subst (λ (ws : List ℕ). Contains (asked_at o.rollout.problem (history_of o call.log) ws) op) (same-switches tell migration homes reaches.commands before.ports ps reaches.story)
-              (subst (λ (ops : List Op). Contains ops op) (sym found.2) (0, omega arith, refl));
+          flies = flying;
         }
 
     rest-reason : (why : Cause) (log seen : List Written) → RestsFor (caller_of o (seat ∷ joined) seat at.stands.ports) at.left rounds at.stands.seen why log → Adding at.stands.ports log seen → Reasons why (record { seen = seen; ports = at.stands.ports })
-    rest-reason (cause.Spent given item number) log seen rests adds = spent-reason given (record { item = item; number = number }) log seen rests.0 rests.1 rests.2 adds
+    rest-reason (cause.Spent given item number) log seen rests adds = spent-reason given (record { item = item; number = number }) log seen rests.0 rests.1 rests.2 rests.3 adds
     rest-reason (cause.Port switch) log seen rests adds = absurd rests
     rest-reason (cause.Above item held begun) log seen rests adds = absurd rests
     rest-reason (cause.NotMine switch item) log seen rests adds = absurd rests
@@ -273,7 +304,7 @@ module _ {P : Type 0} (tell : P → PortTrace) (o : Opening) (seat : ℕ) (joine
     quiet-at = quiet-here tell o seat joined migration homes rounds before quiet_before at.stands.ports at.stands.seen reaches.commands reaches.count reaches.tally
 
     looks-other : (halt : Halt) (after : List Written) → Looks (caller_of o (seat ∷ joined) seat at.stands.ports) at.stands.seen (wake.Stopped halt) after → halt.seat ≢ seat
-    looks-other halt after call = quiet-first seat call.log halt (quiet-past seat joined at.stands.seen call.log quiet-at call.past) (look-stopped o seat call.log (switches_of at.stands.ports) halt call.told)
+    looks-other halt after call = quiet-first seat call.log halt (quiet-past seat joined at.stands.seen call.log quiet-at call.past) (look-stopped o seat call.log (due_of at.stands.ports) halt call.told)
 
     lists-other : (halt : Halt) (after : List Written) (op : Op) (commands : List Command) → Lists (caller_of o (seat ∷ joined) seat at.stands.ports) op at.stands.seen commands (list.Stopped halt) after → halt.seat ≢ seat
     lists-other halt after op commands lists =
@@ -283,7 +314,7 @@ module _ {P : Type 0} (tell : P → PortTrace) (o : Opening) (seat : ℕ) (joine
         let good = plain-good tell o seat joined migration homes before ps in
         let call = lists.listed in
         let awake = quiet-here tell o seat joined migration homes rounds before quiet_before ps lists.awake reaches.commands reaches.count
-        (then-none o seat joined sw G good before.seen at.stands.seen lists.awake reaches.commands reaches.count reaches.tally (looked o seat joined sw G good (switches_of ps) (wake.Work op) at.stands.seen lists.awake lists.looks)) in
+        (then-none o seat joined sw G good before.seen at.stands.seen lists.awake reaches.commands reaches.count reaches.tally (looked o seat joined sw G good (due_of ps) (wake.Work op) at.stands.seen lists.awake lists.looks)) in
         quiet-first seat call.log halt (quiet-past seat joined lists.awake call.log awake call.past) (list-stopped o seat call.log halt call.told)
 
     round-other : (halt : Halt) (now : Standing P) (works : Mine (outcome.Ended (wake.Stopped halt)) now) → Settles tell o (seat ∷ joined) seat migration homes works.commands (record { seen = works.log; ports = at.stands.ports }) (outcome.Ended (wake.Stopped halt)) now → halt.seat ≢ seat
@@ -302,4 +333,5 @@ module _ {P : Type 0} (tell : P → PortTrace) (o : Opening) (seat : ℕ) (joine
   pub serves-reason : (halt : Halt) (now : Standing P) → All (λ t. IsTrue t.stream.live) before.ports → Served tell o (seat ∷ joined) seat migration homes rounds before (wake.Stopped halt) now → halt.seat ≡ seat → Reasons halt.cause now
   serves-reason halt now live served mine =
       last-reason served.at
-      (reaches-all tell o seat joined migration homes before rounds (record { stands = before; left = rounds }) served.moments served.at (reaches-first tell o seat joined migration homes before rounds live) served.whole) halt now served.last mine
+      (reaches-all tell o seat joined migration homes before rounds (record { stands = before; left = rounds }) served.moments served.at (reaches-first tell o seat joined migration homes before rounds live) served.whole)
+      (row-of tell o (seat ∷ joined) seat migration homes rounds served.moments (record { stands = before; left = rounds }) served.at served.whole) halt now served.last mine

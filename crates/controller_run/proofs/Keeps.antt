@@ -14,7 +14,6 @@ use Rattle.shared_history.specs.declared.note.What.{What}
 use Rattle.shared_history.specs.declared.note.What.TheVariants as what
 use Rattle.shared_history.specs.declared.note.Written.{Written}
 use Rattle.shared_history.specs.declared.reply.Halt.{Halt}
-use Rattle.shared_history.specs.declared.reply.ListReply.{ListReply}
 use Rattle.shared_history.specs.declared.reply.ListReply.TheVariants as list
 use Rattle.shared_history.specs.declared.reply.Wake.{Wake}
 use Rattle.shared_history.specs.declared.reply.Wake.TheVariants as wake
@@ -32,20 +31,21 @@ use Rattle.worker_ports.specs.Rows.{AtOne, IsCauseOfHear, IsCauseOfOffer}
 use Rattle.worker_ports.specs.Stories.{LastStoryEach, StoryEach}
 use Rattle.worker_ports.specs.Views.{view}
 use Rattle.controller_run.specs.Exchanging.{StopsInHear, StopsInOffer}
-use Rattle.controller_run.specs.Finding.{EndsAt, Lists, Looks, Wants}
+use Rattle.worker_ports.specs.Due.{any_late, due_of}
+use Rattle.controller_run.specs.Finding.{Lists, Looks}
 use Rattle.controller_run.specs.Promises.{BreaksOff, IsBreak, IsEndAt, Promises, StopsNothing, UnlessStopped, switches_of}
 use Rattle.controller_run.specs.Serving.{HasStopped, IsLast, Moment, Served, Worked, caller_of}
-use Rattle.controller_run.specs.Working.{Breaks, Rests, RestsFor, Settles, Standing, Works, is_some_command}
+use Rattle.controller_run.specs.Working.{ListsNone, ListsSome, RestsFor, Settles, Standing, Works, is_some_command}
 use Rattle.controller_run.specs.Settling.{StopsRound}
 use Rattle.controller_run.specs.declared.outcome.Outcome.{Outcome}
 use Rattle.controller_run.specs.declared.outcome.Outcome.TheVariants as outcome
 use Rattle.controller_run.proofs.Chains.{stories_end_in_hear, stories_end_in_offer}
 use Rattle.controller_run.proofs.Endings.{ends-finished, ends-held, first-stops, list-stopped, look-stopped, still-stopped, stop-first}
-use Rattle.controller_run.proofs.Noted.{caller, listed, listed-none, listed-stopped, looked, then-none, unnoted}
+use Rattle.controller_run.proofs.Noted.{listed, listed-none, listed-stopped, looked, then-none, unnoted}
 use Rattle.controller_run.proofs.Ports.{GoOn, hear-goes, last-of, offer-goes}
 use Rattle.controller_run.proofs.Quiet.{IsQuiet, quiet-asks-not, quiet-past}
-use Rattle.controller_run.proofs.Reaches.{Answers, Good, Reaches, batch-answers, exchanged, lists-at-first, plain-answers, plain-good, reaches-all, reaches-first, so-far, story-on}
-use Rattle.controller_run.proofs.Tallies.{Tally, tally-chain, tally-note, tally-weaker}
+use Rattle.controller_run.proofs.Reaches.{Answers, Good, Reaches, batch-answers, exchanged, plain-answers, plain-good, reaches-all, reaches-first, so-far, story-on}
+use Rattle.controller_run.proofs.Tallies.{Tally, tally-none, tally-note, tally-weaker}
 
 -- ---- causes that come of ports
 pub no-one : {A : Type 0} (R : A → A → Type 0) → ((a b : A) → R a b → ⊥) → (xs ys : List A) → AtOne R xs ys → ⊥
@@ -95,15 +95,16 @@ module _ {P : Type 0} (tell : P → PortTrace) (o : Opening) (seat : ℕ) (joine
   keeps : (end : Wake) (now : Standing P) (commands : List Command) (count : ℕ) → Has (Answers tell o seat joined migration homes before now.ports) now.seen commands count → count ≤ rounds → LastStoryEach tell migration homes commands before.ports now.ports
       → is_legal_shared o now.seen ≡ true → UnlessStopped end (Sent commands now.ports) (BreaksOff seat now.seen) → IsEndAt o now.seen end → Kept end now
   keeps end now commands count tally few sent legal all ends =
-      let same = sym tally.listed in
-      let counted = tally.counted in
       record {
         more = tally.more;
         goes_on = tally.is;
         legal = legal;
-        sent = subst (λ (cs : List Command). LastStoryEach tell migration homes cs before.ports now.ports) same sent;
-        all_sent = subst (λ (cs : List Command). UnlessStopped end (Sent cs now.ports) (BreaksOff seat now.seen)) same all;
-        few = omega (arith, counted, few);
+        listed = commands;
+        used = count;
+        lists = tally.lists;
+        sent = sent;
+        all_sent = all;
+        few = few;
         answered = tally.good;
         ends = ends;
       }
@@ -145,8 +146,18 @@ module _ {P : Type 0} (tell : P → PortTrace) (o : Opening) (seat : ℕ) (joine
     pub looks-add : (ports : List (Talk P)) (asked : List ℕ) (woken : Wake) (seen after : List Written) → IsLookCall o seats seat seen asked (Some woken) after → Adds ports seen after
     looks-add ports = looked o seat joined ws (Answers tell o seat joined migration homes before ports) (plain ports)
 
-    pub lists-first : (op : Op) (commands : List Command) (reply : ListReply) (after : List Written) → Lists (caller_of o seats seat at.stands.ports) op at.stands.seen commands reply after → Lists (caller o seats seat ws) op at.stands.seen commands reply after
-    lists-first = lists-at-first tell o seat joined migration homes before rounds at reaches
+    -- the switches that are due, and whether others are late
+    abbrev pub due : List ℕ
+    due = due_of at.stands.ports
+
+    abbrev pub late : Bool
+    late = any_late at.stands.ports
+
+    -- a round is left where some command was listed
+    pub some-left : (commands : List Command) (log : List Written) → ListsSome (caller_of o seats seat at.stands.ports) at.left at.stands.seen commands log ⊎ ListsNone (caller_of o seats seat at.stands.ports) at.left at.stands.seen commands log
+        → (if is_some_command commands then 1 else 0) ≤ at.left
+    some-left commands log (inl found) = let some = found.some_left in let few = at-most-one (is_some_command commands) in omega (arith, some, few)
+    some-left commands log (inr found) = let none : (if is_some_command commands then 1 else 0) ≡ 0 = ap {B = ℕ} (λ (cs : List Command). if is_some_command cs then 1 else 0) found.none in omega (arith, none)
 
     -- ---- a last round in which nothing went out
     rests-keep : (end : Wake) (now : Standing P) → now.ports ≡ at.stands.ports → Adds at.stands.ports at.stands.seen now.seen → is_legal_shared o now.seen ≡ true → IsEndAt o now.seen end → Kept end now
@@ -162,25 +173,25 @@ module _ {P : Type 0} (tell : P → PortTrace) (o : Opening) (seat : ℕ) (joine
 
     finished-keeps : (now : Standing P) → now.ports ≡ at.stands.ports → Looks (caller_of o seats seat at.stands.ports) at.stands.seen wake.Finished now.seen → Kept wake.Finished now
     finished-keeps now same call =
-        rests-keep wake.Finished now same (looks-add at.stands.ports (switches_of at.stands.ports) wake.Finished at.stands.seen now.seen call) call.legal
-        (ends-finished o seat call.log (switches_of at.stands.ports) now.seen call.told call.noted)
+        rests-keep wake.Finished now same (looks-add at.stands.ports due wake.Finished at.stands.seen now.seen call) call.legal
+        (ends-finished o seat call.log due now.seen call.told call.noted)
 
     held-keeps : (now : Standing P) → now.ports ≡ at.stands.ports → Looks (caller_of o seats seat at.stands.ports) at.stands.seen wake.Held now.seen → Kept wake.Held now
     held-keeps now same call =
-        rests-keep wake.Held now same (looks-add at.stands.ports (switches_of at.stands.ports) wake.Held at.stands.seen now.seen call) call.legal
-        (ends-held o seat call.log (switches_of at.stands.ports) now.seen call.told call.noted)
+        rests-keep wake.Held now same (looks-add at.stands.ports due wake.Held at.stands.seen now.seen call) call.legal
+        (ends-held o seat call.log due now.seen call.told call.noted)
 
     look-keeps : (halt : Halt) (now : Standing P) → now.ports ≡ at.stands.ports → Looks (caller_of o seats seat at.stands.ports) at.stands.seen (wake.Stopped halt) now.seen → Kept (wake.Stopped halt) now
     look-keeps halt now same call =
-        rests-keep (wake.Stopped halt) now same (looks-add at.stands.ports (switches_of at.stands.ports) (wake.Stopped halt) at.stands.seen now.seen call) call.legal
-        (still-stopped o seat call.log halt what.Stopped [] now.seen (look-stopped o seat call.log (switches_of at.stands.ports) halt call.told) call.noted)
+        rests-keep (wake.Stopped halt) now same (looks-add at.stands.ports due (wake.Stopped halt) at.stands.seen now.seen call) call.legal
+        (still-stopped o seat call.log halt what.Stopped [] now.seen (look-stopped o seat call.log due halt call.told) call.noted)
 
     list-keeps : (halt : Halt) (now : Standing P) (op : Op) (commands : List Command) → now.ports ≡ at.stands.ports → Lists (caller_of o seats seat at.stands.ports) op at.stands.seen commands (list.Stopped halt) now.seen → Kept (wake.Stopped halt) now
     list-keeps halt now op commands same lists =
         let ps = at.stands.ports in
         let call = lists.listed in
         rests-keep (wake.Stopped halt) now same
-        (listed-stopped o seat joined ws (Answers tell o seat joined migration homes before ps) (plain ps) op halt at.stands.seen now.seen commands (lists-first op commands (list.Stopped halt) now.seen lists)) call.legal
+        (listed-stopped o seat joined ws (Answers tell o seat joined migration homes before ps) (plain ps) due late op halt at.stands.seen now.seen commands lists) call.legal
         (still-stopped o seat call.log halt what.Stopped [] now.seen (list-stopped o seat call.log halt call.told) call.noted)
 
     -- ---- a last round in which all went out, and what came was told to the book
@@ -194,10 +205,9 @@ module _ {P : Type 0} (tell : P → PortTrace) (o : Opening) (seat : ℕ) (joine
         let first = tally-weaker o seat ws (Good tell o seat joined migration homes before ps) G before.seen works.log commands (reaches.count + one) (λ w good. good.0) (exchanged tell o seat joined migration homes before rounds at given last works settles reaches) in
         let story = story-on tell o seat joined migration homes before rounds at given last works settles reaches in
         let had = reaches.left in
-        let some = works.some_left in
-        let few = at-most-one (is_some_command works.commands) in
+        let few = some-left works.commands works.log works.found in
         keeps end (record { seen = after; ports = ps }) commands (reaches.count + one)
-        (then-none o seat joined ws G (plain ps) before.seen works.log after commands (reaches.count + one) first adds) (omega (arith, had, some, few)) (last-of tell migration homes commands before.ports ps story)
+        (then-none o seat joined ws G (plain ps) before.seen works.log after commands (reaches.count + one) first adds) (omega (arith, had, few)) (last-of tell migration homes commands before.ports ps story)
         legal (unless end after (Sent commands ps) (BreaksOff seat after) ends story) ends
 
     round-keeps : (halt : Halt) (now : Standing P) (works : IsWork (outcome.Ended (wake.Stopped halt)) now) → Settles tell o seats seat migration homes works.commands (record { seen = works.log; ports = at.stands.ports }) (outcome.Ended (wake.Stopped halt)) now → Kept (wake.Stopped halt) now
@@ -210,15 +220,16 @@ module _ {P : Type 0} (tell : P → PortTrace) (o : Opening) (seat : ℕ) (joine
     -- ---- a last round behind which the worker asks that all stop
     rests-noted : (G : Written → Type 0) → ((log : List Written) (said : What) → cause_of said ≡ None → G (next_note seat log said [])) → (why : Cause) (after : List Written)
         → RestsFor (caller_of o seats seat at.stands.ports) at.left rounds at.stands.seen why after → Tally o seat ws G at.stands.seen after [] 0
-    rests-noted G good (cause.Spent given item number) after rests = looked o seat joined ws G good (switches_of at.stands.ports) (wake.Work (record { item = item; number = number })) at.stands.seen after rests.2
+    rests-noted G good (cause.Spent given item number) after rests = looked o seat joined ws G good due (wake.Work (record { item = item; number = number })) at.stands.seen after rests.2
     rests-noted G good (cause.Port switch) after rests = absurd rests
     rests-noted G good (cause.Above item held begun) after rests = absurd rests
     rests-noted G good (cause.NotMine switch item) after rests = absurd rests
     rests-noted G good (cause.NoAnswer switch byte) after rests = absurd rests
     rests-noted G good cause.Disk after rests = absurd rests
     rests-noted G good cause.Memory after rests =
-        ⊎_elim (λ looks. looked o seat joined ws G good (switches_of at.stands.ports) wake.Memory at.stands.seen after looks)
-        (λ lists. listed-none o seat joined ws G good lists.0 at.stands.seen after rests.0 (lists-first lists.0 rests.0 list.Memory after lists.1)) rests.1
+        ⊎_elim (λ same. subst (λ (seen : List Written). Tally o seat ws G at.stands.seen seen [] 0) (sym same) (tally-none o seat ws G at.stands.seen))
+        (λ called. ⊎_elim (λ looks. looked o seat joined ws G good due wake.Memory at.stands.seen after looks)
+        (λ lists. listed-none o seat joined ws G good due late lists.0 at.stands.seen after rests.0 lists.1) called) rests.1
 
     pub rests-add : (why : Cause) (after : List Written) → RestsFor (caller_of o seats seat at.stands.ports) at.left rounds at.stands.seen why after → Adds at.stands.ports at.stands.seen after
     rests-add = rests-noted (Answers tell o seat joined migration homes before at.stands.ports) (plain at.stands.ports)
@@ -276,11 +287,10 @@ module _ {P : Type 0} (tell : P → PortTrace) (o : Opening) (seat : ℕ) (joine
         let good = so-far tell o seat joined migration homes before rounds at given last works reaches goes in
         let first = tally-weaker o seat ws (Good tell o seat joined migration homes before ps) G before.seen works.log commands (reaches.count + one) (λ w g. g.0) good in
         let had = reaches.left in
-        let some = works.some_left in
-        let few = at-most-one (is_some_command works.commands) in
+        let few = some-left works.commands works.log works.found in
         subst (λ (ports : List (Talk P)). Kept (wake.Stopped halt) (record { seen = now.seen; ports = ports })) (sym same)
         (keeps (wake.Stopped halt) (record { seen = now.seen; ports = ps }) commands (reaches.count + one)
-        (then-none o seat joined ws G (plain ps) before.seen works.log now.seen commands (reaches.count + one) first (stop-adds ps why halt works.log now.seen call)) (omega (arith, had, some, few)) sent
+        (then-none o seat joined ws G (plain ps) before.seen works.log now.seen commands (reaches.count + one) first (stop-adds ps why halt works.log now.seen call)) (omega (arith, had, few)) sent
         call.legal (inr (breaks-off why halt ps works.log now.seen commands (reaches.count + one) breaks good call)) (stop-ends why halt works.log now.seen call))
 
     -- by what came before it

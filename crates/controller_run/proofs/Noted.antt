@@ -1,5 +1,5 @@
 -- What each call of a worker leaves behind what was seen.
-use Rattle.std.proofs.Common.{◌≡◌, ℕ, Bool, List, [], ◌∷◌, ◌++◌, Option, Some, None, refl, sym, ap, ◌∙◌, subst, arith, append-nil, if◌then◌else◌}
+use Rattle.std.proofs.Common.{◌≡◌, ℕ, Bool, List, [], ◌∷◌, ◌++◌, Option, Some, None, refl, sym, ap, ◌∙◌, subst, arith, append-nil, inl, inr, if◌then◌else◌}
 use Rattle.rollout_rules.specs.declared.op.Op.{Op}
 use Rattle.turn_lock.specs.Histories.{Follows}
 use Rattle.wan_edge.specs.Frames.{Command}
@@ -16,12 +16,11 @@ use Rattle.shared_history.specs.Notes.{cause_of}
 use Rattle.shared_book.specs.Calls.{IsListCall, seat_of}
 use Rattle.shared_book.specs.Told.{commands_at}
 use Rattle.shared_book.specs.Waking.{IsLookCall}
-use Rattle.controller_run.specs.Finding.{Caller, Lists}
+use Rattle.controller_run.specs.Finding.{Lists, LooksOn}
+use Rattle.controller_run.specs.Promises.{AreSome}
 use Rattle.controller_run.specs.Working.{is_some_command}
-use Rattle.controller_run.proofs.Tallies.{Tally, tally-as, tally-chain, tally-note, tally-others}
-
-abbrev pub caller : Opening → List ℕ → ℕ → List ℕ → Caller
-caller o seats seat switches = record { opening = o; seats = seats; seat = seat; switches = switches }
+use Rattle.controller_run.proofs.Tallies.{Tally, tally-as, tally-asked, tally-chain, tally-none, tally-note, tally-others}
+use Rattle.controller_run.proofs.Works.{caller}
 
 module _ (o : Opening) (seat : ℕ) (joined switches : List ℕ) (G : Written → Type 0) (plain : (log : List Written) (said : What) → cause_of said ≡ None → G (next_note seat log said [])) where
   -- a call that left no note
@@ -42,23 +41,28 @@ module _ (o : Opening) (seat : ℕ) (joined switches : List ℕ) (G : Written �
   pub none-then : (a b c : List Written) (cs : List Command) (n : ℕ) → Tally o seat switches G a b [] 0 → Tally o seat switches G b c cs n → Tally o seat switches G a c cs n
   none-then a b c cs n first second = tally-as o seat switches G a c cs cs _ n refl (omega arith) (tally-chain o seat switches G a b c [] cs 0 n first second)
 
-  -- a look, and the commands listed
-  pub listed : (op : Op) (seen log : List Written) (commands : List Command) → Lists (caller o (seat ∷ joined) seat switches) op seen commands list.Listed log → Tally o seat switches G seen log commands (if is_some_command commands then 1 else 0)
-  listed op seen log commands lists =
+  -- a look, and the commands listed of the switches that were asked for
+  pub listed : (asked : List ℕ) (late : Bool) → AreSome asked switches → (op : Op) (seen log : List Written) (commands : List Command) → Lists (caller o (seat ∷ joined) seat asked late) op seen commands list.Listed log → Tally o seat switches G seen log commands (if is_some_command commands then 1 else 0)
+  listed asked late some op seen log commands lists =
       let call = lists.listed in
-      let first = looked switches (wake.Work op) seen lists.awake lists.looks in
-      let second = tally-note o seat switches G joined lists.awake call.log log what.Listed [] call.past call.noted (plain call.log what.Listed refl) in
+      let first = looked asked (wake.Work op) seen lists.awake lists.looks in
+      let second = tally-asked o seat switches G asked some joined lists.awake call.log log what.Listed [] call.past call.noted (plain call.log what.Listed refl) in
       none-then seen lists.awake log commands _ first
-      (tally-as o seat switches G lists.awake log (commands_at o call.log switches) commands _ _ (sym call.listed) (ap {B = ℕ} (λ (cs : List Command). if is_some_command cs then 1 else 0) (sym call.listed)) second)
+      (tally-as o seat switches G lists.awake log (commands_at o call.log asked) commands _ _ (sym call.listed) (ap {B = ℕ} (λ (cs : List Command). if is_some_command cs then 1 else 0) (sym call.listed)) second)
 
   -- a look, and a stop in the place of commands, or want of memory
-  pub listed-stopped : (op : Op) (halt : Halt) (seen after : List Written) (commands : List Command) → Lists (caller o (seat ∷ joined) seat switches) op seen commands (list.Stopped halt) after → Tally o seat switches G seen after [] 0
-  listed-stopped op halt seen after commands lists =
+  pub listed-stopped : (asked : List ℕ) (late : Bool) (op : Op) (halt : Halt) (seen after : List Written) (commands : List Command) → Lists (caller o (seat ∷ joined) seat asked late) op seen commands (list.Stopped halt) after → Tally o seat switches G seen after [] 0
+  listed-stopped asked late op halt seen after commands lists =
       let call = lists.listed in
-      none-then seen lists.awake after [] 0 (looked switches (wake.Work op) seen lists.awake lists.looks)
+      none-then seen lists.awake after [] 0 (looked asked (wake.Work op) seen lists.awake lists.looks)
       (tally-note o seat switches G joined lists.awake call.log after what.Stopped [] call.past call.noted (plain call.log what.Stopped refl))
 
-  pub listed-none : (op : Op) (seen after : List Written) (commands : List Command) → Lists (caller o (seat ∷ joined) seat switches) op seen commands list.Memory after → Tally o seat switches G seen after [] 0
-  listed-none op seen after commands lists =
+  pub listed-none : (asked : List ℕ) (late : Bool) (op : Op) (seen after : List Written) (commands : List Command) → Lists (caller o (seat ∷ joined) seat asked late) op seen commands list.Memory after → Tally o seat switches G seen after [] 0
+  listed-none asked late op seen after commands lists =
       let call = lists.listed in
-      none-then seen lists.awake after [] 0 (looked switches (wake.Work op) seen lists.awake lists.looks) (unnoted lists.awake call.log after call.past call.noted)
+      none-then seen lists.awake after [] 0 (looked asked (wake.Work op) seen lists.awake lists.looks) (unnoted lists.awake call.log after call.past call.noted)
+
+  -- a look that found nothing, or none
+  pub looked-on : (asked : List ℕ) (late : Bool) (left : ℕ) (seen after : List Written) → LooksOn (caller o (seat ∷ joined) seat asked late) left seen after → Tally o seat switches G seen after [] 0
+  looked-on asked late left seen after (inl none) = subst (λ (ws : List Written). Tally o seat switches G seen ws [] 0) (sym none.1) (tally-none o seat switches G seen)
+  looked-on asked late left seen after (inr call) = unnoted seen call.log after call.past call.noted

@@ -1,5 +1,5 @@
 -- What whole rounds in a row come to.
-use Rattle.std.proofs.Common.{◌≡◌, ◌⊎◌, ℕ, ◌+◌, ◌≤◌, Bool, List, [], ◌∷◌, ◌++◌, map, All, Option, Some, None, refl, sym, ap, ◌∙◌, ⊎_elim, subst, arith, if◌then◌else◌}
+use Rattle.std.proofs.Common.{◌≡◌, ◌⊎◌, ℕ, ◌+◌, ◌≤◌, Bool, List, [], ◌∷◌, ◌++◌, map, All, Option, Some, None, refl, sym, ap, ◌∙◌, ⊎_elim, inl, inr, subst, arith, if◌then◌else◌}
 use Rattle.std.specs.List.{Contains}
 use Rattle.std.specs.Prelude.{IsTrue}
 use Rattle.rollout_rules.specs.History.{History}
@@ -13,23 +13,23 @@ use Rattle.port_session.specs.Sessions.{Talk}
 use Rattle.shared_history.specs.declared.note.What.{What}
 use Rattle.shared_history.specs.declared.note.What.TheVariants as what
 use Rattle.shared_history.specs.declared.note.Written.{Written}
-use Rattle.shared_history.specs.declared.reply.ListReply.TheVariants as list
 use Rattle.shared_history.specs.Histories.{Opening, history_of}
 use Rattle.shared_history.specs.Knows.{next_note}
 use Rattle.shared_history.specs.Notes.{cause_of}
 use Rattle.shared_history.specs.Replies.{batch_at}
+use Rattle.worker_ports.specs.Due.{any_late, due_of}
 use Rattle.worker_ports.specs.Stories.{StoryEach}
 use Rattle.controller_run.specs.Exchanging.{Exchanges}
-use Rattle.controller_run.specs.Finding.{Lists}
-use Rattle.controller_run.specs.Promises.{AreAnswered, switches_of}
+use Rattle.controller_run.specs.Promises.{AreAnswered, AreSome, switches_of}
 use Rattle.controller_run.specs.Serving.{AreWhole, Moment, Whole, caller_of}
-use Rattle.controller_run.specs.Working.{Settles, Standing, Works, is_some_command}
+use Rattle.controller_run.specs.Working.{IsIdle, ListsNone, ListsSome, Settles, Standing, Works, is_some_command}
 use Rattle.controller_run.specs.declared.outcome.Outcome.{Outcome}
 use Rattle.controller_run.specs.declared.outcome.Outcome.TheVariants as outcome
 use Rattle.controller_run.proofs.Answered.{batch-covered, told-answer}
 use Rattle.controller_run.proofs.Chains.{stories_begin, stories_go_on}
 use Rattle.controller_run.proofs.Elements.{none-inside}
-use Rattle.controller_run.proofs.Noted.{caller, listed, then-none}
+use Rattle.controller_run.proofs.LeftAlone.{due-among}
+use Rattle.controller_run.proofs.Noted.{listed, looked-on, then-none}
 use Rattle.controller_run.proofs.Ports.{GoOn, exchange-goes, home-now, home-on, same-switches}
 use Rattle.controller_run.proofs.Tallies.{Tally, tally-chain, tally-none, tally-note, tally-weaker}
 
@@ -87,11 +87,20 @@ module _ {P : Type 0} (tell : P → PortTrace) (o : Opening) (seat : ℕ) (joine
       left = omega arith;
     }
 
-    -- the switches are those at first
-    pub lists-at-first : (m : Moment P) → Reaches m → (op : Op) (commands : List Command) (reply : _) (after : List Written) → Lists (caller_of o (seat ∷ joined) seat m.stands.ports) op m.stands.seen commands reply after
-        → Lists (caller o (seat ∷ joined) seat (switches_of before.ports)) op m.stands.seen commands reply after
-    lists-at-first m reaches op commands reply after lists =
-        subst (λ (ws : List ℕ). Lists (caller o (seat ∷ joined) seat ws) op m.stands.seen commands reply after) (same-switches tell migration homes reaches.commands before.ports m.stands.ports reaches.story) lists
+    -- the switches that are due are some of those at first
+    pub due-at-first : (m : Moment P) → Reaches m → AreSome (due_of m.stands.ports) (switches_of before.ports)
+    due-at-first m reaches =
+        subst (λ (ws : List ℕ). AreSome (due_of m.stands.ports) ws) (same-switches tell migration homes reaches.commands before.ports m.stands.ports reaches.story) (due-among m.stands.ports)
+
+    -- what was found in a round, whatever rule its notes keep to
+    pub found-tally : (G : Written → Type 0) → ((log : List Written) (said : What) → cause_of said ≡ None → G (next_note seat log said [])) → (m : Moment P) → Reaches m → (commands : List Command) (log : List Written)
+        → ListsSome (caller_of o (seat ∷ joined) seat m.stands.ports) m.left m.stands.seen commands log ⊎ ListsNone (caller_of o (seat ∷ joined) seat m.stands.ports) m.left m.stands.seen commands log
+        → Tally o seat (switches_of before.ports) G m.stands.seen log commands (if is_some_command commands then 1 else 0)
+    found-tally G plain m reaches commands log (inl found) =
+        listed o seat joined (switches_of before.ports) G plain (due_of m.stands.ports) (any_late m.stands.ports) (due-at-first m reaches) found.op m.stands.seen log commands found.lists
+    found-tally G plain m reaches commands log (inr found) =
+        subst (λ (cs : List Command). Tally o seat (switches_of before.ports) G m.stands.seen log cs (if is_some_command cs then 1 else 0)) (sym found.none)
+        (looked-on o seat joined (switches_of before.ports) G plain (due_of m.stands.ports) (any_late m.stands.ports) m.left m.stands.seen log found.looks_on)
 
     -- up to where a round has its commands listed, said at ports that went on since
     pub so-far : (m : Moment P) (given : Outcome) (now : Standing P) (works : Works tell (caller_of o (seat ∷ joined) seat m.stands.ports) migration homes m.left m.stands given now) (reaches : Reaches m) → GoOn tell m.stands.ports now.ports
@@ -99,7 +108,7 @@ module _ {P : Type 0} (tell : P → PortTrace) (o : Opening) (seat : ℕ) (joine
     so-far m given now works reaches goes =
         let ws = switches_of before.ports in
         let first = tally-weaker o seat ws (Good m.stands.ports) (Good now.ports) before.seen m.stands.seen reaches.commands reaches.count (good-on m.stands.ports now.ports goes) reaches.tally in
-        let lists = listed o seat joined ws (Good now.ports) (plain-good now.ports) works.op m.stands.seen works.log works.commands (lists-at-first m reaches works.op works.commands list.Listed works.log works.lists) in
+        let lists = found-tally (Good now.ports) (plain-good now.ports) m reaches works.commands works.log works.found in
         tally-chain o seat ws (Good now.ports) before.seen m.stands.seen works.log reaches.commands works.commands reaches.count (if is_some_command works.commands then 1 else 0) first lists
 
     pub exchanged : (m : Moment P) (given : Outcome) (now : Standing P) (works : Works tell (caller_of o (seat ∷ joined) seat m.stands.ports) migration homes m.left m.stands given now)
@@ -134,8 +143,28 @@ module _ {P : Type 0} (tell : P → PortTrace) (o : Opening) (seat : ℕ) (joine
           left = omega (arith, had, less, same);
         }
 
+    -- and where switches are late and none answered
+    idled : (m n : Moment P) (offered : Bool) → Reaches m → m.left ≡ n.left + (if offered then 1 else 0) → (works : Works tell (caller_of o (seat ∷ joined) seat m.stands.ports) migration homes m.left m.stands (outcome.Whole offered) n.stands)
+        → IsIdle tell migration homes works.commands (record { seen = works.log; ports = m.stands.ports }) offered n.stands → Reaches n
+    idled m n offered reaches less works idle =
+        let ws = switches_of before.ports in
+        let ns = n.stands.ports in
+        let went = idle.exchanges in
+        let goes = exchange-goes tell migration homes works.commands [] m.stands.ports ns went in
+        let count : ℕ = if is_some_command works.commands then 1 else 0 in
+        let none : count ≡ 0 = ap {B = ℕ} (λ (cs : List Command). if is_some_command cs then 1 else 0) idle.none_listed in
+        let same : (if offered then 1 else 0) ≡ 0 = ap {B = ℕ} (λ (b : Bool). if b then 1 else 0) idle.none_offered in
+        let had = reaches.left in
+        record {
+          commands = reaches.commands ++ works.commands;
+          count = reaches.count + count;
+          tally = subst (λ (seen : List Written). Tally o seat ws (Good ns) before.seen seen (reaches.commands ++ works.commands) (reaches.count + count)) (sym idle.same) (so-far m (outcome.Whole offered) n.stands works reaches goes);
+          story = stories_go_on tell migration homes reaches.commands works.commands [] before.ports m.stands.ports went.offered ns reaches.story went.offers went.hears;
+          left = omega (arith, had, less, same, none);
+        }
+
     of-works : (m n : Moment P) (offered : Bool) → Reaches m → m.left ≡ n.left + (if offered then 1 else 0) → Works tell (caller_of o (seat ∷ joined) seat m.stands.ports) migration homes m.left m.stands (outcome.Whole offered) n.stands → Reaches n
-    of-works m n offered reaches less works = ⊎_elim (λ settles. stepped m n offered reaches less works settles) (λ breaks. absurd breaks) works.exchanged
+    of-works m n offered reaches less works = ⊎_elim (λ settles. stepped m n offered reaches less works settles) (λ idle. idled m n offered reaches less works idle) works.exchanged
 
     reaches-next : (m n : Moment P) → Reaches m → Whole tell o (seat ∷ joined) seat migration homes rounds m n → Reaches n
     reaches-next m n reaches whole = ⊎_elim (λ rests. absurd rests.1) (λ works. of-works m n whole.offered reaches whole.less works) whole.worked

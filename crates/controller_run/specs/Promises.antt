@@ -50,18 +50,24 @@ says_listed (what.Stop why) = false
 abbrev pub listed_at : Opening → ℕ → List ℕ → List Written → Written → List Command
 listed_at o seat switches log w = if (w.note.seat == seat) && says_listed w.note.what then commands_at o log switches else []
 
--- what it had listed in all notes that come behind a history, in order
-abbrev pub listed_by : Opening → ℕ → List ℕ → List Written → List Written → List Command
-listed_by o seat switches log [] = []
-listed_by o seat switches log (w ∷ later) = listed_at o seat switches log w ++ listed_by o seat switches (log ++ w ∷ []) later
+-- each of the switches asked for is among these
+abbrev pub AreSome : List ℕ → List ℕ → Type 0
+AreSome asked switches = All (Contains switches) asked
 
--- in how many of them some command was
-abbrev pub rounds_by : Opening → ℕ → List ℕ → List Written → List Written → ℕ
-rounds_by o seat switches log [] = 0
-rounds_by o seat switches log (w ∷ later) =
-    (if is_some_command (listed_at o seat switches log w) then 1 else 0) + rounds_by o seat switches (log ++ w ∷ []) later
+-- what it had listed there of some of these switches: of those that it asked for, since they were due
+pub record IsListedAt (o : Opening) (seat : ℕ) (switches : List ℕ) (log : List Written) (w : Written) (commands : List Command) : Type 0 where
+  pub asked : List ℕ
+  pub some : AreSome asked switches
+  pub is : commands ≡ listed_at o seat asked log w
 
--- A note of the seat says that commands were listed, and this is one of those at the history before the note.
+-- These commands it had listed in all notes that come behind a history, in order, and in so many of them some command was.
+abbrev pub AreListed : Opening → ℕ → List ℕ → List Written → List Written → List Command → ℕ → Type 0
+AreListed o seat switches log [] commands rounds = (commands ≡ []) × (rounds ≡ 0)
+AreListed o seat switches log (w ∷ later) commands rounds =
+    (mine : List Command) × (rest : List Command) × (used : ℕ) × IsListedAt o seat switches log w mine × (commands ≡ mine ++ rest) × (rounds ≡ (if is_some_command mine then 1 else 0) + used)
+    × AreListed o seat switches (log ++ w ∷ []) later rest used
+
+-- A note of the seat says that commands were listed, and this is one of those of some of these switches at the history before the note.
 pub record IsListedIn (o : Opening) (seat : ℕ) (switches : List ℕ) (seen : List Written) (c : Command) : Type 0 where
   pub log : List Written
   pub note : Written
@@ -69,7 +75,9 @@ pub record IsListedIn (o : Opening) (seat : ℕ) (switches : List ℕ) (seen : L
   pub is : seen ≡ log ++ note ∷ later
   pub own : note.note.seat ≡ seat
   pub says : note.note.what ≡ what.Listed
-  pub among : Contains (commands_at o log switches) c
+  pub asked : List ℕ
+  pub some : AreSome asked switches
+  pub among : Contains (commands_at o log asked) c
 
 -- The command of an operation that a history begins, whose item's home is one of these switches.
 pub record IsOfBegun (o : Opening) (switches : List ℕ) (h : History) (c : Command) : Type 0 where
@@ -162,16 +170,19 @@ IsEndAt o seen wake.Memory = ⊥
 abbrev pub switches_of : {P : Type 0} → List (Talk P) → List ℕ
 switches_of ports = map (λ t. t.switch) ports
 
--- From where a worker began it has come here, and ended so. What it has seen goes on from what it had, and is legal. At each port its own of
--- the commands that the worker had listed went out, in order, or a front of them; all of them, unless the worker broke off. In no more
+-- From where a worker began it has come here, and ended so. What it has seen goes on from what it had, and is legal. These commands it had listed, of the
+-- switches for which it asked. At each port its own of them went out, in order, or a front of them; all of them, unless the worker broke off. In no more
 -- rounds than were given some command was listed. Each operation that its notes say is done was answered by the port of its item's home. And
 -- the end is what the history says.
 pub record Promises {P : Type 0} (tell : P → PortTrace) (o : Opening) (seat migration : ℕ) (homes : List (Option ℕ)) (rounds : ℕ) (before : Standing P) (end : Wake) (now : Standing P) : Type 0 where
   pub more : List Written
   pub goes_on : now.seen ≡ before.seen ++ more
   pub legal : is_legal_shared o now.seen ≡ true
-  pub sent : LastStoryEach tell migration homes (listed_by o seat (switches_of before.ports) before.seen more) before.ports now.ports
-  pub all_sent : UnlessStopped end (StoryEach tell migration homes (listed_by o seat (switches_of before.ports) before.seen more) before.ports now.ports) (BreaksOff seat now.seen)
-  pub few : rounds_by o seat (switches_of before.ports) before.seen more ≤ rounds
+  pub listed : List Command
+  pub used : ℕ
+  pub lists : AreListed o seat (switches_of before.ports) before.seen more listed used
+  pub sent : LastStoryEach tell migration homes listed before.ports now.ports
+  pub all_sent : UnlessStopped end (StoryEach tell migration homes listed before.ports now.ports) (BreaksOff seat now.seen)
+  pub few : used ≤ rounds
   pub answered : All (λ w. w.note.seat ≡ seat → AreAnswered tell migration homes before.ports w.entries now.ports) more
   pub ends : IsEndAt o now.seen end

@@ -1,11 +1,11 @@
 -- Why a worker was the first that stopped all.
-use Rattle.std.specs.Prelude.{◌≡◌, ⊤, ℕ, true, List, [], ◌∷◌, ◌++◌, Option}
+use Rattle.std.specs.Prelude.{◌≡◌, ⊤, ℕ, ◌+◌, ◌-◌, ◌<◌, ◌≤◌, true, false, List, [], ◌∷◌, ◌++◌, length, All, Option, Some, IfSome, if◌then◌else◌}
 use Rattle.std.specs.List.{Contains}
 use Rattle.rollout_rules.specs.declared.op.Op.{Op}
 use Rattle.rollout_rules.specs.declared.op.Entry.{Entry}
-use Rattle.wan_edge.specs.Frames.{Command}
+use Rattle.wan_edge.specs.Frames.{Answer, AnswerFrame, Command, IsAnswer, Splits, answer_bytes}
 use Rattle.wan_edge.specs.Ports.{PortTrace}
-use Rattle.wan_edge.specs.Streams.{Rose}
+use Rattle.wan_edge.specs.Streams.{Appends, Rose}
 use Rattle.port_session.specs.Sessions.{Talk}
 use Rattle.shared_history.specs.declared.note.Cause.{Cause}
 use Rattle.shared_history.specs.declared.note.Cause.TheVariants as cause
@@ -15,21 +15,75 @@ use Rattle.shared_history.specs.Histories.{Opening, history_of}
 use Rattle.shared_history.specs.Knows.{next_note}
 use Rattle.shared_history.specs.Legal.{begun_of, is_alien}
 use Rattle.shared_history.specs.Replies.{asked_at}
+use Rattle.shared_book.specs.Homes.{homes_of}
+use Rattle.worker_ports.specs.Due.{any_late}
 use Rattle.worker_ports.specs.Rows.{AtOne}
 use Rattle.worker_ports.specs.Stories.{StoryEach}
 use Rattle.worker_ports.specs.Views.{PortView, view}
-use Rattle.controller_run.specs.Exchanging.{StopsInHear}
-use Rattle.controller_run.specs.Promises.{IsToldAtHome, listed_by, rounds_by, switches_of}
-use Rattle.controller_run.specs.Working.{Standing}
+use Rattle.controller_run.specs.Exchanging.{Exchanges, StopsInHear}
+use Rattle.controller_run.specs.Promises.{AreListed, IsToldAtHome, switches_of}
+use Rattle.controller_run.specs.Working.{Standing, is_some_command}
 
--- Its rounds were spent: as many as were given, and in each some command had been listed. All went out, and behind that an operation of
--- its switches was in flight.
+-- how many rounds it makes that these commands are offered
+abbrev pub offered_in : List Command → ℕ
+offered_in commands = if is_some_command commands then 1 else 0
+
+-- Whole rounds between the ports, one behind the other: from these ports to the first of the row, and so on. In each the commands went out, and each port was
+-- heard, so that one which awaited answers ended one, was quiet once, or wasn't ready and is late (`over` and `comes` of HearsOut). In exactly so many of them
+-- some command was offered, and these are the answers that were told in all of them, in order.
+abbrev pub AreHeardOut : {P : Type 0} → (P → PortTrace) → ℕ → List (Option ℕ) → List (List (Talk P)) → ℕ → List Answer → List (Talk P) → List (Talk P) → Type 0
+AreHeardOut tell migration homes [] count told before now = (count ≡ 0) × (told ≡ []) × (now ≡ before)
+AreHeardOut tell migration homes (at ∷ later) count told before now =
+    (commands : List Command) × (mine : List Answer) × (rest : ℕ) × (behind : List Answer) × Exchanges tell migration homes before commands mine at
+    × (count ≡ rest + offered_in commands) × (told ≡ mine ++ behind) × AreHeardOut tell migration homes later rest behind at now
+
+-- so many more than were told before, where the count is told still
+abbrev pub IsMoreBy : ℕ → Option ℕ → Option ℕ → Type 0
+IsMoreBy count before now = IfSome now (λ after. (count ≤ after) × (before ≡ Some (after - count)))
+
+-- What came from a port, as far as it tells: so many whole answers, behind what was kept, and quiet hears.
+pub record Comes (count : ℕ) (before now : PortView) : Type 0 where
+  pub answers : List AnswerFrame
+  pub quiets : ℕ
+  pub count_is : count ≡ length answers + quiets
+  pub bytes : List ℕ
+  pub appended : Appends before.port.heard bytes now.port.heard
+  pub whole : Splits answer_bytes IsAnswer (before.stream.kept ++ bytes) answers now.stream.kept
+  pub quieter : IsMoreBy quiets before.port.quiet now.port.quiet
+
+-- and so many from all ports together
+abbrev pub ComesEach : {P : Type 0} → (P → PortTrace) → ℕ → List (Talk P) → List (Talk P) → Type 0
+ComesEach tell count [] [] = count ≡ 0
+ComesEach tell count [] (n ∷ ns) = ⊥
+ComesEach tell count (b ∷ bs) [] = ⊥
+ComesEach tell count (b ∷ bs) (n ∷ ns) = (mine : ℕ) × (rest : ℕ) × (count ≡ mine + rest) × Comes mine (view tell b) (view tell n) × ComesEach tell rest bs ns
+
+-- at least so many
+pub record HasCome {P : Type 0} (tell : P → PortTrace) (least : ℕ) (before now : List (Talk P)) : Type 0 where
+  pub count : ℕ
+  pub each : ComesEach tell count before now
+  pub enough : least ≤ count
+
+-- an answer doesn't cover an operation: it is of another item, or its number is below the operation's
+abbrev pub IsShortOf : Op → Answer → Type 0
+IsShortOf op a = a.item ≡ op.item → a.held < op.number
+
+-- Its rounds were spent: as many as were given, and in each some command had been listed. All went out, in exactly so many rounds, and behind that no switch is
+-- late, and an operation of its switches was in flight, which no answer covers that was told in them. Whole answers and quiet hears together are at least the
+-- rounds, over the homes of the problem.
 pub record Spends {P : Type 0} (tell : P → PortTrace) (o : Opening) (seat migration : ℕ) (homes : List (Option ℕ)) (rounds : ℕ) (before : Standing P) (given : ℕ) (op : Op) (now : Standing P) : Type 0 where
   pub given_is : given ≡ rounds
   pub more : List Written
   pub goes_on : now.seen ≡ before.seen ++ more
-  pub used : rounds_by o seat (switches_of before.ports) before.seen more ≡ rounds
-  pub sent : StoryEach tell migration homes (listed_by o seat (switches_of before.ports) before.seen more) before.ports now.ports
+  pub listed : List Command
+  pub lists : AreListed o seat (switches_of before.ports) before.seen more listed rounds
+  pub sent : StoryEach tell migration homes listed before.ports now.ports
+  pub due : any_late now.ports ≡ false
+  pub rows : List (List (Talk P))
+  pub told : List Answer
+  pub heard_out : AreHeardOut tell migration homes rows rounds told before.ports now.ports
+  pub uncovered : All (IsShortOf op) told
+  pub come : homes ≡ homes_of o.rollout.problem → HasCome tell rounds before.ports now.ports
   pub log : List Written
   pub later : List Written
   pub is : now.seen ≡ log ++ later

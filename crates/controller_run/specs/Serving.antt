@@ -1,5 +1,5 @@
 -- What a worker comes to, from its first round to its last.
-use Rattle.std.specs.Prelude.{◌≡◌, ◌⊎◌, ℕ, ◌+◌, Bool, List, [], ◌∷◌, map, Option, if◌then◌else◌}
+use Rattle.std.specs.Prelude.{◌≡◌, ◌⊎◌, ℕ, ◌+◌, Bool, List, [], ◌∷◌, Option, if◌then◌else◌}
 use Rattle.port_session.specs.Sessions.{Talk}
 use Rattle.shared_history.specs.declared.note.Cause.{Cause}
 use Rattle.shared_history.specs.declared.note.Written.{Written}
@@ -9,6 +9,7 @@ use Rattle.shared_history.specs.declared.reply.Wake.TheVariants as wake
 use Rattle.shared_history.specs.Histories.{Opening}
 use Rattle.shared_book.specs.Calls.{IsStopCall}
 use Rattle.wan_edge.specs.Ports.{PortTrace}
+use Rattle.worker_ports.specs.Due.{any_late, due_of}
 use Rattle.controller_run.specs.Finding.{Caller}
 use Rattle.controller_run.specs.Working.{IsWorked, Standing}
 use Rattle.controller_run.specs.declared.outcome.Outcome.{Outcome}
@@ -19,8 +20,9 @@ pub record Moment (P : Type 0) : Type 0 where
   pub stands : Standing P
   pub left : ℕ
 
+-- a worker with these ports
 abbrev pub caller_of : {P : Type 0} → Opening → List ℕ → ℕ → List (Talk P) → Caller
-caller_of o seats seat ports = record { opening = o; seats = seats; seat = seat; switches = map (λ t. t.switch) ports }
+caller_of o seats seat ports = record { opening = o; seats = seats; seat = seat; switches = due_of ports; late = any_late ports }
 
 -- what became of one round
 abbrev pub Worked : {P : Type 0} → (P → PortTrace) → Opening → List ℕ → ℕ → ℕ → List (Option ℕ) → ℕ → Moment P → Outcome → Standing P → Type 0

@@ -1,6 +1,8 @@
 -- What comes of the answers of a round.
-use Rattle.std.specs.Prelude.{◌≡◌, ℕ, Bool, List}
+use Rattle.std.specs.Prelude.{◌≡◌, ◌⊎◌, ℕ, Bool, false, List, []}
 use Rattle.rollout_rules.specs.declared.op.Op.{Op}
+use Rattle.wan_edge.specs.Frames.{Answer}
+use Rattle.rollout_book.specs.Aliens.{told_by}
 use Rattle.rollout_book.specs.declared.turn.Turn.{Turn}
 use Rattle.rollout_book.specs.declared.fault.BookFault.TheVariants as fault
 use Rattle.shared_history.specs.declared.note.Cause.{Cause}
@@ -38,3 +40,7 @@ abbrev pub IsSettled : Opening → List ℕ → ℕ → List Written → List Op
 IsSettled o seats seat log answers offered (outcome.Whole some) after = (some ≡ offered) × ((turn : Turn) × IsRoundCall o seats seat log answers (round.Turned turn) after)
 IsSettled o seats seat log answers offered (outcome.Ended end) after = EndsRound o seats seat log answers end after
 IsSettled o seats seat log answers offered (outcome.Stops why) after = StopsRound o seats seat log answers why after
+
+-- What became of a round in which nothing was offered: the book was told these answers, or there were none, and it was told nothing.
+abbrev pub IsLateSettled : Opening → List ℕ → ℕ → List Written → List Answer → Outcome → List Written → Type 0
+IsLateSettled o seats seat log answers given after = IsSettled o seats seat log (told_by answers) false given after ⊎ ((given ≡ outcome.Whole false) × (answers ≡ []) × (after ≡ log))

@@ -11,8 +11,9 @@ use Rattle.shared_history.specs.declared.note.Written.{Written}
 use Rattle.shared_history.specs.declared.reply.ListReply.TheVariants as list
 use Rattle.shared_history.specs.declared.reply.Wake.TheVariants as wake
 use Rattle.shared_history.specs.Histories.{Opening}
+use Rattle.worker_ports.specs.Due.{LeavesAlone, any_late}
 use Rattle.controller_run.specs.Exchanging.{Exchanges, StopsInHear, StopsInOffer}
-use Rattle.controller_run.specs.Finding.{Caller, EndsAt, Lists, Looks, Wants}
+use Rattle.controller_run.specs.Finding.{Caller, EndsAt, Lists, Looks, LooksOn, Wants}
 use Rattle.controller_run.specs.Settling.{IsSettled}
 use Rattle.controller_run.specs.declared.outcome.Outcome.{Outcome}
 use Rattle.controller_run.specs.declared.outcome.Outcome.TheVariants as outcome
@@ -32,11 +33,19 @@ pub record Settles {P : Type 0} (tell : P → PortTrace) (o : Opening) (seats : 
   pub exchanges : Exchanges tell migration homes before.ports commands told now.ports
   pub settled : IsSettled o seats seat before.seen (told_by told) (is_some_command commands) given now.seen
 
--- a port failed, or told what it may not, or memory ran out, and the book was told nothing
-abbrev pub Breaks : {P : Type 0} → (P → PortTrace) → ℕ → List (Option ℕ) → List Command → Standing P → Outcome → Standing P → Type 0
-Breaks tell migration homes commands before (outcome.Whole offered) now = ⊥
-Breaks tell migration homes commands before (outcome.Ended end) now = ⊥
-Breaks tell migration homes commands before (outcome.Stops why) now =
+-- some switch is late; the ports were looked at, none was offered anything, and no answer was told
+pub record IsIdle {P : Type 0} (tell : P → PortTrace) (migration : ℕ) (homes : List (Option ℕ)) (commands : List Command) (before : Standing P) (offered : Bool) (now : Standing P) : Type 0 where
+  pub late : any_late before.ports ≡ true
+  pub none_offered : offered ≡ false
+  pub none_listed : commands ≡ []
+  pub same : now.seen ≡ before.seen
+  pub exchanges : Exchanges tell migration homes before.ports commands [] now.ports
+
+-- The book was told nothing: nothing was offered and none answered; or a port failed, or told what it may not, or memory ran out.
+abbrev pub Untold : {P : Type 0} → (P → PortTrace) → ℕ → List (Option ℕ) → List Command → Standing P → Outcome → Standing P → Type 0
+Untold tell migration homes commands before (outcome.Whole offered) now = IsIdle tell migration homes commands before offered now
+Untold tell migration homes commands before (outcome.Ended end) now = ⊥
+Untold tell migration homes commands before (outcome.Stops why) now =
     (now.seen ≡ before.seen)
     × (StopsInOffer tell migration homes why before.ports commands now.ports ⊎ StopsInHear tell migration homes why before.ports commands now.ports)
 
@@ -46,10 +55,16 @@ OnWhole (outcome.Whole offered) holds = holds
 OnWhole (outcome.Ended end) holds = ⊤
 OnWhole (outcome.Stops why) holds = ⊤
 
--- Nothing went out: there was nothing to do, memory ran out, or the rounds were spent and an operation was in flight.
+-- what holds of a whole round in which a command was offered
+abbrev pub OnOffered : Outcome → Type 0 → Type 0
+OnOffered (outcome.Whole offered) holds = offered ≡ true → holds
+OnOffered (outcome.Ended end) holds = ⊤
+OnOffered (outcome.Stops why) holds = ⊤
+
+-- Nothing went out: there was nothing to do, memory ran out, or the rounds were spent, no switch was late, and an operation was in flight.
 abbrev pub RestsFor : Caller → ℕ → ℕ → List Written → Cause → List Written → Type 0
 RestsFor w left rounds seen (cause.Spent given item number) after =
-    (left ≡ 0) × (given ≡ rounds) × Looks w seen (wake.Work (record { item = item; number = number })) after
+    (left ≡ 0) × (given ≡ rounds) × Looks w seen (wake.Work (record { item = item; number = number })) after × (w.late ≡ false)
 RestsFor w left rounds seen (cause.Port switch) after = ⊥
 RestsFor w left rounds seen (cause.Above item held begun) after = ⊥
 RestsFor w left rounds seen (cause.NotMine switch item) after = ⊥
@@ -62,14 +77,25 @@ Rests w left rounds seen (outcome.Whole offered) after = ⊥
 Rests w left rounds seen (outcome.Ended end) after = (commands : List Command) × EndsAt w seen commands end after
 Rests w left rounds seen (outcome.Stops why) after = RestsFor w left rounds seen why after
 
--- a round was left, and the commands of an operation in flight and of all others of the switches went out, or began to
-pub record Works {P : Type 0} (tell : P → PortTrace) (w : Caller) (migration : ℕ) (homes : List (Option ℕ)) (left : ℕ) (before : Standing P) (given : Outcome) (now : Standing P) : Type 0 where
+-- a round was left, and the commands of an operation in flight and of all others of the due switches were listed
+pub record ListsSome (w : Caller) (left : ℕ) (seen : List Written) (commands : List Command) (log : List Written) : Type 0 where
   pub some_left : 0 < left
   pub op : Op
+  pub lists : Lists w op seen commands list.Listed log
+
+-- some switch is late, and nothing was listed: of the due ones nothing is in flight, or no round was left
+pub record ListsNone (w : Caller) (left : ℕ) (seen : List Written) (commands : List Command) (log : List Written) : Type 0 where
+  pub late : w.late ≡ true
+  pub none : commands ≡ []
+  pub looks_on : LooksOn w left seen log
+
+-- What was listed of the due switches went out, or began to, and the late ones were left alone. From all ports what came was heard.
+pub record Works {P : Type 0} (tell : P → PortTrace) (w : Caller) (migration : ℕ) (homes : List (Option ℕ)) (left : ℕ) (before : Standing P) (given : Outcome) (now : Standing P) : Type 0 where
   pub commands : List Command
   pub log : List Written
-  pub lists : Lists w op before.seen commands list.Listed log
-  pub exchanged : Settles tell w.opening w.seats w.seat migration homes commands (record { seen = log; ports = before.ports }) given now ⊎ Breaks tell migration homes commands (record { seen = log; ports = before.ports }) given now
+  pub found : ListsSome w left before.seen commands log ⊎ ListsNone w left before.seen commands log
+  pub alone : LeavesAlone homes commands before.ports
+  pub exchanged : Settles tell w.opening w.seats w.seat migration homes commands (record { seen = log; ports = before.ports }) given now ⊎ Untold tell migration homes commands (record { seen = log; ports = before.ports }) given now
 
 -- what a worker makes of a round, where so many of its rounds are left
 abbrev pub IsWorked : {P : Type 0} → (P → PortTrace) → Caller → ℕ → List (Option ℕ) → ℕ → ℕ → Standing P → Outcome → Standing P → Type 0

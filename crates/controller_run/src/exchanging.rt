@@ -1,5 +1,6 @@
 ghost use Rattle.std.specs.Prelude.{◌≡◌, ◌⊎◌, ℕ, All, List, Option, IfErr, IfOk, IsTrue, OnOk};
 ghost use Rattle.shared_book.specs.Homes.{homes_of};
+ghost use Rattle.worker_ports.specs.Due.{LeavesAlone};
 ghost use Rattle.controller_run.specs.Exchanging.{Exchanges, StopsInHear, StopsInOffer};
 
 use disk_model::Disk;
@@ -10,9 +11,9 @@ use std::alloc::Global;
 use wan_edge::Port;
 use worker_ports::WorkerPorts;
 
-/// A round between the ports alone: the commands go out, at all ports before the first is heard, and what
-/// comes is told, port by port. Ports are apart, so the clauses say nothing of the order between an offer
-/// at one and a hear at another.
+/// A round between the ports alone: the commands go out, none of which is a late switch's, at all ports
+/// before the first is heard, and what comes is told, port by port. No port is waited for. Ports are apart,
+/// so the clauses say nothing of the order between an offer at one and a hear at another.
 ///
 /// # Errors
 ///
@@ -27,6 +28,7 @@ pub fn exchange<D: Disk, M: Marker, T: Port>(
     requires live { All (λ s. IsTrue s.stream.live) ports.old }
     requires homes { homes.now ≡ homes_of M.opening.rollout.problem }
     requires migration { migration ≡ M.migration }
+    requires alone { LeavesAlone homes.now commands.now ports.old }
     ensures ok { IfOk result
         (λ heard. Exchanges T.told migration homes.now ports.old commands.now heard.answers
         ports.new) }

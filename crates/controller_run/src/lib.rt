@@ -1,8 +1,10 @@
-//! What a worker does with a shared book and its own ports.
+//! What a worker does with a shared book and its own ports. Switches that owe answers within their time limit
+//! are late: they are left alone and hold up nobody.
 #![tactic(auto)]
 
 mod exchanging;
 mod finding;
+mod hearing;
 mod laws;
 mod outcome;
 mod promises;

@@ -19,7 +19,7 @@ ghost use Rattle.shared_book.specs.Homes.{home_if_any, homes_of};
 ghost use Rattle.shared_book.specs.declared.reply.RoundReply.{RoundReply};
 ghost use Rattle.shared_book.specs.declared.reply.RoundReply.TheVariants as round;
 ghost use Rattle.worker_ports.specs.Lots.{home_at, own};
-ghost use Rattle.controller_run.specs.Promises.{BeginsAlone, EndNothing, IsListedIn, IsOfBegun, Promises, StopsNothing, listed_by, rounds_by};
+ghost use Rattle.controller_run.specs.Promises.{AreListed, BeginsAlone, EndNothing, IsListedIn, IsOfBegun, Promises, StopsNothing};
 ghost use Rattle.controller_run.specs.Reasons.{IsReason};
 ghost use Rattle.controller_run.specs.Serving.{Served};
 ghost use Rattle.controller_run.specs.Working.{Standing};
@@ -41,23 +41,24 @@ pub fn a_worker_keeps_its_promises<T: Port>()
 /// list nothing for the seat.
 pub fn listed_commands_are_begun()
     ensures listed { (o : Opening) (seat : ℕ) (switches : List ℕ) (log more : List Written)
-        (c : Command)
-        → Contains (listed_by o seat switches log more) c
+        (listed : List Command) (rounds : ℕ) (c : Command)
+        → AreListed o seat switches log more listed rounds
+        → Contains listed c
         → IsListedIn o seat switches (log ++ more) c }
     ensures begun { (o : Opening) (seat : ℕ) (switches : List ℕ) (log more : List Written)
-        (c : Command)
+        (listed : List Command) (rounds : ℕ) (c : Command)
         → IsTrue (is_legal_shared o (log ++ more))
-        → Contains (listed_by o seat switches log more) c
+        → AreListed o seat switches log more listed rounds
+        → Contains listed c
         → IsOfBegun o switches (history_of o (log ++ more)) c }
     ensures stays { (o : Opening) (log later : List Written) (e : Entry)
         → Contains (history_of o log).entries e
         → Contains (history_of o (log ++ later)).entries e }
     ensures others { (o : Opening) (seat : ℕ) (switches : List ℕ) (log more past : List Written)
+        (listed : List Command) (rounds : ℕ)
         → All (λ w. seat ≢ w.note.seat) past
-        → listed_by o seat switches log (more ++ past) ≡ listed_by o seat switches log more }
-    ensures rounds { (o : Opening) (seat : ℕ) (switches : List ℕ) (log more past : List Written)
-        → All (λ w. seat ≢ w.note.seat) past
-        → rounds_by o seat switches log (more ++ past) ≡ rounds_by o seat switches log more }
+        → AreListed o seat switches log more listed rounds
+        → AreListed o seat switches log (more ++ past) listed rounds }
 {}
 
 /// The batch of a round to which no answer is handed says of no operation that it is done; nor does a note

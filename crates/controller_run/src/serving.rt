@@ -1,5 +1,5 @@
 //! A worker, from its first round to its last.
-ghost use Rattle.std.specs.Prelude.{◌≡◌, ◌+◌, ◌<◌, if◌then◌else◌, All, IsTrue};
+ghost use Rattle.std.specs.Prelude.{◌≡◌, ◌+◌, ◌<◌, if◌then◌else◌, All, IsTrue, true};
 ghost use Rattle.order_policy.specs.Answers.{rank_by};
 ghost use Rattle.turn_lock.specs.Passes.{IsPassOf, IsSamePass, seat_of_pass, seats_of, seen_of};
 ghost use Rattle.shared_book.specs.Calls.{IsCounted};
@@ -26,8 +26,8 @@ pub struct WorkerEnd<V: Counted, T: Port> {
 }
 
 /// Works in rounds until nothing is left to do or all is stopped. Where commands were offered in as many
-/// rounds as the terms give, and an operation of its switches is in flight still, it asks that all stop; so
-/// it does where a port fails or tells what it may not, where an answer is refused, where the disk fails and
+/// rounds as the terms give, none of its switches is late, and an operation of theirs is in flight still, it
+/// asks that all stop; so it does where a port fails or tells what it may not, where an answer is refused, where the disk fails and
 /// where memory runs out.
 pub fn serve<'d, R: Wait, D: Disk, M: Marker, T: Port>(
     rt: &R,
@@ -84,7 +84,7 @@ pub fn serve<'d, R: Wait, D: Disk, M: Marker, T: Port>(
 
 // How many rounds are left behind one in which commands were offered or not.
 fn left_behind(left: u32, offered: bool) -> u32
-    requires some { 0 < left }
+    requires some { offered ≡ true → 0 < left }
     ensures { left ≡ result + (if offered then 1 else 0) }
 {
     if offered { left - 1 } else { left }

@@ -7,5 +7,10 @@ ghost use Rattle.dependency_graph.specs.declared.start_fault.StartFault.TheVaria
 
 /// A start breaks one thing first. Want of memory says nothing of it.
 pub fn a_start_breaks_one_thing_first()
-    ensures { (p : Problem) (plan : Plan) (at : Places) (f g : StartFault) → f ≢ fault.Memory → g ≢ fault.Memory → IsFirstFault p plan at f → IsFirstFault p plan at g → f ≡ g }
+    ensures { (p : Problem) (plan : Plan) (at : Places) (f g : StartFault)
+        → f ≢ fault.Memory
+        → g ≢ fault.Memory
+        → IsFirstFault p plan at f
+        → IsFirstFault p plan at g
+        → f ≡ g }
 {}

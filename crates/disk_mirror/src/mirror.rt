@@ -46,7 +46,8 @@ impl<D: Disk> Model for Mirror<D> {
       faults = m.failures;
     } };
 
-    ghost invariant = { λ m. (Mirrors (D.told m.disk) m.course m.live) × (IsWithin m.most m.course) };
+    ghost invariant = { λ m. (Mirrors (D.told m.disk) m.course m.live)
+        × (IsWithin m.most m.course) };
 }
 
 impl<D: Disk> Mirror<D> {

@@ -2,6 +2,7 @@ pub mod Arithmetic
 pub mod Calls
 pub mod Certificates
 pub mod Ends
+pub mod Excluded
 pub mod Exchanges
 pub mod Farkas
 pub mod First

@@ -8,7 +8,7 @@ use Rattle.fraction_lp.specs.Ratio.{Ratio, zero_ratio, negated, is_zero}
 use Rattle.fraction_lp.specs.Dictionary.{negated_terms, coefficients_of}
 use Rattle.fraction_lp.proofs.Arithmetic.{itself, nothing, alike, negated-negated}
 
-zero_is : (x : Ratio) → is_zero x ≡ true → x ≡ zero_ratio
+pub zero_is : (x : Ratio) → is_zero x ≡ true → x ≡ zero_ratio
 zero_is x e = alike (itself x) nothing (parts x.top (eqb-true (nat_abs x.top) 0 e))
   where
     parts : (z : ℤ) → nat_abs z ≡ 0 → up z * 1 + 0 * x.bottom ≡ 0 * x.bottom + down z * 1

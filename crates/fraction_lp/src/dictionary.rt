@@ -5,7 +5,7 @@ ghost use Rattle.fraction_lp.specs.Steps.{Leaves};
 use crate::line::Line;
 use crate::rows::Row;
 use crate::term::Term;
-use crate::terms::coefficient_at;
+use crate::terms::{coefficient_at, negated_or_zero};
 use crate::unfinished::Unfinished;
 use crate::{Fraction, FractionList};
 use std::alloc::{AllocError, Global};
@@ -174,10 +174,7 @@ fn multiplier(b: usize, terms: &[Term], slack: usize) -> Fraction
     if slack == b {
         return Fraction::one();
     }
-    match coefficient_at(slack, terms) {
-        Some(coefficient) => coefficient.negated(),
-        None => Fraction::zero(),
-    }
+    negated_or_zero(coefficient_at(slack, terms))
 }
 
 /// Adds each row's slack as a line.

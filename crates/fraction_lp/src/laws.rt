@@ -1,8 +1,9 @@
 //! What the definitions come to, in the subject's own words.
-ghost use Rattle.std.specs.Prelude.{◌≡◌, ℕ, ◌<◌, ℤ, pos, nat_abs, ◌*ℤ◌, List};
+ghost use Rattle.std.specs.Prelude.{◌≡◌, ℕ, ◌<◌, ℤ, pos, nat_abs, ◌*ℤ◌, List, IsTrue};
 ghost use Rattle.fraction_lp.specs.Ratio.{Ratio, ratio, product, quotient};
-ghost use Rattle.fraction_lp.specs.Dictionary.{Program};
+ghost use Rattle.fraction_lp.specs.Dictionary.{Program, IsWhole};
 ghost use Rattle.fraction_lp.specs.Program.{IsFeasible, IsCertificate};
+ghost use Rattle.fraction_lp.specs.Excluding.{excludes, AreFormed};
 
 /// A fraction has the value of what it is made of: both tops times the other's bottom are equal.
 pub fn a_reduced_fraction_keeps_its_value()
@@ -27,4 +28,20 @@ pub fn a_certificate_excludes_every_feasible_point()
         → IsCertificate p ys
         → IsFeasible p xs
         → ⊥ }
+{}
+
+/// Multipliers that the calls accept are a certificate, and each of their sums is formed; a certificate
+/// whose sums are formed is accepted.
+pub fn what_the_calls_find_is_a_certificate()
+    ensures sound { (p : Program)
+        → (ys : List Ratio)
+        → IsWhole p
+        → IsTrue (excludes p ys)
+        → IsCertificate p ys }
+    ensures formed { (p : Program) → (ys : List Ratio) → IsTrue (excludes p ys) → AreFormed p ys }
+    ensures complete { (p : Program)
+        → (ys : List Ratio)
+        → IsCertificate p ys
+        → AreFormed p ys
+        → IsTrue (excludes p ys) }
 {}

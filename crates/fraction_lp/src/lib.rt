@@ -2,8 +2,10 @@
 #![tactic(auto)]
 
 mod answer;
+mod column;
 mod dictionary;
 mod divisor;
+mod excluding;
 mod fraction;
 mod line;
 mod rows;
@@ -14,6 +16,7 @@ mod unfinished;
 
 pub use answer::{FractionList, LpAnswer};
 pub use divisor::greatest_common_divisor;
+pub use excluding::excludes;
 pub use fraction::Fraction;
 pub use rows::Rows;
 pub use simplex::{MOST_EXCHANGES, solve};

@@ -1,10 +1,13 @@
-ghost use Rattle.std.specs.Prelude.{◌≡◌, [], ◌∷◌, ◌++◌, length, Some, IfOk, OnOk, OnErr};
+ghost use Rattle.std.specs.Prelude.{◌≡◌, [], ◌∷◌, ◌++◌, length, slice_index_or, Some, IfOk, OnOk, OnErr};
+ghost use Rattle.fraction_lp.specs.Ratio.{zero_ratio};
 ghost use Rattle.fraction_lp.specs.Dictionary.{IsWhole, slack_line};
+ghost use Rattle.fraction_lp.specs.Excluding.{entry_in};
 
 use crate::Fraction;
+use crate::column::Column;
 use crate::line::Line;
 use crate::term::Term;
-use crate::terms::negated_terms;
+use crate::terms::{coefficient_at, negated_or_zero, negated_terms};
 use lists::Memory;
 use std::alloc::Global;
 use std::marker::Model;
@@ -52,6 +55,23 @@ impl Row {
         let mut terms = Vec::new(alloc);
         terms.extend_from_slice(self.terms.as_slice())?;
         Ok(Line::new(self.bound, terms))
+    }
+
+    /// What the row has for an unknown, or its bound.
+    pub(crate) fn entry(&self, column: Column) -> Fraction
+        ensures { result ≡ entry_in column self.now }
+    {
+        match column {
+            Column::Unknown(unknown) => self.coefficient(unknown as usize),
+            Column::Bounds => self.bound,
+        }
+    }
+
+    // The coefficient of an unknown.
+    fn coefficient(&self, unknown: usize) -> Fraction
+        ensures { result ≡ slice_index_or self.now.coefficients unknown zero_ratio }
+    {
+        negated_or_zero(coefficient_at(unknown, self.terms.as_slice()))
     }
 }
 

@@ -1,5 +1,5 @@
 ghost use Rattle.std.specs.Prelude.{◌≡◌, [], ◌∷◌, ◌++◌, ◌≤◌, length, take, drop, Some, None, IfNone, OnOk, IfOk};
-ghost use Rattle.fraction_lp.specs.Dictionary.{with_term, times_each, below, from, add_first, add_times, coefficient_at, without, insert_term, over_each, entering, negated_terms};
+ghost use Rattle.fraction_lp.specs.Dictionary.{with_term, times_each, below, from, add_first, add_times, coefficient_at, negated_or_zero, without, insert_term, over_each, entering, negated_terms};
 ghost use Rattle.fraction_lp.specs.Steps.{Leaves, TakesSome, behind};
 
 use crate::Fraction;
@@ -141,6 +141,17 @@ pub(crate) fn coefficient_at(number: usize, terms: &[Term]) -> Option<Fraction>
         }
     }
     None
+}
+
+/// What a number's coefficient in a row is, by that of its term: a term has it negated, and a number
+/// without one has 0.
+pub(crate) fn negated_or_zero(coefficient: Option<Fraction>) -> Fraction
+    ensures { result ≡ negated_or_zero coefficient }
+{
+    match coefficient {
+        Some(coefficient) => coefficient.negated(),
+        None => Fraction::zero(),
+    }
 }
 
 /// The first term with a positive coefficient.

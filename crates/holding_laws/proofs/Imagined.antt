@@ -21,7 +21,7 @@ ahead earlier told = option_map (λ bytes. earlier ++ bytes) told
 
 -- the port, if it told these bytes too and that this is held
 abbrev pub telling : List ℕ → Holdings → PortTrace → PortTrace
-telling earlier holdings t = record { offered = ahead earlier t.offered; heard = t.heard; held = Some holdings; quiet = t.quiet; faults = t.faults; honest = true; prompt = false; start = t.start }
+telling earlier holdings t = record { offered = ahead earlier t.offered; heard = t.heard; held = Some holdings; quiet = t.quiet; waits = t.waits; faults = t.faults; honest = true; prompt = false; start = t.start }
 
 abbrev pub imagined : List ℕ → Holdings → PortView → PortView
 imagined earlier holdings v = record { switch = v.switch; port = telling earlier holdings v.port; stream = v.stream }

@@ -1,11 +1,12 @@
 -- What is noted piece by piece.
-use Rattle.std.proofs.Common.{◌≡◌, ℕ, ◌+◌, ◌-◌, ◌≤◌, List, ◌++◌, length, take, drop, Option, Some, Result, Ok, Err, append_assoc, ap, arith, ◌∙◌, refl, sym}
+use Rattle.std.proofs.Common.{◌≡◌, ℕ, ◌+◌, ◌-◌, ◌≤◌, List, ◌++◌, length, take, drop, true, false, Option, Some, Result, Ok, Err, append_assoc, ap, arith, ◌∙◌, refl, sym}
 use Rattle.std.proofs.lemmas.List.{length-take, take-append-drop, take-take, take_rest}
 use Rattle.std.proofs.KnownBytes.{Appends-trans}
 use Rattle.std.proofs.Math.Seq.{take-add}
 use Rattle.std.specs.Prelude.{OnOk}
-use Rattle.wan_edge.specs.Ports.{IsOneMore}
+use Rattle.wan_edge.specs.Ports.{IsOneMore, LooksAt}
 use Rattle.host_edge.specs.Histories.{AddsFront, Carries}
+use Rattle.host_edge.specs.Tellings.{told_with}
 
 -- the first bytes of the rest follow those that were taken
 pub take_further : (bytes : List ℕ) (done n : ℕ) → done ≤ length bytes → n ≤ length (take (length bytes - done) (drop done bytes)) → (done + n ≤ length bytes) × (take done bytes ++ take n (take (length bytes - done) (drop done bytes)) ≡ take (done + n) bytes)
@@ -44,3 +45,18 @@ pub one_more : (before now : ℕ) → now ≡ before + 1 → IsOneMore (Some bef
 one_more before now more =
     let back : before ≡ now - 1 = omega (arith, more) in
     (omega (arith, more), ap Some back)
+
+-- a look told nothing, or that it came too early
+module _ (offered heard offered_now heard_now : List ℕ) (quiet waits quiet_now waits_now : ℕ) (same_offered : offered_now ≡ offered) (same_heard : heard_now ≡ heard) (same_quiet : quiet_now ≡ quiet) where
+  pub looks_ready : waits_now ≡ waits → LooksAt true (told_with offered heard quiet waits) (told_with offered_now heard_now quiet_now waits_now)
+  looks_ready same = λ i. told_with (same_offered i) (same_heard i) (same_quiet i) (same i)
+
+  pub looks_early : waits_now ≡ waits + 1 → LooksAt false (told_with offered heard quiet waits) (told_with offered_now heard_now quiet_now waits_now)
+  looks_early more = record {
+    offered = ap Some same_offered;
+    heard = ap Some same_heard;
+    quiet = ap Some same_quiet;
+    waits = one_more waits waits_now more;
+    prompt = refl;
+    step = record { count = omega arith; told = refl; honest = refl; prompt = refl; start = refl; by_rule = tt; in_order = tt };
+  }

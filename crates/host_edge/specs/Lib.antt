@@ -5,3 +5,4 @@ pub mod Ledgers
 pub mod Outboxes
 pub mod Places
 pub mod Sinks
+pub mod Tellings

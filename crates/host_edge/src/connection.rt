@@ -150,6 +150,22 @@ impl<S: Read + Write + OpenStream> Connection<S> {
         Ok(self.inbox.give(into))
     }
 
+    /// Whether there are bytes of whole answers to give. It reads what came already, and waits for nothing.
+    ///
+    /// # Errors
+    ///
+    /// `WouldBlock` where no more came. Any other says that the connection has ended.
+    pub(crate) fn look<R: Clock>(&mut self, rt: &R, limit: TimeLimit) -> io::Result<bool>
+        ensures sorted { (piece : List ℕ)
+            × Consumes (S.remaining self.old.stream) (S.remaining self.new.stream) piece
+            × GivesOn self.old.inbox piece [] self.new.inbox
+            × (self.new.came ≡ self.old.came ++ piece) }
+        ensures outbox { self.new.outbox ≡ self.old.outbox }
+    {
+        self.refill(rt, limit, None)?;
+        Ok(!self.inbox.is_empty())
+    }
+
     // Where no byte is to be given on, reads until some are.
     fn refill<R: Clock>(
         &mut self,

@@ -82,6 +82,15 @@ impl Count {
     }
 }
 
+/// A history of these bytes alone.
+pub(crate) fn history_of(bytes: &[u8]) -> Bytes
+    ensures { bytes_in result ≡ bytes.now }
+{
+    let mut all = Bytes::Nothing;
+    add_each(&mut all, bytes);
+    all
+}
+
 fn add_each(all: &mut Bytes, bytes: &[u8])
     ensures { bytes_in all.new ≡ bytes_in all.old ++ bytes.now }
 {

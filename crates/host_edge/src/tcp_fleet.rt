@@ -1,5 +1,5 @@
 ghost use Rattle.std.specs.Prelude.{◌≡◌, [], None, IfOk, IsSome, OnOk};
-ghost use Rattle.host_edge.specs.Ledgers.{kept_in, lent_in, served_in, visiting_in};
+ghost use Rattle.host_edge.specs.Ledgers.{kept_in, lent_in, named_in, served_in, visiting_in};
 
 use crate::dialer::Dialer;
 use crate::faults::Faults;
@@ -72,6 +72,8 @@ impl<R: Net + Files<File = File> + Clock + Copy> Fleet for TcpFleet<R> {
 
     ghost lent = { λ f. lent_in f.loans };
 
+    ghost named = { λ f. named_in f.loans };
+
     ghost visiting = { λ f. visiting_in f.visits };
 
     ghost faults = { λ f. f.faults };
@@ -79,7 +81,7 @@ impl<R: Net + Files<File = File> + Clock + Copy> Fleet for TcpFleet<R> {
     fn port(&mut self, switch: u32, name: &str) -> Result<TcpPort<R>, Failed> {
         let answer = open_port(self.alloc, &self.rt, &mut self.switches, name, self.limit);
         let port = self.faults.counted(answer)?;
-        self.loans = self.loans.given(switch);
+        self.loans = self.loans.given(switch, name);
         Ok(port)
     }
 

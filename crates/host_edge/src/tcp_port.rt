@@ -1,11 +1,13 @@
 ghost use Rattle.std.specs.Prelude.{◌≡◌, ◌<◌, ◌≤◌, [], length, take, IfOk, IsOk, OnErr, OnOk};
 ghost use Rattle.host_edge.specs.Connections.{HearsOver, IsFresh, OffersOver, StaysOrIsNew};
-ghost use Rattle.wan_edge.specs.Ports.{IsOneMore};
+ghost use Rattle.host_edge.specs.Tellings.{told_with};
+ghost use Rattle.wan_edge.specs.Ports.{IsOneMore, LooksAt};
 ghost use Rattle.wan_edge.specs.Streams.{Appends};
 
 use crate::connection::{Connection, is_late};
 use crate::dialer::Dialer;
 use crate::history::{Count, History};
+use crate::time_limit::rest_behind;
 use std::fs::File;
 use std::io::{self, ErrorKind};
 use std::net::{Net, TcpStream};
@@ -14,13 +16,17 @@ use std::thread;
 use std::time::{Clock, Duration, Instant};
 use wan_edge::{Failed, Port};
 
-/// The way to a switch as a port, which never fails. It tells what was offered, what was heard and how often
-/// nothing was.
+/// The way to a switch as a port, which never fails. It tells what was offered, what was heard, how often
+/// nothing was, and how often it was looked at too early.
 ///
 /// Where its connection couldn't be made, or ends, another one is begun, at most once in each time limit.
 /// Meanwhile what is offered is lost, and nothing is heard. What comes back is given on in whole answers:
-/// one that is cut when its connection ends is dropped. A hear waits until the time limit has passed since
-/// the last offer.
+/// one that is cut when its connection ends is dropped.
+///
+/// A hear waits until the time limit has passed since the last offer. A look waits for nothing: it reads what
+/// is there, and the port is ready where whole answers are to be given on, and where that limit has passed.
+/// Where the connection has ended it isn't ready before: what was offered is lost, and may be offered again
+/// when the limit has passed, over a connection that was begun meanwhile.
 ///
 /// So what was offered is all that was handed over. The first of each offer was sent over the connection
 /// that there was: all of it or none, but for the last one there, of which a part may have gone. What was
@@ -34,6 +40,7 @@ pub struct TcpPort<R> {
     offered: History,
     heard: History,
     quiet: Count,
+    waits: Count,
 }
 
 impl<R: Net + Files<File = File> + Clock> TcpPort<R> {
@@ -43,6 +50,7 @@ impl<R: Net + Files<File = File> + Clock> TcpPort<R> {
         ensures offered { result.offered ≡ [] }
         ensures heard { result.heard ≡ [] }
         ensures quiet { result.quiet ≡ 0 }
+        ensures waits { result.waits ≡ 0 }
     {
         let connection = connection_of(dialer.dial(address));
         TcpPort {
@@ -52,6 +60,7 @@ impl<R: Net + Files<File = File> + Clock> TcpPort<R> {
             offered: History::new(),
             heard: History::new(),
             quiet: Count::new(),
+            waits: Count::new(),
         }
     }
 
@@ -61,6 +70,7 @@ impl<R: Net + Files<File = File> + Clock> TcpPort<R> {
         ensures offered { self.new.offered ≡ self.old.offered }
         ensures heard { self.new.heard ≡ self.old.heard }
         ensures quiet { self.new.quiet ≡ self.old.quiet }
+        ensures waits { self.new.waits ≡ self.old.waits }
     {
         if let Some(connection) = &mut self.connection {
             if connection.is_up() {
@@ -78,6 +88,7 @@ impl<R: Net + Files<File = File> + Clock> TcpPort<R> {
         ensures offered { self.new.offered ≡ self.old.offered }
         ensures heard { self.new.heard ≡ self.old.heard }
         ensures quiet { self.new.quiet ≡ self.old.quiet }
+        ensures waits { self.new.waits ≡ self.old.waits }
     {
         if let Some(connection) = &mut self.connection {
             if connection.is_up() {
@@ -93,6 +104,7 @@ impl<R: Net + Files<File = File> + Clock> TcpPort<R> {
         ensures offered { self.new.offered ≡ self.old.offered }
         ensures heard { self.new.heard ≡ self.old.heard }
         ensures quiet { self.new.quiet ≡ self.old.quiet }
+        ensures waits { self.new.waits ≡ self.old.waits }
     {
         let limit = self.dialer.limit();
         match &mut self.connection {
@@ -110,6 +122,7 @@ impl<R: Net + Files<File = File> + Clock> TcpPort<R> {
         ensures offered { self.new.offered ≡ self.old.offered }
         ensures heard { self.new.heard ≡ self.old.heard }
         ensures quiet { self.new.quiet ≡ self.old.quiet }
+        ensures waits { self.new.waits ≡ self.old.waits }
     {
         let limit = self.dialer.limit();
         match &mut self.connection {
@@ -124,6 +137,7 @@ impl<R: Net + Files<File = File> + Clock> TcpPort<R> {
         ensures offered { self.new.offered ≡ self.old.offered }
         ensures heard { self.new.heard ≡ self.old.heard }
         ensures quiet { self.new.quiet ≡ self.old.quiet }
+        ensures waits { self.new.waits ≡ self.old.waits }
     {
         self.connection = None;
         if !self.dialer.is_due() {
@@ -139,6 +153,7 @@ impl<R: Net + Files<File = File> + Clock> TcpPort<R> {
         ensures offered { self.new.offered ≡ self.old.offered }
         ensures heard { self.new.heard ≡ self.old.heard }
         ensures quiet { self.new.quiet ≡ self.old.quiet }
+        ensures waits { self.new.waits ≡ self.old.waits }
     {
         self.look_after();
         match self.listen(into) {
@@ -150,22 +165,52 @@ impl<R: Net + Files<File = File> + Clock> TcpPort<R> {
             }
         }
     }
+
+    // Whether there is something to give on, over the connection that there is. It reads what came already.
+    fn look(&mut self) -> io::Result<bool>
+        ensures told { HearsOver self.old.connection [] self.new.connection }
+        ensures offered { self.new.offered ≡ self.old.offered }
+        ensures heard { self.new.heard ≡ self.old.heard }
+        ensures quiet { self.new.quiet ≡ self.old.quiet }
+        ensures waits { self.new.waits ≡ self.old.waits }
+    {
+        let limit = self.dialer.limit();
+        match &mut self.connection {
+            Some(connection) => connection.look(self.dialer.rt(), limit),
+            None => Ok(false),
+        }
+    }
+
+    // The same over that connection or another one, which is given up where it has ended.
+    fn peek(&mut self) -> bool
+        ensures told { HearsOver self.old.connection [] self.new.connection }
+        ensures offered { self.new.offered ≡ self.old.offered }
+        ensures heard { self.new.heard ≡ self.old.heard }
+        ensures quiet { self.new.quiet ≡ self.old.quiet }
+        ensures waits { self.new.waits ≡ self.old.waits }
+    {
+        self.look_after();
+        match self.look() {
+            Ok(is_there) => is_there,
+            Err(error) if is_late(&error) => false,
+            Err(_) => {
+                self.connection = None;
+                false
+            }
+        }
+    }
+
+    // Whether the time limit has passed since the last offer.
+    fn has_waited(&self) -> bool {
+        let limit = self.dialer.limit();
+        limit.has_passed(self.dialer.rt(), self.last)
+    }
 }
 
 impl<R: Net + Files<File = File> + Clock> Port for TcpPort<R> {
-    ghost use Rattle.std.specs.Prelude.{None, Some, false};
-    ghost use Rattle.wan_edge.specs.Switches.{holding_nothing};
+    ghost use Rattle.std.specs.Prelude.{Some};
 
-    ghost told = { λ p. record {
-      offered = Some p.offered;
-      heard = Some p.heard;
-      held = None;
-      quiet = Some p.quiet;
-      faults = 0;
-      honest = false;
-      prompt = false;
-      start = holding_nothing;
-    } };
+    ghost told = { λ p. told_with p.offered p.heard p.quiet p.waits };
 
     fn offer(&mut self, from: &[u8]) -> Result<(), Failed>
         ensures goes_on { IsOk result }
@@ -174,6 +219,7 @@ impl<R: Net + Files<File = File> + Clock> Port for TcpPort<R> {
         ensures sent { OffersOver self.old.connection from.now self.new.connection }
         ensures unheard { Some self.new.heard ≡ Some self.old.heard }
         ensures no_hear { Some self.new.quiet ≡ Some self.old.quiet }
+        ensures no_look { Some self.new.waits ≡ Some self.old.waits }
     {
         self.look_after();
         self.last = Instant::now(self.dialer.rt()).ok();
@@ -195,6 +241,7 @@ impl<R: Net + Files<File = File> + Clock> Port for TcpPort<R> {
         ensures quieter { IfOk result
             (λ n. n ≡ 0 → IsOneMore (Some self.old.quiet) (Some self.new.quiet)) }
         ensures as_quiet { IfOk result (λ n. 0 < n → Some self.new.quiet ≡ Some self.old.quiet) }
+        ensures no_look { Some self.new.waits ≡ Some self.old.waits }
     {
         let n = self.next(into);
         if n == 0 {
@@ -203,6 +250,27 @@ impl<R: Net + Files<File = File> + Clock> Port for TcpPort<R> {
         }
         self.heard.add(&into[..n]);
         Ok(n)
+    }
+
+    fn is_ready(&mut self) -> bool
+        ensures looks { LooksAt result
+            (told_with self.old.offered self.old.heard self.old.quiet self.old.waits)
+            (told_with self.new.offered self.new.heard self.new.quiet self.new.waits) }
+        ensures told { HearsOver self.old.connection [] self.new.connection }
+    {
+        if self.peek() {
+            return true;
+        }
+        if self.has_waited() {
+            return true;
+        }
+        self.waits.raise();
+        false
+    }
+
+    fn rest(&self) {
+        let rt = self.dialer.rt();
+        thread::sleep(rt, rest_behind(rt, self.last));
     }
 
     ghost prompt_is_honest = { λ _ prompt. prompt };

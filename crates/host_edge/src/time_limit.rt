@@ -1,4 +1,8 @@
+use std::cmp::min;
 use std::time::{Clock, Duration, Instant};
+
+/// How many milliseconds a rest lasts at the most.
+const REST: u64 = 1;
 
 /// How long something may take, above 0.
 #[derive(Clone, Copy, Drop)]
@@ -27,5 +31,30 @@ impl TimeLimit {
             },
             None => Duration::ZERO,
         }
+    }
+
+    /// Whether it has passed since a moment. Where there was none, or the clock can't be read, nobody is to
+    /// wait for it.
+    pub(crate) fn has_passed<R: Clock>(&self, rt: &R, since: Option<Instant>) -> bool {
+        match since {
+            Some(moment) => match moment.elapsed(rt) {
+                Ok(gone) => self.whole.saturating_sub(gone).is_zero(),
+                Err(_) => true,
+            },
+            None => true,
+        }
+    }
+}
+
+/// How long a rest lasts behind a moment: a quarter of what has passed since, so that a thing that comes soon
+/// is seen soon, and never longer than a millisecond.
+pub(crate) fn rest_behind<R: Clock>(rt: &R, since: Option<Instant>) -> Duration {
+    let most = Duration::from_millis(REST);
+    match since {
+        Some(moment) => match moment.elapsed(rt) {
+            Ok(gone) => min(gone.checked_div(4).unwrap_or(most), most),
+            Err(_) => most,
+        },
+        None => most,
     }
 }

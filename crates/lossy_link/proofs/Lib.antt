@@ -1,6 +1,7 @@
 pub mod AlienAnswers
 pub mod Answering
 pub mod Behind
+pub mod Called
 pub mod Counted
 pub mod Gates
 pub mod Keeping

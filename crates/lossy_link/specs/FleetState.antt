@@ -2,6 +2,7 @@
 use Rattle.std.specs.Prelude.{ℕ, ◌+◌, ◌-◌, ◌<◌, ◌≤◌, ◌^◌, Bool, List, [], ◌∷◌, ◌++◌, Option, Some, None}
 use Rattle.lossy_link.specs.Berths.{Places}
 use Rattle.lossy_link.specs.Guests.{Visit}
+use Rattle.lossy_link.specs.Names.{NameRows}
 
 -- the guests still to be given and those given back, in order, and how many were given and not given back
 pub record Visits : Type 0 where
@@ -32,9 +33,10 @@ pub record HasPlaces (guests served capacity : ℕ) : Type 0 where
   pub room : served + guests ≤ capacity
   pub counted : guests < 2 ^ 64
 
--- the places of the switches, the guests, whether to give one fails, and how often a call has failed
+-- the places of the switches and their names, the guests, whether to give one fails, and how often a call has failed
 pub record FleetState (P : Type 0) : Type 0 where
   pub places : Places P
+  pub names : NameRows
   pub guests : Visits
   pub guests_fail : Bool
   pub faults : ℕ

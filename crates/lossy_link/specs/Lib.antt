@@ -6,6 +6,7 @@ pub mod FleetState
 pub mod Gates
 pub mod Guests
 pub mod Incoming
+pub mod Names
 pub mod Noise
 pub mod Scripted
 pub mod Silent

@@ -110,6 +110,7 @@ impl Port for AlienPort {
       heard = Some p.back.heard;
       held = Some holding_nothing;
       quiet = told_quiet p.counts;
+      waits = Some 0;
       faults = p.counts.faults;
       honest = false;
       prompt = false;
@@ -175,4 +176,10 @@ impl Port for AlienPort {
         }
         Ok(n)
     }
+
+    fn is_ready(&mut self) -> bool {
+        true
+    }
+
+    fn rest(&self) {}
 }

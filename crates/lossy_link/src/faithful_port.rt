@@ -171,6 +171,7 @@ impl Port for FaithfulPort {
       heard = Some p.back.heard;
       held = Some (holding p.items);
       quiet = told_quiet p.counts;
+      waits = Some 0;
       faults = p.counts.faults;
       honest = true;
       prompt = true;
@@ -251,4 +252,10 @@ impl Port for FaithfulPort {
         }
         Ok(n)
     }
+
+    fn is_ready(&mut self) -> bool {
+        true
+    }
+
+    fn rest(&self) {}
 }

@@ -50,6 +50,7 @@ impl Port for GatedPort {
       heard = Some p.port.back.heard;
       held = Some (holding p.port.items);
       quiet = told_quiet p.port.counts;
+      waits = Some 0;
       faults = p.port.counts.faults;
       honest = true;
       prompt = false;
@@ -141,4 +142,10 @@ impl Port for GatedPort {
         }
         self.port.hear(into)
     }
+
+    fn is_ready(&mut self) -> bool {
+        true
+    }
+
+    fn rest(&self) {}
 }

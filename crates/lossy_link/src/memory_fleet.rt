@@ -1,27 +1,32 @@
-ghost use Rattle.std.specs.Prelude.{◌≡◌, ◌<◌, [], ◌∷◌, ◌++◌, true, false, None, Some, is_err, is_ok, is_some, IfOk, OnErr, OnOk};
+ghost use Rattle.std.specs.Prelude.{◌≡◌, ◌<◌, [], ◌∷◌, ◌++◌, true, false, None, Some, is_err, IfOk, OnErr, OnOk};
 ghost use Rattle.lossy_link.specs.Berths.{kept_at, lent_at, waiting_at};
 ghost use Rattle.lossy_link.specs.FleetState.{after_guest, after_visit, first_guest};
+ghost use Rattle.lossy_link.specs.Names.{name_at};
 ghost use Rattle.wan_edge.specs.FailingTurns.{one_more};
 ghost use Rattle.wan_edge.specs.Fleets.{marked, with_one, without};
 
 mod berth;
 mod berths;
 mod guest_queue;
+mod names;
 
 use crate::MemoryGuest;
 use berths::Berths;
 use guest_queue::GuestQueue;
-use lists::Memory;
+use lists::{Memory, Text};
+use names::Names;
 use std::alloc::Global;
 use std::marker::Model;
 use wan_edge::{Failed, Fleet, Port};
 
-/// Ports that wait for their switches and guests that come in order, all of them told.
+/// Ports that wait for their switches and guests that come in order, all of them told. A port is given to
+/// whoever asks for it by the name of its switch, and to nobody else.
 ///
-/// Memory is taken where a port or a guest is put, and nowhere else.
+/// Memory is taken where a switch is called, or a port or a guest is put, and nowhere else.
 #[derive(Debug, Drop)]
 pub struct MemoryFleet<P> {
     berths: Berths<P>,
+    names: Names,
     guests: GuestQueue,
     guests_fail: bool,
     faults: u64,
@@ -34,6 +39,7 @@ impl<P> Model for MemoryFleet<P> {
 
     ghost view = { λ f. record {
       places = f.berths;
+      names = f.names;
       guests = f.guests;
       guests_fail = f.guests_fail;
       faults = f.faults;
@@ -45,6 +51,7 @@ impl<P> MemoryFleet<P> {
         ensures { result
             ≡ record {
               places = [];
+              names = [];
               guests = record { coming = []; served = []; visiting = 0 };
               guests_fail = false;
               faults = 0;
@@ -52,10 +59,21 @@ impl<P> MemoryFleet<P> {
     {
         MemoryFleet {
             berths: Berths::new(alloc),
+            names: Names::new(alloc),
             guests: GuestQueue::new(alloc),
             guests_fail: false,
             faults: 0,
         }
+    }
+
+    /// Calls a switch by this name, and by no other. Want of memory changes nothing.
+    pub fn call(&mut self, switch: u32, name: Text) -> Result<(), Memory>
+        ensures ok { OnOk result
+            (name_at self.new.names ≡ with_one (name_at self.old.names) switch name) }
+        ensures others { self.new ≡ record self.old { names = self.new.names } }
+        ensures err { OnErr result (self.new ≡ self.old) }
+    {
+        self.names.give_name(switch, name)
     }
 
     /// Lets this port wait for the switch. One that waited, perhaps since it was given back, is dropped;
@@ -132,13 +150,19 @@ impl<P: Port + Drop> Fleet for MemoryFleet<P> {
 
     ghost lent = { λ f. lent_at f.places };
 
+    ghost named = { λ f. name_at f.names };
+
     ghost visiting = { λ f. f.guests.visiting };
 
     ghost faults = { λ f. f.faults };
 
-    /// Gives the port that waits for the switch, or fails exactly where none does.
-    fn port(&mut self, switch: u32, _name: &str) -> Result<P, Failed>
-        ensures waits { is_ok result ≡ is_some (waiting_at self.old.places switch) }
+    /// Gives the port that waits for the switch, or fails exactly where none does, or the switch isn't called
+    /// so.
+    fn port(&mut self, switch: u32, name: &str) -> Result<P, Failed>
+        ensures own { OnOk result (name_at self.old.names switch ≡ Some name.now) }
+        ensures none { OnErr result
+            (name_at self.old.names switch ≡ Some name.now
+            → waiting_at self.old.places switch ≡ None) }
         ensures given { IfOk result (λ port. waiting_at self.old.places switch ≡ Some port) }
         ensures waiting { OnOk result
             (waiting_at self.new.places ≡ without (waiting_at self.old.places) switch) }
@@ -146,10 +170,15 @@ impl<P: Port + Drop> Fleet for MemoryFleet<P> {
             (kept_at self.new.places ≡ without (kept_at self.old.places) switch) }
         ensures lent { OnOk result
             (lent_at self.new.places ≡ marked (lent_at self.old.places) switch true) }
+        ensures asked { OnOk result
+            (name_at self.new.names ≡ with_one (name_at self.old.names) switch name.now) }
         ensures others { OnOk result (self.new ≡ record self.old { places = self.new.places }) }
         ensures failed { OnErr result
             (self.new ≡ record self.old { faults = one_more self.old.faults }) }
     {
+        if !self.names.has_name(switch, name) {
+            return Err(self.fail());
+        }
         match self.berths.lend(switch) {
             Some(port) => Ok(port),
             None => Err(self.fail()),

@@ -65,6 +65,7 @@ impl Port for NoisePort {
       heard = Some p.back.heard;
       held = Some holding_nothing;
       quiet = told_quiet p.counts;
+      waits = Some 0;
       faults = p.counts.faults;
       honest = false;
       prompt = false;
@@ -116,4 +117,10 @@ impl Port for NoisePort {
         }
         Ok(n)
     }
+
+    fn is_ready(&mut self) -> bool {
+        true
+    }
+
+    fn rest(&self) {}
 }

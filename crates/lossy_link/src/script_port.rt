@@ -115,6 +115,7 @@ impl Port for ScriptPort {
       heard = Some p.line.back.heard;
       held = Some (holding p.line.items);
       quiet = told_quiet p.counts;
+      waits = Some 0;
       faults = p.counts.faults;
       honest = true;
       prompt = false;
@@ -187,4 +188,10 @@ impl Port for ScriptPort {
         }
         Ok(n)
     }
+
+    fn is_ready(&mut self) -> bool {
+        true
+    }
+
+    fn rest(&self) {}
 }

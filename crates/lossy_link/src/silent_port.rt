@@ -43,6 +43,7 @@ impl Port for SilentPort {
       heard = Some [];
       held = Some holding_nothing;
       quiet = told_quiet p.counts;
+      waits = Some 0;
       faults = p.counts.faults;
       honest = true;
       prompt = false;
@@ -89,4 +90,10 @@ impl Port for SilentPort {
         self.counters.count_quiet();
         Ok(0)
     }
+
+    fn is_ready(&mut self) -> bool {
+        true
+    }
+
+    fn rest(&self) {}
 }

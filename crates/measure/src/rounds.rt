@@ -7,6 +7,7 @@ ghost use Rattle.order_policy.specs.Answers.{rank_by};
 ghost use Rattle.rollout_book.specs.Lists.{IsKeptList};
 ghost use Rattle.turn_lock.specs.Passes.{IsPassOf, IsSamePass};
 ghost use Rattle.shared_book.specs.Calls.{IsCounted};
+ghost use Rattle.shared_book.specs.Images.{StandsSo};
 ghost use Rattle.shared_book.specs.Opened.{IsOpened, IsOpenedOn, opening_of};
 
 use crate::nowhere::as_heard;
@@ -248,6 +249,7 @@ fn roll_named<'d, R: Wait, D: Disk, M: Marker>(
     work: Work<'_>,
 ) -> (Book<'d, D>, u64)
     requires opened { IsOpenedOn D.told M.opening M.moment M.faults book.chronicle }
+    requires stood { StandsSo M.stood (D.told book.chronicle.disk) }
     requires policy { M.opening.policy ≡ rank_by book.policy.now.answers }
     requires any { (answer : Answer) → M.heard answer }
     requires seats { M.seats ≡ 1 }

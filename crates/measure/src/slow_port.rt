@@ -51,6 +51,7 @@ impl<'r, R: Clock> Port for SlowPort<'r, R> {
       heard = Some p.port.back.heard;
       held = Some (holding p.port.items);
       quiet = told_quiet p.port.counts;
+      waits = Some 0;
       faults = p.port.counts.faults;
       honest = true;
       prompt = true;
@@ -68,4 +69,10 @@ impl<'r, R: Clock> Port for SlowPort<'r, R> {
         self.wait();
         self.port.hear(into)
     }
+
+    fn is_ready(&mut self) -> bool {
+        true
+    }
+
+    fn rest(&self) {}
 }

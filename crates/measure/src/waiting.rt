@@ -8,6 +8,7 @@ ghost use Rattle.rollout_book.specs.Lists.{IsKeptList};
 ghost use Rattle.turn_lock.specs.Passes.{IsFirstPass, IsPassOf, IsSamePass, out_of, seat_of_pass};
 ghost use Rattle.shared_book.specs.Calls.{IsCounted};
 ghost use Rattle.shared_book.specs.Homes.{homes_of};
+ghost use Rattle.shared_book.specs.Images.{StandsSo};
 ghost use Rattle.shared_book.specs.Opened.{IsOpened, IsOpenedOn, opening_of};
 
 use crate::jobs::{Job, two_jobs};
@@ -242,6 +243,7 @@ fn wait_named<'d, R: Threads + Wait + Sync + Clock, D: Disk + Drop + Send, M: Ma
     milliseconds: u32,
 ) -> (Book<'d, D>, Wake)
     requires opened { IsOpenedOn D.told M.opening M.moment M.faults book.chronicle }
+    requires stood { StandsSo M.stood (D.told book.chronicle.disk) }
     requires policy { M.opening.policy ≡ rank_by book.policy.now.answers }
     requires any { (answer : Answer) → M.heard answer }
     requires seats { M.seats ≡ 2 }

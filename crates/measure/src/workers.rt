@@ -5,6 +5,7 @@ use crate::rollout;
 use crate::slow_port::SlowPort;
 use anyhow::{Result, bail};
 use disk_model::{Disk, MemoryDisk};
+use lists::Text;
 use lossy_link::{FaithfulPort, MemoryFleet};
 use order_policy::Policy;
 use rollout_run::Limits;
@@ -15,7 +16,7 @@ use std::rt::Clock;
 use std::sync::Wait;
 use std::thread::Threads;
 use wan_edge::{Fleet, Nums8, Port, Turns};
-use wan_model::{CheckedPlan, OpView};
+use wan_model::{CheckedPlan, OpView, Problem};
 
 /// When the ports answer.
 #[derive(Clone, Copy)]
@@ -95,17 +96,15 @@ fn rolled_by<R: Threads + Wait + Sync + Clock>(
     policy: &Policy,
     crew: Crew,
 ) -> Result<Rolled> {
-    let switches = plan.problem().switches().len() as u32;
     match crew.pace {
-        Pace::AtOnce => rolled_with(rt, alloc, plan, policy, crew, fleet_of(alloc, switches)),
-        Pace::Slow => rolled_with(
-            rt,
-            alloc,
-            plan,
-            policy,
-            crew,
-            slow_fleet_of(rt, alloc, switches),
-        ),
+        Pace::AtOnce => {
+            let fleet = fleet_of(alloc, plan.problem());
+            rolled_with(rt, alloc, plan, policy, crew, fleet)
+        }
+        Pace::Slow => {
+            let fleet = slow_fleet_of(rt, alloc, plan.problem());
+            rolled_with(rt, alloc, plan, policy, crew, fleet)
+        }
     }
 }
 
@@ -152,23 +151,29 @@ fn rolled_of(outcome: Outcome<MemoryDisk>) -> Rolled {
     }
 }
 
-// A port at each of so many switches.
-fn fleet_of(alloc: Global, switches: u32) -> Result<MemoryFleet<FaithfulPort>> {
+// A port at each switch.
+fn fleet_of(alloc: Global, problem: &Problem) -> Result<MemoryFleet<FaithfulPort>> {
     let mut fleet = MemoryFleet::new(alloc);
-    for switch in 0..switches {
+    for switch in 0..problem.switches().len() as u32 {
+        fleet.call(switch, copied(alloc, problem.switch_name(switch as usize))?)?;
         fleet.put(switch, FaithfulPort::new(alloc))?;
     }
     Ok(fleet)
 }
 
-// A slow port at each of so many switches.
+fn copied(alloc: Global, name: &str) -> Result<Text> {
+    Ok(Text::from(String::from_str(alloc, name)?))
+}
+
+// A slow port at each switch.
 fn slow_fleet_of<'r, R: Clock>(
     rt: &'r R,
     alloc: Global,
-    switches: u32,
+    problem: &Problem,
 ) -> Result<MemoryFleet<SlowPort<'r, R>>> {
     let mut fleet = MemoryFleet::new(alloc);
-    for switch in 0..switches {
+    for switch in 0..problem.switches().len() as u32 {
+        fleet.call(switch, copied(alloc, problem.switch_name(switch as usize))?)?;
         fleet.put(switch, SlowPort::new(rt, alloc))?;
     }
     Ok(fleet)

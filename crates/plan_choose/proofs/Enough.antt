@@ -92,12 +92,12 @@ module _ (p : Problem) (none : refusal p ≡ None) where
       clash b e f = cc
 
 -- ---- what is chosen is valid
-allowed : {A : Type 0} (r : Option NoPlan) (wanted : Result A NoPlan) (a : A) → unless_refused r wanted ≡ Ok a → (r ≡ None) × (wanted ≡ Ok a)
+pub allowed : {A : Type 0} (r : Option NoPlan) (wanted : Result A NoPlan) (a : A) → unless_refused r wanted ≡ Ok a → (r ≡ None) × (wanted ≡ Ok a)
 allowed None wanted a e = (refl, e)
 allowed (Some cause) wanted a e = cc
 
 -- the first where the test passes, else the rest
-branch : {A : Type 0} (b : Bool) (a x : A) (r : Result A NoPlan) → (if b then Ok a else r) ≡ Ok x → ((b ≡ true) × (a ≡ x)) ⊎ (r ≡ Ok x)
+pub branch : {A : Type 0} (b : Bool) (a x : A) (r : Result A NoPlan) → (if b then Ok a else r) ≡ Ok x → ((b ≡ true) × (a ≡ x)) ⊎ (r ≡ Ok x)
 branch true a x r e = inl (refl, cc)
 branch false a x r e = inr e
 

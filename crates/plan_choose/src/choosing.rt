@@ -1,8 +1,6 @@
 ghost use Rattle.std.specs.Prelude.{◌≡◌, Some, None, IsTrue, IfOk};
-ghost use Rattle.rollout_rules.specs.Network.{IsNetwork};
 ghost use Rattle.rollout_rules.specs.Valid.{is_valid_plan};
 ghost use Rattle.plan_check.specs.LeastSlack as slack;
-ghost use Rattle.scratch_plan.specs.Frame as frame;
 ghost use Rattle.scratch_plan.specs.Refusals.{refusal, Answers};
 ghost use Rattle.plan_choose.specs.Choice as spec;
 ghost use Rattle.plan_choose.specs.Chosen.{IsChosen};
@@ -13,7 +11,7 @@ use crate::steps::{fewer_steps, most_tried};
 use crate::validity::where_valid;
 use lists::Memory;
 use plan_check::least_slack;
-use scratch_plan::{NoPlan, frame, refused, scratch, still};
+use scratch_plan::{NoPlan, frame, has_equal_rates, refused, scratch, still};
 use std::alloc::Global;
 use wan_model::{CheckedPlan, Plan, Problem};
 
@@ -93,17 +91,4 @@ fn plan_from_scratch(alloc: Global, problem: &Problem) -> Result<Planned, NoPlan
     let plan = scratch(alloc, problem)?;
     let rate_steps = plan.scale;
     Ok(Planned { plan, rate_steps })
-}
-
-// Whether every tunnel has its old rate in the new split.
-fn has_equal_rates(problem: &Problem) -> bool
-    ensures value { result ≡ frame.has_equal_rates problem.now }
-    ensures network { IsNetwork problem.now }
-{
-    for t in 0..problem.tunnels().len() {
-        if problem.old_rate(t) != problem.new_rate(t) {
-            return false;
-        }
-    }
-    true
 }

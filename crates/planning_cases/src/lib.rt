@@ -1,6 +1,5 @@
-//! Tests of the crates from the list type to the dependency graph, and of the texts of a plan: what no command
-//! reaches. What these crates say whole, and a command shows, is tried over the built program. They stand apart, since a crate with tests is
-//! proved twice.
+//! Tests of calls below the commands: what no command reaches. What a command shows is tried over the built program, as
+//! the texts of a plan and the way back are. They stand apart, since a crate with tests is proved twice.
 #![tactic(auto)]
 
 #[cfg(test)]
@@ -9,7 +8,3 @@ mod fewest;
 mod fractions;
 #[cfg(test)]
 mod names;
-#[cfg(test)]
-mod texts;
-#[cfg(test)]
-mod way_back;

@@ -1,16 +1,17 @@
 -- What a row of hears comes to: of what was read, and of the port's rule.
-use Rattle.std.proofs.Common.{◌≡◌, ◌⊎◌, ℕ, ◌+◌, ◌*◌, ◌<◌, List, [], ◌∷◌, ◌++◌, length, take, Option, Some, None, IfSome, inl, inr, refl, sym, ap, subst, ◌∙◌, arith, length-append}
+use Rattle.std.proofs.Common.{◌≡◌, ◌⊎◌, ℕ, ◌+◌, ◌*◌, ◌-◌, ◌<◌, ◌≤◌, false, List, [], ◌∷◌, ◌++◌, length, take, Option, Some, None, IfSome, inl, inr, refl, sym, ap, subst, ◌∙◌, arith, length-append}
 use Rattle.std.proofs.lemmas.Bool.{OnTrue_at, OnTrue_from, true≢false}
 use Rattle.std.proofs.lemmas.List.Elements.{All-append}
 use Rattle.std.specs.Bool.{OnTrue}
 use Rattle.std.specs.List.{flat_map}
+use Rattle.std.specs.Prelude.{IsTrue}
 use Rattle.wan_edge.specs.Frames.{Answer, AnswerFrame, CommandFrame, IsCutAnswer, answer_bytes}
-use Rattle.wan_edge.specs.Ports.{GoesOn, IsHonestStep, IsOffered, IsOneMore, IsPromptState, MovesByRule, NothingToCome, PortTrace, Steps}
-use Rattle.wan_edge.specs.Streams.{Appends, KeepsTelling}
+use Rattle.wan_edge.specs.Ports.{GoesOn, Hears, IsHonestStep, IsOffered, IsOneMore, IsPromptState, IsUnready, MovesByRule, NothingToCome, PortTrace, Steps}
+use Rattle.wan_edge.specs.Streams.{Appends, KeepsTelling, Rose}
 use Rattle.wan_edge.specs.Switches.{Holdings, after_command, after_commands}
 use Rattle.wan_edge.proofs.Chains.{Appends-chain, Appends-nothing}
 use Rattle.port_session.specs.Reading.{ReadsAnswers, Reckoning, Stream}
-use Rattle.port_session.specs.Sessions.{EndsAnswer, HearsAnswers, IsHeardOut, Listening, missing}
+use Rattle.port_session.specs.Sessions.{EndsAnswer, HearsAnswers, IsHeard, Listening, listening, missing, uncounted}
 use Rattle.port_session.specs.declared.fault.SessionFault.{SessionFault}
 use Rattle.port_session.specs.declared.fault.SessionFault.TheVariants.{Port}
 use Rattle.port_session.proofs.Chaining.{reads_nothing, reads_on, reads_stopped}
@@ -25,14 +26,6 @@ hears_none migration before now reckoning same = record {
   bytes = [];
   appended = subst (λ (told : Option (List ℕ)). Appends before [] told) (sym same) (Appends-nothing before);
   reads = reads_stopped migration reckoning reckoning [] (reads_nothing migration reckoning);
-}
-
--- a hear that gave nothing
-pub hears_zero : (migration n : ℕ) (into : List ℕ) (before now : Option (List ℕ)) (reckoning : Reckoning) → n ≡ 0 → Appends before (take n into) now → HearsAnswers migration (record { heard = before; reckoning = reckoning }) None (record { heard = now; reckoning = reckoning })
-hears_zero migration n into before now reckoning zero given = record {
-  bytes = [];
-  appended = subst (λ (m : ℕ). Appends before (take m into) now) zero given;
-  reads = reads_nothing migration reckoning;
 }
 
 -- a hear behind others
@@ -71,18 +64,35 @@ nearer migration a b told told_now bytes reads cut cut_now awaits some =
       some,
     )
 
--- where answers were awaited, one ended, or the port was quiet
-pub ends_some : (migration : ℕ) (a b : Listening) (before now : Option ℕ) → HearsAnswers migration a None b → IsHeardOut b.reckoning.awaited before now → 0 < a.reckoning.awaited → EndsAnswer a.reckoning.kept a.heard b.heard ⊎ IsOneMore before now
-ends_some migration a b before now hears (inl done) awaits =
-    inl (record {
-      bytes = hears.bytes;
-      appended = hears.appended;
+-- the same apart from how many are awaited: the same answers were read
+pub uncount : (migration : ℕ) (before now : Option (List ℕ)) (s t : Stream) (xs ys : List Answer) (why : Option SessionFault) (hears : HearsAnswers migration (listening before s xs) why (listening now t ys))
+    → (u : HearsAnswers migration (uncounted before s xs) why (uncounted now t ys)) × (u.reads.answers ≡ hears.reads.answers)
+uncount migration before now s t xs ys why hears = (
+  record {
+    bytes = hears.bytes;
+    appended = hears.appended;
+    reads = record {
       answers = hears.reads.answers;
       rest = hears.reads.rest;
       whole = hears.reads.whole;
-      some = omega (arith, hears.reads.awaited_less, done.0, awaits);
-    })
-ends_some migration a b before now hears (inr quiet) awaits = inr quiet.1
+      told_more = hears.reads.told_more;
+      awaited_less = omega arith;
+      ends = hears.reads.ends;
+    };
+  },
+  refl,
+)
+
+-- where some were awaited, and as many were read, one ended
+one_ended : (migration : ℕ) (a b : Listening) → (hears : HearsAnswers migration a None b) → 0 < length hears.reads.answers → EndsAnswer a.reckoning.kept a.heard b.heard
+one_ended migration a b hears some = record {
+  bytes = hears.bytes;
+  appended = hears.appended;
+  answers = hears.reads.answers;
+  rest = hears.reads.rest;
+  whole = hears.reads.whole;
+  some = some;
+}
 
 after_commands-append : (held : Holdings) (xs ys : List CommandFrame) → after_commands held (xs ++ ys) ≡ after_commands (after_commands held xs) ys
 after_commands-append held [] ys = refl
@@ -143,7 +153,64 @@ module _ (a b c : PortTrace) where
     in_order = order_on on.prompt on.start step.in_order;
   }
 
-  -- where a prompt port gave nothing
-  pub given_on : (awaited : ℕ) → b.prompt ≡ a.prompt → b.start ≡ a.start → OnTrue b.prompt (NothingToCome b.start c.offered c.heard) → OnTrue a.prompt (0 < awaited → NothingToCome a.start c.offered c.heard)
-  given_on awaited same same_start second =
-      OnTrue_from a.prompt _ (λ is awaits. subst (λ (h : Holdings). NothingToCome h c.offered c.heard) same_start (OnTrue_at (same ∙ is) second))
+-- a count that rose from a later moment on rose from an earlier one
+pub rose_on : (a b c : ℕ) → a ≤ b → Rose b c → Rose a c
+rose_on a b c le (inl rose) = inl (omega (arith, le, rose))
+rose_on a b c le (inr top) = inr top
+
+-- ---- how hearing ends
+module _ (migration : ℕ) (a b : PortTrace) (s t : Stream) (xs ys : List Answer) (hears : HearsAnswers migration (listening a.heard s xs) None (listening b.heard t ys)) (quiet : b.quiet ≡ a.quiet) (live : IsTrue t.live) where
+  -- as many were read as were awaited
+  pub heard_all : t.awaited ≡ 0 → IsHeard migration a s xs b t ys
+  heard_all none =
+      let u = uncount migration a.heard b.heard s t xs ys None hears in
+      let read : ℕ = length u.0.reads.answers in
+      let same : read ≡ length hears.reads.answers = ap length u.1 in
+      let less : t.awaited ≡ s.awaited - length hears.reads.answers = hears.reads.awaited_less in
+      let enough : s.awaited ≤ read = omega (arith, less, none, same) in
+      record {
+        hears = u.0;
+        over = inl (record { none_left = none; enough = enough; as_quiet = quiet });
+        comes = λ some left. let one : 0 < read = omega (arith, some, enough) in inl (one_ended migration (uncounted a.heard s xs) (uncounted b.heard t ys) u.0 one);
+        live = live;
+        all_given = OnTrue_from a.prompt _ (λ is. inl enough);
+      }
+
+  -- The port wasn't ready.
+  pub heard_late : (c : PortTrace) → GoesOn a b → b.waits ≡ a.waits → 0 < t.awaited → IsUnready b c → IsHeard migration a s xs c t ys
+  heard_late c on waits some unready =
+      let further : HearsAnswers migration (listening a.heard s xs) None (listening c.heard t ys)
+      = subst (λ (h : Option (List ℕ)). HearsAnswers migration (listening a.heard s xs) None (listening h t ys)) (sym unready.heard) hears in
+      let unprompt : a.prompt ≡ false = sym on.prompt ∙ unready.prompt in
+      let u = uncount migration a.heard c.heard s t xs ys None further in
+      record {
+        hears = u.0;
+        over = inr (inr (record {
+          some_left = some;
+          left_is = further.reads.awaited_less ∙ ap (λ (n : ℕ). s.awaited - n) (sym (ap length u.1));
+          as_quiet = unready.quiet ∙ quiet;
+          waits = subst (λ (o : Option ℕ). IsOneMore o c.waits) waits unready.waits;
+          unprompt = unprompt;
+        }));
+        comes = λ awaits none. absurd (omega (arith, some, none));
+        live = live;
+        all_given = OnTrue_from a.prompt _ (λ is. absurd (true≢false (sym is ∙ unprompt)));
+      }
+
+  -- The port was ready, and gave nothing: its time limit has passed.
+  pub heard_quiet : (c : PortTrace) (u : Stream) (n : ℕ) (into : List ℕ) → GoesOn a b → Hears n into b c → n ≡ 0 → u ≡ record { kept = t.kept; live = t.live; awaited = 0 } → IsHeard migration a s xs c u ys
+  heard_quiet c u n into on given zero is =
+      let silent : Appends b.heard [] c.heard = subst (λ (m : ℕ). Appends b.heard (take m into) c.heard) zero given.heard in
+      let none : Stream = record { kept = t.kept; live = t.live; awaited = 0 } in
+      let same : c.heard ≡ b.heard = silent ∙ sym (Appends-nothing b.heard) in
+      let further : HearsAnswers migration (uncounted a.heard s xs) None (uncounted c.heard none ys)
+      = subst (λ (h : Option (List ℕ)). HearsAnswers migration (uncounted a.heard s xs) None (uncounted h t ys)) (sym same) (uncount migration a.heard b.heard s t xs ys None hears).0 in
+      let once : IsOneMore a.quiet c.quiet = subst (λ (o : Option ℕ). IsOneMore o c.quiet) quiet (given.quieter zero) in
+      subst (λ (v : Stream). IsHeard migration a s xs c v ys) (sym is)
+      (record {
+        hears = further;
+        over = inr (inl (record { none_left = refl; quieter = once }));
+        comes = λ some left. inr once;
+        live = live;
+        all_given = OnTrue_from a.prompt _ (λ prompt. inr (subst (λ (h : Holdings). NothingToCome h c.offered c.heard) on.start (OnTrue_at (on.prompt ∙ prompt) given.all_given zero)));
+      })

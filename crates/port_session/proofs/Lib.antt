@@ -1,3 +1,4 @@
+pub mod Awaited
 pub mod Chaining
 pub mod Hearing
 pub mod Standing

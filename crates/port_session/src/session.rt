@@ -1,10 +1,10 @@
-ghost use Rattle.std.specs.Prelude.{◌≡◌, [], ◌++◌, List, All, length, None, Some, IfErr, IsErrOf, IsOk, IsTrue, OnErr, OnOk};
+ghost use Rattle.std.specs.Prelude.{◌≡◌, [], ◌++◌, List, All, length, Some, nat_lt, IfErr, IsErrOf, IsOk, IsTrue, OnErr, OnOk};
 ghost use Rattle.wan_edge.specs.Frames.{Answer, IsCutAnswer};
 ghost use Rattle.wan_edge.specs.Ports.{GoesOn};
 ghost use Rattle.wan_edge.specs.Streams.{Appends, Rose};
 ghost use Rattle.port_session.specs.Offers.{OffersUntil, frames_of};
 ghost use Rattle.port_session.specs.Standing.{HasTold};
-ghost use Rattle.port_session.specs.Sessions.{HearsAnswers, IsDone, awaiting, first_talk, listening};
+ghost use Rattle.port_session.specs.Sessions.{HearsAnswers, IsHeard, awaited_behind, awaiting, first_talk, listening};
 
 use crate::SessionFault;
 use crate::frames::write_frames;
@@ -72,13 +72,26 @@ impl<T: Port> Session<T> {
         self.stream.live()
     }
 
+    /// Whether the switch is late: it owes answers, and its time limit hasn't passed, as far as was heard.
+    pub fn is_late(&self) -> bool
+        ensures { result ≡ nat_lt 0 self.now.stream.awaited }
+    {
+        self.stream.awaited() > 0
+    }
+
+    /// Waits a moment, in which something may come.
+    pub fn rest(&self) {
+        self.port.rest();
+    }
+
     /// Begins a round: the frames of all the commands, each of this migration, are offered in one call,
-    /// and as many answers are awaited. Without a command the port isn't called.
+    /// and as many answers are awaited. Without a command nothing is done, and what is awaited is so still.
     ///
     /// # Errors
     ///
     /// `Port` where the port fails, which may have sent the first of the bytes; `Memory` for the bytes,
     /// and then nothing was sent. No answer is awaited then.
+    #[tactic(auto, using(crate::proofs::Awaited::awaited_none, crate::proofs::Awaited::awaited_some))]
     pub fn offer_all(&mut self, commands: &[Command], migration: u32) -> Result<(), SessionFault>
         ensures all { OnOk result
             (Appends (T.told self.old.port).offered (frames_of migration commands.now)
@@ -87,7 +100,9 @@ impl<T: Port> Session<T> {
             (λ fault. OffersUntil fault (T.told self.old.port).offered
             (frames_of migration commands.now) (T.told self.new.port).offered) }
         ensures awaits { OnOk result
-            (self.new ≡ awaiting self.old self.new.port (length commands.now)) }
+            (self.new
+            ≡ awaiting self.old self.new.port
+            (awaited_behind self.old.stream.awaited (length commands.now))) }
         ensures awaits_none { OnErr result (self.new ≡ awaiting self.old self.new.port 0) }
         ensures idle { commands.now ≡ [] → IsOk result × (self.new.port ≡ self.old.port) }
         ensures no_memory { IsErrOf result SessionFault.Memory → self.new.port ≡ self.old.port }
@@ -97,18 +112,19 @@ impl<T: Port> Session<T> {
         ensures unheard { (T.told self.new.port).heard ≡ (T.told self.old.port).heard }
         ensures no_hear { (T.told self.new.port).quiet ≡ (T.told self.old.port).quiet }
     {
-        self.stream.expect(0);
         if commands.is_empty() {
             return Ok(());
         }
+        self.stream.expect(0);
         write_frames(commands, migration, &mut self.frames)?;
         self.port.offer(self.frames.as_slice())?;
         self.stream.expect(commands.len());
         Ok(())
     }
 
-    /// Hears until as many answers were read as are awaited, or nothing comes. Every whole answer in what
-    /// is heard is read; those of the migration are added, in order, and others tell nothing.
+    /// Hears until as many answers were read as are awaited, the port is quiet, or isn't ready: it waits for
+    /// nothing. Where the port is quiet, no answer is awaited any more. Every whole answer in what is heard is
+    /// read; those of the migration are added, in order, and others tell nothing.
     ///
     /// # Errors
     ///
@@ -118,15 +134,12 @@ impl<T: Port> Session<T> {
         requires live { IsTrue self.old.stream.live }
         requires migration { heard.old.migration ≡ migration }
         ensures ok { OnOk result
-            (HearsAnswers migration
-            (listening (T.told self.old.port).heard self.old.stream heard.old.answers) None
-            (listening (T.told self.new.port).heard self.new.stream heard.new.answers)) }
+            (IsHeard migration (T.told self.old.port) self.old.stream heard.old.answers
+            (T.told self.new.port) self.new.stream heard.new.answers) }
         ensures err { IfErr result
             (λ fault. HearsAnswers migration
             (listening (T.told self.old.port).heard self.old.stream heard.old.answers) (Some fault)
             (listening (T.told self.new.port).heard self.new.stream heard.new.answers)) }
-        ensures done { OnOk result
-            (IsDone (T.told self.old.port) self.old.stream (T.told self.new.port) self.new.stream) }
         ensures as_quiet { OnErr result
             ((T.told self.new.port).quiet ≡ (T.told self.old.port).quiet) }
         ensures live_port { IsErrOf result SessionFault.Port → IsTrue self.new.stream.live }
@@ -154,15 +167,12 @@ impl<T: Port> Session<T> {
     fn read_all(&mut self, migration: u32, answers: &mut AnswerList) -> Result<(), SessionFault>
         requires live { IsTrue self.old.stream.live }
         ensures ok { OnOk result
-            (HearsAnswers migration
-            (listening (T.told self.old.port).heard self.old.stream answers.old) None
-            (listening (T.told self.new.port).heard self.new.stream answers.new)) }
+            (IsHeard migration (T.told self.old.port) self.old.stream answers.old
+            (T.told self.new.port) self.new.stream answers.new) }
         ensures err { IfErr result
             (λ fault. HearsAnswers migration
             (listening (T.told self.old.port).heard self.old.stream answers.old) (Some fault)
             (listening (T.told self.new.port).heard self.new.stream answers.new)) }
-        ensures done { OnOk result
-            (IsDone (T.told self.old.port) self.old.stream (T.told self.new.port) self.new.stream) }
         ensures as_quiet { OnErr result
             ((T.told self.new.port).quiet ≡ (T.told self.old.port).quiet) }
         ensures live_port { IsErrOf result SessionFault.Port → IsTrue self.new.stream.live }
@@ -180,8 +190,12 @@ impl<T: Port> Session<T> {
     {
         let mut buffer = [0; BUFFER];
         while self.stream.awaited() > 0 {
+            if !self.port.is_ready() {
+                return Ok(());
+            }
             let n = self.port.hear(&mut buffer)?;
             if n == 0 {
+                self.stream.expect(0);
                 return Ok(());
             }
             self.stream.read(&buffer[..n], migration, answers)?;

@@ -1,4 +1,5 @@
 pub mod Steps
+pub mod Spelled
 pub mod Found
 pub mod Routes
 pub mod Growth
@@ -17,3 +18,5 @@ mod Rows
 mod Words
 mod ReadText
 mod ReadAgain
+mod Respelled
+mod ReadClaims

@@ -6,6 +6,10 @@ use Rattle.rollout_rules.specs.Wan.{Problem, Plan, Stage, tunnel_at, flow_at, tu
 use Rattle.serde_json.specs.Data.{Data, Members, no_members, member, boolean, depth, items_depth, members_depth}
 use Rattle.serde_json.specs.View.{items_of}
 use Rattle.serde_json.specs.Written.{has_float, items_have_float, members_have_float}
+use Rattle.step_proof.specs.declared.proof.Proof.{Proof}
+use Rattle.step_proof.specs.declared.proof.Proof.TheVariants as said
+use Rattle.problem_json.specs.declared.claim.Claim.{Claim}
+use Rattle.problem_json.specs.WritingLeast.{fraction_data, claim_data, claimed_data}
 use Rattle.problem_json.specs.Writing.{number_data, rate_data, width_member, format_before, list_data, name_data, switch_data, link_data, tunnel_data, flow_data, problem_data, stage_data, plan_data, document_data}
 
 -- a value without floats in which at most n lists and objects stand inside one another
@@ -99,3 +103,18 @@ document_is_plain p plan =
     let steps = of_plan plan in
     let problem = of_problem p in
     record { whole = or_from _ _ steps.whole (or_from _ _ problem.whole refl); shallow = omega arith }
+
+of_claim : (steps : ℕ) (proof : Proof) → IsPlain 2 (claim_data steps proof)
+of_claim steps said.Plain = record { whole = refl; shallow = omega arith }
+of_claim steps (said.Link l) = record { whole = refl; shallow = omega arith }
+of_claim steps (said.Rows ys) =
+    let rows = of_map 0 fraction_data (λ x. record { whole = refl; shallow = omega arith }) ys in
+    record { whole = or_from _ _ rows.whole refl; shallow = omega arith }
+
+pub claimed_is_plain : (p : Problem) (plan : Plan) (claim : Claim) → IsPlain 7 (claimed_data p plan claim)
+unfolding claimed_data
+claimed_is_plain p plan claim =
+    let claimed = of_claim claim.steps claim.proof in
+    let steps = of_plan plan in
+    let problem = of_problem p in
+    record { whole = or_from _ _ claimed.whole (or_from _ _ steps.whole (or_from _ _ problem.whole refl)); shallow = omega arith }

@@ -22,7 +22,13 @@ use Rattle.serde_json.proofs.Numbers.{number_of-decimal}
 use Rattle.serde_json.proofs.Texts.{print-outline}
 use Rattle.problem_json.specs.Writing.{number_data, rate_data, list_data, name_data, switch_data, link_data, tunnel_data, flow_data, problem_data, stage_data, plan_data, document_data, AreWords, IsPlanOfWords}
 use Rattle.problem_json.proofs.Adding.{map-below}
-use Rattle.problem_json.proofs.Plain.{of_problem as problem_is_plain, of_plan as plan_is_plain, document_is_plain}
+use Rattle.fraction_lp.specs.Ratio.{zero_ratio}
+use Rattle.step_proof.specs.declared.proof.Proof.{Proof}
+use Rattle.step_proof.specs.declared.proof.Proof.TheVariants as said
+use Rattle.problem_json.specs.declared.claim.Claim.{Claim}
+use Rattle.problem_json.specs.WithinClaims.{IsClaimWithin, IsProofWithin}
+use Rattle.problem_json.specs.WritingLeast.{fraction_text, fraction_data, claim_data, claimed_data}
+use Rattle.problem_json.proofs.Plain.{of_problem as problem_is_plain, of_plan as plan_is_plain, document_is_plain, claimed_is_plain}
 
 -- a value whose numbers have 64 bits, and whose objects have their keys in order
 record IsReadable (d : Data) : Type 0 where
@@ -183,6 +189,20 @@ of_document : (p : Problem) (plan : Plan) → IsNetwork p → IsPlanOfWords plan
 unfolding document_data
 of_document p plan net words = of_object _ (of_plan plan words, (of_problem p net, tt)) refl
 
+-- ---- what is said of fewer rate steps
+
+of_claim : (steps : ℕ) (proof : Proof) → steps < 2 ^ 64 → IsProofWithin proof → IsReadable (claim_data steps proof)
+of_claim steps said.Plain few is = of_object _ (of_number steps few, tt) refl
+of_claim steps (said.Link l) few is = of_object _ (of_number l (omega (arith, is)), (of_number steps few, tt)) refl
+of_claim steps (said.Rows ys) few is =
+    let rows = of_map fraction_data ys zero_ratio (λ k lt. of_string (fraction_text (get_or ys k zero_ratio))) in
+    of_object _ (rows, (of_number steps few, tt)) refl
+
+of_claimed : (p : Problem) (plan : Plan) (claim : Claim) → IsNetwork p → IsPlanOfWords plan → IsClaimWithin claim → IsReadable (claimed_data p plan claim)
+unfolding claimed_data
+of_claimed p plan claim net words is =
+    of_object _ (of_claim claim.steps claim.proof (omega (arith, is.steps)) is.proof, (of_plan plan words, (of_problem p net, tt))) refl
+
 -- ---- the texts
 
 pub problem_text_reads : (p : Problem) → IsNetwork p → read (compact_text (problem_data p)) ≡ Some (problem_data p)
@@ -193,3 +213,7 @@ plan_text_reads plan words = text_reads (plan_data plan) (of_plan plan words) (o
 
 pub document_text_reads : (p : Problem) (plan : Plan) → IsNetwork p → IsPlanOfWords plan → read (compact_text (document_data p plan)) ≡ Some (document_data p plan)
 document_text_reads p plan net words = text_reads (document_data p plan) (of_document p plan net words) (omega (arith, (document_is_plain p plan).shallow))
+
+pub claimed_text_reads : (p : Problem) (plan : Plan) (claim : Claim) → IsNetwork p → IsPlanOfWords plan → IsClaimWithin claim → read (compact_text (claimed_data p plan claim)) ≡ Some (claimed_data p plan claim)
+claimed_text_reads p plan claim net words is =
+    text_reads (claimed_data p plan claim) (of_claimed p plan claim net words is) (omega (arith, (claimed_is_plain p plan claim).shallow))

@@ -41,6 +41,12 @@ goes_on ds k d old comma new all here so with is =
 pub ends : (ds : List Data) (k : ℕ) (old new all : List ℕ) → length ds ≤ k → Leads old k ds all → new ≡ old ++ 93 ∷ [] → new ≡ all
 ends ds k old new all le so is = is ∙ sym (ap (λ xs. old ++ items_text (nat_lt 0 k) (items_of xs)) (drop_all k ds le)) ∙ so
 
+-- one member of an object
+pub one_member : (old head first t₁ t₂ t₃ : List ℕ)
+    → t₁ ≡ old ++ head → t₂ ≡ t₁ ++ first → t₃ ≡ t₂ ++ 125 ∷ []
+    → t₃ ≡ old ++ (head ++ (first ++ 125 ∷ []))
+one_member old head first t₁ t₂ t₃ e₁ e₂ e₃ = rw (e₃, e₂, e₁) (simp append_assoc)
+
 -- two members of an object, behind one another
 pub two_members : (old head first mid second t₁ t₂ t₃ t₄ t₅ : List ℕ)
     → t₁ ≡ old ++ head → t₂ ≡ t₁ ++ first → t₃ ≡ t₂ ++ mid → t₄ ≡ t₃ ++ second → t₅ ≡ t₄ ++ 125 ∷ []

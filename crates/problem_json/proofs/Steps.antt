@@ -4,7 +4,7 @@ use Rattle.serde_json.specs.Data.{Data, Items, no_items, item}
 use Rattle.serde_json.specs.Events.{items_len}
 use Rattle.problem_json.specs.GrammarResults.{◌>>=◌, add_each, Refuses}
 use Rattle.problem_json.specs.declared.fault.InputFault.{InputFault}
-use Rattle.problem_json.specs.declared.fault.InputFault.TheVariants.{NotJson, Missing, WrongKind, NotWhole, TooMany, TooLarge, NameTwice, UnknownSwitch, LinkTwice, NoSuchLink, SwitchTwice, EndsDiffer, ShortPath, Memory, BadEvent, BadFormat, WidthZero}
+use Rattle.problem_json.specs.declared.fault.InputFault.TheVariants.{NotJson, Missing, WrongKind, NotWhole, TooMany, TooLarge, NameTwice, UnknownSwitch, LinkTwice, NoSuchLink, SwitchTwice, EndsDiffer, ShortPath, Memory, BadEvent, BadFormat, WidthZero, BadProof}
 
 -- a fault stays the fault of all that follows
 pub Refuses-step : {A B : Type 0} (e : InputFault) (g : Result A InputFault) (next : A → Result B InputFault) → Refuses e g → Refuses e (g >>= next)
@@ -25,6 +25,7 @@ Refuses-step Memory g next h = tt
 Refuses-step (BadEvent place) g next h = rw h
 Refuses-step (BadFormat place format) g next h = rw h
 Refuses-step (WidthZero place) g next h = rw h
+Refuses-step (BadProof place) g next h = rw h
 
 -- a fault of the step after a value
 pub Refuses-next : {A B : Type 0} (e : InputFault) (g : Result A InputFault) (a : A) (next : A → Result B InputFault) → g ≡ Ok a → Refuses e (next a) → Refuses e (g >>= next)

@@ -4,7 +4,7 @@ use Rattle.problem_json.specs.PlaceTexts.{place_text}
 use Rattle.problem_json.specs.Keys.{key_text}
 use Rattle.problem_json.specs.declared.place.Place.{Place}
 use Rattle.problem_json.specs.declared.fault.InputFault.{InputFault}
-use Rattle.problem_json.specs.declared.fault.InputFault.TheVariants.{NotJson, Missing, WrongKind, NotWhole, TooMany, TooLarge, NameTwice, UnknownSwitch, LinkTwice, NoSuchLink, SwitchTwice, EndsDiffer, ShortPath, Memory, BadEvent, BadFormat, WidthZero}
+use Rattle.problem_json.specs.declared.fault.InputFault.TheVariants.{NotJson, Missing, WrongKind, NotWhole, TooMany, TooLarge, NameTwice, UnknownSwitch, LinkTwice, NoSuchLink, SwitchTwice, EndsDiffer, ShortPath, Memory, BadEvent, BadFormat, WidthZero, BadProof}
 
 -- what is wrong at a place
 abbrev pub wrong_at : Place → List ℕ → List ℕ
@@ -31,3 +31,4 @@ fault_text Memory = codes "out of memory"
 fault_text (BadEvent place) = wrong_at place (codes "no event")
 fault_text (BadFormat place format) = wrong_at place (codes "format " ++ decimal format)
 fault_text (WidthZero place) = wrong_at place (codes "width 0")
+fault_text (BadProof place) = wrong_at place (codes "not shown")

@@ -2,7 +2,7 @@
 use Rattle.std.specs.Prelude.{◌≡◌, Bool, true, false, Result, Ok, Err, ⊤}
 use Rattle.serde_json.specs.Data.{Data, Items, no_items, item}
 use Rattle.problem_json.specs.declared.fault.InputFault.{InputFault}
-use Rattle.problem_json.specs.declared.fault.InputFault.TheVariants.{NotJson, Missing, WrongKind, NotWhole, TooMany, TooLarge, NameTwice, UnknownSwitch, LinkTwice, NoSuchLink, SwitchTwice, EndsDiffer, ShortPath, Memory, BadEvent, BadFormat, WidthZero}
+use Rattle.problem_json.specs.declared.fault.InputFault.TheVariants.{NotJson, Missing, WrongKind, NotWhole, TooMany, TooLarge, NameTwice, UnknownSwitch, LinkTwice, NoSuchLink, SwitchTwice, EndsDiffer, ShortPath, Memory, BadEvent, BadFormat, WidthZero, BadProof}
 
 infixl 10 ◌>>=◌
 -- the next step at the value; a fault stays
@@ -39,6 +39,7 @@ Refuses Memory grammar = Unit {0}
 Refuses (BadEvent place) grammar = grammar ≡ Err (BadEvent place)
 Refuses (BadFormat place format) grammar = grammar ≡ Err (BadFormat place format)
 Refuses (WidthZero place) grammar = grammar ≡ Err (WidthZero place)
+Refuses (BadProof place) grammar = grammar ≡ Err (BadProof place)
 
 -- what a reader answers, seen by f, is what the grammar says
 abbrev pub ReadsAs : {A B : Type 0} → (A → B) → Result A InputFault → Result B InputFault → Type 0

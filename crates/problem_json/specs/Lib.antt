@@ -10,5 +10,9 @@ pub mod Grammar
 pub mod GrammarPlans
 pub mod GrammarScripts
 pub mod GrammarDocuments
+pub mod GrammarFractions
+pub mod GrammarLeast
 pub mod WithinLimits
 pub mod Writing
+pub mod WritingLeast
+pub mod WithinClaims

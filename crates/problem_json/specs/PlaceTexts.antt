@@ -2,7 +2,7 @@
 use Rattle.std.specs.Prelude.{ℕ, List, ◌++◌, codes, decimal}
 use Rattle.problem_json.specs.declared.place.Place.{Place}
 use Rattle.problem_json.specs.declared.place.Part.{Part}
-use Rattle.problem_json.specs.declared.place.Part.TheVariants.{Top, Problem, Format, Switches, Switch, SwitchName, SwitchTable, Links, Link, LinkFrom, LinkTo, LinkCapacity, Flows, Flow, FlowName, Tunnels, Tunnel, Path, PathName, Old, New, Width, PlanTop, Scale, Stages, Stage, Rates, Rate, Installed, Mark, ScriptTop, Event}
+use Rattle.problem_json.specs.declared.place.Part.TheVariants.{Top, Problem, Format, Switches, Switch, SwitchName, SwitchTable, Links, Link, LinkFrom, LinkTo, LinkCapacity, Flows, Flow, FlowName, Tunnels, Tunnel, Path, PathName, Old, New, Width, PlanTop, Scale, Stages, Stage, Rates, Rate, Installed, Mark, ScriptTop, Event, LeastTop, LeastSteps, LeastLink, LeastRows, LeastRow}
 
 -- a stage by its number
 
@@ -53,6 +53,11 @@ part_text Installed m n h = installed_text m
 part_text Mark m n h = installed_text m ++ codes "[" ++ decimal n ++ codes "]"
 part_text ScriptTop m n h = codes "script"
 part_text Event m n h = codes "script[" ++ decimal m ++ codes "]"
+part_text LeastTop m n h = codes "least"
+part_text LeastSteps m n h = codes "least.steps"
+part_text LeastLink m n h = codes "least.link"
+part_text LeastRows m n h = codes "least.rows"
+part_text LeastRow m n h = codes "least.rows[" ++ decimal m ++ codes "]"
 
 abbrev pub place_text : Place → List ℕ
 place_text place = part_text place.part place.a place.b place.c

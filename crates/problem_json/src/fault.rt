@@ -41,6 +41,8 @@ pub enum InputFault {
     /// A format that isn't known.
     BadFormat(Place, u64),
     WidthZero(Place),
+    /// What a document says of fewer steps isn't shown, or a text of it is no fraction.
+    BadProof(Place),
 }
 
 impl From<OutOfMemory> for InputFault {
@@ -80,6 +82,7 @@ impl fmt::Display for InputFault {
             InputFault::BadEvent(place) => write_wrong(f, place, "no event"),
             InputFault::BadFormat(place, format) => write_format(f, place, format),
             InputFault::WidthZero(place) => write_wrong(f, place, "width 0"),
+            InputFault::BadProof(place) => write_wrong(f, place, "not shown"),
         }
     }
 }

@@ -46,6 +46,11 @@ pub enum Part {
     Mark,
     ScriptTop,
     Event,
+    LeastTop,
+    LeastSteps,
+    LeastLink,
+    LeastRows,
+    LeastRow,
 }
 
 /// A place of an input: what stands there, and the numbers of the lists' elements that lead to it, from
@@ -60,7 +65,7 @@ pub struct Place {
 
 impl Place {
     /// A place that no number leads to.
-    pub(crate) fn of(part: Part) -> Place
+    pub fn of(part: Part) -> Place
         ensures { result ≡ place_of part }
     {
         Place {
@@ -139,6 +144,11 @@ impl fmt::Display for Place {
             Part::Mark => write_mark(f, a, b),
             Part::ScriptTop => f.write_str("script"),
             Part::Event => write_element(f, "script[", a, "]"),
+            Part::LeastTop => f.write_str("least"),
+            Part::LeastSteps => f.write_str("least.steps"),
+            Part::LeastLink => f.write_str("least.link"),
+            Part::LeastRows => f.write_str("least.rows"),
+            Part::LeastRow => write_element(f, "least.rows[", a, "]"),
         }
     }
 }

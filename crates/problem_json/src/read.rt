@@ -11,6 +11,7 @@ ghost use Rattle.problem_json.specs.Grammar.{with_list, empty_in, empty_of, data
 
 mod documents;
 mod flows;
+mod least;
 mod path;
 mod plans;
 mod scripts;
@@ -25,6 +26,7 @@ use crate::read::topology::{add_link, add_switch};
 use crate::read::values::{list_of, whole};
 pub use documents::{Document, Scripted, read_document, read_script};
 use json_data::{DataFault, Element, Elements, Scratch};
+pub use least::read_claimed;
 use rollout_rules::{MOST_FLOWS, MOST_LINKS, MOST_SWITCHES};
 use std::alloc::Global;
 use wan_model::Problem;

@@ -1,22 +1,28 @@
+mod least;
 mod pieces;
 mod plan;
 mod problem;
 mod room;
 mod round_trip;
 
-ghost use Rattle.std.specs.Prelude.{◌≡◌, IfOk, Ok};
+ghost use Rattle.std.specs.Prelude.{◌≡◌, IfOk, Ok, Some};
 ghost use Rattle.rollout_rules.specs.Network.{IsNetwork};
 ghost use Rattle.problem_json.specs.Grammar.{problem_in};
 ghost use Rattle.problem_json.specs.GrammarDocuments.{plan_in, document_in};
 ghost use Rattle.problem_json.specs.WithinLimits.{IsPlanWithin};
 ghost use Rattle.problem_json.specs.Writing.{problem_text, plan_text, document_text, HoldsProblem};
+ghost use Rattle.problem_json.specs.GrammarLeast.{claimed_in};
+ghost use Rattle.problem_json.specs.WithinClaims.{IsClaimWithin};
+ghost use Rattle.problem_json.specs.WritingLeast.{claimed_text};
 
+use crate::claim::Claim;
+use least::push_claim;
 use lists::{Memory, Text};
 use pieces::finished;
 use plan::push_plan;
 use problem::push_problem;
 use room::{plan_bytes, problem_bytes};
-pub use round_trip::written_problem_is_read;
+pub use round_trip::{written_claim_is_read, written_problem_is_read};
 use std::alloc::Global;
 use wan_model::{Plan, Problem};
 
@@ -52,6 +58,35 @@ pub fn write_document(alloc: Global, problem: &Problem, plan: &Plan) -> Result<T
     let bytes = problem_bytes(problem).saturating_add(plan_bytes(plan));
     let mut text = Text::with_capacity(alloc, bytes)?;
     text.push_str(r#"{"plan":"#)?;
+    push_plan(&mut text, plan)?;
+    text.push_str(r#","problem":"#)?;
+    push_problem(alloc, &mut text, problem)?;
+    text.push_str("}")?;
+    Ok(finished(text))
+}
+
+/// The text of a problem with a plan for it and what is said of fewer rate steps, likewise: the key `least`
+/// stands first. A fraction is a text, reduced, `TOP/BOTTOM`.
+pub fn write_claimed(
+    alloc: Global,
+    problem: &Problem,
+    plan: &Plan,
+    claim: &Claim,
+) -> Result<Text, Memory>
+    ensures text { IfOk result (λ text. text ≡ claimed_text problem.now plan.now claim.now) }
+    ensures reads { IfOk result (λ text. IsPlanWithin plan.now
+        → IsClaimWithin claim.now
+        → claimed_in text
+        ≡ Ok (record {
+          document = record { problem = problem.now; plan = plan.now };
+          claim = Some claim.now;
+        })) }
+{
+    let bytes = problem_bytes(problem).saturating_add(plan_bytes(plan));
+    let mut text = Text::with_capacity(alloc, bytes)?;
+    text.push_str(r#"{"least":"#)?;
+    push_claim(alloc, &mut text, claim.steps, &claim.proof)?;
+    text.push_str(r#","plan":"#)?;
     push_plan(&mut text, plan)?;
     text.push_str(r#","problem":"#)?;
     push_problem(alloc, &mut text, problem)?;

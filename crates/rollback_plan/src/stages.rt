@@ -33,7 +33,8 @@ pub fn the_way_back_begins_at_each_stage()
         → IsTrue (is_valid_plan p plan)
         → s ≤ last_stage plan
         → n < item_count p
-        → content_after (back_problem p) (back_plan plan) (item_at p n) (slice_index (back_start p plan s) n)
+        → content_after (back_problem p) (back_plan plan) (item_at p n)
+        (slice_index (back_start p plan s) n)
         ≡ content p plan (item_at p n) s }
     ensures number { (p : Problem) (plan : Plan) (s n : ℕ)
         → IsTrue (is_valid_plan p plan)

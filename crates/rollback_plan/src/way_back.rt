@@ -32,6 +32,7 @@ pub fn the_way_back_goes_through_the_same_stages()
     ensures changes { (p : Problem) (plan : Plan) (i : Item) (s : ℕ)
         → IsTrue (is_valid_plan p plan)
         → s ≤ last_stage plan
-        → changes_to (back_problem p) (back_plan plan) i s + changes_to p plan i (last_stage plan - s)
+        → changes_to (back_problem p) (back_plan plan) i s
+        + changes_to p plan i (last_stage plan - s)
         ≡ operations p plan i }
 {}

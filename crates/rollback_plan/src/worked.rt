@@ -61,22 +61,26 @@ pub fn a_ceiling_counts_the_start()
 pub fn a_history_is_levelled_at_one_stage()
     ensures at_first { is_levelled ahead ahead_plan (fresh []) 0 ≡ true }
     ensures one_flies { is_levelled ahead ahead_plan
-        (fresh (begin_of 0 1 ∷ begin_of 1 1 ∷ done_of 1 1 ∷ begin_of 2 1 ∷ done_of 2 1 ∷ [])) 1 ≡ false }
+        (fresh (begin_of 0 1 ∷ begin_of 1 1 ∷ done_of 1 1 ∷ begin_of 2 1 ∷ done_of 2 1 ∷ [])) 1
+        ≡ false }
     ensures one_waits { is_levelled ahead ahead_plan
         (fresh (begin_of 0 1 ∷ done_of 0 1 ∷ begin_of 2 1 ∷ done_of 2 1 ∷ [])) 1 ≡ false }
     ensures levelled { is_levelled ahead ahead_plan
-        (fresh (begin_of 0 1 ∷ begin_of 1 1 ∷ begin_of 2 1 ∷ done_of 0 1 ∷ done_of 1 1 ∷ done_of 2 1 ∷ [])) 1
+        (fresh (begin_of 0 1 ∷ begin_of 1 1 ∷ begin_of 2 1
+        ∷ done_of 0 1 ∷ done_of 1 1 ∷ done_of 2 1 ∷ [])) 1
         ≡ true }
     ensures one_past { is_levelled ahead ahead_plan
-        (fresh (begin_of 0 1 ∷ begin_of 1 1 ∷ begin_of 2 1 ∷ done_of 0 1 ∷ done_of 1 1 ∷ done_of 2 1 ∷ begin_of 2 2 ∷ []))
-        1 ≡ false }
+        (fresh (begin_of 0 1 ∷ begin_of 1 1 ∷ begin_of 2 1
+        ∷ done_of 0 1 ∷ done_of 1 1 ∷ done_of 2 1 ∷ begin_of 2 2 ∷ [])) 1
+        ≡ false }
     ensures by_the_start { is_levelled ahead ahead_plan (started (1 ∷ 1 ∷ 1 ∷ [])) 1 ≡ true }
     ensures other_stage { is_levelled ahead ahead_plan (started (1 ∷ 1 ∷ 1 ∷ [])) 2 ≡ false }
 {}
 
 /// The policy that levels at stage 1 begins each flow's first operation, and holds its second back.
 pub fn levelling_begins_what_stands_before_the_stage()
-    ensures begins { release ahead ahead_plan (levelling 1) (fresh (begin_of 0 1 ∷ [])) ≡ begin_of 1 1 ∷ begin_of 2 1 ∷ [] }
+    ensures begins { release ahead ahead_plan (levelling 1) (fresh (begin_of 0 1 ∷ []))
+        ≡ begin_of 1 1 ∷ begin_of 2 1 ∷ [] }
     ensures held { release ahead ahead_plan (levelling 1) (started (1 ∷ 1 ∷ 1 ∷ [])) ≡ [] }
     ensures nothing { release ahead ahead_plan (levelling 0) (fresh []) ≡ [] }
 {}
@@ -88,6 +92,7 @@ pub fn a_way_back_begins_where_the_stage_left_it()
     ensures from_the_start { back_start ahead ahead_plan 0 ≡ (2 ∷ 2 ∷ 2 ∷ []) ++ replicate 18 0 }
     ensures other_way { stage_start late late_plan 1 ≡ (1 ∷ 0 ∷ []) ++ replicate 15 0 }
     ensures not_mirrored { back_start late late_plan 1 ≡ (2 ∷ 1 ∷ []) ++ replicate 15 0 }
-    ensures sound { is_sound (back_problem late) (back_plan late_plan) (back_start late late_plan 1) ≡ true }
+    ensures sound { is_sound (back_problem late) (back_plan late_plan)
+        (back_start late late_plan 1) ≡ true }
     ensures not_sound { is_sound (back_problem late) (back_plan late_plan) (1 ∷ 0 ∷ []) ≡ false }
 {}

@@ -2,6 +2,7 @@
 ghost use Rattle.std.specs.Prelude.{◌≡◌};
 
 use disk_model::MemoryDisk;
+use lists::{Memory, Text};
 use lossy_link::{Gate, GatedPort, MemoryFleet};
 use order_policy::Policy;
 use plan_check::check_plan;
@@ -43,6 +44,30 @@ pub fn planned(alloc: Global, text: &str) -> Result<CheckedPlan, Fail> {
     }
 }
 
+// The name of a switch with a port.
+fn name_of(switch: u32) -> &'static str {
+    match switch {
+        0 => "A",
+        1 => "B",
+        2 => "C",
+        _ => "D",
+    }
+}
+
+// Puts a port where this switch waits, under its name.
+fn put(
+    alloc: Global,
+    fleet: &mut MemoryFleet<GatedPort>,
+    switch: u32,
+    port: GatedPort,
+) -> Result<(), Memory> {
+    fleet.put(switch, port)?;
+    fleet.call(
+        switch,
+        Text::from(String::from_str(alloc, name_of(switch))?),
+    )
+}
+
 // Puts the ports of the two halves of a gate where these switches wait.
 fn put_gate(
     alloc: Global,
@@ -50,8 +75,8 @@ fn put_gate(
     switches: [u32; 2],
 ) -> Result<(), Fail> {
     let (first, second) = Gate::new(alloc)?;
-    fleet.put(switches[0], GatedPort::new(alloc, first))?;
-    fleet.put(switches[1], GatedPort::new(alloc, second))?;
+    put(alloc, fleet, switches[0], GatedPort::new(alloc, first))?;
+    put(alloc, fleet, switches[1], GatedPort::new(alloc, second))?;
     Ok(())
 }
 

@@ -3,15 +3,16 @@ use Rattle.std.proofs.Common.{◌≡◌, ℕ, zero, suc, ◌<◌, length, take, 
 use Rattle.std.specs.Cmp.{nat_eq_equiv}
 use Rattle.std.specs.Prelude.{IfSome}
 use Rattle.std.specs.List.{AllByRecursion, IsDistinct}
+use Rattle.rollout_rules.specs.Wan.{Problem}
 use Rattle.wan_edge.specs.Fleets.{GivesPort, marked, with_one, without}
 use Rattle.wan_edge.specs.Ports.{PortTrace}
 use Rattle.port_session.specs.Sessions.{Talk}
 use Rattle.worker_ports.specs.Rows.{IsLast}
 use Rattle.worker_ports.specs.declared.ports.Berth.{Berth}
-use Rattle.rollout_ports.specs.Berths.{AreApart, AreLent, FleetPorts, after_keeping, after_opening, marked_each, switches_of, with_each, without_each}
+use Rattle.rollout_ports.specs.Berths.{AreApart, AreLent, AreNamed, FleetPorts, after_keeping, after_opening, marked_each, named_each, own_name, switches_of, with_each, without_each}
 use Rattle.rollout_ports.specs.Hands.{all_berths, berths_of}
 use Rattle.rollout_ports.specs.Opening.{AreGiven, GivesBack, IsGiven, Opens, OpensUntil, StopsAt}
-use Rattle.rollout_ports.proofs.Places.{back, marked_append, marked_more, put_again, remarked, switches_append, with_append, without_more, without_others, without_some}
+use Rattle.rollout_ports.proofs.Places.{back, each_named, marked_append, marked_more, named_more, named_others, put_again, remarked, switches_append, with_append, without_more, without_others, without_some}
 
 module _ {X : Type 0} (R : X → Type 0) where
   pub all_front : (xs ys : List X) → AllByRecursion R (xs ++ ys) → AllByRecursion R xs
@@ -90,11 +91,13 @@ module _ {P : Type 0} where
   told_again None bs cs = refl
   told_again (Some w) bs cs = ap Some (with_append w bs cs)
 
-  abbrev made : Option (ℕ → Option P) → (ℕ → Option P) → (ℕ → Bool) → FleetPorts P
-  made waiting kept lent = record { waiting = waiting; kept = kept; lent = lent }
+  abbrev made : Option (ℕ → Option P) → (ℕ → Option P) → (ℕ → Bool) → (ℕ → Option (List ℕ)) → FleetPorts P
+  made waiting kept lent named = record { waiting = waiting; kept = kept; lent = lent; named = named }
 
-  pub ports_by : (a b : FleetPorts P) → a.waiting ≡ b.waiting → a.kept ≡ b.kept → a.lent ≡ b.lent → a ≡ b
-  ports_by a b waiting kept lent = ap (λ w. made w a.kept a.lent) waiting ∙ ap (λ k. made b.waiting k a.lent) kept ∙ ap (made b.waiting b.kept) lent
+  pub ports_by : (a b : FleetPorts P) → a.waiting ≡ b.waiting → a.kept ≡ b.kept → a.lent ≡ b.lent → a.named ≡ b.named → a ≡ b
+  ports_by a b waiting kept lent named =
+      ap (λ w. made w a.kept a.lent a.named) waiting ∙ ap (λ k. made b.waiting k a.lent a.named) kept
+      ∙ ap (λ l. made b.waiting b.kept l a.named) lent ∙ ap (made b.waiting b.kept b.lent) named
 
   -- giving back those behind, and then those in front, is giving back all
   pub keeping_append : (ports : FleetPorts P) (bs cs : List (Berth P)) → after_keeping (after_keeping ports cs) bs ≡ after_keeping ports (bs ++ cs)
@@ -102,20 +105,21 @@ module _ {P : Type 0} where
       (sym (told_again ports.waiting bs cs))
       (sym (with_append ports.kept bs cs))
       (sym (ap (λ ns. marked_each ports.lent ns false) (switches_append bs cs) ∙ marked_append ports.lent (switches_of bs) (switches_of cs) false))
+      refl
 
   none_told : (waiting : Option (ℕ → Option P)) → option_map (λ w. with_each w []) waiting ≡ waiting
   none_told None = refl
   none_told (Some w) = refl
 
   pub keeping_none : (ports : FleetPorts P) → after_keeping ports [] ≡ ports
-  keeping_none ports = ports_by (after_keeping ports []) ports (none_told ports.waiting) refl refl
+  keeping_none ports = ports_by (after_keeping ports []) ports (none_told ports.waiting) refl refl refl
 
   -- the last of all these is given back, and then the rest
   pub keep_one : (before after : FleetPorts P) (rest all : List (Berth P)) (b : Berth P) → all ≡ rest ++ b ∷ []
-      → after.waiting ≡ option_map (λ w. with_one w b.switch b.port) before.waiting → after.kept ≡ with_one before.kept b.switch b.port → after.lent ≡ marked before.lent b.switch false
+      → after.waiting ≡ option_map (λ w. with_one w b.switch b.port) before.waiting → after.kept ≡ with_one before.kept b.switch b.port → after.lent ≡ marked before.lent b.switch false → after.named ≡ before.named
       → after_keeping after rest ≡ after_keeping before all
-  keep_one before after rest all b parts waiting kept lent =
-      ap (λ p. after_keeping p rest) (ports_by after (after_keeping before (b ∷ [])) waiting kept lent) ∙ keeping_append before rest (b ∷ []) ∙ ap (after_keeping before) (sym parts)
+  keep_one before after rest all b parts waiting kept lent named =
+      ap (λ p. after_keeping p rest) (ports_by after (after_keeping before (b ∷ [])) waiting kept lent named) ∙ keeping_append before rest (b ∷ []) ∙ ap (after_keeping before) (sym parts)
 
   pub rest_apart : (rest all behind : List (Berth P)) → all ≡ rest ++ behind → AreApart all → AreApart rest
   rest_apart rest all behind parts apart = apart_front rest behind (subst (λ (bs : List (Berth P)). AreApart bs) parts apart)
@@ -170,32 +174,33 @@ module _ {P : Type 0} where
   given_one tell None ns switch port now gives = (gives.1, gives.0)
   given_one tell (Some w) ns switch port now gives = (without_some w ns switch port gives.0, gives.1 ∙ ap Some (sym (without_more w ns switch)))
 
-  -- no port waits for one more
-  pub none_waits : (waiting : Option (ℕ → Option P)) (ns : List ℕ) (switch : ℕ) → AllByRecursion (λ m. nat_eq switch m ≡ false) ns
-      → IfSome (option_map (λ w. without_each w ns) waiting) (λ w. w switch ≡ None) → IfSome waiting (λ w. w switch ≡ None)
-  none_waits None ns switch others none = tt
-  none_waits (Some w) ns switch others none = sym (without_others w ns switch others) ∙ none
+  -- no port waits for one more, where it is asked for so
+  pub none_waits : (Asked Named : Type 0) (to : Named → Asked) (waiting : Option (ℕ → Option P)) (ns : List ℕ) (switch : ℕ) → AllByRecursion (λ m. nat_eq switch m ≡ false) ns
+      → IfSome (option_map (λ w. without_each w ns) waiting) (λ w. Asked → w switch ≡ None) → IfSome waiting (λ w. Named → w switch ≡ None)
+  none_waits Asked Named to None ns switch others none = tt
+  none_waits Asked Named to (Some w) ns switch others none = λ named. sym (without_others w ns switch others) ∙ none (to named)
 
-  pub opened_one : (tell : P → PortTrace) (homes : List ℕ) (before now after : FleetPorts P) (berths : List (Berth P)) (switch : ℕ) (port : P)
-      → Opens tell homes before berths now
-      → GivesPort tell now.waiting switch port after.waiting → after.kept ≡ without now.kept switch → after.lent ≡ marked now.lent switch true
-      → Opens tell (homes ++ switch ∷ []) before (berths ++ record { switch = switch; port = port } ∷ []) after
-  opened_one tell homes before now after berths switch port opens gives kept lent =
+  pub opened_one : (tell : P → PortTrace) (p : Problem) (homes : List ℕ) (before now after : FleetPorts P) (berths : List (Berth P)) (switch : ℕ) (port : P)
+      → Opens tell p homes before berths now
+      → GivesPort tell now.waiting switch port after.waiting → after.kept ≡ without now.kept switch → after.lent ≡ marked now.lent switch true → after.named ≡ with_one now.named switch (own_name p switch)
+      → Opens tell p (homes ++ switch ∷ []) before (berths ++ record { switch = switch; port = port } ∷ []) after
+  opened_one tell p homes before now after berths switch port opens gives kept lent named =
       let is_now = opens.ports in
-      let one = given_one tell before.waiting homes switch port after.waiting (subst (λ w. GivesPort tell w switch port after.waiting) (ap (λ (p : FleetPorts P). p.waiting) is_now) gives) in
+      let one = given_one tell before.waiting homes switch port after.waiting (subst (λ w. GivesPort tell w switch port after.waiting) (ap (λ (f : FleetPorts P). f.waiting) is_now) gives) in
       record {
         switches = switches_append berths (record { switch = switch; port = port } ∷ []) ∙ ap (λ ns. ns ++ switch ∷ []) opens.switches;
         given = all_both (IsGiven tell before.waiting) berths (record { switch = switch; port = port } ∷ []) opens.given (one.0, tt);
-        ports = ports_by after (after_opening before (homes ++ switch ∷ [])) one.1
-            (kept ∙ ap (λ (p : FleetPorts P). without p.kept switch) is_now ∙ sym (without_more before.kept homes switch))
-            (lent ∙ ap (λ (p : FleetPorts P). marked p.lent switch true) is_now ∙ sym (marked_more before.lent homes switch true));
+        ports = ports_by after (after_opening before p (homes ++ switch ∷ [])) one.1
+            (kept ∙ ap (λ (f : FleetPorts P). without f.kept switch) is_now ∙ sym (without_more before.kept homes switch))
+            (lent ∙ ap (λ (f : FleetPorts P). marked f.lent switch true) is_now ∙ sym (marked_more before.lent homes switch true))
+            (named ∙ ap (λ (f : FleetPorts P). with_one f.named switch (own_name p switch)) is_now ∙ sym (named_more before.named p homes switch));
       }
 
-  pub opened_none : (tell : P → PortTrace) (before : FleetPorts P) → Opens tell [] before [] before
-  opened_none tell before = record {
+  pub opened_none : (tell : P → PortTrace) (p : Problem) (before : FleetPorts P) → Opens tell p [] before [] before
+  opened_none tell p before = record {
     switches = refl;
     given = tt;
-    ports = ports_by before (after_opening before []) (sym (none_taken before.waiting)) refl refl;
+    ports = ports_by before (after_opening before p []) (sym (none_taken before.waiting)) refl refl refl;
   }
     where
       none_taken : (waiting : Option (ℕ → Option P)) → option_map (λ w. without_each w []) waiting ≡ waiting
@@ -208,49 +213,59 @@ module _ {P : Type 0} where
   waits_again tell None berths given = refl
   waits_again tell (Some w) berths given = ap Some (back w berths ∙ put_again w berths given)
 
-  pub given_back : (tell : P → PortTrace) (homes : List ℕ) (before now after : FleetPorts P) (berths : List (Berth P)) → Opens tell homes before berths now → after ≡ after_keeping now berths → GivesBack tell homes before after
-  given_back tell homes before now after berths opens keeps =
-      let are : now ≡ after_opening before (switches_of berths) = opens.ports ∙ ap (after_opening before) (sym opens.switches) in
-      let is : after ≡ after_keeping (after_opening before (switches_of berths)) berths = keeps ∙ ap (λ p. after_keeping p berths) are in
+  pub given_back : (tell : P → PortTrace) (p : Problem) (homes : List ℕ) (before now after : FleetPorts P) (berths : List (Berth P)) → Opens tell p homes before berths now → after ≡ after_keeping now berths → GivesBack tell p homes before after
+  given_back tell p homes before now after berths opens keeps =
+      let are : now ≡ after_opening before p (switches_of berths) = opens.ports ∙ ap (after_opening before p) (sym opens.switches) in
+      let is : after ≡ after_keeping (after_opening before p (switches_of berths)) berths = keeps ∙ ap (λ f. after_keeping f berths) are in
       record {
         berths = berths;
         switches = opens.switches;
         given = opens.given;
-        waiting = ap (λ (p : FleetPorts P). p.waiting) is ∙ waits_again tell before.waiting berths opens.given;
-        kept = ap (λ (p : FleetPorts P). p.kept) is ∙ back before.kept berths;
-        lent = ap (λ (p : FleetPorts P). p.lent) is ∙ remarked before.lent (switches_of berths) true false ∙ ap (λ ns. marked_each before.lent ns false) opens.switches;
+        waiting = ap (λ (f : FleetPorts P). f.waiting) is ∙ waits_again tell before.waiting berths opens.given;
+        kept = ap (λ (f : FleetPorts P). f.kept) is ∙ back before.kept berths;
+        lent = ap (λ (f : FleetPorts P). f.lent) is ∙ remarked before.lent (switches_of berths) true false ∙ ap (λ ns. marked_each before.lent ns false) opens.switches;
+        named = ap (λ (f : FleetPorts P). f.named) is ∙ ap (λ ns. named_each before.named p ns) opens.switches;
       }
 
   -- the ports that were opened are lent
-  pub opened_lent : (tell : P → PortTrace) (homes : List ℕ) (before now : FleetPorts P) (berths : List (Berth P)) → Opens tell homes before berths now → AreLent now.lent berths
-  opened_lent tell homes before now berths opens =
-      subst (λ (lent : ℕ → Bool). AreLent lent berths) (sym (ap (λ (p : FleetPorts P). p.lent) (opens.ports ∙ ap (after_opening before) (sym opens.switches)))) (all_lent before.lent berths)
+  pub opened_lent : (tell : P → PortTrace) (p : Problem) (homes : List ℕ) (before now : FleetPorts P) (berths : List (Berth P)) → Opens tell p homes before berths now → AreLent now.lent berths
+  opened_lent tell p homes before now berths opens =
+      subst (λ (lent : ℕ → Bool). AreLent lent berths) (sym (ap (λ (f : FleetPorts P). f.lent) (opens.ports ∙ ap (after_opening before p) (sym opens.switches)))) (all_lent before.lent berths)
 
-  opens_still : (tell : P → PortTrace) (homes : List ℕ) (before now after : FleetPorts P) (berths : List (Berth P)) → Opens tell homes before berths now
-      → after.waiting ≡ now.waiting → after.kept ≡ now.kept → after.lent ≡ now.lent → Opens tell homes before berths after
-  opens_still tell homes before now after berths opens waiting kept lent = record {
+  -- each of them was asked for by its name
+  pub opened_named : (tell : P → PortTrace) (p : Problem) (homes : List ℕ) (before now : FleetPorts P) (berths : List (Berth P)) → Opens tell p homes before berths now → AreNamed now.named p homes
+  opened_named tell p homes before now berths opens =
+      subst (λ (named : ℕ → Option (List ℕ)). AreNamed named p homes) (sym (ap (λ (f : FleetPorts P). f.named) opens.ports)) (each_named before.named p homes)
+
+  opens_still : (tell : P → PortTrace) (p : Problem) (homes : List ℕ) (before now after : FleetPorts P) (berths : List (Berth P)) → Opens tell p homes before berths now
+      → after.waiting ≡ now.waiting → after.kept ≡ now.kept → after.lent ≡ now.lent → after.named ≡ now.named → Opens tell p homes before berths after
+  opens_still tell p homes before now after berths opens waiting kept lent named = record {
     switches = opens.switches;
     given = opens.given;
-    ports = ports_by after now waiting kept lent ∙ opens.ports;
+    ports = ports_by after now waiting kept lent named ∙ opens.ports;
   }
 
   -- the fleet has no port for the next
-  pub opened_until : (tell : P → PortTrace) (homes earlier later : List ℕ) (switch : ℕ) (before now after : FleetPorts P) (berths : List (Berth P)) → homes ≡ earlier ++ switch ∷ later → AllByRecursion (λ m. nat_eq switch m ≡ false) earlier
-      → Opens tell earlier before berths now → IfSome now.waiting (λ w. w switch ≡ None) → after.waiting ≡ now.waiting → after.kept ≡ now.kept → after.lent ≡ now.lent → OpensUntil tell homes switch before berths after
-  opened_until tell homes earlier later switch before now after berths among others opens none waiting kept lent = record {
+  pub opened_until : (tell : P → PortTrace) (p : Problem) (homes earlier later : List ℕ) (switch : ℕ) (before now after : FleetPorts P) (berths : List (Berth P)) → homes ≡ earlier ++ switch ∷ later → AllByRecursion (λ m. nat_eq switch m ≡ false) earlier
+      → Opens tell p earlier before berths now → IfSome now.waiting (λ w. now.named switch ≡ Some (own_name p switch) → w switch ≡ None)
+      → after.waiting ≡ now.waiting → after.kept ≡ now.kept → after.lent ≡ now.lent → after.named ≡ now.named → OpensUntil tell p homes switch before berths after
+  opened_until tell p homes earlier later switch before now after berths among others opens none waiting kept lent named = record {
     earlier = earlier;
     later = later;
     among = among;
-    opens = opens_still tell earlier before now after berths opens waiting kept lent;
-    none_waits = none_waits before.waiting earlier switch others (subst (λ (told : Option (ℕ → Option P)). IfSome told (λ w. w switch ≡ None)) (ap (λ (p : FleetPorts P). p.waiting) opens.ports) none);
+    opens = opens_still tell p earlier before now after berths opens waiting kept lent named;
+    none_waits = none_waits (now.named switch ≡ Some (own_name p switch)) (before.named switch ≡ Some (own_name p switch))
+        (λ is. ap (λ (f : FleetPorts P). f.named switch) opens.ports ∙ (named_others before.named p earlier switch others ∙ is))
+        before.waiting earlier switch others
+        (subst (λ (told : Option (ℕ → Option P)). IfSome told (λ w. now.named switch ≡ Some (own_name p switch) → w switch ≡ None)) (ap (λ (f : FleetPorts P). f.waiting) opens.ports) none);
   }
 
   -- those that were given before are given back
-  pub stops_at : (tell : P → PortTrace) (homes all : List ℕ) (switch : ℕ) (before now after : FleetPorts P) (berths : List (Berth P)) → homes ≡ all → OpensUntil tell homes switch before berths now → after ≡ after_keeping now berths → StopsAt tell all switch before after
-  stops_at tell homes all switch before now after berths are until keeps = record {
+  pub stops_at : (tell : P → PortTrace) (p : Problem) (homes all : List ℕ) (switch : ℕ) (before now after : FleetPorts P) (berths : List (Berth P)) → homes ≡ all → OpensUntil tell p homes switch before berths now → after ≡ after_keeping now berths → StopsAt tell p all switch before after
+  stops_at tell p homes all switch before now after berths are until keeps = record {
     earlier = until.earlier;
     later = until.later;
     among = sym are ∙ until.among;
-    given_back = given_back tell until.earlier before now after berths until.opens keeps;
+    given_back = given_back tell p until.earlier before now after berths until.opens keeps;
     none_waits = until.none_waits;
   }

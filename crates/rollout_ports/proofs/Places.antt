@@ -3,9 +3,10 @@ use Rattle.std.proofs.Common.{◌≡◌, ℕ, Bool, true, false, cond, List, [],
 use Rattle.std.proofs.Math.Path.{fun_ext}
 use Rattle.std.specs.Cmp.{nat_eq_equiv}
 use Rattle.std.specs.List.{AllByRecursion}
+use Rattle.rollout_rules.specs.Wan.{Problem}
 use Rattle.wan_edge.specs.Fleets.{marked, with_one, without}
 use Rattle.worker_ports.specs.declared.ports.Berth.{Berth}
-use Rattle.rollout_ports.specs.Berths.{marked_each, switches_of, with_each, without_each}
+use Rattle.rollout_ports.specs.Berths.{AreNamed, marked_each, named_each, own_name, switches_of, with_each, without_each}
 
 -- of two choices in turn the order doesn't matter where both choose the same
 same_twice : {A : Type 0} (a b : Bool) (x y : A) → cond a x (cond b x y) ≡ cond b x (cond a x y)
@@ -89,6 +90,45 @@ remarked_at marks (n ∷ ns) a b k = here (nat_eq k n) refl (remarked_at marks n
 
 pub remarked : (marks : ℕ → Bool) (ns : List ℕ) (a b : Bool) → marked_each (marked_each marks ns a) ns b ≡ marked_each marks ns b
 remarked marks ns a b = fun_ext (remarked_at marks ns a b)
+
+-- ---- named
+module _ (names : ℕ → Option (List ℕ)) (p : Problem) where
+  named_more_at : (ns : List ℕ) (n k : ℕ) → named_each names p (ns ++ n ∷ []) k ≡ with_one (named_each names p ns) n (own_name p n) k
+  named_more_at [] n k = refl
+  named_more_at (m ∷ ns) n k =
+      ap (λ o. cond (nat_eq k m) (Some (own_name p m)) o) (named_more_at ns n k) ∙ either (nat_eq k m) (nat_eq k n) refl refl
+    where
+      either : (a b : Bool) → nat_eq k m ≡ a → nat_eq k n ≡ b
+          → cond a (Some (own_name p m)) (cond b (Some (own_name p n)) (named_each names p ns k)) ≡ cond b (Some (own_name p n)) (cond a (Some (own_name p m)) (named_each names p ns k))
+      either true true first last = ap (λ (w : ℕ). Some (own_name p w)) (sym (eqb-true k m first) ∙ eqb-true k n last)
+      either true false first last = refl
+      either false true first last = refl
+      either false false first last = refl
+
+  -- one number more
+  pub named_more : (ns : List ℕ) (n : ℕ) → named_each names p (ns ++ n ∷ []) ≡ with_one (named_each names p ns) n (own_name p n)
+  named_more ns n = fun_ext (named_more_at ns n)
+
+  -- where other numbers are named nothing changes
+  pub named_others : (ns : List ℕ) (n : ℕ) → AllByRecursion (λ m. nat_eq n m ≡ false) ns → named_each names p ns n ≡ names n
+  named_others [] n others = refl
+  named_others (m ∷ ns) n others = ap (λ b. cond b (Some (own_name p m)) (named_each names p ns n)) others.0 ∙ named_others ns n others.1
+
+  still_named : (places : ℕ → Option (List ℕ)) (n : ℕ) (ms : List ℕ) → AreNamed places p ms → AreNamed (with_one places n (own_name p n)) p ms
+  still_named places n [] are = tt
+  still_named places n (m ∷ ms) are = (here (nat_eq m n) refl, still_named places n ms are.1)
+    where
+      here : (at : Bool) → nat_eq m n ≡ at → cond at (Some (own_name p n)) (places m) ≡ Some (own_name p m)
+      here true at = ap (λ (w : ℕ). Some (own_name p w)) (sym (eqb-true m n at))
+      here false apart = are.0
+
+  -- each of them has its name then
+  pub each_named : (ns : List ℕ) → AreNamed (named_each names p ns) p ns
+  each_named [] = tt
+  each_named (n ∷ ns) = (
+    ap (λ c. cond c (Some (own_name p n)) (named_each names p ns n)) (nat_eq_equiv.refl n),
+    still_named (named_each names p ns) n ns (each_named ns),
+  )
 
 -- ---- put
 module _ {P : Type 0} where

@@ -10,8 +10,8 @@ use worker_ports::{Berth, WorkerPorts};
 pub fn keep_ports<F: Fleet>(fleet: &mut F, mut berths: Vec<Berth<F::Port>>)
     requires apart { AreApart berths.items }
     requires lent { AreLent (F.lent fleet.old) berths.items }
-    ensures ports { ports_of F.waiting F.kept F.lent fleet.new
-        ≡ after_keeping (ports_of F.waiting F.kept F.lent fleet.old) berths.items }
+    ensures ports { ports_of F.waiting F.kept F.lent F.named fleet.new
+        ≡ after_keeping (ports_of F.waiting F.kept F.lent F.named fleet.old) berths.items }
     ensures guests { (F.coming fleet.new ≡ F.coming fleet.old)
         × (F.served fleet.new ≡ F.served fleet.old)
         × (F.visiting fleet.new ≡ F.visiting fleet.old) }
@@ -30,8 +30,8 @@ where
     F::Port: Drop,
     requires apart { AreApart (berths_of ports) }
     requires lent { AreLent (F.lent fleet.old) (berths_of ports) }
-    ensures ports { ports_of F.waiting F.kept F.lent fleet.new
-        ≡ after_keeping (ports_of F.waiting F.kept F.lent fleet.old) (berths_of ports) }
+    ensures ports { ports_of F.waiting F.kept F.lent F.named fleet.new
+        ≡ after_keeping (ports_of F.waiting F.kept F.lent F.named fleet.old) (berths_of ports) }
     ensures guests { (F.coming fleet.new ≡ F.coming fleet.old)
         × (F.served fleet.new ≡ F.served fleet.old)
         × (F.visiting fleet.new ≡ F.visiting fleet.old) }
@@ -49,8 +49,9 @@ where
     F::Port: Drop,
     requires apart { AreApart (all_berths workers.items) }
     requires lent { AreLent (F.lent fleet.old) (all_berths workers.items) }
-    ensures ports { ports_of F.waiting F.kept F.lent fleet.new
-        ≡ after_keeping (ports_of F.waiting F.kept F.lent fleet.old) (all_berths workers.items) }
+    ensures ports { ports_of F.waiting F.kept F.lent F.named fleet.new
+        ≡ after_keeping (ports_of F.waiting F.kept F.lent F.named fleet.old)
+        (all_berths workers.items) }
     ensures guests { (F.coming fleet.new ≡ F.coming fleet.old)
         × (F.served fleet.new ≡ F.served fleet.old)
         × (F.visiting fleet.new ≡ F.visiting fleet.old) }

@@ -11,7 +11,7 @@ use crate::keeping::keep_ports;
 use lists::Memory;
 use std::alloc::Global;
 use wan_edge::{Failed, Fleet};
-use wan_model::{CheckedPlan, Switch};
+use wan_model::{CheckedPlan, Problem};
 use worker_ports::Berth;
 
 /// Why no ports were opened.
@@ -32,7 +32,8 @@ impl From<Memory> for NotOpened {
     }
 }
 
-/// Opens a port to each switch at which a rollout has work, from number 0 up.
+/// Opens a port to each switch at which a rollout has work, from number 0 up, by the name that its problem has
+/// for it.
 ///
 /// # Errors
 ///
@@ -44,13 +45,16 @@ pub fn open_ports<F: Fleet>(
     plan: &CheckedPlan,
 ) -> Result<Vec<Berth<F::Port>>, NotOpened>
     ensures opened { IfOk result
-        (λ berths. Opens F.Port.told (working_homes plan.now.problem plan.now.plan)
-        (ports_of F.waiting F.kept F.lent fleet.old) berths.items
-        (ports_of F.waiting F.kept F.lent fleet.new)) }
+        (λ berths. Opens F.Port.told plan.now.problem
+        (working_homes plan.now.problem plan.now.plan)
+        (ports_of F.waiting F.kept F.lent F.named fleet.old) berths.items
+        (ports_of F.waiting F.kept F.lent F.named fleet.new)) }
     ensures apart { IfOk result (λ berths. AreApart berths.items) }
     ensures refused { IfErr result
-        (λ why. Refuses F.Port.told (working_homes plan.now.problem plan.now.plan) why
-        (ports_of F.waiting F.kept F.lent fleet.old) (ports_of F.waiting F.kept F.lent fleet.new)) }
+        (λ why. Refuses F.Port.told plan.now.problem
+        (working_homes plan.now.problem plan.now.plan) why
+        (ports_of F.waiting F.kept F.lent F.named fleet.old)
+        (ports_of F.waiting F.kept F.lent F.named fleet.new)) }
     ensures guests { (F.coming fleet.new ≡ F.coming fleet.old)
         × (F.served fleet.new ≡ F.served fleet.old)
         × (F.visiting fleet.new ≡ F.visiting fleet.old) }
@@ -61,12 +65,7 @@ pub fn open_ports<F: Fleet>(
 {
     let homes = working_homes(alloc, plan)?;
     let mut berths = Vec::with_capacity(alloc, homes.as_slice().len())?;
-    let opened = open_each(
-        fleet,
-        plan.problem().switches(),
-        homes.as_slice(),
-        &mut berths,
-    );
+    let opened = open_each(fleet, plan.problem(), homes.as_slice(), &mut berths);
     match opened {
         Ok(()) => Ok(berths),
         Err(switch) => {
@@ -76,24 +75,26 @@ pub fn open_ports<F: Fleet>(
     }
 }
 
-// Opens a port to each of these switches, in order, or ends with the first for which the fleet has none.
+// Opens a port to each of these switches, in order, by its name, or ends with the first for which the fleet
+// has none.
 fn open_each<F: Fleet>(
     fleet: &mut F,
-    switches: &[Switch],
+    problem: &Problem,
     homes: &[u32],
     berths: &mut Vec<Berth<F::Port>>,
 ) -> Result<(), u32>
-    requires inside { All (λ home. home < length switches.now) homes.now }
+    requires inside { All (λ home. home < length problem.now.switches) homes.now }
     requires once { IsDistinct nat_eq homes.now }
     requires fresh { berths.old.items ≡ [] }
     requires room { length homes.now ≤ vec_capacity berths.old }
     ensures opened { OnOk result
-        (Opens F.Port.told homes.now (ports_of F.waiting F.kept F.lent fleet.old) berths.new.items
-        (ports_of F.waiting F.kept F.lent fleet.new)) }
+        (Opens F.Port.told problem.now homes.now
+        (ports_of F.waiting F.kept F.lent F.named fleet.old) berths.new.items
+        (ports_of F.waiting F.kept F.lent F.named fleet.new)) }
     ensures until { IfErr result
-        (λ switch. OpensUntil F.Port.told homes.now switch
-        (ports_of F.waiting F.kept F.lent fleet.old) berths.new.items
-        (ports_of F.waiting F.kept F.lent fleet.new)) }
+        (λ switch. OpensUntil F.Port.told problem.now homes.now switch
+        (ports_of F.waiting F.kept F.lent F.named fleet.old) berths.new.items
+        (ports_of F.waiting F.kept F.lent F.named fleet.new)) }
     ensures guests { (F.coming fleet.new ≡ F.coming fleet.old)
         × (F.served fleet.new ≡ F.served fleet.old)
         × (F.visiting fleet.new ≡ F.visiting fleet.old) }
@@ -101,8 +102,7 @@ fn open_each<F: Fleet>(
     ensures count { F.faults fleet.old ≤ F.faults fleet.new }
 {
     for &switch in homes {
-        let row = &switches[switch as usize];
-        match fleet.port(switch, row.name.as_str()) {
+        match fleet.port(switch, problem.switch_name(switch as usize)) {
             Ok(port) => berths.push_reserved(Berth { switch, port }),
             Err(Failed) => return Err(switch),
         }

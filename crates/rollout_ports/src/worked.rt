@@ -1,8 +1,9 @@
 //! Worked examples of the switches at which there is work, and of berths dealt in turn: each function
 //! states a fact of a small case.
-ghost use Rattle.std.specs.Prelude.{◌≡◌, ℕ, ◌%◌, ◌==◌, [], ◌∷◌, codes, false};
+ghost use Rattle.std.specs.Prelude.{◌≡◌, ℕ, ◌%◌, ◌==◌, [], ◌∷◌, codes, false, None, Some};
 ghost use Rattle.rollout_rules.specs.Building.{with_flow, with_switch};
 ghost use Rattle.rollout_rules.specs.Named.{one, one_plan, table_network, table_plan};
+ghost use Rattle.rollout_ports.specs.Berths.{named_each};
 ghost use Rattle.rollout_ports.specs.Hands.{at_places, hand_count};
 ghost use Rattle.rollout_ports.specs.Homes.{is_working_home, working_homes};
 
@@ -18,6 +19,13 @@ pub fn there_is_no_work_at_a_switch_that_is_no_home()
     ensures alone { working_homes one one_plan ≡ 0 ∷ [] }
     ensures no_home { working_homes (with_switch one (codes "D") 8) one_plan ≡ 0 ∷ [] }
     ensures no_tunnels { working_homes (with_flow one (codes "g")) one_plan ≡ 0 ∷ [] }
+{}
+
+/// The first two switches are called A and B, and go by these names once they are asked for; Y isn't asked for.
+pub fn each_switch_goes_by_its_own_name()
+    ensures first { named_each (λ n. None) table_network (0 ∷ 1 ∷ []) 0 ≡ Some (codes "A") }
+    ensures second { named_each (λ n. None) table_network (0 ∷ 1 ∷ []) 1 ≡ Some (codes "B") }
+    ensures other { named_each (λ n. None) table_network (0 ∷ 1 ∷ []) 3 ≡ None }
 {}
 
 /// Of seven in a row, dealt to three.

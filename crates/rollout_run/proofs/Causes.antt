@@ -26,7 +26,7 @@ use Rattle.shared_history.proofs.Going.{front_is_legal}
 use Rattle.shared_history.proofs.Stops.{first_stop-append}
 use Rattle.shared_book.specs.Calls.{seat_of}
 use Rattle.shared_book.specs.Images.{HasDisk}
-use Rattle.controller_run.specs.Promises.{IsEndAt, Promises, StopsNothing, listed_at, listed_by, rounds_by, switches_of}
+use Rattle.controller_run.specs.Promises.{AreListed, IsEndAt, Promises, StopsNothing, switches_of}
 use Rattle.controller_run.specs.Reasons.{HeardAbove, IsReason, SaysFailed, Spends}
 use Rattle.controller_run.specs.Serving.{Served}
 use Rattle.controller_run.specs.Working.{is_some_command}
@@ -50,10 +50,12 @@ some_many [] = omega arith
 some_many (c ∷ cs) = omega arith
 
 -- in no more rounds some command was listed than commands were
-many_listed : (o : Opening) (seat : ℕ) (switches : List ℕ) (log more : List Written) → rounds_by o seat switches log more ≤ length (listed_by o seat switches log more)
-many_listed o seat switches log [] = omega arith
-many_listed o seat switches log (w ∷ later) =
-    omega (arith, some_many (listed_at o seat switches log w), many_listed o seat switches (log ++ w ∷ []) later, length-append (listed_at o seat switches log w) (listed_by o seat switches (log ++ w ∷ []) later))
+many_listed : (o : Opening) (seat : ℕ) (switches : List ℕ) (log more : List Written) (listed : List Command) (rounds : ℕ) → AreListed o seat switches log more listed rounds → rounds ≤ length listed
+many_listed o seat switches log [] listed rounds lists = let none = lists.1 in omega (arith, none)
+many_listed o seat switches log (w ∷ later) listed rounds lists =
+    let counted = lists.5 in
+    let parts : length listed ≡ length (lists.0 ++ lists.1) = ap length lists.4 in
+    omega (arith, counted, parts, some_many lists.0, many_listed o seat switches (log ++ w ∷ []) later lists.1 lists.2 lists.6, length-append lists.0 lists.1)
 
 -- ---- whose the first stop is
 none_halt : {A : Type 0} (s : Option Halt) (halt : Halt) → s ≡ None → s ≡ Some halt → A
@@ -103,14 +105,14 @@ module _ {P : Type 0} (tell : P → PortTrace) (o : Opening) (migration : ℕ) (
   spent given op spends =
       let switches = switches_of s.given.before.ports in
       let seen = s.given.before.seen ++ spends.more in
-      let listed = listed_by o s.given.seat switches s.given.before.seen spends.more in
+      let listed = spends.listed in
       let parts : log ≡ seen ++ shift.follows.past = shift.follows.is ∙ ap (λ (ws : List Written). ws ++ shift.follows.past) spends.goes_on in
       let seen_legal : is_legal_shared o seen ≡ true = front_is_legal o seen shift.follows.past (subst (λ (ws : List Written). is_legal_shared o ws ≡ true) parts legal) in
       record {
         given_is = spends.given_is;
         commands = listed;
         begun = λ k d inside.
-            let known = listed-begun o s.given.seat switches s.given.before.seen spends.more (slice_index_or listed k d) seen_legal (Contains-get_or listed k d inside) in
+            let known = listed-begun o s.given.seat switches s.given.before.seen spends.more listed rounds (slice_index_or listed k d) seen_legal spends.lists (Contains-get_or listed k d inside) in
             record {
               op = known.op;
               is = known.is;
@@ -119,8 +121,13 @@ module _ {P : Type 0} (tell : P → PortTrace) (o : Opening) (migration : ℕ) (
               home = known.home;
               among = known.among;
             };
-        many = subst (λ (n : ℕ). n ≤ length listed) spends.used (many_listed o s.given.seat switches s.given.before.seen spends.more);
+        many = many_listed o s.given.seat switches s.given.before.seen spends.more listed rounds spends.lists;
         sent = spends.sent;
+        rows = spends.rows;
+        told = spends.told;
+        heard_out = spends.heard_out;
+        uncovered = spends.uncovered;
+        come = spends.come;
         front = spends.log;
         later = spends.later ++ shift.follows.past;
         is = further spends.log spends.later spends.is;

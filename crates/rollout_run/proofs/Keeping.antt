@@ -16,7 +16,7 @@ use Rattle.shared_history.specs.declared.note.Written.{Written}
 use Rattle.shared_history.specs.declared.reply.Wake.{Wake}
 use Rattle.shared_history.specs.Histories.{Opening, history_of}
 use Rattle.shared_history.specs.Legal.{is_legal_shared}
-use Rattle.controller_run.specs.Promises.{AreAnswered, Promises, listed_by, switches_of}
+use Rattle.controller_run.specs.Promises.{AreAnswered, Promises, switches_of}
 use Rattle.controller_run.specs.Working.{Standing}
 use Rattle.controller_run.proofs.Keeps.{serves-keeps}
 use Rattle.controller_run.proofs.Begun.{begun-stays, listed-begun}
@@ -60,7 +60,7 @@ module _ {P : Type 0} (tell : P → PortTrace) (o : Opening) (migration : ℕ) (
   }
     where
       listed : List Command
-      listed = listed_by o s.given.seat (switches_of s.given.before.ports) s.given.before.seen promises.more
+      listed = promises.listed
 
       parts : log ≡ s.given.before.seen ++ (promises.more ++ shift.follows.past)
       parts = shift.follows.is ∙ ap (λ (ws : List Written). ws ++ shift.follows.past) promises.goes_on ∙ append_assoc s.given.before.seen promises.more shift.follows.past
@@ -68,7 +68,7 @@ module _ {P : Type 0} (tell : P → PortTrace) (o : Opening) (migration : ℕ) (
       begun : (c : Command) → Contains listed c → IsBegun o (history_of o log) c
       begun c among =
           let seen : List Written = s.given.before.seen ++ promises.more in
-          let known = listed-begun o s.given.seat (switches_of s.given.before.ports) s.given.before.seen promises.more c (subst (λ (ws : List Written). is_legal_shared o ws ≡ true) promises.goes_on promises.legal) among in
+          let known = listed-begun o s.given.seat (switches_of s.given.before.ports) s.given.before.seen promises.more promises.listed promises.used c (subst (λ (ws : List Written). is_legal_shared o ws ≡ true) promises.goes_on promises.legal) promises.lists among in
           record {
             op = known.op;
             is = known.is;

@@ -106,4 +106,4 @@ module _ {P : Type 0} where
     waits_alike (Some w) = ap Some (fun_ext (with_at w))
 
     pub keeping_alike : (ports : FleetPorts P) → after_keeping ports bs ≡ after_keeping ports cs
-    keeping_alike ports = ports_by (after_keeping ports bs) (after_keeping ports cs) (waits_alike ports.waiting) (fun_ext (with_at ports.kept)) (fun_ext (marked_at ports.lent false))
+    keeping_alike ports = ports_by (after_keeping ports bs) (after_keeping ports cs) (waits_alike ports.waiting) (fun_ext (with_at ports.kept)) (fun_ext (marked_at ports.lent false)) refl

@@ -12,10 +12,10 @@ use Rattle.wan_edge.specs.Ports.{PortTrace}
 use Rattle.worker_ports.specs.Stories.{LastStoryEach}
 use Rattle.worker_ports.specs.declared.ports.Berth.{Berth}
 use Rattle.rollout_book.specs.Chronicles.{Chronicled}
-use Rattle.rollout_ports.specs.Berths.{AreApart, AreLent, FleetPorts, after_keeping, switches_of, with_each, without_each}
+use Rattle.rollout_ports.specs.Berths.{AreApart, AreLent, AreNamed, FleetPorts, after_keeping, switches_of, with_each, without_each}
 use Rattle.rollout_ports.specs.Hands.{berths_of, first_talks}
 use Rattle.rollout_ports.specs.Opening.{Opens}
-use Rattle.rollout_ports.proofs.Given.{given_back}
+use Rattle.rollout_ports.proofs.Given.{given_back, opened_named}
 use Rattle.rollout_ports.proofs.Places.{without_others}
 use Rattle.shared_history.specs.declared.note.Written.{Written}
 use Rattle.shared_history.specs.Histories.{Opening}
@@ -73,7 +73,7 @@ berth_among (u ∷ talks) t (zero, inside, is) = (0, omega arith, ap (λ (v : Ta
 berth_among (u ∷ talks) t (suc k, inside, is) = contains_later (record { switch = u.switch; port = u.port }) (berths_of talks) (record { switch = t.switch; port = t.port }) (berth_among talks t (k, omega (arith, inside), is))
 
 module _ {D P : Type 0} (trace : D → DiskTrace) (tell : P → PortTrace) (o : Opening) (from count migration rounds : ℕ) (homes : List ℕ) (before opened now : FleetPorts P) (end : RunEnd) (book : Chronicled D) (berths : List (Berth P)) where
-  pub to_ran : Opens tell homes before berths opened → AreApart berths
+  pub to_ran : Opens tell o.rollout.problem homes before berths opened → AreApart berths
       → IsBegunOver opened now berths (λ ports. Runs trace tell o from count migration rounds (first_talks berths) end book ports)
       → Ran trace tell o from count migration rounds homes before end book now
   to_ran opens apart over =
@@ -98,6 +98,7 @@ module _ {D P : Type 0} (trace : D → DiskTrace) (tell : P → PortTrace) (o : 
         berths = berths;
         switches = opens.switches;
         given = opens.given;
+        asked = subst (λ (named : ℕ → Option (List ℕ)). AreNamed named o.rollout.problem homes) (sym (ap (λ (p : FleetPorts P). p.named) over.kept)) (opened_named tell o.rollout.problem homes before opened berths opens);
         ports = λ k d inside. is_back tell o migration (homes_of o.rollout.problem) runs.log worked.shifts worked.spare (first_talks berths) runs.seats now.kept all_keep worked.seated runs.made worked.same distinct back left (slice_index_or (first_talks berths) k d) (Contains-get_or (first_talks berths) k d inside);
         at_home = subst (λ (l : List ℕ). AreAtHome (homes_of o.rollout.problem) runs.log l) (talks_switches berths ∙ opens.switches) (at_home tell o migration (homes_of o.rollout.problem) runs.log worked.shifts worked.spare (first_talks berths) runs.seats now.kept all_keep worked.seated runs.made worked.same distinct back left);
         reason = has_reason tell o migration (homes_of o.rollout.problem) rounds runs.log runs.legal worked.shifts worked.spare (first_talks berths) runs.seats now.kept (Rose count (trace book.disk).faults) worked.whole_shifts all_keep worked.seated runs.made worked.same back runs.images.failed end runs.ends;
@@ -176,10 +177,10 @@ module _ {P : Type 0} (before now : FleetPorts P) (berths : List (Berth P)) (run
   is_over run.Memory holds = (holds.0, all_back holds.1)
 
 -- and over the fleet as it was before the ports were opened
-module _ {D P : Type 0} (tell : P → PortTrace) (homes : List ℕ) (book_before book : Chronicled D) (before opened now : FleetPorts P) (berths : List (Berth P)) (runs : List (Talk P) → Type 0) (ran : Type 0) (to : IsBegunOver opened now berths runs → ran) (opens : Opens tell homes before berths opened) where
+module _ {D P : Type 0} (tell : P → PortTrace) (homes : List ℕ) (book_before book : Chronicled D) (before opened now : FleetPorts P) (berths : List (Berth P)) (runs : List (Talk P) → Type 0) (ran : Type 0) (to : IsBegunOver opened now berths runs → ran) (opens : Opens tell book_before.rollout.problem homes before berths opened) where
   pub ends_run : (end : RunEnd) → IsOver opened now berths end runs (book ≡ book_before) → EndsRun tell homes book_before book before now ran end
   ends_run run.Finished over = to over
   ends_run run.Held over = to over
   ends_run (run.Stopped halt) over = to over
   ends_run (run.NoPort switch) over = absurd over
-  ends_run run.Memory over = record { same = over.0; ports = inr (given_back tell homes before opened now berths opens over.1) }
+  ends_run run.Memory over = record { same = over.0; ports = inr (given_back tell book_before.rollout.problem homes before opened now berths opens over.1) }

@@ -2,7 +2,7 @@
 use Rattle.std.specs.Prelude.{◌≡◌, ◌≤◌, ⊤, ℕ, true, List, ◌++◌, length, All, Option, Some}
 use Rattle.std.specs.List.{AllZip, Contains}
 use Rattle.rollout_rules.specs.declared.op.Op.{Op}
-use Rattle.wan_edge.specs.Frames.{Command}
+use Rattle.wan_edge.specs.Frames.{Answer, Command}
 use Rattle.wan_edge.specs.Ports.{PortTrace}
 use Rattle.port_session.specs.Sessions.{Talk}
 use Rattle.worker_ports.specs.Stories.{StoryEach}
@@ -13,19 +13,27 @@ use Rattle.shared_history.specs.declared.reply.Halt.{Halt}
 use Rattle.shared_history.specs.Histories.{Opening, history_of}
 use Rattle.shared_history.specs.Legal.{begun_of, is_alien}
 use Rattle.shared_history.specs.Replies.{asked_at}
+use Rattle.shared_book.specs.Homes.{homes_of}
 use Rattle.controller_run.specs.Promises.{IsOfBegun, IsToldAtHome, switches_of}
-use Rattle.controller_run.specs.Reasons.{HasFailed, HeardAmiss}
+use Rattle.controller_run.specs.Reasons.{AreHeardOut, HasCome, HasFailed, HeardAmiss, IsShortOf}
 use Rattle.rollout_run.specs.declared.end.RunEnd.{RunEnd}
 use Rattle.rollout_run.specs.declared.end.RunEnd.TheVariants as run
 
 -- All rounds that were given were spent. At least as many commands went out whole, each at the port of its home: commands of operations that the history
--- begins, with homes among the switches of these ports. And at a beginning of the history the operation of such a home is in flight.
+-- begins, with homes among the switches of these ports; in exactly so many rounds, in each of which a port that awaited answers ended one, was quiet once, or
+-- wasn't ready. And at a beginning of the history the operation of such a home is in flight, and no answer that was told in these rounds covers it.
+-- Whole answers and quiet hears together are at least the rounds, over the homes of the problem.
 pub record IsSpent {P : Type 0} (tell : P → PortTrace) (o : Opening) (migration : ℕ) (homes : List (Option ℕ)) (rounds : ℕ) (log : List Written) (first : List (Talk P)) (given : ℕ) (op : Op) (now : List (Talk P)) : Type 0 where
   pub given_is : given ≡ rounds
   pub commands : List Command
   pub begun : All (IsOfBegun o (switches_of first) (history_of o log)) commands
   pub many : rounds ≤ length commands
   pub sent : StoryEach tell migration homes commands first now
+  pub rows : List (List (Talk P))
+  pub told : List Answer
+  pub heard_out : AreHeardOut tell migration homes rows rounds told first now
+  pub uncovered : All (IsShortOf op) told
+  pub come : homes ≡ homes_of o.rollout.problem → HasCome tell rounds first now
   pub front : List Written
   pub later : List Written
   pub is : log ≡ front ++ later

@@ -7,7 +7,7 @@ use Rattle.wan_edge.specs.Streams.{Rose}
 use Rattle.port_session.specs.Sessions.{Talk}
 use Rattle.worker_ports.specs.declared.ports.Berth.{Berth}
 use Rattle.rollout_book.specs.Chronicles.{Chronicled}
-use Rattle.rollout_ports.specs.Berths.{AreApart, FleetPorts, after_keeping, switches_of}
+use Rattle.rollout_ports.specs.Berths.{AreApart, AreNamed, FleetPorts, after_keeping, switches_of}
 use Rattle.rollout_ports.specs.Hands.{berths_of, first_talks}
 use Rattle.rollout_ports.specs.Opening.{AreGiven, GivesBack, StopsAt}
 use Rattle.shared_history.specs.declared.note.Written.{Written}
@@ -26,7 +26,7 @@ use Rattle.rollout_run.specs.declared.end.RunEnd.{RunEnd}
 use Rattle.rollout_run.specs.declared.end.RunEnd.TheVariants as run
 
 -- A run that has begun. The book is closed behind a legal history of its workers, which says how the run ended; the disk is what that history
--- leaves, and answers that were told cover each operation that it ended. A port was opened to each of these switches, and is back as the run has left it; what is kept at any other switch is as it was. Where the run
+-- leaves, and answers that were told cover each operation that it ended. A port was opened to each of these switches, asked for by the name that the problem has for it, and is back as the run has left it; what is kept at any other switch is as it was. Where the run
 -- was stopped the cause of the first stop holds. Its workers have worked as the history tells, each over ports of its own.
 pub record Ran {D P : Type 0} (trace : D → DiskTrace) (tell : P → PortTrace) (o : Opening) (from count migration rounds : ℕ) (homes : List ℕ) (before : FleetPorts P) (end : RunEnd) (book : Chronicled D) (now : FleetPorts P) : Type 0 where
   pub log : List Written
@@ -39,6 +39,7 @@ pub record Ran {D P : Type 0} (trace : D → DiskTrace) (tell : P → PortTrace)
   pub switches : switches_of berths ≡ homes
   pub apart : AreApart berths
   pub given : AreGiven tell before.waiting berths
+  pub asked : AreNamed now.named o.rollout.problem homes
   pub ports : All (IsBack tell o migration (homes_of o.rollout.problem) log now.kept) (first_talks berths)
   pub at_home : AreAtHome (homes_of o.rollout.problem) log homes
   pub reason : IfStopped end (λ halt. HasCause tell o migration (homes_of o.rollout.problem) rounds (Rose count (trace book.disk).faults) log (first_talks berths) now.kept halt.cause)
@@ -51,7 +52,7 @@ pub record Ran {D P : Type 0} (trace : D → DiskTrace) (tell : P → PortTrace)
 -- A run that hasn't: the book is as it was. Of no home a port was opened, or all were opened and given back as they were.
 pub record NeverRan {D P : Type 0} (tell : P → PortTrace) (homes : List ℕ) (book_before book : Chronicled D) (before now : FleetPorts P) : Type 0 where
   pub same : book ≡ book_before
-  pub ports : (now ≡ before) ⊎ GivesBack tell homes before now
+  pub ports : (now ≡ before) ⊎ GivesBack tell book_before.rollout.problem homes before now
 
 -- the ports that a run has left are those of the same switches, in some order, and were given back
 pub record IsBegunOver {P : Type 0} (before now : FleetPorts P) (berths : List (Berth P)) (begun : List (Talk P) → Type 0) : Type 0 where
@@ -65,7 +66,7 @@ abbrev pub EndsRun : {D P : Type 0} → (P → PortTrace) → List ℕ → Chron
 EndsRun tell homes book_before book before now ran run.Finished = ran
 EndsRun tell homes book_before book before now ran run.Held = ran
 EndsRun tell homes book_before book before now ran (run.Stopped halt) = ran
-EndsRun tell homes book_before book before now ran (run.NoPort switch) = (book ≡ book_before) × StopsAt tell homes switch before now
+EndsRun tell homes book_before book before now ran (run.NoPort switch) = (book ≡ book_before) × StopsAt tell book_before.rollout.problem homes switch before now
 EndsRun tell homes book_before book before now ran run.Memory = NeverRan tell homes book_before book before now
 
 -- A run over ports that were opened. They are back as it has left them; where nothing was begun, as they were.

@@ -3,6 +3,7 @@ ghost use Rattle.std.specs.Prelude.{◌≡◌, ◌<◌, ◌≤◌, ℕ, IfSome, 
 ghost use Rattle.wan_edge.specs.Streams.{Rose};
 ghost use Rattle.order_policy.specs.Answers.{rank_by};
 ghost use Rattle.rollout_book.specs.Lists.{IsKeptList};
+ghost use Rattle.shared_book.specs.Images.{StaysOpened};
 ghost use Rattle.shared_book.specs.Opened.{IsOpened, opening_of};
 ghost use Rattle.rollout_ports.specs.Berths.{AreApart, AreLent, ports_of};
 ghost use Rattle.rollout_ports.specs.Hands.{first_talks};
@@ -37,7 +38,9 @@ pub struct Limits {
 /// first round begins what may begin; and the ports, dealt to workers in threads of their own and to the
 /// caller, are served in rounds until every operation is settled, the rest is held back, or the run is
 /// stopped. Where a thread can't be started the caller serves its ports beside its own. Then the ports are
-/// given back. The book comes back with every answer.
+/// given back. The book comes back with every answer; its disk keeps the owner of its journal, from before the
+/// opening on.
+#[tactic(auto, using(crate::proofs::Stayed::stays_alone))]
 pub fn run<'d, R, D, F>(
     rt: &R,
     alloc: Global,
@@ -57,15 +60,18 @@ where
         (D.told book.chronicle.disk).may_leave) }
     ensures ran { EndsRun F.Port.told
         (working_homes book.entry.chronicle.rollout.problem book.entry.chronicle.rollout.plan)
-        book.entry.chronicle result.0.chronicle (ports_of F.waiting F.kept F.lent fleet.old)
-        (ports_of F.waiting F.kept F.lent fleet.new)
+        book.entry.chronicle result.0.chronicle (ports_of F.waiting F.kept F.lent F.named fleet.old)
+        (ports_of F.waiting F.kept F.lent F.named fleet.new)
         (Ran D.told F.Port.told
         (opening_of book.entry.chronicle (rank_by book.entry.policy.now.answers))
         (D.told book.entry.chronicle.disk).moment (D.told book.entry.chronicle.disk).faults
         limits.migration limits.rounds
         (working_homes book.entry.chronicle.rollout.problem book.entry.chronicle.rollout.plan)
-        (ports_of F.waiting F.kept F.lent fleet.old) result.1 result.0.chronicle
-        (ports_of F.waiting F.kept F.lent fleet.new)) result.1 }
+        (ports_of F.waiting F.kept F.lent F.named fleet.old) result.1 result.0.chronicle
+        (ports_of F.waiting F.kept F.lent F.named fleet.new)) result.1 }
+    ensures stays { StaysOpened D.told
+        (opening_of book.entry.chronicle (rank_by book.entry.policy.now.answers))
+        (D.told book.entry.chronicle.disk) result.0.chronicle.disk }
     ensures guests { (F.coming fleet.new ≡ F.coming fleet.old)
         × (F.served fleet.new ≡ F.served fleet.old)
         × (F.visiting fleet.new ≡ F.visiting fleet.old) }
@@ -102,13 +108,16 @@ where
         (D.told book.chronicle.disk).may_leave) }
     requires apart { AreApart berths.items }
     requires lent { AreLent (F.lent fleet.old) berths.items }
-    ensures ran { IsOver (ports_of F.waiting F.kept F.lent fleet.old)
-        (ports_of F.waiting F.kept F.lent fleet.new) berths.items result.1
+    ensures ran { IsOver (ports_of F.waiting F.kept F.lent F.named fleet.old)
+        (ports_of F.waiting F.kept F.lent F.named fleet.new) berths.items result.1
         (λ ports. Runs D.told F.Port.told
         (opening_of book.entry.chronicle (rank_by book.entry.policy.now.answers))
         (D.told book.entry.chronicle.disk).moment (D.told book.entry.chronicle.disk).faults
         limits.migration limits.rounds (first_talks berths.items) result.1 result.0.chronicle ports)
         (result.0.chronicle ≡ book.entry.chronicle) }
+    ensures stays { StaysOpened D.told
+        (opening_of book.entry.chronicle (rank_by book.entry.policy.now.answers))
+        (D.told book.entry.chronicle.disk) result.0.chronicle.disk }
     ensures guests { (F.coming fleet.new ≡ F.coming fleet.old)
         × (F.served fleet.new ≡ F.served fleet.old)
         × (F.visiting fleet.new ≡ F.visiting fleet.old) }
@@ -162,6 +171,9 @@ where
         ((result.book.chronicle ≡ book.entry.chronicle)
         × (team_ports result.team.own.ports result.team.own.spare.items result.team.crews.items
         ≡ team_ports team.own.ports team.own.spare.items team.crews.items)) }
+    ensures stays { StaysOpened D.told
+        (opening_of book.entry.chronicle (rank_by book.entry.policy.now.answers))
+        (D.told book.entry.chronicle.disk) result.book.chronicle.disk }
 {
     run_named::<R, D, Brand, T>(rt, alloc, book, team, limits)
 }

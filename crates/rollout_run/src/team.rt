@@ -74,8 +74,8 @@ where
         team.crews.items)) }
     requires lent { AreLent (F.lent fleet.old)
         (berths_of (team_ports team.own.ports team.own.spare.items team.crews.items)) }
-    ensures ports { ports_of F.waiting F.kept F.lent fleet.new
-        ≡ after_keeping (ports_of F.waiting F.kept F.lent fleet.old)
+    ensures ports { ports_of F.waiting F.kept F.lent F.named fleet.new
+        ≡ after_keeping (ports_of F.waiting F.kept F.lent F.named fleet.old)
         (berths_of (team_ports team.own.ports team.own.spare.items team.crews.items)) }
     ensures guests { (F.coming fleet.new ≡ F.coming fleet.old)
         × (F.served fleet.new ≡ F.served fleet.old)

@@ -5,6 +5,7 @@ ghost use Rattle.rollout_rules.specs.Legal.{is_finished};
 ghost use Rattle.turn_lock.specs.Passes.{IsFirstPass, IsPassOf, given_of, out_of, seat_of_pass, seen_of};
 ghost use Rattle.shared_book.specs.Calls.{IsCounted};
 ghost use Rattle.shared_book.specs.Homes.{homes_of};
+ghost use Rattle.shared_book.specs.Images.{StandsSo, StaysOpened};
 ghost use Rattle.shared_book.specs.Lasting.{CountsAsHeard, CountsNothingElse};
 ghost use Rattle.shared_book.specs.Opened.{IsOpenedOn};
 ghost use Rattle.rollout_run.specs.Runs.{IsRun, Runs, cause_behind, end_with};
@@ -50,6 +51,7 @@ where
     M: Marker + Send,
     T: Port + Drop + Send,
     requires opened { IsOpenedOn D.told M.opening M.moment M.faults book.chronicle }
+    requires stood { StandsSo M.stood (D.told book.chronicle.disk) }
     requires policy { M.opening.policy ≡ rank_by book.policy.now.answers }
     requires seats { M.seats ≡ max 1 limits.workers }
     requires migration { limits.migration ≡ M.migration }
@@ -70,6 +72,7 @@ where
         ((result.book.chronicle ≡ book.entry.chronicle)
         × (team_ports result.team.own.ports result.team.own.spare.items result.team.crews.items
         ≡ team_ports team.own.ports team.own.spare.items team.crews.items)) }
+    ensures stays { StaysOpened D.told M.opening M.stood result.book.chronicle.disk }
 {
     match SharedBook::<D, M>::new(alloc, book, limits.workers.max(1)) {
         Ok((shared, pass)) => {

@@ -13,6 +13,7 @@ use Rattle.wan_edge.specs.Ports.{PortTrace}
 use Rattle.rollout_book.specs.Chronicles.{Chronicled, IsNewBook, graph_of}
 use Rattle.rollout_ports.specs.Berths.{FleetPorts}
 use Rattle.rollout_ports.specs.Homes.{working_homes}
+use Rattle.shared_book.specs.Images.{StaysOpened}
 use Rattle.shared_book.specs.Opened.{opening_of}
 use Rattle.rollout_run.specs.Ran.{EndsRun, Ran}
 use Rattle.rollout_run.specs.declared.end.RunEnd.{RunEnd}
@@ -31,7 +32,7 @@ answer_for r found h run.Memory = answer.Memory
 abbrev pub answer_behind : {D : Type 0} → Chronicled D → RunEnd → RunAnswer
 answer_behind book end = answer_for book.rollout book.found book.history end
 
--- A book was run from its opening on, and closed; the disk is what it left.
+-- A book was run from its opening on, and closed; the disk is what it left, and what a crash may have left of it since before the opening goes on from there.
 pub record HasRun {D P : Type 0} (trace : D → DiskTrace) (tell : P → PortTrace) (policy : OpView → ℕ) (migration rounds : ℕ) (opened : Chronicled D) (before now : FleetPorts P) (disk : D) (answer : RunAnswer) : Type 0 where
   pub end : RunEnd
   pub closed : Chronicled D
@@ -39,6 +40,7 @@ pub record HasRun {D P : Type 0} (trace : D → DiskTrace) (tell : P → PortTra
       (Ran trace tell (opening_of opened policy) (trace opened.disk).moment (trace opened.disk).faults migration rounds (working_homes opened.rollout.problem opened.rollout.plan) before end closed now) end
   pub tells : answer ≡ answer_for opened.rollout (length opened.history.entries) closed.history end
   pub back : disk ≡ closed.disk
+  pub stays : StaysOpened trace (opening_of opened policy) (trace opened.disk) disk
 
 -- The book of a rollout was opened on this disk, and run.
 pub record HasRolled {D P : Type 0} (trace : D → DiskTrace) (tell : P → PortTrace) (r : Rollout) (digest : Digest) (policy : OpView → ℕ) (rounds : ℕ) (disk : D) (before now : FleetPorts P) (disk_now : D) (answer : RunAnswer) : Type 0 where

@@ -46,8 +46,9 @@ where
     F::Port: Drop + Send,
     ensures rolled { IfRolled result.answer
         (HasRolled D.told F.Port.told plan (digest_for plan limits.migration)
-        (rank_by policy.now.answers) limits.rounds disk (ports_of F.waiting F.kept F.lent fleet.old)
-        (ports_of F.waiting F.kept F.lent fleet.new) result.disk result.answer) }
+        (rank_by policy.now.answers) limits.rounds disk
+        (ports_of F.waiting F.kept F.lent F.named fleet.old)
+        (ports_of F.waiting F.kept F.lent F.named fleet.new) result.disk result.answer) }
     ensures unopened { OnUnopened result.answer
         (λ cause. IsLeft D.told plan (digest_for plan limits.migration) disk cause result.disk) }
     ensures untouched { OnUnopened result.answer (λ _. fleet.new ≡ fleet.old) }
@@ -84,8 +85,8 @@ where
         (IsKeptList book.chronicle.history.start book.chronicle.entries
         (D.told book.chronicle.disk).may_leave) }
     ensures run { HasRun D.told F.Port.told (rank_by book.entry.policy.now.answers) limits.migration
-        limits.rounds book.entry.chronicle (ports_of F.waiting F.kept F.lent fleet.old)
-        (ports_of F.waiting F.kept F.lent fleet.new) result.disk result.answer }
+        limits.rounds book.entry.chronicle (ports_of F.waiting F.kept F.lent F.named fleet.old)
+        (ports_of F.waiting F.kept F.lent F.named fleet.new) result.disk result.answer }
     ensures guests { (F.coming fleet.new ≡ F.coming fleet.old)
         × (F.served fleet.new ≡ F.served fleet.old)
         × (F.visiting fleet.new ≡ F.visiting fleet.old) }

@@ -140,7 +140,7 @@ module _ (p : Problem) (n : ℕ) where
   pub old-blended : row 0 ≡ old_row p n
   old-blended = map-same (blended n 0) (λ t. n * old_rate t) p.tunnels (λ t. all-old n (old_rate t) (new_rate t))
 
-  new-blended : row n ≡ new_row p n
+  pub new-blended : row n ≡ new_row p n
   new-blended = map-same (blended n n) (λ t. n * new_rate t) p.tunnels (λ t. all-new n (old_rate t) (new_rate t))
 
   rows-steps : IsNetwork p → 1 ≤ n → n ≤ 63 → has_slack p (n + 1) ≡ true → AreRateSteps p n (blended_rows p n ++ new_row p n ∷ [])

@@ -10,6 +10,7 @@
 #![tactic(auto)]
 
 mod blending;
+mod equality;
 mod framing;
 mod group;
 pub mod laws;
@@ -20,6 +21,7 @@ mod tables;
 pub mod worked;
 
 pub use blending::scratch;
+pub use equality::has_equal_rates;
 pub use framing::{frame, still};
 pub use no_plan::NoPlan;
 pub use refusing::refused;

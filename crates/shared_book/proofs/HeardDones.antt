@@ -24,7 +24,7 @@ use Rattle.shared_history.specs.declared.reply.Halt.{Halt}
 use Rattle.shared_history.specs.Histories.{Opening, history_of}
 use Rattle.shared_history.specs.Knows.{next_note}
 use Rattle.shared_history.specs.Replies.{batch_at}
-use Rattle.shared_book.specs.Images.{HasImages}
+use Rattle.shared_book.specs.Images.{HasImages, StaysOpened}
 use Rattle.shared_book.specs.Lasting.{AllHeard, AreHeard, HasAnswer}
 use Rattle.shared_book.specs.Sharing.{IsShared, Sharing, log_of}
 use Rattle.shared_book.specs.Told.{brought, with_noted}
@@ -97,9 +97,9 @@ module _ (heard : Answer → Type 0) where
   first-heard b notes none = subst (λ (ns : List Note). AllHeard heard (log_of b ns)) (sym none) (All-nil (λ (w : Written). AreHeard heard w.entries))
 
 -- Where there is room for more notes all that is kept stays as it was.
-pub grown : {D : Type 0} (trace : D → DiskTrace) (o : Opening) (seats from count : ℕ) (heard : Answer → Type 0) (b : Chronicled D) (ns ns' : List Note) (halt : Option Halt) (left most most' : ℕ)
-    → IsShared o seats b ns halt left most (log_of b ns) × HasImages trace o from count b.disk (log_of b ns) × AllHeard heard (log_of b ns) → ns' ≡ ns → length ns + left ≤ most'
-    → IsShared o seats b ns' halt left most' (log_of b ns') × HasImages trace o from count b.disk (log_of b ns') × AllHeard heard (log_of b ns')
-grown trace o seats from count heard b ns ns' halt left most most' kept same room =
-    subst (λ (xs : List Note). IsShared o seats b xs halt left most' (log_of b xs) × HasImages trace o from count b.disk (log_of b xs) × AllHeard heard (log_of b xs)) (sym same)
-    (unnoted o seats b ns ns halt halt left most most' (log_of b ns) kept.0 refl refl room, kept.1, kept.2)
+pub grown : {D : Type 0} (trace : D → DiskTrace) (o : Opening) (seats from count : ℕ) (heard : Answer → Type 0) (stood : DiskTrace) (b : Chronicled D) (ns ns' : List Note) (halt : Option Halt) (left most most' : ℕ)
+    → IsShared o seats b ns halt left most (log_of b ns) × HasImages trace o from count b.disk (log_of b ns) × AllHeard heard (log_of b ns) × StaysOpened trace o stood b.disk → ns' ≡ ns → length ns + left ≤ most'
+    → IsShared o seats b ns' halt left most' (log_of b ns') × HasImages trace o from count b.disk (log_of b ns') × AllHeard heard (log_of b ns') × StaysOpened trace o stood b.disk
+grown trace o seats from count heard stood b ns ns' halt left most most' kept same room =
+    subst (λ (xs : List Note). IsShared o seats b xs halt left most' (log_of b xs) × HasImages trace o from count b.disk (log_of b xs) × AllHeard heard (log_of b xs) × StaysOpened trace o stood b.disk) (sym same)
+    (unnoted o seats b ns ns halt halt left most most' (log_of b ns) kept.0 refl refl room, kept.1, kept.2, kept.3)

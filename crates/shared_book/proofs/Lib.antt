@@ -10,5 +10,6 @@ pub mod Woken
 pub mod Waits
 pub mod Locked
 pub mod Imaged
+pub mod Staying
 pub mod RoundImages
 pub mod HeardDones

@@ -10,7 +10,7 @@ use Rattle.wan_edge.specs.Frames.{Answer}
 use Rattle.wan_edge.specs.Streams.{KeepsTelling, Rose}
 use Rattle.rollout_book.specs.Aliens.{told_by}
 use Rattle.rollout_book.specs.Chronicles.{Chronicled, batch_of, with_batch, with_lost}
-use Rattle.rollout_book.specs.Lists.{HasBeforeOrAfter, IsKeptList}
+use Rattle.rollout_book.specs.Lists.{HasBeforeOrAfter, IsKeptList, KeepsOwner}
 use Rattle.rollout_book.specs.declared.fault.BookFault.TheVariants as fault
 use Rattle.shared_history.specs.declared.note.Cause.{Cause}
 use Rattle.shared_history.specs.declared.note.Note.{Note}
@@ -29,12 +29,13 @@ use Rattle.shared_history.specs.Notes.{first_stop}
 use Rattle.shared_history.specs.Replies.{batch_at, wake_says}
 use Rattle.shared_book.specs.declared.reply.RoundReply.{RoundReply}
 use Rattle.shared_book.specs.declared.reply.RoundReply.TheVariants as round
-use Rattle.shared_book.specs.Images.{HasImages}
+use Rattle.shared_book.specs.Images.{HasImages, StaysOpened}
 use Rattle.shared_book.specs.Rounds.{IsRoundOf}
 use Rattle.shared_book.specs.Sharing.{Sharing, IsShared}
 use Rattle.shared_book.specs.Told.{list_notes, round_notes, with_noted, OnFailed}
 use Rattle.shared_book.proofs.Imaged.{images-lost, images-same, images-turned}
 use Rattle.shared_book.proofs.Rounded.{IsMade, batch-at, made-plain}
+use Rattle.shared_book.proofs.Staying.{lost-goes, stays-as, stays-round, turned-goes}
 
 -- what holds of a round whose batch was to be added, and of one whose batch was
 abbrev OnBatch : RoundReply → Type 0 → Type 0
@@ -119,6 +120,25 @@ module _ {D : Type 0} (trace : D → DiskTrace) (o : Opening) (from count : ℕ)
         images-same trace o from count log b.disk was seat what.Stopped b'.disk (ap (λ (x : Chronicled D). x.disk) made.1) (λ here. here)
     round-images round.Memory made run kept rose legal = absurd made
 
+    -- from before the opening on
+    round-stays : (stood : DiskTrace) → StaysOpened trace o stood b.disk → IfSome (trace b'.disk).bytes (trace b'.disk).may_leave
+        → (reply : RoundReply) → IsMade b halt o.policy answers reply b'
+        → OnBatch reply (IfSome (trace b.disk).bytes (λ _. LeavesOnly trace b.disk b'.disk (HasBeforeOrAfter b.history.start b.entries (batch_of b o.policy answers))))
+        → OnBatch reply (IfSome (trace b.disk).bytes (λ image. LeavesOnly trace b.disk b'.disk (KeepsOwner image)))
+        → is_legal_shared o (with_noted seat log (round_notes reply) (batch_at o (history_of o log) (told_by answers))) ≡ true
+        → StaysOpened trace o stood b'.disk
+    round-stays stood stays shown (round.Turned turn) made run own legal =
+        let none = sym s.halted ∙ made.0 in
+        stays-round trace o stood b.disk b'.disk (HasBeforeOrAfter o.found.start (history_of o log).entries (batch_at o (history_of o log) (told_by answers)))
+        (turned-goes o log seat (batch_at o (history_of o log) (told_by answers)) s.legal turn.dones turn.begins legal) counts (run-told none run) own keeps shown stays
+    round-stays stood stays shown (round.Refused (fault.Alien item held begun)) made run own legal = subst (λ (d : D). StaysOpened trace o stood d) (sym (ap (λ (x : Chronicled D). x.disk) made.1.1)) stays
+    round-stays stood stays shown (round.Refused fault.Disk) made run own legal =
+        let none = sym s.halted ∙ made.0 in
+        stays-round trace o stood b.disk b'.disk (HasBeforeOrAfter o.found.start (history_of o log).entries (batch_at o (history_of o log) (told_by answers)))
+        (lost-goes o log seat (batch_at o (history_of o log) (told_by answers)) s.legal none legal) counts (run-told none run) own keeps shown stays
+    round-stays stood stays shown (round.Stopped first) made run own legal = stays-as trace o stood b b' made.1 stays
+    round-stays stood stays shown round.Memory made run own legal = absurd made
+
   -- ---- what the book promises of its disk
 
   module _ (halt : Option Halt) (policy : OpView → ℕ) (answers : List Answer) (b b' : Chronicled D) where
@@ -131,6 +151,13 @@ module _ {D : Type 0} (trace : D → DiskTrace) (o : Opening) (from count : ℕ)
     run-of (round.Refused fault.Disk) made = made.1.any_moment
     run-of (round.Stopped first) made = tt
     run-of round.Memory made = tt
+
+    own-of : (reply : RoundReply) → Round reply → OnBatch reply (IfSome (trace b.disk).bytes (λ image. LeavesOnly trace b.disk b'.disk (KeepsOwner image)))
+    own-of (round.Turned turn) made = made.1.owner
+    own-of (round.Refused (fault.Alien item held begun)) made = tt
+    own-of (round.Refused fault.Disk) made = made.1.owner
+    own-of (round.Stopped first) made = tt
+    own-of round.Memory made = tt
 
     kept-of : (reply : RoundReply) → Round reply → OnTurned reply (IfSome (trace b'.disk).bytes (IsKeptList b'.history.start b'.entries (trace b'.disk).may_leave))
     kept-of (round.Turned turn) made = made.1.has
@@ -168,3 +195,14 @@ module _ {D : Type 0} (trace : D → DiskTrace) (o : Opening) (from count : ℕ)
       (round-images seats b b' ns halt left most log s answers was seat counts (tells-of halt policy answers b b' reply made) (grows-of halt policy answers b b' reply made) reply
       (made-plain trace b b' halt o.policy answers reply made') (run-of halt o.policy answers b b' reply made') (kept-of halt o.policy answers b b' reply made')
       (rose-of halt o.policy answers b b' reply made') (subst (λ ws. is_legal_shared o ws ≡ true) noted legal))
+
+  pub round-stays-by : (stood : DiskTrace) (seats : ℕ) (b b' : Chronicled D) (ns : List Note) (halt : Option Halt) (left most : ℕ) (log after : List Written) (answers : List Answer) (policy : OpView → ℕ) (seat : ℕ) (reply : RoundReply)
+      → IsShared o seats b ns halt left most log → o.policy ≡ policy → Images b.disk log → StaysOpened trace o stood b.disk → IfSome (trace b'.disk).bytes (trace b'.disk).may_leave
+      → ((t : ℕ) (c : List ℕ) → t ≤ (trace b'.disk).moment → (trace b'.disk).may_leave c → (trace b'.disk).left_since t c)
+      → IsRoundOf trace halt policy answers b reply b'
+      → is_legal_shared o after ≡ true → after ≡ with_noted seat log (round_notes reply) (batch_at o (history_of o log) (told_by answers)) → StaysOpened trace o stood b'.disk
+  round-stays-by stood seats b b' ns halt left most log after answers policy seat reply s same was stays shown counts made legal noted =
+      let made' = subst (λ (f : OpView → ℕ). IsRoundOf trace halt f answers b reply b') (sym same) made in
+      round-stays seats b b' ns halt left most log s answers was seat counts (tells-of halt policy answers b b' reply made) (grows-of halt policy answers b b' reply made) stood stays shown reply
+      (made-plain trace b b' halt o.policy answers reply made') (run-of halt o.policy answers b b' reply made') (own-of halt o.policy answers b b' reply made')
+      (subst (λ ws. is_legal_shared o ws ≡ true) noted legal)

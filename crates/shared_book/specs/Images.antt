@@ -1,11 +1,13 @@
 -- What the disk under a shared book may be left with by a crash.
-use Rattle.std.specs.Prelude.{◌≡◌, ◌⊎◌, ℕ, ◌≤◌, true, List, [], ◌∷◌, ◌++◌, Option, IfSome}
+use Rattle.std.specs.Prelude.{◌≡◌, ◌⊎◌, ℕ, ◌≤◌, true, List, [], ◌∷◌, ◌++◌, Option, None, IfSome}
 use Rattle.rollout_rules.specs.History.{with_entries}
 use Rattle.rollout_rules.specs.Legal.{is_legal}
 use Rattle.rollout_rules.specs.declared.op.Entry.{Entry}
 use Rattle.disk_model.specs.Traces.{DiskTrace}
 use Rattle.wan_edge.specs.Streams.{Rose}
-use Rattle.rollout_book.specs.Lists.{HasList, HasBeforeOrAfter}
+use Rattle.intent_journal.specs.Parts.{Kept}
+use Rattle.intent_journal.specs.Phases.{kept_by}
+use Rattle.rollout_book.specs.Lists.{HasList, HasBeforeOrAfter, HasOwner}
 use Rattle.shared_history.specs.declared.note.What.{What}
 use Rattle.shared_history.specs.declared.note.What.TheVariants as what
 use Rattle.shared_history.specs.declared.note.Written.{Written}
@@ -66,3 +68,36 @@ pub record HasImages {D : Type 0} (trace : D → DiskTrace) (o : Opening) (from 
   pub since : IfSome (trace disk).bytes (λ _. (image : List ℕ) → (trace disk).left_since from image → HasLegalList o log image)
   pub now : IfSome (trace disk).bytes (λ _. (image : List ℕ) → (trace disk).may_leave image → HasListBehind o log image)
   pub failed : HasDisk log → Rose count (trace disk).faults
+
+-- ---- from before the opening on
+
+-- The image has a legal list that begins with the one found.
+pub record HasGoneOn (o : Opening) (image : List ℕ) : Type 0 where
+  pub past : List Entry
+  pub legal : is_legal o.rollout.problem o.rollout.plan (with_entries o.found past) ≡ true
+  pub has : HasList o.found.start (o.found.entries ++ past) image
+
+-- So it is, and its journal is of the same digest and migration as this.
+pub record GoesOnFrom (o : Opening) (kept : Kept) (image : List ℕ) : Type 0 where
+  pub owner : HasOwner kept image
+  pub list : HasGoneOn o image
+
+-- What is known of a disk since it stood so, behind an opening that kept this: the image that is told has the same owner; and what a crash may have
+-- left since any moment up to then is what it might have left by then, or an image that goes on from there.
+pub record Stays {D : Type 0} (trace : D → DiskTrace) (o : Opening) (stood : DiskTrace) (kept : Kept) (disk : D) (image : List ℕ) : Type 0 where
+  pub later : stood.moment ≤ (trace disk).moment
+  pub owner : HasOwner kept image
+  pub each : (t : ℕ) (c : List ℕ) → t ≤ stood.moment → (trace disk).left_since t c → stood.left_since t c ⊎ GoesOnFrom o kept c
+
+abbrev pub StaysOpened : {D : Type 0} → (D → DiskTrace) → Opening → DiskTrace → D → Type 0
+StaysOpened trace o stood disk = IfSome (kept_by stood.bytes) (λ kept. IfSome (trace disk).bytes (Stays trace o stood kept disk))
+
+-- a disk stands as one has stood
+pub record StandsSo (stood now : DiskTrace) : Type 0 where
+  pub bytes : now.bytes ≡ stood.bytes
+  pub moment : now.moment ≡ stood.moment
+  pub past : (t : ℕ) (c : List ℕ) → now.left_since t c → stood.left_since t c
+
+-- a disk that tells nothing
+abbrev pub nothing_stood : DiskTrace
+nothing_stood = record { bytes = None; may_leave = λ c. ⊥; moment = 0; left_since = λ t c. ⊥; faults = 0 }

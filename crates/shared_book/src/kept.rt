@@ -20,7 +20,7 @@ pub struct Kept<D: Disk, M: Marker> {
 
 impl<D: Disk, M: Marker> Model for Kept<D, M> {
     ghost use Rattle.std.specs.Prelude.{vec_capacity};
-    ghost use Rattle.shared_book.specs.Images.{HasImages};
+    ghost use Rattle.shared_book.specs.Images.{HasImages, StaysOpened};
     ghost use Rattle.shared_book.specs.Lasting.{AllHeard};
     ghost use Rattle.shared_book.specs.Sharing.{Sharing, log_of, IsShared};
 
@@ -35,7 +35,8 @@ impl<D: Disk, M: Marker> Model for Kept<D, M> {
         k.spare (vec_capacity k.notes) (log_of k.chronicle.value k.notes.items)
         × HasImages D.told M.opening M.moment M.faults k.chronicle.value.disk
         (log_of k.chronicle.value k.notes.items)
-        × AllHeard M.heard (log_of k.chronicle.value k.notes.items) };
+        × AllHeard M.heard (log_of k.chronicle.value k.notes.items)
+        × StaysOpened D.told M.opening M.stood k.chronicle.value.disk };
 }
 
 impl<D: Disk, M: Marker> Counted for Kept<D, M> {

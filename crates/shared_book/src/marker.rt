@@ -1,4 +1,5 @@
 ghost use Rattle.std.specs.Prelude.{ℕ};
+ghost use Rattle.disk_model.specs.Traces.{DiskTrace};
 ghost use Rattle.shared_history.specs.Histories.{Opening};
 ghost use Rattle.wan_edge.specs.Frames.{Answer};
 
@@ -16,6 +17,9 @@ pub trait Marker {
     /// How often the disk had failed by then.
     ghost faults: { ℕ };
 
+    /// What the disk told at the end of the opening.
+    ghost stood: { DiskTrace };
+
     /// How many seats may call.
     ghost seats: { ℕ };
 
@@ -28,6 +32,7 @@ pub trait Marker {
 
 // The members that stand where no call picks others.
 impl Marker for Brand {
+    ghost use Rattle.shared_book.specs.Images.{nothing_stood};
     ghost use Rattle.shared_history.specs.Worked.{of_one};
 
     ghost opening = { of_one };
@@ -35,6 +40,8 @@ impl Marker for Brand {
     ghost moment = { 0 };
 
     ghost faults = { 0 };
+
+    ghost stood = { nothing_stood };
 
     ghost seats = { 1 };
 

@@ -2,7 +2,7 @@
 ghost use Rattle.std.specs.Prelude.{◌≡◌, [], IfErr, IfOk, IsTrue};
 ghost use Rattle.shared_history.specs.Legal.{is_legal_shared};
 ghost use Rattle.shared_history.specs.Notes.{first_stop, notes_of};
-ghost use Rattle.shared_book.specs.Images.{HasImages};
+ghost use Rattle.shared_book.specs.Images.{HasImages, StandsSo, StaysOpened};
 ghost use Rattle.shared_book.specs.Lasting.{AllHeard};
 ghost use Rattle.shared_book.specs.Opened.{IsClosed, IsOpenedOn};
 
@@ -23,6 +23,7 @@ impl<D: Disk, M: Marker> Kept<D, M> {
         seats: u32,
     ) -> Result<Kept<D, M>, Chronicle<D>>
         requires opened { IsOpenedOn D.told M.opening M.moment M.faults chronicle }
+        requires stood { StandsSo M.stood (D.told chronicle.disk) }
         requires seats { M.seats ≡ seats }
         ensures ok { IfOk result (λ kept. (kept.book ≡ chronicle) × (kept.log ≡ [])) }
         ensures err { IfErr result (λ back. back ≡ chronicle) }
@@ -53,6 +54,7 @@ impl<D: Disk, M: Marker> Kept<D, M> {
         ensures is { IsClosed M.opening self.log self.book }
         ensures images { HasImages D.told M.opening M.moment M.faults self.book.disk self.log }
         ensures heard { AllHeard M.heard self.log }
+        ensures stays { StaysOpened D.told M.opening M.stood self.book.disk }
     {
         let Kept {
             chronicle,

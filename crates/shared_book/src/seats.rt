@@ -7,7 +7,7 @@ ghost use Rattle.turn_lock.specs.Histories.{Follows};
 ghost use Rattle.turn_lock.specs.Passes.{IsPassOf, IsFirstPass, HasGiven, HasJoined, IsNewPass, given_of, out_of, seat_of_pass, seats_of, seen_of};
 ghost use Rattle.shared_book.specs.Calls.{seat_of, IsCounted};
 ghost use Rattle.shared_book.specs.Homes.{home_if_any, homes_of};
-ghost use Rattle.shared_book.specs.Images.{HasImages};
+ghost use Rattle.shared_book.specs.Images.{HasImages, StandsSo, StaysOpened};
 ghost use Rattle.shared_book.specs.Lasting.{AllHeard};
 ghost use Rattle.shared_book.specs.Opened.{IsClosed, IsOpenedOn};
 
@@ -60,6 +60,7 @@ impl<'d, D: Disk, M: Marker> Shared<Kept<D, M>, &'d Policy> {
         seats: u32,
     ) -> Result<(Shared<Kept<D, M>, &'d Policy>, CallPass<Kept<D, M>>), Book<'d, D>>
         requires opened { IsOpenedOn D.told M.opening M.moment M.faults book.chronicle }
+        requires stood { StandsSo M.stood (D.told book.chronicle.disk) }
         requires policy { M.opening.policy ≡ rank_by book.policy.now.answers }
         requires seats { M.seats ≡ seats }
         ensures lock { IfOk result (λ r. IsPassOf r.0.lock r.1.pass × IsFirstPass r.1.pass) }
@@ -176,6 +177,7 @@ impl<'d, D: Disk, M: Marker> Shared<Kept<D, M>, &'d Policy> {
         ensures images { HasImages D.told M.opening M.moment M.faults result.0.chronicle.disk
             (seen_of pass.pass) }
         ensures heard { AllHeard M.heard (seen_of pass.pass) }
+        ensures stays { StaysOpened D.told M.opening M.stood result.0.chronicle.disk }
         ensures policy { result.0.policy.now ≡ self.entry.policy.now }
         ensures made { All (λ w. seat_of w < given_of pass.pass) (seen_of pass.pass) }
     {

@@ -44,8 +44,9 @@ impl<'d, D: Disk, M: Marker> Shared<Kept<D, M>, &'d Policy> {
         unreachable!()
     }
 
-    // Looks once, as `Kept::look` does in this pass's turn.
-    fn look<R: Wait>(
+    /// Looks once, as [`Kept::look`] does in this pass's turn: what a wait would end with now, or none where it
+    /// would go on, and then nothing is noted.
+    pub fn look<R: Wait>(
         &self,
         rt: &R,
         pass: CallPass<Kept<D, M>>,

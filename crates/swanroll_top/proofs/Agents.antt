@@ -5,7 +5,7 @@ use Rattle.swanroll_top.specs.Agents.{EndsOwn, RunsAgent, ServesAs}
 use Rattle.swanroll_top.specs.Endings.{status_of, tells_place}
 use Rattle.swanroll_top.specs.Runs.{EndsWith, Follows, IsTold}
 use Rattle.swanroll_top.specs.declared.ending.Ending.{Ending}
-use Rattle.swanroll_top.specs.declared.ending.Ending.TheVariants.{Done, Usage, AboveLimit, Input, NotValid, NoPlan, ReadFault, WriteFault, DiskFault, GuestFault, Refused, NotFinished, OutOfMemory}
+use Rattle.swanroll_top.specs.declared.ending.Ending.TheVariants.{Done, Usage, AboveLimit, Input, NotValid, NoPlan, Unshown, ReadFault, WriteFault, DiskFault, GuestFault, Refused, NotFinished, OutOfMemory}
 use Rattle.swanroll_top.proofs.Programs.{known-told}
 
 pub text-own : (text : List ℕ) (e : Ending) (out now : Option (List ℕ)) → EndsWith (Ok text) e out now → EndsOwn e
@@ -39,6 +39,7 @@ text-follows text line AboveLimit out now same h = subst (λ t. EndsWith (Ok t) 
 text-follows text line (Input f) out now same h = subst (λ t. EndsWith (Ok t) (Input f) out now) same h
 text-follows text line (NotValid p b) out now same h = subst (λ t. EndsWith (Ok t) (NotValid p b) out now) same h
 text-follows text line (NoPlan u) out now same h = subst (λ t. EndsWith (Ok t) (NoPlan u) out now) same h
+text-follows text line (Unshown u) out now same h = subst (λ t. EndsWith (Ok t) (Unshown u) out now) same h
 text-follows text line ReadFault out now same h = subst (λ t. EndsWith (Ok t) ReadFault out now) same h
 text-follows text line WriteFault out now same h = subst (λ t. EndsWith (Ok t) WriteFault out now) same h
 text-follows text line DiskFault out now same h = subst (λ t. EndsWith (Ok t) DiskFault out now) same h

@@ -1,5 +1,5 @@
 -- No command answers with an ending that isn't one of its input.
-use Rattle.std.proofs.Common.{◌≡◌, ◌⊎◌, ℕ, List, Bool, true, false, Option, Some, None, Result, Ok, Err, refl, sym, ap, ◌∙◌, inl, inr}
+use Rattle.std.proofs.Common.{◌≡◌, ◌⊎◌, ℕ, List, Bool, true, false, nat_le, Option, Some, None, Result, Ok, Err, refl, sym, ap, ◌∙◌, inl, inr}
 use Rattle.rollout_rules.specs.Wan.{Problem, Rollout}
 use Rattle.rollout_rules.specs.declared.op.OpView.{OpView}
 use Rattle.plan_check.specs.FirstBroken.{first_broken}
@@ -12,17 +12,25 @@ use Rattle.fewest_plan.specs.declared.cause.Cause.TheVariants.{Unchosen, Unfound
 use Rattle.scratch_plan.specs.declared.no_plan.NoPlan.TheVariants as cause
 use Rattle.problem_json.specs.Grammar.{problem_in}
 use Rattle.problem_json.specs.GrammarDocuments.{DocumentRead, ScriptedRead, document_in, scripted_in}
+use Rattle.problem_json.specs.GrammarLeast.{claimed_in}
+use Rattle.problem_json.specs.declared.claim.Claim.{Claim}
+use Rattle.problem_json.specs.declared.claim.Claimed.{Claimed}
 use Rattle.problem_json.specs.declared.fault.InputFault.{InputFault}
+use Rattle.lp_proof.specs.RateSteps.{rate_steps}
+use Rattle.lp_proof.specs.Least.{least_of}
+use Rattle.lp_proof.specs.declared.least.Least.{Least}
+use Rattle.lp_proof.specs.declared.least.Least.TheVariants as least
 use Rattle.sim_run.specs.Script.{script_text}
-use Rattle.swanroll_top.specs.Answers.{◌>>=◌, or_ending, with_choice, planned, checked, valid_line, judged, loaded, turned_back, rehearsed, answer_in, chosen_by, explained}
+use Rattle.swanroll_top.specs.Answers.{◌>>=◌, or_ending, with_choice, where_few, with_least, with_proof, planned, proved, least_planned, checked, claimed_line, is_shown, judged, where_shown, loaded, turned_back, rehearsed, answer_in, chosen_by, explained}
 use Rattle.swanroll_top.specs.Endings.{ending_of}
 use Rattle.swanroll_top.specs.Reports.{rollout_in}
 use Rattle.swanroll_top.specs.Runs.{EndsWith, Follows, Gives}
 use Rattle.swanroll_top.specs.declared.ending.Ending.{Ending}
-use Rattle.swanroll_top.specs.declared.ending.Ending.TheVariants.{Done, Usage, AboveLimit, Input, NotValid, NoPlan, ReadFault, WriteFault, DiskFault, GuestFault, Refused, NotFinished, OutOfMemory}
+use Rattle.swanroll_top.specs.declared.ending.Ending.TheVariants.{Done, Usage, AboveLimit, Input, NotValid, NoPlan, Unshown, ReadFault, WriteFault, DiskFault, GuestFault, Refused, NotFinished, OutOfMemory}
 use Rattle.swanroll_top.proofs.Documents.{as_rollout, back_text, checked-by}
-use Rattle.swanroll_top.specs.Words.{TextAsked, a_plan, a_check, the_loads, the_way_back, a_rehearsal, the_explanation}
+use Rattle.swanroll_top.specs.Words.{TextAsked, a_plan, a_check, the_loads, the_way_back, a_rehearsal, the_explanation, the_least}
 use Rattle.swanroll_top.specs.declared.words.Planner.{Planner}
+use Rattle.swanroll_top.specs.declared.words.Planner.TheVariants.{Slack}
 use Rattle.swanroll_top.proofs.Steps.{fault-ends}
 use Rattle.swanroll_top.specs.declared.unfinished.Unfinished.{Unfinished}
 
@@ -66,9 +74,47 @@ checked-step-by : (d : DocumentRead) (next : Rollout → Result (List ℕ) Endin
 checked-step-by d next None e h = rw (checked-by d None e) (h (as_rollout d))
 checked-step-by d next (Some b) e h = rw (checked-by d (Some b) e) refl
 
-judged-answers : (d : DocumentRead) → HasAnswer (judged d)
+proof-answers : (p : Problem) (c : Choice) (answer : Least) → HasAnswer (with_proof p c.plan c.rate_steps answer)
+proof-answers p c (least.Shown proof) = tt
+proof-answers p c (least.Fewer plan) = refl
+proof-answers p c (least.Point xs) = refl
+proof-answers p c least.Wide = refl
+proof-answers p c (least.Overflow made) = refl
+proof-answers p c (least.Spent made) = refl
+proof-answers p c least.Memory = refl
+
+few-answers : (b : Bool) (found : Result (List ℕ) Ending) → HasAnswer found → HasAnswer (where_few b found)
+few-answers true found h = h
+few-answers false found h = refl
+
+proved-answers : (p : Problem) (c : Choice) → HasAnswer (proved p c.plan c.rate_steps)
+unfolding proved
+proved-answers p c = few-answers (nat_le (rate_steps p c.plan) c.rate_steps) (with_proof p c.plan c.rate_steps (least_of p c.rate_steps)) (proof-answers p c (least_of p c.rate_steps))
+
+with-least-answers : (p : Problem) (choice : Result Choice Cause) → HasAnswer (with_least p choice)
+with-least-answers p (Ok choice) = proved-answers p choice
+with-least-answers p (Err (Unchosen (cause.OverCapacity l side load capacity))) = refl
+with-least-answers p (Err (Unchosen (cause.TableFull w entries size))) = refl
+with-least-answers p (Err (Unchosen (cause.NoSlack l side load capacity))) = refl
+with-least-answers p (Err (Unchosen cause.Memory)) = refl
+with-least-answers p (Err (Unfound why)) = refl
+with-least-answers p (Err (Stuck link)) = refl
+
+least-answers : (p : Problem) → HasAnswer (least_planned p)
+unfolding least_planned
+least-answers p = with-least-answers p (chosen_by Slack p)
+
+shown-answers : (b : Bool) (o : Rollout) → HasAnswer (where_shown b o.plan)
+shown-answers true o = tt
+shown-answers false o = refl
+
+claim-answers : (o : Rollout) (claim : Option Claim) → HasAnswer (claimed_line o claim)
+claim-answers o None = tt
+claim-answers o (Some claim) = shown-answers (is_shown o claim) o
+
+judged-answers : (c : Claimed) → HasAnswer (judged c)
 unfolding judged
-judged-answers d = checked-step-by d (λ o. Ok (valid_line o.plan)) (first_broken d.problem d.plan) refl (λ o. tt)
+judged-answers c = checked-step-by c.document (λ o. claimed_line o c.claim) (first_broken c.document.problem c.document.plan) refl (λ o. claim-answers o c.claim)
 
 loaded-answers : (d : DocumentRead) → HasAnswer (loaded d)
 unfolding loaded
@@ -89,10 +135,11 @@ rehearsed-answers policy s = checked-step-by s.document (λ o. Ok (script_text o
 pub command-answers : (c : TextAsked) (input : List ℕ) → HasAnswer (answer_in c input)
 unfolding answer_in
 command-answers (a_plan planner) input = step-answers (problem_in input) (planned planner) (planned-answers planner)
-command-answers a_check input = step-answers (document_in input) judged judged-answers
+command-answers a_check input = step-answers (claimed_in input) judged judged-answers
 command-answers the_loads input = step-answers (document_in input) loaded loaded-answers
 command-answers the_way_back input = step-answers (document_in input) turned_back turned-answers
 command-answers the_explanation input = step-answers (document_in input) explained explained-answers
+command-answers the_least input = step-answers (problem_in input) least_planned least-answers
 command-answers (a_rehearsal policy) input = step-answers (scripted_in input) (rehearsed policy) (rehearsed-answers policy)
 
 ends-only : (answer : Result (List ℕ) Ending) (e : Ending) (out now : Option (List ℕ)) → HasAnswer answer → EndsWith answer e out now → (e ≡ Done) ⊎ ((e ≡ WriteFault) ⊎ (is_answer e ≡ true))
@@ -142,6 +189,7 @@ rollout-gives input AboveLimit g = refl
 rollout-gives input (Input f) g = refl
 rollout-gives input (NotValid p b) g = refl
 rollout-gives input (NoPlan u) g = refl
+rollout-gives input (Unshown u) g = refl
 rollout-gives input ReadFault g = rollout-answers input ReadFault g
 rollout-gives input WriteFault g = rollout-answers input WriteFault g
 rollout-gives input DiskFault g = rollout-answers input DiskFault g

@@ -47,7 +47,7 @@ use Rattle.swanroll_top.specs.Reports.{rollout_to}
 use Rattle.swanroll_top.specs.Rollouts.{FleetSeen, IsUnbegun, OpensAndRolls, RefusesAs, Rolls, RollsAs, ending_of_stop, line_or_ending}
 use Rattle.swanroll_top.specs.Runs.{EndsWith, IsInput}
 use Rattle.swanroll_top.specs.declared.ending.Ending.{Ending}
-use Rattle.swanroll_top.specs.declared.ending.Ending.TheVariants.{Done, Usage, AboveLimit, Input, NotValid, NoPlan, ReadFault, WriteFault, DiskFault, GuestFault, Refused, NotFinished, OutOfMemory}
+use Rattle.swanroll_top.specs.declared.ending.Ending.TheVariants.{Done, Usage, AboveLimit, Input, NotValid, NoPlan, Unshown, ReadFault, WriteFault, DiskFault, GuestFault, Refused, NotFinished, OutOfMemory}
 use Rattle.swanroll_top.proofs.Inputs.{told-within}
 use Rattle.swanroll_top.proofs.Reporting.{rolled-within}
 use Rattle.swanroll_top.proofs.Outcomes.{rose-later}
@@ -57,13 +57,13 @@ use Rattle.swanroll_top.proofs.Programs.{follows-ends, told-same}
 of-some : {X : Type 0} (Q : X → Type 0) (x : X) (o : Option X) → o ≡ Some x → IfSome o Q → Q x
 of-some Q x o is holds = subst (λ p. IfSome p Q) is holds
 
-some-same : {X : Type 0} (x y : X) → Some x ≡ Some y → x ≡ y
+pub some-same : {X : Type 0} (x y : X) → Some x ≡ Some y → x ≡ y
 some-same x y e = cc e
 
 -- ---- the ports that were opened
 
 module _ {P : Type 0} (tell : P → PortTrace) (r : Rollout) (migration : ℕ) (found : History) (ports : ℕ → Option P) where
-  opened-ready : (bs : List (Berth P)) → AllByRecursion (IsGiven tell (Some ports)) bs → AllByRecursion (WaitsReady tell r migration found ports) (switches_of bs)
+  pub opened-ready : (bs : List (Berth P)) → AllByRecursion (IsGiven tell (Some ports)) bs → AllByRecursion (WaitsReady tell r migration found ports) (switches_of bs)
       → All (λ t. IsReady r migration (homes_of r.problem) found (view tell t)) (first_talks bs)
   opened-ready [] given each = All-nil (λ t. IsReady r migration (homes_of r.problem) found (view tell t))
   opened-ready (b ∷ bs) given each =
@@ -72,7 +72,7 @@ module _ {P : Type 0} (tell : P → PortTrace) (r : Rollout) (migration : ℕ) (
       (subst (λ (p : P). IsReady r migration (homes_of r.problem) found (view tell (first_talk b.switch p))) same each.0.ready)
       (opened-ready bs given.1 each.1)
 
-  opened-waited : (bs : List (Berth P)) → AllByRecursion (IsGiven tell (Some ports)) bs → All (λ (t : Talk P). ports t.switch ≡ Some t.port) (first_talks bs)
+  pub opened-waited : (bs : List (Berth P)) → AllByRecursion (IsGiven tell (Some ports)) bs → All (λ (t : Talk P). ports t.switch ≡ Some t.port) (first_talks bs)
   opened-waited [] given = All-nil (λ (t : Talk P). ports t.switch ≡ Some t.port)
   opened-waited (b ∷ bs) given = All-cons (λ (t : Talk P). ports t.switch ≡ Some t.port) (first_talk b.switch b.port) (first_talks bs) given.0 (opened-waited bs given.1)
 
@@ -235,6 +235,7 @@ module _ {D P : Type 0} (trace : D → DiskTrace) (tell : P → PortTrace)
   unbegun-ends (Input f) why read memory = refused-never (Input f) why
   unbegun-ends (NotValid p b) why read memory = refused-never (NotValid p b) why
   unbegun-ends (NoPlan u) why read memory = refused-never (NoPlan u) why
+  unbegun-ends (Unshown u) why read memory = refused-never (Unshown u) why
   unbegun-ends ReadFault why read memory = read refl
   unbegun-ends WriteFault why read memory = refused-never WriteFault why
   unbegun-ends DiskFault why read memory = refused-never DiskFault why

@@ -4,16 +4,18 @@ use Rattle.rollout_rules.specs.Wan.{Problem, Rollout}
 use Rattle.rollout_rules.specs.declared.op.OpView.{OpView}
 use Rattle.problem_json.specs.Grammar.{problem_in}
 use Rattle.problem_json.specs.GrammarDocuments.{DocumentRead, ScriptedRead, document_in, scripted_in}
+use Rattle.problem_json.specs.GrammarLeast.{claimed_in}
+use Rattle.problem_json.specs.declared.claim.Claimed.{Claimed}
 use Rattle.problem_json.specs.GrammarResults as grammar
 use Rattle.problem_json.specs.declared.fault.InputFault.{InputFault}
 use Rattle.sim_run.specs.Rehearsed.{IsSafeRehearsal}
-use Rattle.swanroll_top.specs.Answers.{planned, judged, loaded, turned_back, rehearsed, checked, answer_in, explained}
+use Rattle.swanroll_top.specs.Answers.{planned, least_planned, judged, loaded, turned_back, rehearsed, checked, answer_in, explained}
 use Rattle.swanroll_top.specs.Endings.{ending_of}
 use Rattle.swanroll_top.specs.Reports.{rollout_in}
 use Rattle.swanroll_top.specs.Runs.{Gives}
-use Rattle.swanroll_top.specs.Safety.{IsPlanned, PlansSafely, ChecksValid, LoadsSafely, TurnsSafely, RehearsesSafely, IsLoaded, IsTurned, IsValid, ExplainsTruly, IsExplained}
+use Rattle.swanroll_top.specs.Safety.{IsPlanned, PlansSafely, ChecksValid, LoadsSafely, TurnsSafely, RehearsesSafely, IsLoaded, IsTurned, IsClaimed, ExplainsTruly, IsExplained, IsLeast, PlansLeast}
 use Rattle.swanroll_top.specs.declared.ending.Ending.{Ending}
-use Rattle.swanroll_top.specs.Words.{a_plan, a_check, the_loads, the_way_back, a_rehearsal, the_explanation}
+use Rattle.swanroll_top.specs.Words.{a_plan, a_check, the_loads, the_way_back, a_rehearsal, the_explanation, the_least}
 use Rattle.swanroll_top.specs.declared.words.Planner.{Planner}
 use Rattle.swanroll_top.proofs.Steps.{fault-gives, next-is}
 
@@ -25,13 +27,21 @@ pub plan-answers : (planner : Planner) (input : List ℕ) (p : Problem) → prob
 unfolding answer_in
 plan-answers planner input p h = next-is (problem_in input) p (planned planner) h
 
-pub check-refuses : (input : List ℕ) (e : InputFault) → grammar.Refuses e (document_in input) → Gives {A = List ℕ} (Err (ending_of e)) (answer_in a_check input)
+pub check-refuses : (input : List ℕ) (e : InputFault) → grammar.Refuses e (claimed_in input) → Gives {A = List ℕ} (Err (ending_of e)) (answer_in a_check input)
 unfolding answer_in
-check-refuses input e h = fault-gives e (document_in input) judged h
+check-refuses input e h = fault-gives e (claimed_in input) judged h
 
-pub check-answers : (input : List ℕ) (d : DocumentRead) → document_in input ≡ Ok d → answer_in a_check input ≡ judged d
+pub check-answers : (input : List ℕ) (c : Claimed) → claimed_in input ≡ Ok c → answer_in a_check input ≡ judged c
 unfolding answer_in
-check-answers input d h = next-is (document_in input) d judged h
+check-answers input c h = next-is (claimed_in input) c judged h
+
+pub least-refuses : (input : List ℕ) (e : InputFault) → grammar.Refuses e (problem_in input) → Gives {A = List ℕ} (Err (ending_of e)) (answer_in the_least input)
+unfolding answer_in
+least-refuses input e h = fault-gives e (problem_in input) least_planned h
+
+pub least-answers : (input : List ℕ) (p : Problem) → problem_in input ≡ Ok p → answer_in the_least input ≡ least_planned p
+unfolding answer_in
+least-answers input p h = next-is (problem_in input) p least_planned h
 
 pub loads-refuses : (input : List ℕ) (e : InputFault) → grammar.Refuses e (document_in input) → Gives {A = List ℕ} (Err (ending_of e)) (answer_in the_loads input)
 unfolding answer_in
@@ -71,9 +81,13 @@ pub read-plans-safely : {A : Type 0} (planner : Planner) (input : List ℕ) (p :
 read-plans-safely planner input p (Ok text) read planned = record { problem = p; read = read; planned = planned }
 read-plans-safely planner input p (Err e) read planned = tt
 
-pub read-checks-valid : {A : Type 0} (input : List ℕ) (d : DocumentRead) (answer : Result A Ending) → document_in input ≡ Ok d → IfOk answer (λ text. IsValid d.problem d.plan) → IfOk answer (λ text. ChecksValid input)
-read-checks-valid input d (Ok text) read valid = record { document = d; read = read; valid = valid }
-read-checks-valid input d (Err e) read valid = tt
+pub read-checks-valid : {A : Type 0} (input : List ℕ) (c : Claimed) (answer : Result A Ending) → claimed_in input ≡ Ok c → IfOk answer (λ text. IsClaimed c) → IfOk answer (λ text. ChecksValid input)
+read-checks-valid input c (Ok text) read is = record { claimed = c; read = read; is = is }
+read-checks-valid input c (Err e) read is = tt
+
+pub read-plans-least : {A : Type 0} (input : List ℕ) (p : Problem) (answer : Result A Ending) → problem_in input ≡ Ok p → IfOk answer (λ text. IsLeast p) → IfOk answer (λ text. PlansLeast input)
+read-plans-least input p (Ok text) read is = record { problem = p; read = read; is = is }
+read-plans-least input p (Err e) read is = tt
 
 pub read-loads-safely : {A : Type 0} (input : List ℕ) (d : DocumentRead) (answer : Result A Ending) → document_in input ≡ Ok d → IfOk answer (λ text. IsLoaded d.problem d.plan) → IfOk answer (λ text. LoadsSafely input)
 read-loads-safely input d (Ok text) read is = record { document = d; read = read; loaded = is }

@@ -10,6 +10,8 @@ use Rattle.plan_check.specs.declared.broken.Broken.{Broken}
 use Rattle.plan_check.proofs.Firsts.{broken-invalid}
 use Rattle.problem_json.specs.Grammar.{problem_in}
 use Rattle.problem_json.specs.GrammarDocuments.{DocumentRead, ScriptedRead}
+use Rattle.problem_json.specs.declared.claim.Claim.{Claim}
+use Rattle.problem_json.specs.declared.claim.Claimed.{Claimed}
 use Rattle.problem_json.specs.declared.fault.InputFault.{InputFault}
 use Rattle.sim_run.specs.Script.{script_text}
 use Rattle.intent_journal.specs.declared.fault.JournalFault.{JournalFault}
@@ -25,7 +27,7 @@ use Rattle.agent_service.specs.declared.service.Service.{Service}
 use Rattle.agent_service.specs.declared.service.ServiceFault.{ServiceFault}
 use Rattle.agent_service.specs.declared.service.ServiceFault.TheVariants as service
 use Rattle.swanroll_top.specs.Agents.{ServesAs, service_answer}
-use Rattle.swanroll_top.specs.Answers.{◌>>=◌, with_choice, planned, checked, valid_line, judged, loaded, turned_back, rehearsed, answer_to, or_ending, chosen_by, answer_in, explained}
+use Rattle.swanroll_top.specs.Answers.{◌>>=◌, with_choice, planned, checked, claimed_line, judged, loaded, turned_back, rehearsed, answer_to, or_ending, chosen_by, answer_in, explained}
 use Rattle.swanroll_top.specs.Endings.{status_of}
 use Rattle.swanroll_top.specs.Program.{Streams}
 use Rattle.swanroll_top.specs.ReportPromise.{ReportsAndNotes, ReportsBy}
@@ -35,10 +37,11 @@ use Rattle.swanroll_top.specs.Reports.{EndsReport, or_journal, rollout_to}
 use Rattle.swanroll_top.specs.Runs.{EndsWith, TellsInput}
 use Rattle.swanroll_top.specs.Safety.{IsValid}
 use Rattle.swanroll_top.specs.Tries.{IsShape, tried}
-use Rattle.swanroll_top.specs.Taken.{IsValidDocument, IsValidScript}
+use Rattle.swanroll_top.specs.Taken.{IsShownDocument, IsValidDocument, IsValidScript, is_as_said}
 use Rattle.swanroll_top.specs.declared.ending.Ending.{Ending}
 use Rattle.swanroll_top.proofs.Commands.{plan-answers, check-answers, loads-answers, back-answers, sim-answers, explain-answers}
-use Rattle.swanroll_top.proofs.Documents.{checked-by, back_text}
+use Rattle.swanroll_top.proofs.Claims.{claim-shown}
+use Rattle.swanroll_top.proofs.Documents.{as_rollout, checked-by, back_text}
 use Rattle.swanroll_top.specs.Words.{TextAsked, a_plan, a_check, the_loads, the_way_back, a_rehearsal, the_explanation}
 use Rattle.swanroll_top.specs.declared.ending.Ending.TheVariants.{AboveLimit, NoPlan}
 use Rattle.swanroll_top.specs.declared.words.Planner.{Planner}
@@ -95,9 +98,17 @@ valid-goes-on : (d : DocumentRead) (next : Rollout → List ℕ) (broken : Optio
 valid-goes-on d next None e valid = rw (checked-by d None e) refl
 valid-goes-on d next (Some b) e valid = absurd (let both : true ≡ false = sym valid ∙ broken-invalid d.problem d.plan b e in cc)
 
-valid-judged : (d : DocumentRead) → IsValid d.problem d.plan → IsOk (judged d)
+claim-goes-on : (o : Rollout) (claim : Option Claim) → is_as_said o claim ≡ true → IsOk (claimed_line o claim)
+claim-goes-on o None said = refl
+claim-goes-on o (Some claim) said = subst (λ r. IsOk r) (sym (claim-shown o claim said)) refl
+
+claims-go-on : (d : DocumentRead) (claim : Option Claim) (broken : Option Broken) → first_broken d.problem d.plan ≡ broken → IsValid d.problem d.plan → is_as_said (as_rollout d) claim ≡ true → IsOk (checked d >>= λ o. claimed_line o claim)
+claims-go-on d claim None e valid said = rw (checked-by d None e) (claim-goes-on (as_rollout d) claim said)
+claims-go-on d claim (Some b) e valid said = absurd (let both : true ≡ false = sym valid ∙ broken-invalid d.problem d.plan b e in cc)
+
+valid-judged : (c : Claimed) → IsValid c.document.problem c.document.plan → is_as_said (as_rollout c.document) c.claim ≡ true → IsOk (judged c)
 unfolding judged
-valid-judged d valid = valid-goes-on d (λ o. valid_line o.plan) (first_broken d.problem d.plan) refl valid
+valid-judged c valid said = claims-go-on c.document c.claim (first_broken c.document.problem c.document.plan) refl valid said
 
 valid-loaded : (d : DocumentRead) → IsValid d.problem d.plan → IsOk (loaded d)
 unfolding loaded
@@ -115,8 +126,8 @@ valid-rehearsed : (policy : OpView → ℕ) (s : ScriptedRead) → IsValid s.doc
 unfolding rehearsed
 valid-rehearsed policy s valid = valid-goes-on s.document (λ o. script_text o.problem o.plan policy s.script) (first_broken s.document.problem s.document.plan) refl valid
 
-pub valid-document-answers : (input : List ℕ) → IsValidDocument input → IsOk (answer_to a_check input)
-valid-document-answers input t = subst (λ r. IsOk r) (sym (short-answered a_check input t.within ∙ check-answers input t.document t.read)) (valid-judged t.document t.valid)
+pub shown-document-answers : (input : List ℕ) → IsShownDocument input → IsOk (answer_to a_check input)
+shown-document-answers input t = subst (λ r. IsOk r) (sym (short-answered a_check input t.within ∙ check-answers input t.claimed t.read)) (valid-judged t.claimed t.valid t.shown)
 
 pub valid-document-loads : (input : List ℕ) → IsValidDocument input → IsOk (answer_to the_loads input)
 valid-document-loads input t = subst (λ r. IsOk r) (sym (short-answered the_loads input t.within ∙ loads-answers input t.document t.read)) (valid-loaded t.document t.valid)

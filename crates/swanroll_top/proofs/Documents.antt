@@ -15,7 +15,7 @@ use Rattle.rollback_plan.specs.Turning.{back_problem, back_plan, back}
 use Rattle.problem_json.specs.GrammarDocuments.{DocumentRead, ScriptedRead}
 use Rattle.sim_run.specs.Rehearsed.{IsSafeRehearsal}
 use Rattle.sim_run.specs.Script.{script_text}
-use Rattle.swanroll_top.specs.Answers.{◌>>=◌, unless_broken, checked, valid_text, valid_line, judged, loaded, turned_back, rehearsed, explained}
+use Rattle.swanroll_top.specs.Answers.{◌>>=◌, unless_broken, checked, loaded, turned_back, rehearsed, explained}
 use Rattle.swanroll_top.specs.Runs.{Gives}
 use Rattle.swanroll_top.specs.Safety.{HoldsItsLoads, MayBeginBack, IsLoaded, IsSealed, IsSafePlan, IsTurned, IsValid, IsExplained, TellsEachNext}
 use Rattle.swanroll_top.specs.declared.ending.Ending.{Ending}
@@ -44,16 +44,6 @@ pub verdict-refused : (d : DocumentRead) (p : Problem) (plan : Plan) (fault : Pl
 verdict-refused d p plan fault b parts is verdict =
     let broken : first_broken p plan ≡ Some b = subst (λ f. IsVerdict {A = Unit {0}} (Err f) (first_broken p plan)) is verdict in
     subst (λ x. checked x ≡ Err (NotValid p b)) (sym parts) (broken-refused (record { problem = p; plan = plan }) b broken)
-
--- ---- the line of a valid plan
-
-pub checked-judged : (d : DocumentRead) (o : Rollout) (steps scale : ℕ) (text : List ℕ) → checked d ≡ Ok o → steps ≡ last_stage o.plan → scale ≡ o.plan.scale → text ≡ valid_text steps scale → judged d ≡ Ok text
-unfolding judged
-checked-judged d o steps scale text e last size is = ap (λ r. r >>= λ o. Ok (valid_line o.plan)) e ∙ ap Ok (sym (is ∙ ap (λ n. valid_text n scale) last ∙ ap (valid_text (last_stage o.plan)) size))
-
-pub refused-judged : (d : DocumentRead) (e : Ending) → Gives {A = Rollout} (Err e) (checked d) → Gives {A = List ℕ} (Err e) (judged d)
-unfolding judged
-refused-judged d e h = step-gives e (checked d) (λ o. Ok (valid_line o.plan)) h
 
 -- ---- the loads of a valid plan
 
@@ -129,8 +119,6 @@ pub sealed-rehearsal : (policy : OpView → ℕ) (s : ScriptedRead) (o : Rollout
 sealed-rehearsal policy s o sealed safe = rw sealed.same at safe
 
 pub ruleset checking = (unbroken-checked, valid-sealed)
-
-pub ruleset judging = (checked-judged, refused-judged)
 
 pub ruleset loading = (checked-loaded, refused-loaded, sealed-loads)
 

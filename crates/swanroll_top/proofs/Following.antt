@@ -7,7 +7,7 @@ use Rattle.swanroll_top.specs.Runs.{EndsWith, Follows, FollowsInput, Runs}
 use Rattle.swanroll_top.specs.Safety.{DoesSafely}
 use Rattle.swanroll_top.specs.Taken.{IsTaken}
 use Rattle.swanroll_top.specs.declared.ending.Ending.{Ending}
-use Rattle.swanroll_top.specs.declared.ending.Ending.TheVariants.{Done, Usage, AboveLimit, Input, NotValid, NoPlan, ReadFault, WriteFault, DiskFault, GuestFault, Refused, NotFinished, OutOfMemory}
+use Rattle.swanroll_top.specs.declared.ending.Ending.TheVariants.{Done, Usage, AboveLimit, Input, NotValid, NoPlan, Unshown, ReadFault, WriteFault, DiskFault, GuestFault, Refused, NotFinished, OutOfMemory}
 use Rattle.swanroll_top.specs.declared.unfinished.Unfinished.{Unfinished}
 use Rattle.swanroll_top.specs.Words.{TextAsked}
 use Rattle.swanroll_top.proofs.Answering.{no-read-fault}
@@ -30,6 +30,7 @@ short-runs c source source_now out out_now bytes AboveLimit s h safe = short-fol
 short-runs c source source_now out out_now bytes (Input f) s h safe = short-follows c source source_now out out_now bytes _ s h (λ m. cc) safe
 short-runs c source source_now out out_now bytes (NotValid p b) s h safe = short-follows c source source_now out out_now bytes _ s h (λ m. cc) safe
 short-runs c source source_now out out_now bytes (NoPlan u) s h safe = short-follows c source source_now out out_now bytes _ s h (λ m. cc) safe
+short-runs c source source_now out out_now bytes (Unshown u) s h safe = short-follows c source source_now out out_now bytes _ s h (λ m. cc) safe
 short-runs c source source_now out out_now bytes ReadFault s h safe = absurd (no-read-fault c bytes out out_now h)
 short-runs c source source_now out out_now bytes WriteFault s h safe = short-follows c source source_now out out_now bytes _ s h (λ m. cc) safe
 short-runs c source source_now out out_now bytes DiskFault s h safe = short-follows c source source_now out out_now bytes _ s h (λ m. cc) safe
@@ -45,6 +46,7 @@ cut-runs c source source_now out AboveLimit r = beyond-follows c source source_n
 cut-runs c source source_now out (Input f) r = absurd r
 cut-runs c source source_now out (NotValid p b) r = absurd r
 cut-runs c source source_now out (NoPlan u) r = absurd r
+cut-runs c source source_now out (Unshown u) r = absurd r
 cut-runs c source source_now out ReadFault r = refl
 cut-runs c source source_now out WriteFault r = absurd r
 cut-runs c source source_now out DiskFault r = absurd r

@@ -20,7 +20,7 @@ use Rattle.swanroll_top.specs.Reading.{IsCut, IsShortInput}
 use Rattle.swanroll_top.specs.Reports.{EndsJournal, rollout_in, rollout_to}
 use Rattle.swanroll_top.specs.Runs.{EndsWith, Gives, IsTold}
 use Rattle.swanroll_top.specs.declared.ending.Ending.{Ending}
-use Rattle.swanroll_top.specs.declared.ending.Ending.TheVariants.{Done, Usage, AboveLimit, Input, NotValid, NoPlan, ReadFault, WriteFault, DiskFault, GuestFault, Refused, NotFinished, OutOfMemory}
+use Rattle.swanroll_top.specs.declared.ending.Ending.TheVariants.{Done, Usage, AboveLimit, Input, NotValid, NoPlan, Unshown, ReadFault, WriteFault, DiskFault, GuestFault, Refused, NotFinished, OutOfMemory}
 use Rattle.swanroll_top.proofs.Inputs.{told-short}
 use Rattle.swanroll_top.proofs.Reporting.{short-rollout}
 
@@ -63,6 +63,7 @@ cut-silent source source_now AboveLimit r = (λ h. omega (arith, h), (λ h. omeg
 cut-silent source source_now (Input f) r = absurd r
 cut-silent source source_now (NotValid p b) r = absurd r
 cut-silent source source_now (NoPlan u) r = absurd r
+cut-silent source source_now (Unshown u) r = absurd r
 cut-silent source source_now ReadFault r = (λ h. omega (arith, h), (λ h. omega (arith, h), λ h. omega (arith, h)))
 cut-silent source source_now WriteFault r = absurd r
 cut-silent source source_now DiskFault r = absurd r
@@ -150,6 +151,7 @@ module _ {D : Type 0} (trace : D → DiskTrace) (old new : D) where
   unread-leaves m r (Input f) g only same = refused-leaves m r (Input f) g
   unread-leaves m r (NotValid p b) g only same = refused-leaves m r (NotValid p b) g
   unread-leaves m r (NoPlan u) g only same = refused-leaves m r (NoPlan u) g
+  unread-leaves m r (Unshown u) g only same = refused-leaves m r (Unshown u) g
   unread-leaves m r ReadFault g only same = refused-leaves m r ReadFault g
   unread-leaves m r WriteFault g only same = refused-leaves m r WriteFault g
   unread-leaves m r DiskFault g only same = refused-leaves m r DiskFault g

@@ -3,6 +3,8 @@ pub mod Opening
 pub mod JournalRooms
 pub mod Planned
 pub mod Documents
+pub mod Claims
+pub mod Leasts
 pub mod Commands
 pub mod Answering
 pub mod Refused
@@ -19,7 +21,15 @@ pub mod Pairs
 pub mod Tried
 pub mod Rolling
 pub mod Outcomes
+pub mod Elsewhere
 pub mod Reaching
+pub mod Joining
+pub mod NextStarting
+pub mod Reverting
+pub mod Levelling
+pub mod NextReverting
 pub mod Certain
+pub mod CertainBack
 pub mod ReadyFleets
+pub mod HeldAsking
 pub mod Promises

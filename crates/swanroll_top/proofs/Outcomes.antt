@@ -28,7 +28,7 @@ use Rattle.swanroll_top.specs.Endings.{ending_of_journal, status_of}
 use Rattle.swanroll_top.specs.Rollouts.{EndsRollout, IsDiskFault, ending_of_stop, line_or_ending, may_end}
 use Rattle.swanroll_top.specs.Runs.{EndsWith, Follows, Gives}
 use Rattle.swanroll_top.specs.declared.ending.Ending.{Ending}
-use Rattle.swanroll_top.specs.declared.ending.Ending.TheVariants.{Done, Usage, AboveLimit, Input, NotValid, NoPlan, ReadFault, WriteFault, DiskFault, GuestFault, Refused, NotFinished, OutOfMemory}
+use Rattle.swanroll_top.specs.declared.ending.Ending.TheVariants.{Done, Usage, AboveLimit, Input, NotValid, NoPlan, Unshown, ReadFault, WriteFault, DiskFault, GuestFault, Refused, NotFinished, OutOfMemory}
 use Rattle.swanroll_top.proofs.Programs.{ends-unwritten}
 
 -- ---- an ending in place of a text
@@ -40,6 +40,7 @@ gives-follows answer AboveLimit out h = subst (λ r. EndsWith r AboveLimit out o
 gives-follows answer (Input f) out h = subst (λ r. EndsWith r (Input f) out out) (sym h) (refl, refl)
 gives-follows answer (NotValid p b) out h = subst (λ r. EndsWith r (NotValid p b) out out) (sym h) (refl, refl)
 gives-follows answer (NoPlan u) out h = subst (λ r. EndsWith r (NoPlan u) out out) (sym h) (refl, refl)
+gives-follows answer (Unshown u) out h = subst (λ r. EndsWith r (Unshown u) out out) (sym h) (refl, refl)
 gives-follows answer ReadFault out h = subst (λ r. EndsWith r ReadFault out out) (sym h) (refl, refl)
 gives-follows answer WriteFault out h = subst (λ r. EndsWith r WriteFault out out) (sym h) (refl, refl)
 gives-follows answer DiskFault out h = subst (λ r. EndsWith r DiskFault out out) (sym h) (refl, refl)
@@ -56,6 +57,7 @@ given-or-memory answer AboveLimit h = inl h
 given-or-memory answer (Input f) h = inl h
 given-or-memory answer (NotValid p b) h = inl h
 given-or-memory answer (NoPlan u) h = inl h
+given-or-memory answer (Unshown u) h = inl h
 given-or-memory answer ReadFault h = inl h
 given-or-memory answer WriteFault h = inl h
 given-or-memory answer DiskFault h = inl h
@@ -70,7 +72,7 @@ abbrev MayEndSo : Result (List ℕ) Ending → Type 0
 MayEndSo (Ok text) = Unit {0}
 MayEndSo (Err e) = may_end e ≡ true
 
-stop-may : (r : Rollout) (why : Cause) → may_end (ending_of_stop r why) ≡ true
+pub stop-may : (r : Rollout) (why : Cause) → may_end (ending_of_stop r why) ≡ true
 stop-may r (cause.Spent rounds item number) = refl
 stop-may r (cause.Port switch) = refl
 stop-may r (cause.Above item held begun) = refl
@@ -79,7 +81,7 @@ stop-may r (cause.NoAnswer switch byte) = refl
 stop-may r cause.Disk = refl
 stop-may r cause.Memory = refl
 
-journal-may : (why : JournalFault) → may_end (ending_of_journal why) ≡ true
+pub journal-may : (why : JournalFault) → may_end (ending_of_journal why) ≡ true
 journal-may (fault.NotJournal first) = refl
 journal-may (fault.OtherPlan kept wanted) = refl
 journal-may (fault.Illegal place) = refl
@@ -110,7 +112,7 @@ err-ends a e out h = record {
 
 -- ---- a fault of the disk
 
-stop-disk : (r : Rollout) (why : Cause) → ending_of_stop r why ≡ DiskFault → why ≡ cause.Disk
+pub stop-disk : (r : Rollout) (why : Cause) → ending_of_stop r why ≡ DiskFault → why ≡ cause.Disk
 stop-disk r (cause.Spent rounds item number) h = absurd cc
 stop-disk r (cause.Port switch) h = absurd cc
 stop-disk r (cause.Above item held begun) h = absurd cc
@@ -119,7 +121,7 @@ stop-disk r (cause.NoAnswer switch byte) h = absurd cc
 stop-disk r cause.Disk h = refl
 stop-disk r cause.Memory h = absurd cc
 
-journal-disk : (why : JournalFault) → ending_of_journal why ≡ DiskFault → why ≡ fault.Disk
+pub journal-disk : (why : JournalFault) → ending_of_journal why ≡ DiskFault → why ≡ fault.Disk
 journal-disk (fault.NotJournal first) h = absurd cc
 journal-disk (fault.OtherPlan kept wanted) h = absurd cc
 journal-disk (fault.Illegal place) h = absurd cc

@@ -8,7 +8,7 @@ use Rattle.swanroll_top.specs.Uses.{uses_of}
 use Rattle.swanroll_top.specs.Reports.{FollowsReport, RunsReport}
 use Rattle.swanroll_top.specs.Runs.{EndsWith, Follows, FollowsInput, IsTold, Notes, Runs}
 use Rattle.swanroll_top.specs.declared.ending.Ending.{Ending}
-use Rattle.swanroll_top.specs.declared.ending.Ending.TheVariants.{Done, Usage, AboveLimit, Input, NotValid, NoPlan, ReadFault, WriteFault, DiskFault, GuestFault, Refused, NotFinished, OutOfMemory}
+use Rattle.swanroll_top.specs.declared.ending.Ending.TheVariants.{Done, Usage, AboveLimit, Input, NotValid, NoPlan, Unshown, ReadFault, WriteFault, DiskFault, GuestFault, Refused, NotFinished, OutOfMemory}
 use Rattle.swanroll_top.specs.declared.line.Line.{Line}
 use Rattle.swanroll_top.specs.Rollouts.{FollowsRollout, RunsRollout}
 use Rattle.swanroll_top.specs.declared.unfinished.Unfinished.{Unfinished}
@@ -30,6 +30,7 @@ follows-unwritten answer AboveLimit out now h d w = ends-unwritten answer AboveL
 follows-unwritten answer (Input f) out now h d w = ends-unwritten answer (Input f) out now h (λ is. d (ap status_of is)) (λ is. w (ap status_of is))
 follows-unwritten answer (NotValid p b) out now h d w = ends-unwritten answer (NotValid p b) out now h (λ is. d (ap status_of is)) (λ is. w (ap status_of is))
 follows-unwritten answer (NoPlan u) out now h d w = ends-unwritten answer (NoPlan u) out now h (λ is. d (ap status_of is)) (λ is. w (ap status_of is))
+follows-unwritten answer (Unshown u) out now h d w = ends-unwritten answer (Unshown u) out now h (λ is. d (ap status_of is)) (λ is. w (ap status_of is))
 follows-unwritten answer ReadFault out now h d w = ends-unwritten answer ReadFault out now h (λ is. d (ap status_of is)) (λ is. w (ap status_of is))
 follows-unwritten answer WriteFault out now h d w = ends-unwritten answer WriteFault out now h (λ is. d (ap status_of is)) (λ is. w (ap status_of is))
 follows-unwritten answer DiskFault out now h d w = ends-unwritten answer DiskFault out now h (λ is. d (ap status_of is)) (λ is. w (ap status_of is))
@@ -46,6 +47,7 @@ follows-ends answer AboveLimit out now h memory = h
 follows-ends answer (Input f) out now h memory = h
 follows-ends answer (NotValid p b) out now h memory = h
 follows-ends answer (NoPlan u) out now h memory = h
+follows-ends answer (Unshown u) out now h memory = h
 follows-ends answer ReadFault out now h memory = h
 follows-ends answer WriteFault out now h memory = h
 follows-ends answer DiskFault out now h memory = h
@@ -62,6 +64,7 @@ module _ (c : TextAsked) (source source_now : SourceTrace) (out out_now : Option
   follows-of (Input f) r read memory = r
   follows-of (NotValid p b) r read memory = r
   follows-of (NoPlan u) r read memory = r
+  follows-of (Unshown u) r read memory = r
   follows-of ReadFault r read memory = absurd (read refl)
   follows-of WriteFault r read memory = r
   follows-of DiskFault r read memory = r
@@ -77,6 +80,7 @@ module _ (c : TextAsked) (source source_now : SourceTrace) (out out_now : Option
   text-unwritten (Input f) r done cut = ends-unwritten _ _ out out_now r.answer (λ e. cc) (λ e. cc)
   text-unwritten (NotValid p b) r done cut = ends-unwritten _ _ out out_now r.answer (λ e. cc) (λ e. cc)
   text-unwritten (NoPlan u) r done cut = ends-unwritten _ _ out out_now r.answer (λ e. cc) (λ e. cc)
+  text-unwritten (Unshown u) r done cut = ends-unwritten _ _ out out_now r.answer (λ e. cc) (λ e. cc)
   text-unwritten ReadFault r done cut = r
   text-unwritten WriteFault r done cut = absurd (cut refl)
   text-unwritten DiskFault r done cut = ends-unwritten _ _ out out_now r.answer (λ e. cc) (λ e. cc)
@@ -94,6 +98,7 @@ module _ (m : ℕ) (source source_now : SourceTrace) (stored out out_now : Optio
   reports-of (Input f) r read disk memory = r
   reports-of (NotValid p b) r read disk memory = r
   reports-of (NoPlan u) r read disk memory = r
+  reports-of (Unshown u) r read disk memory = r
   reports-of ReadFault r read disk memory = absurd (read refl)
   reports-of WriteFault r read disk memory = r
   reports-of DiskFault r read disk memory = absurd (disk refl)
@@ -109,6 +114,7 @@ module _ (m : ℕ) (source source_now : SourceTrace) (stored out out_now : Optio
   report-unwritten (Input f) r done cut = r.silent done cut
   report-unwritten (NotValid p b) r done cut = r.silent done cut
   report-unwritten (NoPlan u) r done cut = r.silent done cut
+  report-unwritten (Unshown u) r done cut = r.silent done cut
   report-unwritten ReadFault r done cut = r
   report-unwritten WriteFault r done cut = r.silent done cut
   report-unwritten DiskFault r done cut = r.1
@@ -125,6 +131,7 @@ module _ (source source_now : SourceTrace) (out out_now : Option (List ℕ)) whe
   rollouts-of (Input f) r read memory = r
   rollouts-of (NotValid p b) r read memory = r
   rollouts-of (NoPlan u) r read memory = r
+  rollouts-of (Unshown u) r read memory = r
   rollouts-of ReadFault r read memory = absurd (read refl)
   rollouts-of WriteFault r read memory = r
   rollouts-of DiskFault r read memory = r
@@ -140,6 +147,7 @@ module _ (source source_now : SourceTrace) (out out_now : Option (List ℕ)) whe
   rollout-unwritten (Input f) r done cut = r.silent done cut
   rollout-unwritten (NotValid p b) r done cut = r.silent done cut
   rollout-unwritten (NoPlan u) r done cut = r.silent done cut
+  rollout-unwritten (Unshown u) r done cut = r.silent done cut
   rollout-unwritten ReadFault r done cut = r
   rollout-unwritten WriteFault r done cut = r.silent done cut
   rollout-unwritten DiskFault r done cut = r.silent done cut
@@ -156,6 +164,7 @@ place-silent AboveLimit h = cc
 place-silent (Input f) h = (λ e. omega (arith, e), λ e. omega (arith, e))
 place-silent (NotValid p b) h = (λ e. omega (arith, e), λ e. omega (arith, e))
 place-silent (NoPlan u) h = (λ e. omega (arith, e), λ e. omega (arith, e))
+place-silent (Unshown u) h = cc
 place-silent ReadFault h = cc
 place-silent WriteFault h = cc
 place-silent DiskFault h = cc

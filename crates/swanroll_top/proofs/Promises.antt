@@ -6,40 +6,51 @@ use Rattle.agent_service.specs.Services.{Guests}
 use Rattle.rollout_ports.specs.Berths.{FleetPorts, ports_of}
 use Rattle.rollout_run.specs.declared.running.Limits.{Limits}
 use Rattle.sim_run.specs.declared.shape.Shape.{Shape}
+use Rattle.swanroll_top.specs.AgentPromise.{BringsService, ServesAsOne}
 use Rattle.swanroll_top.specs.Agents.{service_answer}
 use Rattle.swanroll_top.specs.Endings.{status_of, tells_place}
-use Rattle.swanroll_top.specs.Program.{Streams}
+use Rattle.swanroll_top.specs.HeldPromise.{BringsHeld, HeldPromise}
+use Rattle.swanroll_top.specs.Program.{NotesLine, Streams}
 use Rattle.swanroll_top.specs.Promise.{Brings, EndsUnread, Keeps, Promise, Ran, StartPromise, ending_of_unread}
 use Rattle.swanroll_top.specs.ReportPromise.{BringsReport, ReportPromise}
 use Rattle.swanroll_top.specs.Reports.{RunsReport}
 use Rattle.swanroll_top.specs.Rollouts.{RollsAs, RunsRollout}
+use Rattle.swanroll_top.specs.RollbackPromise.{BringsRollback, RollbackPromise}
+use Rattle.swanroll_top.specs.Rollbacks.{RevertsAs}
 use Rattle.swanroll_top.specs.RunPromise.{BringsRollout, RunPromise}
 use Rattle.swanroll_top.specs.Runs.{IsInput, IsTold, Runs}
 use Rattle.swanroll_top.specs.TextPromise.{TextPromise}
 use Rattle.swanroll_top.specs.TrialPromise.{TrialPromise}
 use Rattle.swanroll_top.specs.Tries.{RunsTrial, tried}
 use Rattle.swanroll_top.specs.Views.{Objects, Outside, Views, outside, seen, source_at, streams, used, written_at}
-use Rattle.swanroll_top.specs.Words.{Asked, TextAsked, a_report, a_run, a_text, a_trial, an_agent, asked_by}
+use Rattle.swanroll_top.specs.Words.{Asked, TextAsked, a_report, a_rollback, a_run, a_text, a_trial, an_agent, asked_by, what_is_held}
 use Rattle.swanroll_top.specs.declared.arguments.Unread.{Unread}
 use Rattle.swanroll_top.specs.declared.arguments.Unread.TheVariants as unread
 use Rattle.swanroll_top.specs.declared.ending.Ending.{Ending}
 use Rattle.swanroll_top.specs.declared.ending.Ending.TheVariants.{Usage, DiskFault, OutOfMemory}
 use Rattle.swanroll_top.proofs.Agents.{serves-as}
+use Rattle.swanroll_top.proofs.HeldAsking.{asks-writes}
 use Rattle.swanroll_top.proofs.Leaving.{told-leaves, told-status}
-use Rattle.swanroll_top.proofs.Programs.{command-run, ended, follows-ends, follows-of, follows-unwritten, not-usage, report-unwritten, reports-of, rollout-unwritten, rollouts-of, text-unwritten, told-brings, usage-run}
-use Rattle.swanroll_top.proofs.Reaching.{rolls-safe, rolls-target}
+use Rattle.swanroll_top.proofs.Programs.{command-run, ended, follows-ends, follows-of, follows-unwritten, known-told, not-usage, report-unwritten, reports-of, rollout-unwritten, rollouts-of, text-unwritten, told-brings, usage-run}
+use Rattle.swanroll_top.proofs.NextStarting.{rolls-next}
+use Rattle.swanroll_top.proofs.NextReverting.{reverts-next}
+use Rattle.swanroll_top.proofs.Reaching.{rolls-ends, rolls-safe, rolls-target}
+use Rattle.swanroll_top.proofs.Levelling.{reverts-back, reverts-ends, reverts-safe}
+use Rattle.swanroll_top.proofs.Reverting.{reverts-behind}
 use Rattle.swanroll_top.proofs.Rolling.{rolls-behind}
-use Rattle.swanroll_top.proofs.Statuses.{is-disk-fault}
+use Rattle.swanroll_top.proofs.Statuses.{is-disk-fault, is-done}
 
 -- what is told alike is the same
 
-abbrev ports_with : {P : Type 0} → Option (ℕ → Option P) → (ℕ → Option P) → (ℕ → Bool) → FleetPorts P
-ports_with waiting kept lent = record { waiting = waiting; kept = kept; lent = lent }
+abbrev ports_with : {P : Type 0} → Option (ℕ → Option P) → (ℕ → Option P) → (ℕ → Bool) → (ℕ → Option (List ℕ)) → FleetPorts P
+ports_with waiting kept lent named = record { waiting = waiting; kept = kept; lent = lent; named = named }
 
-pub same-ports : {F P : Type 0} (waiting : F → Option (ℕ → Option P)) (kept : F → ℕ → Option P) (lent : F → ℕ → Bool) (before now : F) → waiting now ≡ waiting before → kept now ≡ kept before → lent now ≡ lent before
-    → ports_of waiting kept lent now ≡ ports_of waiting kept lent before
-same-ports waiting kept lent before now w k l =
-    ap (λ x. ports_with x (kept now) (lent now)) w ∙ (ap (λ x. ports_with (waiting before) x (lent now)) k ∙ ap (λ x. ports_with (waiting before) (kept before) x) l)
+pub same-ports : {F P : Type 0} (waiting : F → Option (ℕ → Option P)) (kept : F → ℕ → Option P) (lent : F → ℕ → Bool) (named : F → ℕ → Option (List ℕ)) (before now : F)
+    → waiting now ≡ waiting before → kept now ≡ kept before → lent now ≡ lent before → named now ≡ named before
+    → ports_of waiting kept lent named now ≡ ports_of waiting kept lent named before
+same-ports waiting kept lent named before now w k l n =
+    ap (λ x. ports_with x (kept now) (lent now) (named now)) w ∙ (ap (λ x. ports_with (waiting before) x (lent now) (named now)) k
+    ∙ (ap (λ x. ports_with (waiting before) (kept before) x (named now)) l ∙ ap (λ x. ports_with (waiting before) (kept before) (lent before) x) n))
 
 abbrev guests_with : {G : Type 0} → Option (List G) → List G → Guests G
 guests_with coming served = record { coming = coming; served = served }
@@ -131,11 +142,14 @@ module _ {S K D F P G : Type 0} (views : Views S K D F P G) where
           follows = rollouts-of source source_now out out_now told.told told_runs (λ h. read (told.is_status ∙ h)) (λ h. memory (told.is_status ∙ h));
           line = told.line;
         };
+        one = record { ending = e; brings = brings; told = told.told; told_as = told.is; is_status = told.is_status; line = told.line };
         serves = brings.guests;
         rolls = rolls;
         failed = λ eight.
             rolls-behind views.disk views.port
             source source_now limits policy before.disk after.disk fleet fleet_now e out out_now (is-disk-fault e (told-status e status _ _ _ _ told 8 (λ n. omega (arith, n)) eight)) brings.rolls;
+        next = rolls-next views.disk views.port (IsInput source source_now) before.disk after.disk fleet fleet_now limits policy e out out_now brings.rolls;
+        ends = rolls-ends views.disk views.port (IsInput source source_now) before.disk after.disk fleet fleet_now limits policy e out out_now brings.rolls;
         safe = λ of.
             rolls-safe views.disk views.port
             (IsInput source source_now) before.disk after.disk fleet fleet_now out out_now limits policy status rolls of;
@@ -144,14 +158,89 @@ module _ {S K D F P G : Type 0} (views : Views S K D F P G) where
             (IsInput source source_now) before.disk after.disk fleet fleet_now out out_now limits policy status rolls zero;
       }
 
+  -- `agent`, whose line takes no memory
+  agent-one : (guests : ℕ) (before after : Outside S K D F) (e : Ending) (status : ℕ) → BringsService views guests (used before) e (used after)
+      → IsTold e status (views.sink before.notes).written (views.sink after.notes).written (views.sink before.notes).faults (views.sink after.notes).faults → ServesAsOne views guests before status after
+  agent-one guests before after e status brings told =
+      let same : told.told ≡ e = known-told e told.told brings.known told.is in
+      record {
+        ending = e;
+        brings = brings;
+        is_status = told.is_status ∙ ap status_of same;
+        line = subst (λ (x : Ending). NotesLine x (streams views before) (streams views after)) same told.line;
+      }
+
+  -- `rollback`
+  rollback-keeps : (limits : Limits) (before after : Outside S K D F) (e : Ending) (status : ℕ) → BringsRollback views limits (used before) e (used after)
+      → IsTold e status (views.sink before.notes).written (views.sink after.notes).written (views.sink before.notes).faults (views.sink after.notes).faults → RollbackPromise views limits before status after
+  rollback-keeps limits before after e status brings told =
+      let source = views.source before.source in
+      let source_now = views.source after.source in
+      let out = (views.sink before.sink).written in
+      let out_now = (views.sink after.sink).written in
+      let fleet = seen (views.fleet before.fleet) in
+      let fleet_now = seen (views.fleet after.fleet) in
+      let told_runs = told-brings (λ x. RunsRollout source source_now x out out_now) out out_now e told.told told.is brings.runs (rollout-unwritten source source_now out out_now e brings.runs) (λ same. same) in
+      let rolls : RevertsAs views.disk views.port
+      (IsInput source source_now) limits before.disk after.disk fleet fleet_now status out out_now = record { ending = e; told = told.told; told_as = told.is; is_status = told.is_status; rolls = brings.rolls } in
+      record {
+        does = λ read memory. record {
+          ending = told.told;
+          is_status = told.is_status;
+          follows = rollouts-of source source_now out out_now told.told told_runs (λ h. read (told.is_status ∙ h)) (λ h. memory (told.is_status ∙ h));
+          line = told.line;
+        };
+        one = record { ending = e; brings = brings; told = told.told; told_as = told.is; is_status = told.is_status; line = told.line };
+        serves = brings.guests;
+        rolls = rolls;
+        failed = λ eight.
+            reverts-behind views.disk views.port
+            limits before.disk after.disk fleet fleet_now out out_now source source_now e (is-disk-fault e (told-status e status _ _ _ _ told 8 (λ n. omega (arith, n)) eight)) brings.rolls;
+        next = reverts-next views.disk views.port (IsInput source source_now) limits before.disk after.disk fleet fleet_now e out out_now brings.rolls;
+        ends = reverts-ends views.disk views.port (IsInput source source_now) limits before.disk after.disk fleet fleet_now e out out_now brings.rolls;
+        safe = λ of.
+            reverts-safe views.disk views.port
+            (IsInput source source_now) limits before.disk after.disk fleet fleet_now out out_now status rolls of;
+        back = λ zero.
+            reverts-back views.disk views.port
+            (IsInput source source_now) limits before.disk after.disk fleet fleet_now out out_now status rolls zero;
+      }
+
+  -- `held`
+  held-keeps : (rounds : ℕ) (before after : Outside S K D F) (e : Ending) (status : ℕ) → BringsHeld views rounds (used before) e (used after)
+      → IsTold e status (views.sink before.notes).written (views.sink after.notes).written (views.sink before.notes).faults (views.sink after.notes).faults → HeldPromise views rounds before status after
+  held-keeps rounds before after e status brings told =
+      let source = views.source before.source in
+      let source_now = views.source after.source in
+      let out = (views.sink before.sink).written in
+      let out_now = (views.sink after.sink).written in
+      let fleet = seen (views.fleet before.fleet) in
+      let fleet_now = seen (views.fleet after.fleet) in
+      let told_runs = told-brings (λ x. RunsRollout source source_now x out out_now) out out_now e told.told told.is brings.runs (rollout-unwritten source source_now out out_now e brings.runs) (λ same. same) in
+      record {
+        does = λ read memory. record {
+          ending = told.told;
+          is_status = told.is_status;
+          follows = rollouts-of source source_now out out_now told.told told_runs (λ h. read (told.is_status ∙ h)) (λ h. memory (told.is_status ∙ h));
+          line = told.line;
+        };
+        one = record { ending = e; brings = brings; told = told.told; told_as = told.is; is_status = told.is_status; line = told.line };
+        serves = brings.guests;
+        writes = λ zero.
+            asks-writes views.port
+            rounds fleet fleet_now out out_now (IsInput source source_now) e (is-done e (told-status e status _ _ _ _ told 0 (λ n. omega (arith, n)) zero)) brings.asks;
+      }
+
   -- each command
   command-keeps : (c : Asked) (before after : Outside S K D F) (e : Ending) (status : ℕ) → Brings views c (used before) e (used after)
       → IsTold e status (views.sink before.notes).written (views.sink after.notes).written (views.sink before.notes).faults (views.sink after.notes).faults → Keeps views (Some c) before status after
   command-keeps (a_text what) before after e status brings told = text-keeps what (streams views before) (streams views after) e status brings told
   command-keeps (a_report m) before after e status brings told = report-keeps m before after e status brings told
-  command-keeps (an_agent guests) before after e status brings told = record { serves = serves-as views.guest guests _ _ e status _ _ _ _ _ _ brings told }
+  command-keeps (an_agent guests) before after e status brings told = record { serves = serves-as views.guest guests _ _ e status _ _ _ _ _ _ brings told; one = agent-one guests before after e status brings told }
   command-keeps (a_trial shape policy) before after e status brings told = trial-keeps policy shape (streams views before) (streams views after) e status brings told
   command-keeps (a_run limits policy) before after e status brings told = run-keeps limits policy before after e status brings told
+  command-keeps (a_rollback limits) before after e status brings told = rollback-keeps limits before after e status brings told
+  command-keeps (what_is_held rounds) before after e status brings told = held-keeps rounds before after e status brings told
 
   -- nothing was written but a text, or a part of it
   command-silent : (c : Asked) (before after : Objects S K D F) (e : Ending) → Brings views c before e after → (status_of e ≡ 0 → ⊥) → (status_of e ≡ 7 → ⊥) → written_at views after ≡ written_at views before
@@ -160,6 +249,8 @@ module _ {S K D F P G : Type 0} (views : Views S K D F P G) where
   command-silent (an_agent guests) before after e brings done cut = follows-unwritten (service_answer brings.came) e (written_at views before) (written_at views after) brings.follows done cut
   command-silent (a_trial shape policy) before after e brings done cut = follows-unwritten (tried policy shape) e (written_at views before) (written_at views after) brings.follows done cut
   command-silent (a_run limits policy) before after e brings done cut = rollout-unwritten (source_at views before) (source_at views after) (written_at views before) (written_at views after) e brings.runs done cut
+  command-silent (a_rollback limits) before after e brings done cut = rollout-unwritten (source_at views before) (source_at views after) (written_at views before) (written_at views after) e brings.runs done cut
+  command-silent (what_is_held rounds) before after e brings done cut = rollout-unwritten (source_at views before) (source_at views after) (written_at views before) (written_at views after) e brings.runs done cut
 
   -- a command was done
   pub promised : (asked : Option Asked) (c : Asked) (before after : Outside S K D F) (e : Ending) (status : ℕ) → asked ≡ Some c → Ran views c (used before) e (used after)

@@ -43,29 +43,30 @@ use Rattle.rollout_run.specs.declared.end.RunEnd.TheVariants as run
 use Rattle.rollout_run.specs.declared.running.Limits.{Limits}
 use Rattle.rollout_run.proofs.Standing.{runs_at}
 use Rattle.completion_laws.proofs.Excused.{held-rests, held-still}
-use Rattle.intent_journal.specs.Openings.{found_by}
-use Rattle.rollout_service.specs.Outcomes.{HasRolled, IfRolled, answer_for}
+use Rattle.intent_journal.specs.Openings.{IsLeft, found_by}
+use Rattle.rollout_service.specs.Outcomes.{HasRolled, IfRolled, OnUnopened, answer_for}
 use Rattle.rollout_service.specs.declared.answer.RunAnswer.{RunAnswer}
 use Rattle.rollout_service.specs.declared.answer.RunAnswer.TheVariants as outcome
 use Rattle.swanroll_top.specs.Endings.{ending_of_journal, status_of}
 use Rattle.swanroll_top.specs.Lines.{IsToldAs}
 use Rattle.swanroll_top.specs.Reports.{rollout_in, rollout_to}
-use Rattle.swanroll_top.specs.Rollouts.{FleetSeen, IsUnbegun, Rolls, RollsAs, RollsOut, RollsOutOf, ending_of_stop, finished_line, line_or_ending}
+use Rattle.swanroll_top.specs.Rollouts.{FleetSeen, IsUnbegun, Rolls, RollsAs, RollsOpened, RollsOut, RollsOutOf, ending_of_stop, finished_line, line_or_ending}
 use Rattle.swanroll_top.specs.Program.{IsUnfinished}
 use Rattle.swanroll_top.specs.Runs.{EndsWith, Follows}
-use Rattle.swanroll_top.specs.Targets.{EndsAtTarget, EndsWithin, IsOfBegun, ReachesTarget, RestsHeld, StaysSafe}
+use Rattle.swanroll_top.specs.Targets.{BeginsNothing, EndsAtTarget, EndsSafely, EndsWithin, IsOfBegun, ReachesTarget, RestsHeld, StaysSafe}
 use Rattle.swanroll_top.specs.Unfinished.{unfinished_status}
 use Rattle.swanroll_top.specs.declared.ending.Ending.{Ending}
-use Rattle.swanroll_top.specs.declared.ending.Ending.TheVariants.{Done, Usage, AboveLimit, Input, NotValid, NoPlan, ReadFault, WriteFault, DiskFault, GuestFault, Refused, NotFinished, OutOfMemory}
+use Rattle.swanroll_top.specs.declared.ending.Ending.TheVariants.{Done, Usage, AboveLimit, Input, NotValid, NoPlan, Unshown, ReadFault, WriteFault, DiskFault, GuestFault, Refused, NotFinished, OutOfMemory}
 use Rattle.swanroll_top.specs.declared.unfinished.Unfinished.{Unfinished}
 use Rattle.swanroll_top.specs.declared.unfinished.Unfinished.TheVariants.{RoundsSpent, PortFault, Above, NotMine, NoAnswer, Held}
 use Rattle.swanroll_top.proofs.Answering.{is_answer, rollout-answers}
+use Rattle.swanroll_top.proofs.Elsewhere.{none-settled}
 use Rattle.swanroll_top.proofs.Programs.{follows-ends, told-same}
 use Rattle.swanroll_top.proofs.Statuses.{is-done, is-unfinished, not-status}
 
 -- ---- endings that come only behind a rollout that was begun
 
-abbrev is_of_begun : Ending → Bool
+abbrev pub is_of_begun : Ending → Bool
 is_of_begun Done = true
 is_of_begun WriteFault = true
 is_of_begun (NotFinished (RoundsSpent rounds item number)) = true
@@ -75,13 +76,14 @@ is_of_begun (NotFinished (NoAnswer r switch byte)) = true
 is_of_begun (NotFinished (Held left)) = true
 is_of_begun ending = false
 
-of-begun : (e : Ending) → IsOfBegun (status_of e) → is_of_begun e ≡ true
+pub of-begun : (e : Ending) → IsOfBegun (status_of e) → is_of_begun e ≡ true
 of-begun Done h = refl
 of-begun Usage h = absurd cc
 of-begun AboveLimit h = absurd cc
 of-begun (Input f) h = absurd cc
 of-begun (NotValid p b) h = absurd cc
 of-begun (NoPlan u) h = absurd cc
+of-begun (Unshown u) h = absurd cc
 of-begun ReadFault h = absurd cc
 of-begun WriteFault h = refl
 of-begun DiskFault h = absurd cc
@@ -96,17 +98,18 @@ of-begun (NotFinished (Held left)) h = refl
 of-begun OutOfMemory h = absurd cc
 
 -- what such an ending isn't
-not-begun : (e x : Ending) → is_of_begun e ≡ true → e ≡ x → is_of_begun x ≡ false → ⊥
+pub not-begun : (e x : Ending) → is_of_begun e ≡ true → e ≡ x → is_of_begun x ≡ false → ⊥
 not-begun e x begun is other = let both : true ≡ false = sym begun ∙ (ap is_of_begun is ∙ other) in cc
 
 -- it wants no memory
-begun-memory : (e : Ending) → is_of_begun e ≡ true → status_of e ≡ 12 → ⊥
+pub begun-memory : (e : Ending) → is_of_begun e ≡ true → status_of e ≡ 12 → ⊥
 begun-memory Done begun h = omega (arith, h)
 begun-memory Usage begun h = cc
 begun-memory AboveLimit begun h = cc
 begun-memory (Input f) begun h = cc
 begun-memory (NotValid p b) begun h = cc
 begun-memory (NoPlan u) begun h = cc
+begun-memory (Unshown u) begun h = cc
 begun-memory ReadFault begun h = cc
 begun-memory WriteFault begun h = omega (arith, h)
 begun-memory DiskFault begun h = cc
@@ -129,6 +132,7 @@ refused-begun false input e begun h = answer-begun e begun (rollout-answers inpu
     answer-begun (Input f) begun h = cc
     answer-begun (NotValid p b) begun h = cc
     answer-begun (NoPlan u) begun h = cc
+    answer-begun (Unshown u) begun h = cc
     answer-begun ReadFault begun h = cc
     answer-begun WriteFault begun h = cc
     answer-begun DiskFault begun h = cc
@@ -142,7 +146,7 @@ to-begun : (input : List ℕ) (e : Ending) → is_of_begun e ≡ true → rollou
 unfolding rollout_to
 to-begun input e begun h = refused-begun (nat_lt MOST_INPUT (length input)) input e begun h
 
-journal-begun : (why : JournalFault) → is_of_begun (ending_of_journal why) ≡ false
+pub journal-begun : (why : JournalFault) → is_of_begun (ending_of_journal why) ≡ false
 journal-begun (fault.NotJournal first) = refl
 journal-begun (fault.OtherPlan kept wanted) = refl
 journal-begun (fault.Illegal place) = refl
@@ -150,13 +154,14 @@ journal-begun fault.BadStart = refl
 journal-begun fault.Disk = refl
 journal-begun fault.Memory = refl
 
-unbegun-refused : (Given : List ℕ → Type 0) (e : Ending) → is_of_begun e ≡ true → IsUnbegun Given e → ⊥
+pub unbegun-refused : (Given : List ℕ → Type 0) (e : Ending) → is_of_begun e ≡ true → IsUnbegun Given e → ⊥
 unbegun-refused Given Done begun h = to-begun h.input Done refl h.refused
 unbegun-refused Given Usage begun h = absurd cc
 unbegun-refused Given AboveLimit begun h = absurd cc
 unbegun-refused Given (Input f) begun h = absurd cc
 unbegun-refused Given (NotValid p b) begun h = absurd cc
 unbegun-refused Given (NoPlan u) begun h = absurd cc
+unbegun-refused Given (Unshown u) begun h = absurd cc
 unbegun-refused Given ReadFault begun h = absurd cc
 unbegun-refused Given WriteFault begun h = to-begun h.input WriteFault refl h.refused
 unbegun-refused Given DiskFault begun h = absurd cc
@@ -192,6 +197,17 @@ module _ {D P : Type 0} (tell : P → PortTrace) (homes : List ℕ) (opened clos
   ran-begun r found h Ran (run.NoPort switch) is ran = absurd cc
   ran-begun r found h Ran run.Memory is ran = absurd cc
 
+  -- and one that wasn't has left the ports as they were
+  unbegun-nothing : (r : Rollout) (found : ℕ) (h : History) (ran : Type 0) (end : RunEnd) → is_ran (answer_for r found h end) ≡ false → EndsRun tell homes opened closed before now ran end → BeginsNothing tell before now
+  unbegun-nothing r found h ran run.Finished isnt ends = absurd (cc isnt)
+  unbegun-nothing r found h ran run.Held isnt ends = absurd (cc isnt)
+  unbegun-nothing r found h ran (run.Stopped halt) isnt ends = absurd (cc isnt)
+  unbegun-nothing r found h ran (run.NoPort switch) isnt ends = inr (opened.rollout.problem, ends.1.earlier, ends.1.given_back)
+  unbegun-nothing r found h ran run.Memory isnt ends = elim ends.ports [
+    | inl same ↦ inl same
+    | inr back ↦ inr (opened.rollout.problem, homes, back)
+  ]
+
 -- so it is finished, and the line has these numbers
 record IsFinishedEnd (r : Rollout) (found operations count : ℕ) (end : RunEnd) : Type 0 where
   pub end_is : end ≡ run.Finished
@@ -217,7 +233,7 @@ held-end r found h run.Memory count is = absurd cc
 
 module _ {P : Type 0} (tell : P → PortTrace) (o : Opening) (migration : ℕ) (log : List Written) (before now : FleetPorts P)
     (net : IsNetwork o.rollout.problem) (valid : is_valid_plan o.rollout.problem o.rollout.plan ≡ true) (legal : is_legal_shared o log ≡ true) (small : migration < 2 ^ 32) where
-  berths-within : (bs : List (Berth P)) → AllByRecursion (IsGiven tell before.waiting) bs → All (IsBack tell o migration (homes_of o.rollout.problem) log now.kept) (first_talks bs)
+  pub berths-within : (bs : List (Berth P)) → AllByRecursion (IsGiven tell before.waiting) bs → All (IsBack tell o migration (homes_of o.rollout.problem) log now.kept) (first_talks bs)
       → AllByRecursion (EndsWithin tell o.rollout migration o.found (history_of o log) before now) bs
   berths-within [] given back = tt
   berths-within (b ∷ bs) given all =
@@ -249,7 +265,7 @@ module _ {P : Type 0} (tell : P → PortTrace) (o : Opening) (migration : ℕ) (
 
 -- ---- a disk that was opened
 
-is-told : (told : Option (List ℕ)) → IsTold told → (image : List ℕ) × (told ≡ Some image)
+pub is-told : (told : Option (List ℕ)) → IsTold told → (image : List ℕ) × (told ≡ Some image)
 is-told None h = absurd (cc h)
 is-told (Some image) h = (image, refl)
 
@@ -283,6 +299,20 @@ module _ {D P : Type 0} (trace : D → DiskTrace) (tell : P → PortTrace)
       rolls = begun.rolls;
     }
   ]
+
+  runs-opened : (rolled : RollsOutOf trace tell Given limits policy disk disk_now before now e out out_now) → RollsOpened trace tell rolled.r limits policy disk disk_now before now e out out_now
+      → RunsFrom trace tell Given limits policy disk disk_now before now e out out_now
+  runs-opened rolled begun = record {
+    input = rolled.input;
+    given = rolled.given;
+    r = rolled.r;
+    is = rolled.is;
+    opened = begun.opened;
+    opens = begun.opens;
+    image = (is-told (trace begun.opened).bytes begun.told).0;
+    stored = (is-told (trace begun.opened).bytes begun.told).1;
+    rolls = begun.rolls;
+  }
 
 -- ---- a rollout that was run
 
@@ -324,8 +354,17 @@ module _ {D P : Type 0} (trace : D → DiskTrace) (tell : P → PortTrace)
     safe = λ held within. held-safe has.book.rollout.problem has.book.rollout.plan (history_of (opening_of has.book policy) ran.log) held net valid (list-is_legal (opening_of has.book policy) ran.log ran.legal) within;
     berths = ran.berths;
     switches = ran.switches;
+    asked = ran.asked;
     ports = berths-within tell (opening_of has.book policy) limits.migration ran.log before.ports now.ports net valid ran.legal rolled.rolls.small ran.berths ran.given ran.ports;
+    rest = λ n elsewhere. none-settled (homes_of has.book.rollout.problem) (working_homes has.book.rollout.problem has.book.rollout.plan) ran.log ran.at_home n elsewhere has.book.history;
   }
+
+  -- whether it was begun or not
+  runs-ends : (is : Bool) → is_ran a ≡ is → EndsSafely trace tell limits Given disk before.ports now.ports
+  runs-ends true is = inr (stays-safe has.run.end (has-run is))
+  runs-ends false isnt = inl
+      (unbegun-nothing tell (working_homes has.book.rollout.problem has.book.rollout.plan) has.book has.run.closed before.ports now.ports
+      has.book.rollout (length has.book.history.entries) has.run.closed.history _ has.run.end (sym (ap is_ran has.run.tells) ∙ isnt) has.run.ran)
 
   reaches : (operations count : ℕ) → a ≡ outcome.Finished operations count → Appends out (finished_line operations count) out_now → ReachesTarget trace tell limits Given disk before.ports now.ports out out_now
   unfolding stays-safe
@@ -430,6 +469,33 @@ module _ {D P : Type 0} (trace : D → DiskTrace) (tell : P → PortTrace)
         let rolled = runs-from trace tell Given disk disk_now before now limits policy (NotFinished (Held count)) out out_now (λ is. cc) way in
         answer-rests rolled rolled.rolls.answer rolled.rolls.rolled rolled.rolls.follows
 
+-- ---- whatever the ending
+
+module _ {D P : Type 0} (trace : D → DiskTrace) (tell : P → PortTrace)
+    (Given : List ℕ → Type 0) (disk disk_now : D) (before now : FleetSeen P) (limits : Limits) (policy : OpView → ℕ) (e : Ending) (out out_now : Option (List ℕ)) where
+  as-it-was : now ≡ before → EndsSafely trace tell limits Given disk before.ports now.ports
+  as-it-was same = inl (inl (ap (λ (f : FleetSeen P). f.ports) same))
+
+  answer-ends : (rolled : RunsFrom trace tell Given limits policy disk disk_now before now e out out_now) (a : RunAnswer) (Q : JournalFault → Type 0)
+      → IfRolled a (HasRolled trace tell rolled.r (digest_for rolled.r limits.migration) policy limits.rounds rolled.opened before.ports now.ports disk_now a)
+      → OnUnopened a (λ why. Q why × (now ≡ before)) → EndsSafely trace tell limits Given disk before.ports now.ports
+  answer-ends rolled (outcome.Finished operations found) Q has left =
+      runs-ends trace tell Given disk disk_now before now limits policy e out out_now rolled (outcome.Finished operations found) has true refl
+  answer-ends rolled (outcome.Held count) Q has left = runs-ends trace tell Given disk disk_now before now limits policy e out out_now rolled (outcome.Held count) has true refl
+  answer-ends rolled (outcome.Stopped other halt) Q has left = runs-ends trace tell Given disk disk_now before now limits policy e out out_now rolled (outcome.Stopped other halt) has true refl
+  answer-ends rolled (outcome.NoPort other switch) Q has left = runs-ends trace tell Given disk disk_now before now limits policy e out out_now rolled (outcome.NoPort other switch) has false refl
+  answer-ends rolled outcome.Memory Q has left = runs-ends trace tell Given disk disk_now before now limits policy e out out_now rolled outcome.Memory has false refl
+  answer-ends rolled (outcome.Unopened why) Q has left = as-it-was left.1
+
+  pub rolls-ends : Rolls trace tell Given limits policy disk disk_now before now e out out_now → EndsSafely trace tell limits Given disk before.ports now.ports
+  rolls-ends (inl none) = as-it-was none.fleet_is
+  rolls-ends (inr rolled) = elim rolled.rolls [
+    | inl fails ↦ as-it-was fails.fleet_is
+    | inr begun ↦
+        let from = runs-opened trace tell Given disk disk_now before now limits policy e out out_now rolled begun in
+        answer-ends from from.rolls.answer (λ why. IsLeft trace from.r (digest_for from.r limits.migration) from.opened why disk_now) from.rolls.rolled from.rolls.unopened
+  ]
+
 -- ---- by the status
 
 is-held : (u : Unfinished) → unfinished_status u ≡ 14 → (count : ℕ) × (u ≡ Held count)
@@ -440,7 +506,7 @@ is-held (NotMine r switch item) h = absurd (omega (arith, h))
 is-held (NoAnswer r switch byte) h = absurd (omega (arith, h))
 is-held (Held count) h = (count, refl)
 
-begun-told : (e told : Ending) → IsToldAs e told → is_of_begun told ≡ true → e ≡ told
+pub begun-told : (e told : Ending) → IsToldAs e told → is_of_begun told ≡ true → e ≡ told
 begun-told e told by begun = told-same e told by (λ m. not-begun told OutOfMemory begun m refl)
 
 module _ {D P : Type 0} (trace : D → DiskTrace) (tell : P → PortTrace)

@@ -42,6 +42,7 @@ never-used-ready = record {
         held = refl;
         in_order = unused-ready.in_order;
         no_more = unused-ready.no_more;
+        none_owed = refl;
       };
     },
     tt,

@@ -1,5 +1,5 @@
 -- A run is refused exactly where the command doesn't take its input.
-use Rattle.std.proofs.Common.{◌≡◌, ◌⊎◌, ◌==◌, ℕ, ◌≤◌, List, length, Bool, true, false, Option, Some, None, Result, Ok, Err, refl, ap, sym, ◌∙◌, subst, inl, inr}
+use Rattle.std.proofs.Common.{◌≡◌, ◌⊎◌, ◌==◌, ℕ, ◌≤◌, List, length, Bool, true, false, nat_le, Option, Some, None, Result, Ok, Err, refl, ap, sym, ◌∙◌, subst, inl, inr}
 use Rattle.std.proofs.lemmas.Bool.{eqb-true}
 use Rattle.rollout_rules.specs.Wan.{Problem, Rollout}
 use Rattle.rollout_rules.specs.declared.limits.TheConstants.{MOST_INPUT}
@@ -15,18 +15,29 @@ use Rattle.fewest_plan.specs.declared.cause.Cause.TheVariants.{Unchosen, Unfound
 use Rattle.scratch_plan.specs.declared.no_plan.NoPlan.TheVariants as cause
 use Rattle.problem_json.specs.Grammar.{problem_in}
 use Rattle.problem_json.specs.GrammarDocuments.{DocumentRead, ScriptedRead, document_in, scripted_in}
+use Rattle.problem_json.specs.GrammarLeast.{claimed_in}
+use Rattle.problem_json.specs.declared.claim.Claim.{Claim}
+use Rattle.problem_json.specs.declared.claim.Claimed.{Claimed}
 use Rattle.problem_json.specs.declared.fault.InputFault.{InputFault}
+use Rattle.problem_json.specs.Places.{place_of}
+use Rattle.problem_json.specs.declared.place.Part.TheVariants as part
+use Rattle.lp_proof.specs.RateSteps.{rate_steps}
+use Rattle.lp_proof.specs.Least.{least_of}
+use Rattle.lp_proof.specs.declared.least.Least.{Least}
+use Rattle.lp_proof.specs.declared.least.Least.TheVariants as least
 use Rattle.sim_run.specs.Script.{script_text}
-use Rattle.swanroll_top.specs.Answers.{◌>>=◌, or_ending, with_choice, planned, checked, valid_line, judged, loaded, turned_back, rehearsed, answer_in, chosen_by, explained}
+use Rattle.swanroll_top.specs.Answers.{◌>>=◌, or_ending, with_choice, where_few, with_least, with_proof, planned, proved, least_planned, checked, claimed_line, judged, loaded, turned_back, rehearsed, answer_in, chosen_by, explained}
 use Rattle.swanroll_top.specs.Endings.{ending_of, status_of}
 use Rattle.swanroll_top.specs.Runs.{EndsWith}
 use Rattle.swanroll_top.specs.Safety.{IsValid}
-use Rattle.swanroll_top.specs.Taken.{IsTaken, IsValidDocument, IsValidScript}
+use Rattle.swanroll_top.specs.Taken.{IsShownDocument, IsTaken, IsValidDocument, IsValidScript, is_as_said}
 use Rattle.swanroll_top.specs.declared.ending.Ending.{Ending}
 use Rattle.swanroll_top.specs.declared.ending.Ending.TheVariants.{OutOfMemory}
-use Rattle.swanroll_top.proofs.Documents.{checked-by, back_text}
-use Rattle.swanroll_top.specs.Words.{TextAsked, a_plan, a_check, the_loads, the_way_back, a_rehearsal, the_explanation}
+use Rattle.swanroll_top.proofs.Claims.{claim-shown, claim-unshown}
+use Rattle.swanroll_top.proofs.Documents.{as_rollout, checked-by, back_text}
+use Rattle.swanroll_top.specs.Words.{TextAsked, a_plan, a_check, the_loads, the_way_back, a_rehearsal, the_explanation, the_least}
 use Rattle.swanroll_top.specs.declared.words.Planner.{Planner}
+use Rattle.swanroll_top.specs.declared.words.Planner.TheVariants.{Slack}
 use Rattle.swanroll_top.proofs.Steps.{fault-ends}
 
 -- whether an answer refuses the input
@@ -63,6 +74,45 @@ plan-judged planner input (Err e) is within = fault-judged (IsTaken (a_plan plan
     elim_read : {p : Problem} → problem_in input ≡ Err e → problem_in input ≡ Ok p → ⊥
     elim_read a b = cc
 
+-- ---- the same with what shows that fewer steps are impossible
+
+proof-is-no-refusal : (p : Problem) (c : Choice) (answer : Least) → is_refusal (with_proof p c.plan c.rate_steps answer) ≡ false
+proof-is-no-refusal p c (least.Shown proof) = refl
+proof-is-no-refusal p c (least.Fewer plan) = refl
+proof-is-no-refusal p c (least.Point xs) = refl
+proof-is-no-refusal p c least.Wide = refl
+proof-is-no-refusal p c (least.Overflow made) = refl
+proof-is-no-refusal p c (least.Spent made) = refl
+proof-is-no-refusal p c least.Memory = refl
+
+few-is-no-refusal : (b : Bool) (found : Result (List ℕ) Ending) → is_refusal found ≡ false → is_refusal (where_few b found) ≡ false
+few-is-no-refusal true found h = h
+few-is-no-refusal false found h = refl
+
+proved-is-no-refusal : (p : Problem) (c : Choice) → is_refusal (proved p c.plan c.rate_steps) ≡ false
+unfolding proved
+proved-is-no-refusal p c = few-is-no-refusal (nat_le (rate_steps p c.plan) c.rate_steps) (with_proof p c.plan c.rate_steps (least_of p c.rate_steps)) (proof-is-no-refusal p c (least_of p c.rate_steps))
+
+least-is-no-refusal : (p : Problem) (choice : Result Choice Cause) → is_refusal (with_least p choice) ≡ false
+least-is-no-refusal p (Ok choice) = proved-is-no-refusal p choice
+least-is-no-refusal p (Err (Unchosen (cause.OverCapacity l side load capacity))) = refl
+least-is-no-refusal p (Err (Unchosen (cause.TableFull w entries size))) = refl
+least-is-no-refusal p (Err (Unchosen (cause.NoSlack l side load capacity))) = refl
+least-is-no-refusal p (Err (Unchosen cause.Memory)) = refl
+least-is-no-refusal p (Err (Unfound why)) = refl
+least-is-no-refusal p (Err (Stuck link)) = refl
+
+least_planned-is-no-refusal : (p : Problem) → is_refusal (least_planned p) ≡ false
+unfolding least_planned
+least_planned-is-no-refusal p = least-is-no-refusal p (chosen_by Slack p)
+
+least-judged : (input : List ℕ) (read : Result Problem InputFault) → problem_in input ≡ read → length input ≤ MOST_INPUT → IsJudged (IsTaken the_least input) (or_ending read >>= least_planned)
+least-judged input (Ok p) is within = inl (record { within = within; problem = p; read = is }, least_planned-is-no-refusal p)
+least-judged input (Err e) is within = fault-judged (IsTaken the_least input) e (λ t. elim_read is t.read)
+  where
+    elim_read : {p : Problem} → problem_in input ≡ Err e → problem_in input ≡ Ok p → ⊥
+    elim_read a b = cc
+
 -- ---- a document, alone or with a script
 
 checked-judging : (taken : Type 0) (d : DocumentRead) (next : Rollout → List ℕ) (broken : Option Broken) → first_broken d.problem d.plan ≡ broken
@@ -75,15 +125,33 @@ same-document input d is t =
     let same : t.document ≡ d = cc (is, t.read) in
     subst (λ x. IsValid x.problem x.plan) same t.valid
 
-check-judged : (input : List ℕ) (read : Result DocumentRead InputFault) → document_in input ≡ read → length input ≤ MOST_INPUT → IsJudged (IsTaken a_check input) (or_ending read >>= judged)
+-- what is said of a rollout is shown, or the document is refused
+said-judged : (taken : Type 0) (o : Rollout) (claim : Option Claim) (b : Bool) → is_as_said o claim ≡ b → (is_as_said o claim ≡ true → taken) → (taken → is_as_said o claim ≡ true) → IsJudged taken (claimed_line o claim)
+said-judged taken o None b is to from = inl (to refl, refl)
+said-judged taken o (Some claim) true is to from = subst (λ r. IsJudged taken r) (sym (claim-shown o claim is)) (inl (to is, refl))
+said-judged taken o (Some claim) false is to from =
+    subst (λ r. IsJudged taken r) (sym (claim-unshown o claim (place_of part.LeastTop) is refl)) (inr (inl (λ t. let both : true ≡ false = sym (from t) ∙ is in cc, refl)))
+
+claim-judging : (taken : Type 0) (d : DocumentRead) (claim : Option Claim) (broken : Option Broken) → first_broken d.problem d.plan ≡ broken
+    → (IsValid d.problem d.plan → is_as_said (as_rollout d) claim ≡ true → taken) → (taken → IsValid d.problem d.plan) → (taken → is_as_said (as_rollout d) claim ≡ true)
+    → IsJudged taken (checked d >>= λ o. claimed_line o claim)
+claim-judging taken d claim None e to valid said =
+    rw (checked-by d None e) (said-judged taken (as_rollout d) claim (is_as_said (as_rollout d) claim) refl (to (unbroken-valid d.problem d.plan e)) said)
+claim-judging taken d claim (Some b) e to valid said = rw (checked-by d (Some b) e) (inr (inl (λ t. let both : true ≡ false = sym (valid t) ∙ broken-invalid d.problem d.plan b e in cc, refl)))
+
+same-claimed : (input : List ℕ) (c : Claimed) → claimed_in input ≡ Ok c → (t : IsShownDocument input) → t.claimed ≡ c
+same-claimed input c is t = cc (is, t.read)
+
+check-judged : (input : List ℕ) (read : Result Claimed InputFault) → claimed_in input ≡ read → length input ≤ MOST_INPUT → IsJudged (IsTaken a_check input) (or_ending read >>= judged)
 unfolding judged
-check-judged input (Ok d) is within =
-    checked-judging (IsTaken a_check input) d (λ o. valid_line o.plan) (first_broken d.problem d.plan) refl
-    (λ valid. record { within = within; document = d; read = is; valid = valid })
-    (same-document input d is)
+check-judged input (Ok c) is within =
+    claim-judging (IsTaken a_check input) c.document c.claim (first_broken c.document.problem c.document.plan) refl
+    (λ valid said. record { within = within; claimed = c; read = is; valid = valid; shown = said })
+    (λ t. subst (λ (x : Claimed). IsValid x.document.problem x.document.plan) (same-claimed input c is t) t.valid)
+    (λ t. subst (λ (x : Claimed). is_as_said (as_rollout x.document) x.claim ≡ true) (same-claimed input c is t) t.shown)
 check-judged input (Err e) is within = fault-judged (IsTaken a_check input) e (λ t. elim_read is t.read)
   where
-    elim_read : {d : DocumentRead} → document_in input ≡ Err e → document_in input ≡ Ok d → ⊥
+    elim_read : {c : Claimed} → claimed_in input ≡ Err e → claimed_in input ≡ Ok c → ⊥
     elim_read a b = cc
 
 loads-judged : (input : List ℕ) (read : Result DocumentRead InputFault) → document_in input ≡ read → length input ≤ MOST_INPUT → IsJudged (IsTaken the_loads input) (or_ending read >>= loaded)
@@ -138,10 +206,11 @@ sim-judged policy input (Err e) is within = fault-judged (IsValidScript input) e
 pub answer-judged : (c : TextAsked) (input : List ℕ) → length input ≤ MOST_INPUT → IsJudged (IsTaken c input) (answer_in c input)
 unfolding answer_in
 answer-judged (a_plan planner) input within = plan-judged planner input (problem_in input) refl within
-answer-judged a_check input within = check-judged input (document_in input) refl within
+answer-judged a_check input within = check-judged input (claimed_in input) refl within
 answer-judged the_loads input within = loads-judged input (document_in input) refl within
 answer-judged the_way_back input within = back-judged input (document_in input) refl within
 answer-judged the_explanation input within = explain-judged input (document_in input) refl within
+answer-judged the_least input within = least-judged input (problem_in input) refl within
 answer-judged (a_rehearsal policy) input within = sim-judged policy input (scripted_in input) refl within
 
 -- ---- the status of a run

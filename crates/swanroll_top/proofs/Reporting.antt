@@ -22,7 +22,7 @@ use Rattle.swanroll_top.specs.Runs.{EndsWith, Gives, IsInput, IsReadToEnd}
 use Rattle.swanroll_top.specs.Safety.{IsValid}
 use Rattle.swanroll_top.specs.Taken.{IsValidDocument}
 use Rattle.swanroll_top.specs.declared.ending.Ending.{Ending}
-use Rattle.swanroll_top.specs.declared.ending.Ending.TheVariants.{Done, Usage, AboveLimit, Input, NotValid, NoPlan, ReadFault, WriteFault, DiskFault, GuestFault, Refused, NotFinished, OutOfMemory}
+use Rattle.swanroll_top.specs.declared.ending.Ending.TheVariants.{Done, Usage, AboveLimit, Input, NotValid, NoPlan, Unshown, ReadFault, WriteFault, DiskFault, GuestFault, Refused, NotFinished, OutOfMemory}
 use Rattle.swanroll_top.proofs.Answering.{is_answer, rollout-answers, rollout-gives}
 use Rattle.swanroll_top.proofs.Documents.{checked-by}
 use Rattle.swanroll_top.proofs.Inputs.{beyond-input}
@@ -83,6 +83,7 @@ late-status (Err AboveLimit) e out now late h three = late
 late-status (Err (Input f)) e out now late h three = late
 late-status (Err (NotValid p b)) e out now late h three = late
 late-status (Err (NoPlan u)) e out now late h three = late
+late-status (Err (Unshown u)) e out now late h three = late
 late-status (Err ReadFault) e out now late h three = late
 late-status (Err WriteFault) e out now late h three = late
 late-status (Err DiskFault) e out now late h three = late
@@ -149,6 +150,7 @@ module _ (m : ℕ) (source source_now : SourceTrace) (told out out_now : Option 
   short-reports (Input f) s h = follows-report (Input f) s h (λ e. cc)
   short-reports (NotValid p b) s h = follows-report (NotValid p b) s h (λ e. cc)
   short-reports (NoPlan u) s h = follows-report (NoPlan u) s h (λ e. cc)
+  short-reports (Unshown u) s h = follows-report (Unshown u) s h (λ e. cc)
   short-reports ReadFault s h = ends-silent m told out out_now input ReadFault (rollout_in input) h (λ e. omega (arith, e)) (λ e. omega (arith, e))
   short-reports WriteFault s h = follows-report WriteFault s h (λ e. cc)
   short-reports DiskFault s h = (reads-document source source_now input h.0.0 s.input (short-rollout input s.within ∙ h.0.1), h.1)
@@ -178,6 +180,7 @@ cut-reports m source source_now told out AboveLimit r = beyond-reports m source 
 cut-reports m source source_now told out (Input f) r = absurd r
 cut-reports m source source_now told out (NotValid p b) r = absurd r
 cut-reports m source source_now told out (NoPlan u) r = absurd r
+cut-reports m source source_now told out (Unshown u) r = absurd r
 cut-reports m source source_now told out ReadFault r = refl
 cut-reports m source source_now told out WriteFault r = absurd r
 cut-reports m source source_now told out DiskFault r = absurd r
@@ -225,6 +228,7 @@ reported-late m o told out now AboveLimit h three = late-status h.answer AboveLi
 reported-late m o told out now (Input f) h three = late-status h.answer (Input f) out now h.late h.ends three
 reported-late m o told out now (NotValid p b) h three = late-status h.answer (NotValid p b) out now h.late h.ends three
 reported-late m o told out now (NoPlan u) h three = late-status h.answer (NoPlan u) out now h.late h.ends three
+reported-late m o told out now (Unshown u) h three = late-status h.answer (Unshown u) out now h.late h.ends three
 reported-late m o told out now ReadFault h three = late-status h.answer ReadFault out now h.late h.ends three
 reported-late m o told out now WriteFault h three = late-status h.answer WriteFault out now h.late h.ends three
 reported-late m o told out now DiskFault h three = omega (arith, three)
@@ -267,6 +271,7 @@ module _ (m : ℕ) (told out : Option (List ℕ)) (r : Result Rollout Ending) wh
   input-refused (Input f) never g = refused-by (Input f) g
   input-refused (NotValid p b) never g = refused-by (NotValid p b) g
   input-refused (NoPlan u) never g = refused-by (NoPlan u) g
+  input-refused (Unshown u) never g = refused-by (Unshown u) g
   input-refused ReadFault never g = refused-by ReadFault g
   input-refused WriteFault never g = refused-by WriteFault g
   input-refused DiskFault never g = absurd (never g)
@@ -294,6 +299,7 @@ late-ends (Err AboveLimit) e out now late h = absurd late
 late-ends (Err (Input f)) e out now late h = absurd late
 late-ends (Err (NotValid p b)) e out now late h = absurd late
 late-ends (Err (NoPlan u)) e out now late h = absurd late
+late-ends (Err (Unshown u)) e out now late h = absurd late
 late-ends (Err ReadFault) e out now late h = absurd late
 late-ends (Err WriteFault) e out now late h = absurd late
 late-ends (Err DiskFault) e out now late h = absurd late

@@ -16,7 +16,7 @@ use Rattle.swanroll_top.specs.Rollouts.{EndsRollout, FleetSeen, FollowsRollout, 
 use Rattle.swanroll_top.specs.Runs.{EndsWith, Gives, IsInput}
 use Rattle.swanroll_top.specs.Taken.{IsValidDocument}
 use Rattle.swanroll_top.specs.declared.ending.Ending.{Ending}
-use Rattle.swanroll_top.specs.declared.ending.Ending.TheVariants.{Done, Usage, AboveLimit, Input, NotValid, NoPlan, ReadFault, WriteFault, DiskFault, GuestFault, Refused, NotFinished, OutOfMemory}
+use Rattle.swanroll_top.specs.declared.ending.Ending.TheVariants.{Done, Usage, AboveLimit, Input, NotValid, NoPlan, Unshown, ReadFault, WriteFault, DiskFault, GuestFault, Refused, NotFinished, OutOfMemory}
 use Rattle.swanroll_top.proofs.Answering.{is_answer, rollout-answers}
 use Rattle.swanroll_top.proofs.Inputs.{beyond-input}
 use Rattle.swanroll_top.proofs.Reporting.{IsJudgedAs, beyond-reports, long-rollout, reads-document, rollout-judged, short-rollout}
@@ -31,6 +31,7 @@ gives-refused rollout AboveLimit h = h
 gives-refused rollout (Input f) h = h
 gives-refused rollout (NotValid p b) h = h
 gives-refused rollout (NoPlan u) h = h
+gives-refused rollout (Unshown u) h = h
 gives-refused rollout ReadFault h = h
 gives-refused rollout WriteFault h = h
 gives-refused rollout DiskFault h = h
@@ -47,6 +48,7 @@ refused-answer input AboveLimit h = refl
 refused-answer input (Input f) h = refl
 refused-answer input (NotValid p b) h = refl
 refused-answer input (NoPlan u) h = refl
+refused-answer input (Unshown u) h = refl
 refused-answer input ReadFault h = rollout-answers input ReadFault h
 refused-answer input WriteFault h = rollout-answers input WriteFault h
 refused-answer input DiskFault h = rollout-answers input DiskFault h
@@ -76,6 +78,7 @@ begun-status AboveLimit m h = cc
 begun-status (Input f) m h = cc
 begun-status (NotValid p b) m h = cc
 begun-status (NoPlan u) m h = omega (arith, h)
+begun-status (Unshown u) m h = omega (arith, h)
 begun-status ReadFault m h = omega (arith, h)
 begun-status WriteFault m h = omega (arith, h)
 begun-status DiskFault m h = omega (arith, h)
@@ -91,6 +94,7 @@ refused-ending rollout AboveLimit some h = h
 refused-ending rollout (Input f) some h = h
 refused-ending rollout (NotValid p b) some h = h
 refused-ending rollout (NoPlan u) some h = h
+refused-ending rollout (Unshown u) some h = h
 refused-ending rollout ReadFault some h = h
 refused-ending rollout WriteFault some h = h
 refused-ending rollout DiskFault some h = h
@@ -136,6 +140,7 @@ module _ (source source_now : SourceTrace) (out out_now : Option (List ℕ)) (in
   short-rollouts (Input f) h = follows-rollout input (Input f) (λ m. cc) out out_now source source_now short h
   short-rollouts (NotValid p b) h = follows-rollout input (NotValid p b) (λ m. cc) out out_now source source_now short h
   short-rollouts (NoPlan u) h = follows-rollout input (NoPlan u) (λ m. cc) out out_now source source_now short h
+  short-rollouts (Unshown u) h = follows-rollout input (Unshown u) (λ m. cc) out out_now source source_now short h
   short-rollouts ReadFault h = absurd (never-follows input ReadFault out out_now refl refl h)
   short-rollouts WriteFault h = follows-rollout input WriteFault (λ m. cc) out out_now source source_now short h
   short-rollouts DiskFault h = follows-rollout input DiskFault (λ m. cc) out out_now source source_now short h
@@ -157,6 +162,7 @@ cut-rollouts source source_now out AboveLimit r = beyond-rollouts source source_
 cut-rollouts source source_now out (Input f) r = absurd r
 cut-rollouts source source_now out (NotValid p b) r = absurd r
 cut-rollouts source source_now out (NoPlan u) r = absurd r
+cut-rollouts source source_now out (Unshown u) r = absurd r
 cut-rollouts source source_now out ReadFault r = refl
 cut-rollouts source source_now out WriteFault r = absurd r
 cut-rollouts source source_now out DiskFault r = absurd r
@@ -177,6 +183,7 @@ cut-unbegun source source_now AboveLimit r = beyond-unbegun source source_now r
 cut-unbegun source source_now (Input f) r = absurd r
 cut-unbegun source source_now (NotValid p b) r = absurd r
 cut-unbegun source source_now (NoPlan u) r = absurd r
+cut-unbegun source source_now (Unshown u) r = absurd r
 cut-unbegun source source_now ReadFault r = tt
 cut-unbegun source source_now WriteFault r = absurd r
 cut-unbegun source source_now DiskFault r = absurd r
@@ -185,31 +192,33 @@ cut-unbegun source source_now (Refused f) r = absurd r
 cut-unbegun source source_now (NotFinished u) r = absurd r
 cut-unbegun source source_now OutOfMemory r = tt
 
+-- an input within the limit that is refused
+pub unbegun : (source source_now : SourceTrace) (input : List ℕ) (e : Ending) → IsShortInput source source_now input → IsRefused (rollout_in input) e → IsUnbegun (IsInput source source_now) e
+unbegun source source_now input e short h = by_ending e h
+  where
+    refuses : (x : Ending) → rollout_in input ≡ Err x → RefusesAs (IsInput source source_now) x
+    refuses x is = record { input = input; given = short.input; refused = short-rollout input short.within ∙ is }
+
+    by_ending : (x : Ending) → IsRefused (rollout_in input) x → IsUnbegun (IsInput source source_now) x
+    by_ending Done h = refuses Done h
+    by_ending Usage h = refuses Usage h
+    by_ending AboveLimit h = refuses AboveLimit h
+    by_ending (Input f) h = refuses (Input f) h
+    by_ending (NotValid p b) h = refuses (NotValid p b) h
+    by_ending (NoPlan u) h = refuses (NoPlan u) h
+    by_ending (Unshown u) h = refuses (Unshown u) h
+    by_ending ReadFault h = tt
+    by_ending WriteFault h = refuses WriteFault h
+    by_ending DiskFault h = refuses DiskFault h
+    by_ending GuestFault h = refuses GuestFault h
+    by_ending (Refused f) h = refuses (Refused f) h
+    by_ending (NotFinished u) h = refuses (NotFinished u) h
+    by_ending OutOfMemory h = tt
+
 -- ---- the disk and the ports
 
 module _ {D P : Type 0} (trace : D → DiskTrace) (tell : P → PortTrace)
     (limits : Limits) (policy : OpView → ℕ) (disk disk_now : D) (before fleet_now : FleetSeen P) (out out_now : Option (List ℕ)) where
-  unbegun : (source source_now : SourceTrace) (input : List ℕ) (e : Ending) → IsShortInput source source_now input → IsRefused (rollout_in input) e → IsUnbegun (IsInput source source_now) e
-  unbegun source source_now input e short h = by_ending e h
-    where
-      refuses : (x : Ending) → rollout_in input ≡ Err x → RefusesAs (IsInput source source_now) x
-      refuses x is = record { input = input; given = short.input; refused = short-rollout input short.within ∙ is }
-
-      by_ending : (x : Ending) → IsRefused (rollout_in input) x → IsUnbegun (IsInput source source_now) x
-      by_ending Done h = refuses Done h
-      by_ending Usage h = refuses Usage h
-      by_ending AboveLimit h = refuses AboveLimit h
-      by_ending (Input f) h = refuses (Input f) h
-      by_ending (NotValid p b) h = refuses (NotValid p b) h
-      by_ending (NoPlan u) h = refuses (NoPlan u) h
-      by_ending ReadFault h = tt
-      by_ending WriteFault h = refuses WriteFault h
-      by_ending DiskFault h = refuses DiskFault h
-      by_ending GuestFault h = refuses GuestFault h
-      by_ending (Refused f) h = refuses (Refused f) h
-      by_ending (NotFinished u) h = refuses (NotFinished u) h
-      by_ending OutOfMemory h = tt
-
   pub input-rolls : (source source_now : SourceTrace) (input : List ℕ) (e : Ending) → IsShortInput source source_now input
       → RollsIn trace tell (rollout_in input) limits policy disk disk_now before fleet_now e out out_now
       → Rolls trace tell (IsInput source source_now) limits policy disk disk_now before fleet_now e out out_now
@@ -225,7 +234,7 @@ module _ {D P : Type 0} (trace : D → DiskTrace) (tell : P → PortTrace)
 -- ---- a disk that failed
 
 -- no input is refused as if the disk had failed
-never-disk : (input : List ℕ) → rollout_to input ≡ Err DiskFault → ⊥
+pub never-disk : (input : List ℕ) → rollout_to input ≡ Err DiskFault → ⊥
 never-disk input is = elim (cases_lt MOST_INPUT (length input)) [
   | inl long ↦ let no : ◌≡◌ {A = Result Rollout Ending} (Err AboveLimit) (Err DiskFault) = sym (long-rollout input long) ∙ is in cc
   | inr within ↦ let no : is_answer DiskFault ≡ true = rollout-answers input DiskFault (sym (short-rollout input within) ∙ is) in cc

@@ -7,7 +7,7 @@ use Rattle.swanroll_top.specs.Unfinished.{unfinished_status}
 use Rattle.swanroll_top.specs.declared.unfinished.Unfinished.{Unfinished}
 use Rattle.swanroll_top.specs.declared.unfinished.Unfinished.TheVariants.{RoundsSpent, PortFault, Above, NotMine, NoAnswer, Held}
 use Rattle.swanroll_top.specs.declared.ending.Ending.{Ending}
-use Rattle.swanroll_top.specs.declared.ending.Ending.TheVariants.{Done, Usage, AboveLimit, Input, NotValid, NoPlan, ReadFault, WriteFault, DiskFault, GuestFault, Refused, NotFinished, OutOfMemory}
+use Rattle.swanroll_top.specs.declared.ending.Ending.TheVariants.{Done, Usage, AboveLimit, Input, NotValid, NoPlan, Unshown, ReadFault, WriteFault, DiskFault, GuestFault, Refused, NotFinished, OutOfMemory}
 
 -- ---- the statuses of rollouts that aren't finished
 
@@ -40,6 +40,7 @@ is-unfinished AboveLimit h = absurd cc
 is-unfinished (Input f) h = absurd cc
 is-unfinished (NotValid p b) h = absurd cc
 is-unfinished (NoPlan u) h = absurd cc
+is-unfinished (Unshown u) h = absurd cc
 is-unfinished ReadFault h = absurd cc
 is-unfinished WriteFault h = absurd cc
 is-unfinished DiskFault h = absurd cc
@@ -57,6 +58,7 @@ is-done AboveLimit h = absurd (omega (arith, h))
 is-done (Input f) h = absurd (omega (arith, h))
 is-done (NotValid p b) h = absurd (omega (arith, h))
 is-done (NoPlan u) h = absurd (omega (arith, h))
+is-done (Unshown u) h = absurd (omega (arith, h))
 is-done ReadFault h = absurd (omega (arith, h))
 is-done WriteFault h = absurd (omega (arith, h))
 is-done DiskFault h = absurd (omega (arith, h))
@@ -72,6 +74,7 @@ is-usage AboveLimit h = absurd (omega (arith, h))
 is-usage (Input f) h = absurd (omega (arith, h))
 is-usage (NotValid p b) h = absurd (omega (arith, h))
 is-usage (NoPlan u) h = absurd (omega (arith, h))
+is-usage (Unshown u) h = absurd (omega (arith, h))
 is-usage ReadFault h = absurd (omega (arith, h))
 is-usage WriteFault h = absurd (omega (arith, h))
 is-usage DiskFault h = absurd (omega (arith, h))
@@ -87,6 +90,7 @@ is-read-fault AboveLimit h = absurd (omega (arith, h))
 is-read-fault (Input f) h = absurd (omega (arith, h))
 is-read-fault (NotValid p b) h = absurd (omega (arith, h))
 is-read-fault (NoPlan u) h = absurd (omega (arith, h))
+is-read-fault (Unshown u) h = absurd (omega (arith, h))
 is-read-fault ReadFault h = refl
 is-read-fault WriteFault h = absurd (omega (arith, h))
 is-read-fault DiskFault h = absurd (omega (arith, h))
@@ -102,6 +106,7 @@ is-write-fault AboveLimit h = absurd (omega (arith, h))
 is-write-fault (Input f) h = absurd (omega (arith, h))
 is-write-fault (NotValid p b) h = absurd (omega (arith, h))
 is-write-fault (NoPlan u) h = absurd (omega (arith, h))
+is-write-fault (Unshown u) h = absurd (omega (arith, h))
 is-write-fault ReadFault h = absurd (omega (arith, h))
 is-write-fault WriteFault h = refl
 is-write-fault DiskFault h = absurd (omega (arith, h))
@@ -117,6 +122,7 @@ is-disk-fault AboveLimit h = absurd (omega (arith, h))
 is-disk-fault (Input f) h = absurd (omega (arith, h))
 is-disk-fault (NotValid p b) h = absurd (omega (arith, h))
 is-disk-fault (NoPlan u) h = absurd (omega (arith, h))
+is-disk-fault (Unshown u) h = absurd (omega (arith, h))
 is-disk-fault ReadFault h = absurd (omega (arith, h))
 is-disk-fault WriteFault h = absurd (omega (arith, h))
 is-disk-fault DiskFault h = refl
@@ -132,6 +138,7 @@ is-fleet-fault AboveLimit h = absurd (omega (arith, h))
 is-fleet-fault (Input f) h = absurd (omega (arith, h))
 is-fleet-fault (NotValid p b) h = absurd (omega (arith, h))
 is-fleet-fault (NoPlan u) h = absurd (omega (arith, h))
+is-fleet-fault (Unshown u) h = absurd (omega (arith, h))
 is-fleet-fault ReadFault h = absurd (omega (arith, h))
 is-fleet-fault WriteFault h = absurd (omega (arith, h))
 is-fleet-fault DiskFault h = absurd (omega (arith, h))
@@ -147,6 +154,7 @@ is-status AboveLimit = refl
 is-status (Input f) = refl
 is-status (NotValid p b) = refl
 is-status (NoPlan u) = refl
+is-status (Unshown u) = refl
 is-status ReadFault = refl
 is-status WriteFault = refl
 is-status DiskFault = refl

@@ -7,7 +7,7 @@ use Rattle.swanroll_top.specs.Answers.{◌>>=◌, or_ending}
 use Rattle.swanroll_top.specs.Endings.{ending_of}
 use Rattle.swanroll_top.specs.Runs.{Gives}
 use Rattle.swanroll_top.specs.declared.ending.Ending.{Ending}
-use Rattle.swanroll_top.specs.declared.ending.Ending.TheVariants.{Done, Usage, AboveLimit, Input, NotValid, NoPlan, ReadFault, WriteFault, DiskFault, GuestFault, Refused, NotFinished, OutOfMemory}
+use Rattle.swanroll_top.specs.declared.ending.Ending.TheVariants.{Done, Usage, AboveLimit, Input, NotValid, NoPlan, Unshown, ReadFault, WriteFault, DiskFault, GuestFault, Refused, NotFinished, OutOfMemory}
 
 -- a fault of the grammar ends the run as it says, and want of memory for want of it
 pub fault-ends : (e : InputFault) → (ending_of e ≡ Input e) ⊎ (ending_of e ≡ OutOfMemory)
@@ -27,6 +27,7 @@ fault-ends (fault.ShortPath p n) = inl refl
 fault-ends (fault.BadEvent p) = inl refl
 fault-ends (fault.BadFormat p n) = inl refl
 fault-ends (fault.WidthZero p) = inl refl
+fault-ends (fault.BadProof p) = inl refl
 fault-ends fault.Memory = inr refl
 
 -- a fault of the grammar is the answer's ending
@@ -47,6 +48,7 @@ fault-gives (fault.ShortPath p n) read next h = ap (λ r. or_ending r >>= next) 
 fault-gives (fault.BadEvent p) read next h = ap (λ r. or_ending r >>= next) h
 fault-gives (fault.BadFormat p n) read next h = ap (λ r. or_ending r >>= next) h
 fault-gives (fault.WidthZero p) read next h = ap (λ r. or_ending r >>= next) h
+fault-gives (fault.BadProof p) read next h = ap (λ r. or_ending r >>= next) h
 fault-gives fault.Memory read next h = tt
 
 -- what follows a value that was read
@@ -61,6 +63,7 @@ step-gives AboveLimit step next h = ap (λ r. r >>= next) h
 step-gives (Input f) step next h = ap (λ r. r >>= next) h
 step-gives (NotValid p b) step next h = ap (λ r. r >>= next) h
 step-gives (NoPlan u) step next h = ap (λ r. r >>= next) h
+step-gives (Unshown u) step next h = ap (λ r. r >>= next) h
 step-gives ReadFault step next h = ap (λ r. r >>= next) h
 step-gives WriteFault step next h = ap (λ r. r >>= next) h
 step-gives DiskFault step next h = ap (λ r. r >>= next) h

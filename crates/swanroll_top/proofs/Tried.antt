@@ -17,7 +17,7 @@ use Rattle.swanroll_top.specs.Endings.{ending_without}
 use Rattle.swanroll_top.specs.Runs.{Follows, Gives}
 use Rattle.swanroll_top.specs.Tries.{IsShape, case_of, events_of, tried, with_plan}
 use Rattle.swanroll_top.specs.declared.ending.Ending.{Ending}
-use Rattle.swanroll_top.specs.declared.ending.Ending.TheVariants.{Done, Usage, AboveLimit, Input, NotValid, NoPlan, ReadFault, WriteFault, DiskFault, GuestFault, Refused, NotFinished, OutOfMemory}
+use Rattle.swanroll_top.specs.declared.ending.Ending.TheVariants.{Done, Usage, AboveLimit, Input, NotValid, NoPlan, Unshown, ReadFault, WriteFault, DiskFault, GuestFault, Refused, NotFinished, OutOfMemory}
 use Rattle.swanroll_top.specs.declared.words.Planner.TheVariants.{Slack}
 use Rattle.swanroll_top.proofs.Planned.{IsChoice, there-by}
 
@@ -61,6 +61,7 @@ module _ (policy : OpView → ℕ) (s : Shape) where
   only-memory (Input f) is h = absurd (no-ending (Input f) is h)
   only-memory (NotValid p b) is h = absurd (no-ending (NotValid p b) is h)
   only-memory (NoPlan u) is h = absurd (no-ending (NoPlan u) is h)
+  only-memory (Unshown u) is h = absurd (no-ending (Unshown u) is h)
   only-memory ReadFault is h = absurd (no-ending ReadFault is h)
   only-memory WriteFault is h = absurd (no-ending WriteFault is h)
   only-memory DiskFault is h = absurd (no-ending DiskFault is h)

@@ -1,5 +1,5 @@
 -- What each command makes of its input: a text, or how the run ends without one.
-use Rattle.std.specs.Prelude.{◌≡◌, ℕ, List, [], ◌∷◌, ◌++◌, length, codes, decimal, nat_lt, if◌then◌else◌, Option, Some, None, Result, Ok, Err}
+use Rattle.std.specs.Prelude.{◌≡◌, ℕ, ◌-◌, ◌==◌, Bool, true, false, ◌&&◌, nat_le, List, [], ◌∷◌, ◌++◌, length, codes, decimal, nat_lt, if◌then◌else◌, Option, Some, None, Result, Ok, Err}
 use Rattle.rollout_rules.specs.Wan.{Problem, Plan, Rollout, last_stage}
 use Rattle.rollout_rules.specs.declared.limits.TheConstants.{MOST_INPUT}
 use Rattle.rollout_rules.specs.declared.op.OpView.{OpView}
@@ -15,16 +15,30 @@ use Rattle.fewest_plan.specs.Found.{Refuses}
 use Rattle.plan_texts.specs.Explain.{explain_text}
 use Rattle.plan_texts.specs.Loads.{loads_text}
 use Rattle.scratch_plan.specs.declared.no_plan.NoPlan.{NoPlan}
+use Rattle.step_proof.specs.declared.proof.Proof.{Proof}
+use Rattle.lp_proof.specs.RateSteps.{rate_steps}
+use Rattle.lp_proof.specs.Shown.{shows_least}
+use Rattle.lp_proof.specs.Least.{least_of}
+use Rattle.lp_proof.specs.declared.least.Least.{Least}
+use Rattle.lp_proof.specs.declared.least.Least.TheVariants as least
 use Rattle.problem_json.specs.Grammar.{problem_in}
 use Rattle.problem_json.specs.GrammarDocuments.{DocumentRead, ScriptedRead, document_in, scripted_in}
+use Rattle.problem_json.specs.GrammarLeast.{claimed_in}
+use Rattle.problem_json.specs.Places.{place_of}
 use Rattle.problem_json.specs.Writing.{document_text}
+use Rattle.problem_json.specs.WritingLeast.{claimed_text}
+use Rattle.problem_json.specs.declared.claim.Claim.{Claim}
+use Rattle.problem_json.specs.declared.claim.Claimed.{Claimed}
 use Rattle.problem_json.specs.declared.fault.InputFault.{InputFault}
+use Rattle.problem_json.specs.declared.fault.InputFault.TheVariants.{BadProof}
+use Rattle.problem_json.specs.declared.place.Part.TheVariants as part
 use Rattle.rollback_plan.specs.Turning.{back_problem, back_plan}
 use Rattle.sim_run.specs.Script.{script_text}
 use Rattle.swanroll_top.specs.Endings.{ending_of, ending_without}
 use Rattle.swanroll_top.specs.declared.ending.Ending.{Ending}
-use Rattle.swanroll_top.specs.declared.ending.Ending.TheVariants.{AboveLimit, NotValid}
-use Rattle.swanroll_top.specs.Words.{TextAsked, a_plan, a_check, the_loads, the_way_back, a_rehearsal, the_explanation}
+use Rattle.swanroll_top.specs.declared.ending.Ending.TheVariants.{AboveLimit, Input, NotValid, OutOfMemory, Unshown}
+use Rattle.swanroll_top.specs.declared.unshown.Unshown.TheVariants as why
+use Rattle.swanroll_top.specs.Words.{TextAsked, a_plan, a_check, the_loads, the_way_back, a_rehearsal, the_explanation, the_least}
 use Rattle.swanroll_top.specs.declared.words.Planner.{Planner}
 use Rattle.swanroll_top.specs.declared.words.Planner.TheVariants.{Slack, Fewest}
 
@@ -69,16 +83,28 @@ unless_broken d (Some b) = Err (NotValid d.problem b)
 unfoldable pub checked : DocumentRead → Result Rollout Ending
 checked d = unless_broken d (first_broken d.problem d.plan)
 
--- how many steps a valid plan has, and its scale
-abbrev pub valid_text : ℕ → ℕ → List ℕ
-valid_text steps scale = codes "valid: steps " ++ decimal steps ++ codes ", scale " ++ decimal scale ++ codes "\n"
+-- how many steps a valid plan has, its scale, and what stands behind them
+abbrev pub valid_text : ℕ → ℕ → List ℕ → List ℕ
+valid_text steps scale behind = codes "valid: steps " ++ decimal steps ++ codes ", scale " ++ decimal scale ++ behind ++ codes "\n"
 
-abbrev pub valid_line : Plan → List ℕ
-valid_line plan = valid_text (last_stage plan) plan.scale
+abbrev pub valid_line : Plan → List ℕ → List ℕ
+valid_line plan behind = valid_text (last_stage plan) plan.scale behind
+
+-- what is said of fewer rate steps is shown: one less than the plan's are impossible, and the proof passes the check
+unfoldable pub is_shown : Rollout → Claim → Bool
+is_shown o claim = (claim.steps == rate_steps o.problem o.plan - 1) && shows_least o.problem (rate_steps o.problem o.plan) claim.proof
+
+-- the line of a rollout, with what is said of it where that is shown
+abbrev pub where_shown : Bool → Plan → Result (List ℕ) Ending
+where_shown shown plan = if shown then Ok (valid_line plan (codes ", least")) else Err (Input (BadProof (place_of part.LeastTop)))
+
+abbrev pub claimed_line : Rollout → Option Claim → Result (List ℕ) Ending
+claimed_line o None = Ok (valid_line o.plan [])
+claimed_line o (Some claim) = where_shown (is_shown o claim) o.plan
 
 -- the line of a document whose plan is valid
-unfoldable pub judged : DocumentRead → Result (List ℕ) Ending
-judged d = checked d >>= λ o. Ok (valid_line o.plan)
+unfoldable pub judged : Claimed → Result (List ℕ) Ending
+judged c = checked c.document >>= λ o. claimed_line o c.claim
 
 -- the loads of the plan of a document, where that is valid
 unfoldable pub loaded : DocumentRead → Result (List ℕ) Ending
@@ -96,13 +122,44 @@ explained d = checked d >>= λ o. Ok (explain_text o.problem o.plan)
 unfoldable pub rehearsed : (OpView → ℕ) → ScriptedRead → Result (List ℕ) Ending
 rehearsed policy s = checked s.document >>= λ o. Ok (script_text o.problem o.plan policy s.script)
 
+-- the document of a plan with what shows that fewer than so many rate steps are impossible, and a line feed
+abbrev pub shown_text : Problem → Plan → ℕ → Proof → List ℕ
+shown_text p plan q proof = claimed_text p plan (record { steps = q - 1; proof = proof }) ++ 10 ∷ []
+
+-- the same where it is shown, and else why not
+abbrev pub with_proof : Problem → Plan → ℕ → Least → Result (List ℕ) Ending
+with_proof p plan q (least.Shown proof) = Ok (shown_text p plan q proof)
+with_proof p plan q (least.Fewer other) = Err (Unshown why.Fewer)
+with_proof p plan q (least.Point xs) = Err (Unshown why.Fewer)
+with_proof p plan q least.Wide = Err (Unshown why.Wide)
+with_proof p plan q (least.Overflow made) = Err (Unshown why.Overflow)
+with_proof p plan q (least.Spent made) = Err (Unshown why.Spent)
+with_proof p plan q least.Memory = Err OutOfMemory
+
+-- of a plan that has more rate steps than were chosen nothing is shown
+abbrev pub where_few : Bool → Result (List ℕ) Ending → Result (List ℕ) Ending
+where_few true found = found
+where_few false found = Err (Unshown why.Fewer)
+
+-- what is found of the steps that were chosen
+unfoldable pub proved : Problem → Plan → ℕ → Result (List ℕ) Ending
+proved p plan q = where_few (nat_le (rate_steps p plan) q) (with_proof p plan q (least_of p q))
+
+abbrev pub with_least : Problem → Result Choice Cause → Result (List ℕ) Ending
+with_least p (Ok choice) = proved p choice.plan choice.rate_steps
+with_least p (Err cause) = Err (ending_without p cause)
+
+unfoldable pub least_planned : Problem → Result (List ℕ) Ending
+least_planned p = with_least p (chosen_by Slack p)
+
 -- the answer to an input within the limit
 unfoldable pub answer_in : TextAsked → List ℕ → Result (List ℕ) Ending
 answer_in (a_plan planner) input = or_ending (problem_in input) >>= planned planner
-answer_in a_check input = or_ending (document_in input) >>= judged
+answer_in a_check input = or_ending (claimed_in input) >>= judged
 answer_in the_loads input = or_ending (document_in input) >>= loaded
 answer_in the_way_back input = or_ending (document_in input) >>= turned_back
 answer_in the_explanation input = or_ending (document_in input) >>= explained
+answer_in the_least input = or_ending (problem_in input) >>= least_planned
 answer_in (a_rehearsal policy) input = or_ending (scripted_in input) >>= rehearsed policy
 
 -- the answer to an input

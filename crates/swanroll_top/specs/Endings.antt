@@ -14,8 +14,9 @@ use Rattle.scratch_plan.specs.declared.no_plan.NoPlan.TheVariants as cause
 use Rattle.rollout_rules.specs.Wan.{Problem}
 use Rattle.swanroll_top.specs.NoPlanLines.{not_found_line}
 use Rattle.swanroll_top.specs.Unfinished.{unfinished_line, unfinished_status}
+use Rattle.swanroll_top.specs.Unshown.{unshown_line}
 use Rattle.swanroll_top.specs.declared.ending.Ending.{Ending}
-use Rattle.swanroll_top.specs.declared.ending.Ending.TheVariants.{Done, Usage, AboveLimit, Input, NotValid, NoPlan, ReadFault, WriteFault, DiskFault, GuestFault, Refused, NotFinished, OutOfMemory}
+use Rattle.swanroll_top.specs.declared.ending.Ending.TheVariants.{Done, Usage, AboveLimit, Input, NotValid, NoPlan, Unshown, ReadFault, WriteFault, DiskFault, GuestFault, Refused, NotFinished, OutOfMemory}
 
 abbrev pub status_of : Ending → ℕ
 status_of Done = 0
@@ -24,6 +25,7 @@ status_of AboveLimit = 3
 status_of (Input e) = 3
 status_of (NotValid p b) = 3
 status_of (NoPlan u) = 4
+status_of (Unshown u) = 15
 status_of ReadFault = 6
 status_of WriteFault = 7
 status_of DiskFault = 8
@@ -39,6 +41,7 @@ line_of AboveLimit = codes "input: above 16777216 bytes\n"
 line_of (Input e) = input_line e
 line_of (NotValid p b) = broken_line p b
 line_of (NoPlan u) = not_found_line u.problem u.cause
+line_of (Unshown u) = unshown_line u
 line_of ReadFault = codes "read fault\n"
 line_of WriteFault = codes "write fault\n"
 line_of DiskFault = codes "journal device fault\n"
@@ -55,6 +58,7 @@ tells_place AboveLimit = false
 tells_place (Input e) = true
 tells_place (NotValid p b) = true
 tells_place (NoPlan u) = true
+tells_place (Unshown u) = false
 tells_place ReadFault = false
 tells_place WriteFault = false
 tells_place DiskFault = false

@@ -1,5 +1,6 @@
 pub mod FaultLines
 pub mod NoPlanLines
+pub mod Unshown
 pub mod Endings
 pub mod Lines
 pub mod Words
@@ -16,8 +17,13 @@ pub mod Tries
 pub mod Unfinished
 pub mod JournalRoom
 pub mod Rollouts
+pub mod NextStarts
 pub mod Targets
+pub mod Joined
 pub mod Ready
+pub mod Rollbacks
+pub mod LevelTargets
+pub mod NextRollbacks
 pub mod Uses
 pub mod Program
 pub mod Views
@@ -26,5 +32,8 @@ pub mod ReportPromise
 pub mod AgentPromise
 pub mod TrialPromise
 pub mod RunPromise
+pub mod RollbackPromise
+pub mod HeldAsked
+pub mod HeldPromise
 pub mod Promise
 pub mod Worked

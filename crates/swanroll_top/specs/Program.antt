@@ -24,7 +24,7 @@ NotesLine ending before after = Notes ending before.notes.written after.notes.wr
 
 -- a status that the program may have
 abbrev pub IsStatus : ℕ → Type 0
-IsStatus status = IsTrue (list_any (λ s. s == status) (0 ∷ 2 ∷ 3 ∷ 4 ∷ 5 ∷ 6 ∷ 7 ∷ 8 ∷ 9 ∷ 10 ∷ 11 ∷ 12 ∷ 14 ∷ []))
+IsStatus status = IsTrue (list_any (λ s. s == status) (0 ∷ 2 ∷ 3 ∷ 4 ∷ 5 ∷ 6 ∷ 7 ∷ 8 ∷ 9 ∷ 10 ∷ 11 ∷ 12 ∷ 14 ∷ 15 ∷ []))
 
 -- the notes have the line of an ending with this status
 pub record IsNoted (status : ℕ) (before after : Streams) : Type 0 where
@@ -32,7 +32,7 @@ pub record IsNoted (status : ℕ) (before after : Streams) : Type 0 where
   pub is_status : status ≡ status_of ending
   pub line : NotesLine ending before after
 
--- the statuses of rollouts that were begun and aren't finished
+-- the statuses of rollouts that were begun and aren't finished, and of switches that weren't all told
 abbrev pub IsUnfinished : ℕ → Type 0
 IsUnfinished status = IsTrue (list_any (λ s. s == status) (5 ∷ 11 ∷ 14 ∷ []))
 
@@ -46,7 +46,7 @@ pub record IsRun (asked : Option Asked) (before after : Streams) (status : ℕ) 
   pub write_fault : status ≡ 7 → Rose before.sink.faults after.sink.faults
   pub disk_fault : status ≡ 8 → IsTrue (uses_of asked).journal × Rose before.disk_faults after.disk_faults
   pub fleet_fault : status ≡ 9 → (IsTrue (uses_of asked).guests × Rose before.fleet_faults after.fleet_faults) ⊎ IsTrue (uses_of asked).ports
-  -- only a rollout is begun and not finished
+  -- only a rollout is begun and not finished, or only some switches told what they hold
   pub unfinished : IsUnfinished status → IsTrue (uses_of asked).ports
   -- nothing is written but a text, or a part of it
   pub silent : status ≢ 0 → status ≢ 7 → after.sink.written ≡ before.sink.written

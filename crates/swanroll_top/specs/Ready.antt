@@ -46,6 +46,13 @@ pub record IsReadyFor {P : Type 0} (tell : P → PortTrace) (limits : Limits) (p
   pub enough : unsettled r.problem r.plan found ≤ limits.rounds
   pub free : HoldsNothing policy
 
+-- The same for a rollback, whose policy is its own.
+pub record IsServedFor {P : Type 0} (tell : P → PortTrace) (limits : Limits) (waiting : Option (ℕ → Option P)) (r : Rollout) (found : History) : Type 0 where
+  pub ports : ℕ → Option P
+  pub told : waiting ≡ Some ports
+  pub each : AllByRecursion (WaitsReady tell r limits.migration found ports) (working_homes r.problem r.plan)
+  pub enough : unsettled r.problem r.plan found ≤ limits.rounds
+
 -- No count of faults has risen: that of the disk, which was the first and is the second, that of the fleet, and that of no port, from where it waited
 -- to where it is back.
 pub record CountsNoFault {P : Type 0} (tell : P → PortTrace) (count later : ℕ) (before now : FleetSeen P) : Type 0 where

@@ -67,8 +67,8 @@ pub record FleetSeen (P : Type 0) : Type 0 where
   pub ports : FleetPorts P
   pub faults : ℕ
 
-abbrev pub fleet_of : {F P : Type 0} → (F → Option (ℕ → Option P)) → (F → ℕ → Option P) → (F → ℕ → Bool) → (F → ℕ) → F → FleetSeen P
-fleet_of waiting kept lent faults fleet = record { ports = ports_of waiting kept lent fleet; faults = faults fleet }
+abbrev pub fleet_of : {F P : Type 0} → (F → Option (ℕ → Option P)) → (F → ℕ → Option P) → (F → ℕ → Bool) → (F → ℕ → Option (List ℕ)) → (F → ℕ) → F → FleetSeen P
+fleet_of waiting kept lent named faults fleet = record { ports = ports_of waiting kept lent named fleet; faults = faults fleet }
 
 -- The rollout of an input, whose plan is valid, was run from what its disk had, over the ports of a fleet, and the run ends as the answer says.
 -- Where no journal was opened, no port was; where a port is missing, the fleet failed to give it.

@@ -3,10 +3,12 @@ use Rattle.std.specs.Prelude.{◌≡◌, ◌≢◌, ℕ}
 use Rattle.rollout_rules.specs.declared.op.OpView.{OpView}
 use Rattle.rollout_run.specs.declared.running.Limits.{Limits}
 use Rattle.swanroll_top.specs.Endings.{status_of}
+use Rattle.swanroll_top.specs.Lines.{IsToldAs}
+use Rattle.swanroll_top.specs.NextStarts.{NextStart}
 use Rattle.swanroll_top.specs.Program.{NotesLine, Streams}
 use Rattle.swanroll_top.specs.Reports.{ReadsDocument}
 use Rattle.swanroll_top.specs.Rollouts.{FollowsRollout, Rolls, RollsAs, RunsRollout}
-use Rattle.swanroll_top.specs.Targets.{IsOfBegun, ReachesTarget, StaysSafe}
+use Rattle.swanroll_top.specs.Targets.{EndsSafely, IsOfBegun, ReachesTarget, StaysSafe}
 use Rattle.swanroll_top.specs.Views.{Objects, Outside, Views, guests_of, input_of, seen, source_at, streams, used, written_at}
 use Rattle.swanroll_top.specs.declared.ending.Ending.{Ending}
 
@@ -24,9 +26,24 @@ pub record RollsAndNotes (before after : Streams) (status : ℕ) : Type 0 where
   pub follows : FollowsRollout before.source after.source ending before.sink.written after.sink.written
   pub line : NotesLine ending before after
 
+-- How a run ended, said once: what came of the disk and of the ports and what was written, the status, and the line of the notes.
+pub record RollsAsOne {S K D F P G : Type 0} (views : Views S K D F P G) (limits : Limits) (policy : OpView → ℕ) (before : Outside S K D F) (status : ℕ) (after : Outside S K D F) : Type 0 where
+  -- how it ended
+  pub ending : Ending
+  -- what it has brought about that ended so
+  pub brings : BringsRollout views limits policy (used before) ending (used after)
+  -- the ending that is told: this one, or want of memory for its line
+  pub told : Ending
+  pub told_as : IsToldAs ending told
+  -- the status and the line are those of the ending that is told
+  pub is_status : status ≡ status_of told
+  pub line : NotesLine told (streams views before) (streams views after)
+
 pub record RunPromise {S K D F P G : Type 0} (views : Views S K D F P G) (limits : Limits) (policy : OpView → ℕ) (before : Outside S K D F) (status : ℕ) (after : Outside S K D F) : Type 0 where
   -- unless the source failed or memory ran out, an input is refused that is no document with a valid plan
   pub does : status ≢ 6 → status ≢ 12 → RollsAndNotes (streams views before) (streams views after) status
+  -- disk and ports, what was written, the status and the line are those of one ending
+  pub one : RollsAsOne views limits policy before status after
   -- no guest is asked for
   pub serves : guests_of (views.fleet after.fleet) ≡ guests_of (views.fleet before.fleet)
   -- the plan is rolled out from what the journal had, or disk and ports are as they were
@@ -34,6 +51,10 @@ pub record RunPromise {S K D F P G : Type 0} (views : Views S K D F P G) (limits
       (input_of views (used before) (used after)) limits policy before.disk after.disk (seen (views.fleet before.fleet)) (seen (views.fleet after.fleet)) status (written_at views (used before)) (written_at views (used after))
   -- a disk fails only behind an input that was read to its end and isn't refused
   pub failed : status ≡ 8 → ReadsDocument (views.source before.source) (views.source after.source)
+  -- whenever a crash comes, the next start of this rollout isn't refused for what this one has left
+  pub next : NextStart views.disk limits (input_of views (used before) (used after)) before.disk after.disk
+  -- whatever the status, nothing was begun, or the network is safe
+  pub ends : EndsSafely views.disk views.port limits (input_of views (used before) (used after)) before.disk (views.fleet before.fleet).ports (views.fleet after.fleet).ports
   -- the network is safe behind every rollout that was begun
   pub safe : IsOfBegun status
       → StaysSafe views.disk views.port limits (input_of views (used before) (used after)) before.disk (views.fleet before.fleet).ports (views.fleet after.fleet).ports

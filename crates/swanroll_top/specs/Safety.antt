@@ -1,5 +1,5 @@
 -- What is known of the input of a command that made a text of it, and of the rollout that its text speaks of.
-use Rattle.std.specs.Prelude.{◌≡◌, ℕ, ◌<◌, ◌≤◌, true, List, Ok, slice_index, IsTrue}
+use Rattle.std.specs.Prelude.{◌≡◌, ℕ, ◌<◌, ◌≤◌, true, List, Ok, slice_index, IsTrue, IfSome}
 use Rattle.rollout_rules.specs.History.{History, settled}
 use Rattle.rollout_rules.specs.Items.{Resource, is_resource, item_count, item_at, content}
 use Rattle.rollout_rules.specs.Operations.{operations, content_after}
@@ -14,12 +14,15 @@ use Rattle.plan_choose.specs.Choice.{Choice, chosen}
 use Rattle.plan_texts.specs.Loads.{IsBetween}
 use Rattle.plan_texts.specs.Told.{IsNextTold}
 use Rattle.problem_json.specs.Grammar.{problem_in}
+use Rattle.lp_proof.specs.RateSteps.{rate_steps, TakesAtLeast}
 use Rattle.problem_json.specs.GrammarDocuments.{DocumentRead, ScriptedRead, document_in, scripted_in}
+use Rattle.problem_json.specs.GrammarLeast.{claimed_in}
+use Rattle.problem_json.specs.declared.claim.Claimed.{Claimed}
 use Rattle.rollback_plan.specs.Levels.{back_start}
 use Rattle.rollback_plan.specs.Turning.{back_problem, back_plan}
 use Rattle.sim_run.specs.Rehearsed.{IsSafeRehearsal}
 use Rattle.swanroll_top.specs.Answers.{chosen_by}
-use Rattle.swanroll_top.specs.Words.{TextAsked, a_plan, a_check, the_loads, the_way_back, a_rehearsal, the_explanation}
+use Rattle.swanroll_top.specs.Words.{TextAsked, a_plan, a_check, the_loads, the_way_back, a_rehearsal, the_explanation, the_least}
 use Rattle.swanroll_top.specs.declared.words.Planner.{Planner}
 
 abbrev pub IsValid : Problem → Plan → Type 0
@@ -50,11 +53,34 @@ pub record PlansSafely (planner : Planner) (input : List ℕ) : Type 0 where
   pub read : problem_in input ≡ Ok problem
   pub planned : IsPlanned planner problem
 
--- the document that the input is, whose plan is valid
+-- no valid plan has fewer rate steps than this one, at any scale, among those that leave tunnels neither wanted nor carrying at rate 0
+abbrev pub HasLeast : Problem → Plan → Type 0
+HasLeast p plan = TakesAtLeast p (rate_steps p plan)
+
+-- a valid plan, of which that is so where the document says it
+pub record IsClaimed (c : Claimed) : Type 0 where
+  pub valid : IsValid c.document.problem c.document.plan
+  pub least : IfSome c.claim (λ claim. HasLeast c.document.problem c.document.plan)
+
+-- the document that the input is, and what is known of its plan
 pub record ChecksValid (input : List ℕ) : Type 0 where
-  pub document : DocumentRead
-  pub read : document_in input ≡ Ok document
-  pub valid : IsValid document.problem document.plan
+  pub claimed : Claimed
+  pub read : claimed_in input ≡ Ok claimed
+  pub is : IsClaimed claimed
+
+-- a problem for which a plan is chosen that is valid and its rollout safe, and no valid plan has fewer rate steps
+pub record IsLeast (p : Problem) : Type 0 where
+  pub choice : Choice
+  pub is_chosen : chosen p ≡ Ok choice
+  pub least : HasLeast p choice.plan
+  pub valid : IsValid p choice.plan
+  pub safe : IsSafePlan p choice.plan
+
+-- the problem that the input is, and what is known of the plan chosen for it
+pub record PlansLeast (input : List ℕ) : Type 0 where
+  pub problem : Problem
+  pub read : problem_in input ≡ Ok problem
+  pub is : IsLeast problem
 
 -- in each step no link and no table may be asked for more than there is, nor for less than is taken at both ends
 abbrev pub HoldsItsLoads : Problem → Plan → Type 0
@@ -117,4 +143,5 @@ DoesSafely a_check input = ChecksValid input
 DoesSafely the_loads input = LoadsSafely input
 DoesSafely the_way_back input = TurnsSafely input
 DoesSafely the_explanation input = ExplainsTruly input
+DoesSafely the_least input = PlansLeast input
 DoesSafely (a_rehearsal policy) input = RehearsesSafely policy input

@@ -1,8 +1,8 @@
 -- What stands behind a rollout: the network is safe, and behind status 0 it is at the target.
-use Rattle.std.specs.Prelude.{◌≡◌, true, false, ◌==◌, ℕ, List, [], ◌∷◌, length, Option, Some, Ok, IfSome, IsTrue}
+use Rattle.std.specs.Prelude.{◌≡◌, ◌⊎◌, Bool, true, false, ◌==◌, ℕ, List, [], ◌∷◌, length, Option, Some, None, Ok, IfSome, IsTrue}
 use Rattle.std.specs.List.{AllByRecursion, list_any}
-use Rattle.rollout_rules.specs.Wan.{Rollout}
-use Rattle.rollout_rules.specs.History.{History, with_entries}
+use Rattle.rollout_rules.specs.Wan.{Problem, Rollout}
+use Rattle.rollout_rules.specs.History.{History, settled, with_entries}
 use Rattle.rollout_rules.specs.Legal.{is_finished, is_legal, may_begin}
 use Rattle.rollout_rules.specs.Release.{is_held_back, next_op, view_of}
 use Rattle.rollout_rules.specs.Safe.{IsSafe}
@@ -16,13 +16,14 @@ use Rattle.wan_edge.specs.Streams.{Appends}
 use Rattle.dependency_graph.specs.Graph.{op_total}
 use Rattle.intent_journal.specs.Verdicts.{verdict}
 use Rattle.port_session.specs.Sessions.{first_talk}
+use Rattle.worker_ports.specs.Lots.{home_at}
 use Rattle.worker_ports.specs.Views.{view}
 use Rattle.shared_history.specs.Legal.{is_still}
 use Rattle.shared_book.specs.Homes.{homes_of}
 use Rattle.worker_ports.specs.declared.ports.Berth.{Berth}
-use Rattle.rollout_ports.specs.Berths.{FleetPorts, switches_of}
+use Rattle.rollout_ports.specs.Berths.{AreNamed, FleetPorts, switches_of}
 use Rattle.rollout_ports.specs.Homes.{working_homes}
-use Rattle.rollout_ports.specs.Opening.{IsGiven}
+use Rattle.rollout_ports.specs.Opening.{GivesBack, IsGiven}
 use Rattle.switch_laws.specs.Holdings.{AreHeldAt, AreHeldAtEnd}
 use Rattle.switch_laws.specs.Runs.{StartsAsFound}
 use Rattle.holding_laws.specs.Untold.{EachMayHold}
@@ -52,9 +53,14 @@ pub record EndsAtTarget {P : Type 0} (tell : P → PortTrace) (r : Rollout) (mig
       → IfSome (tell back).offered (λ _. IfSome (tell back).heard (λ _. IfSome (tell back).held (AreHeldAtEnd r migration (homes_of r.problem) berth.switch found.start)))
   pub each : EachMayHold r migration (homes_of r.problem) found (view tell (first_talk berth.switch berth.port)) (tell back) (AreHeldAtEnd r migration (homes_of r.problem) berth.switch found.start)
 
+-- whether a home is one of these switches
+abbrev pub is_among : List ℕ → Option ℕ → Bool
+is_among switches None = false
+is_among switches (Some switch) = list_any (λ s. switch == s) switches
+
 -- The input, of which this test holds, is a rollout, and it was begun. The disk was opened, and told an image. Behind the history that was found there are entries with which it is
 -- legal, and whatever the switches hold between what it settles and what it begins, and whichever of their next updates have applied, the network is safe. Each switch with an
--- operation has a port, and holds what that history allows.
+-- operation has a port, which was asked for by the name that the problem has for it, and holds what that history allows; of an item whose home is another switch nothing was settled.
 pub record StaysSafe {D P : Type 0} (trace : D → DiskTrace) (tell : P → PortTrace) (limits : Limits) (Given : List ℕ → Type 0) (disk : D) (before now : FleetPorts P) : Type 0 where
   pub input : List ℕ
   pub given : Given input
@@ -71,7 +77,9 @@ pub record StaysSafe {D P : Type 0} (trace : D → DiskTrace) (tell : P → Port
   pub safe : (held : ℕ → ℕ) → AreHeldWithin r.problem (with_entries found added) held → IsSafe r.problem r.plan (places_held r.problem held)
   pub berths : List (Berth P)
   pub switches : switches_of berths ≡ working_homes r.problem r.plan
+  pub asked : AreNamed now.named r.problem (working_homes r.problem r.plan)
   pub ports : AllByRecursion (EndsWithin tell r limits.migration found (with_entries found added) before now) berths
+  pub rest : (n : ℕ) → is_among (working_homes r.problem r.plan) (home_at (homes_of r.problem) n) ≡ false → settled (with_entries found added) n ≡ settled found n
 
 -- So it is, every operation is settled, and the switches are at the target. And the line of it was written.
 pub record ReachesTarget {D P : Type 0} (trace : D → DiskTrace) (tell : P → PortTrace) (limits : Limits) (Given : List ℕ → Type 0) (disk : D) (before now : FleetPorts P) (out out_now : Option (List ℕ)) : Type 0 where
@@ -91,3 +99,11 @@ pub record RestsHeld {D P : Type 0} (trace : D → DiskTrace) (tell : P → Port
 -- the statuses that come only behind a rollout that was begun
 abbrev pub IsOfBegun : ℕ → Type 0
 IsOfBegun status = IsTrue (list_any (λ s. s == status) (0 ∷ 5 ∷ 7 ∷ 11 ∷ 14 ∷ []))
+
+-- nothing went out: the ports of the fleet are as they were, or some were given and given back, each as it was
+abbrev pub BeginsNothing : {P : Type 0} → (P → PortTrace) → FleetPorts P → FleetPorts P → Type 0
+BeginsNothing tell before now = (now ≡ before) ⊎ ((p : Problem) × (homes : List ℕ) × GivesBack tell p homes before now)
+
+-- at every end: nothing was begun, or the network is safe
+abbrev pub EndsSafely : {D P : Type 0} → (D → DiskTrace) → (P → PortTrace) → Limits → (List ℕ → Type 0) → D → FleetPorts P → FleetPorts P → Type 0
+EndsSafely trace tell limits Given disk before now = BeginsNothing tell before now ⊎ StaysSafe trace tell limits Given disk before now

@@ -1,5 +1,5 @@
 -- What the command `trial` writes: it reads nothing, and its text is one of its numbers and of its policy.
-use Rattle.std.specs.Prelude.{◌≡◌, ℕ, ◌≤◌, ⊤, List, Option, Result, Ok, Err}
+use Rattle.std.specs.Prelude.{◌≡◌, ℕ, ◌+◌, ◌<◌, ◌≤◌, ◌^◌, ⊤, List, Option, Result, Ok, Err}
 use Rattle.rand_pcg.specs.Lcg.{Lcg}
 use Rattle.rollout_rules.specs.Wan.{Problem}
 use Rattle.rollout_rules.specs.declared.limits.TheConstants.{MOST_FLOWS, MOST_SWITCHES}
@@ -9,12 +9,13 @@ use Rattle.fewest_plan.specs.declared.cause.Cause.{Cause}
 use Rattle.wan_edge.specs.Streams.{SourceTrace}
 use Rattle.case_gen.specs.Cases.{after_case, case}
 use Rattle.case_gen.specs.Draws.{seeded}
+use Rattle.rollout_run.specs.declared.running.Limits.{Limits}
 use Rattle.sim_run.specs.TrialText.{trial_text}
 use Rattle.sim_run.specs.declared.shape.Shape.{Shape}
 use Rattle.swanroll_top.specs.Answers.{chosen_by}
 use Rattle.swanroll_top.specs.Endings.{ending_without}
 use Rattle.swanroll_top.specs.Runs.{EndsWith, Follows}
-use Rattle.swanroll_top.specs.Words.{Asked, a_trial}
+use Rattle.swanroll_top.specs.Words.{Asked, a_rollback, a_trial}
 use Rattle.swanroll_top.specs.declared.ending.Ending.{Ending}
 use Rattle.swanroll_top.specs.declared.words.Planner.TheVariants.{Slack}
 
@@ -26,9 +27,14 @@ pub record IsShape (s : Shape) : Type 0 where
   pub most_switches : s.switches ≤ MOST_SWITCHES
   pub most_flows : s.flows ≤ MOST_FLOWS
 
--- a trial is asked for with such numbers
+-- the migration of these limits has a next one
+abbrev pub HasNext : Limits → Type 0
+HasNext limits = limits.migration + 1 < 2 ^ 32
+
+-- a trial is asked for with such numbers, and a rollback within such limits
 abbrev pub IsAskedShape : Asked → Type 0
 IsAskedShape (a_trial shape policy) = IsShape shape
+IsAskedShape (a_rollback limits) = HasNext limits
 IsAskedShape other = ⊤
 
 -- the case of these numbers, and what is left to draw behind it

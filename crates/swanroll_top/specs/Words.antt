@@ -12,7 +12,7 @@ use Rattle.order_policy.specs.Named.{policy_named}
 use Rattle.rollout_run.specs.declared.running.Limits.{Limits}
 use Rattle.sim_run.specs.declared.shape.Shape.{Shape}
 use Rattle.swanroll_top.specs.declared.words.Kind.{Kind}
-use Rattle.swanroll_top.specs.declared.words.Kind.TheVariants.{Plan, Check, Loads, Back, Sim, Report, Agent, Trial, Run, Explain}
+use Rattle.swanroll_top.specs.declared.words.Kind.TheVariants.{Plan, Check, Loads, Back, Sim, Report, Agent, Trial, Run, Rollback, Explain, Held, Least}
 use Rattle.swanroll_top.specs.declared.words.Planner.{Planner}
 use Rattle.swanroll_top.specs.declared.words.Planner.TheVariants.{Slack, Fewest}
 use Rattle.swanroll_top.specs.declared.words.Command.{Command}
@@ -27,6 +27,7 @@ pub data TextAsked : Type 0 where
   the_loads : TextAsked
   the_way_back : TextAsked
   the_explanation : TextAsked
+  the_least : TextAsked
   a_rehearsal : (policy : OpView → ℕ) → TextAsked
 
 -- what a command line asks for: a command, and what its pairs say
@@ -36,6 +37,8 @@ pub data Asked : Type 0 where
   an_agent : (guests : ℕ) → Asked
   a_trial : (shape : Shape) (policy : OpView → ℕ) → Asked
   a_run : (limits : Limits) (policy : OpView → ℕ) → Asked
+  a_rollback : (limits : Limits) → Asked
+  what_is_held : (rounds : ℕ) → Asked
 
 -- a command in code asks for this: a policy is what it answers
 module _ {X : Type 0} {F : X → Type 0} {M : Mut ((x : X) × F x) (OpView × Unit {0}) u64-field.Value} where
@@ -45,6 +48,7 @@ module _ {X : Type 0} {F : X → Type 0} {M : Mut ((x : X) × F x) (OpView × Un
   text_asked text_command.Loads = the_loads
   text_asked text_command.Back = the_way_back
   text_asked text_command.Explain = the_explanation
+  text_asked text_command.Least = the_least
   text_asked (text_command.Sim policy) = a_rehearsal (rank_by policy.now.answers)
 
   abbrev pub asked : Command X F M → Asked
@@ -53,6 +57,8 @@ module _ {X : Type 0} {F : X → Type 0} {M : Mut ((x : X) × F x) (OpView × Un
   asked (command.Agent guests) = an_agent guests
   asked (command.Trial shape policy) = a_trial shape (rank_by policy.now.answers)
   asked (command.Run limits policy) = a_run limits (rank_by policy.now.answers)
+  asked (command.Rollback limits) = a_rollback limits
+  asked (command.Held rounds) = what_is_held rounds
 
 -- ---- each command's word, and the names that it takes
 
@@ -63,11 +69,14 @@ kind_named word =
     else if bytes_eq word (codes "loads") then Some Loads
     else if bytes_eq word (codes "back") then Some Back
     else if bytes_eq word (codes "explain") then Some Explain
+    else if bytes_eq word (codes "least") then Some Least
     else if bytes_eq word (codes "sim") then Some Sim
     else if bytes_eq word (codes "report") then Some Report
     else if bytes_eq word (codes "agent") then Some Agent
     else if bytes_eq word (codes "trial") then Some Trial
     else if bytes_eq word (codes "run") then Some Run
+    else if bytes_eq word (codes "rollback") then Some Rollback
+    else if bytes_eq word (codes "held") then Some Held
     else None
 
 abbrev pub trial_numbers : List (List ℕ)
@@ -79,11 +88,14 @@ names_of Check = []
 names_of Loads = []
 names_of Back = []
 names_of Explain = []
+names_of Least = []
 names_of Sim = codes "--policy" ∷ []
 names_of Report = codes "--migration" ∷ []
 names_of Agent = codes "--guests" ∷ []
 names_of Trial = trial_numbers ++ codes "--policy" ∷ []
 names_of Run = codes "--workers" ∷ codes "--rounds" ∷ codes "--policy" ∷ codes "--migration" ∷ []
+names_of Rollback = codes "--workers" ∷ codes "--rounds" ∷ codes "--migration" ∷ []
+names_of Held = codes "--rounds" ∷ []
 
 -- ---- pairs of a name and a value
 
@@ -183,17 +195,31 @@ rounds_in pairs = numbered (codes "--rounds") (codes "1000") 1 200000 pairs
 abbrev pub limits_in : List (List ℕ) → Option Limits
 limits_in pairs = option_and_then (λ workers. option_and_then (λ rounds. option_map (λ migration. record { workers = workers; rounds = rounds; migration = migration }) (migration_in pairs)) (rounds_in pairs)) (workers_in pairs)
 
+-- limits whose migration has a next one, and those of a rollback that the pairs name
+abbrev pub before_last : Limits → Option Limits
+before_last limits = if nat_lt limits.migration 4294967295 then Some limits else None
+
+abbrev pub rollback_in : List (List ℕ) → Option Limits
+rollback_in pairs = option_and_then before_last (limits_in pairs)
+
+-- in how many rounds a switch may be asked what it holds
+abbrev pub held_in : List (List ℕ) → Option ℕ
+held_in pairs = numbered (codes "--rounds") (codes "10") 1 200000 pairs
+
 abbrev pub with_pairs : List (List ℕ × (OpView → ℕ)) → List (List ℕ) → Kind → Option Asked
 with_pairs policies pairs Plan = option_map (λ planner. a_text (a_plan planner)) (planner_in pairs)
 with_pairs policies pairs Check = Some (a_text a_check)
 with_pairs policies pairs Loads = Some (a_text the_loads)
 with_pairs policies pairs Back = Some (a_text the_way_back)
 with_pairs policies pairs Explain = Some (a_text the_explanation)
+with_pairs policies pairs Least = Some (a_text the_least)
 with_pairs policies pairs Sim = option_map (λ policy. a_text (a_rehearsal policy)) (policy_in policies pairs)
 with_pairs policies pairs Report = option_map a_report (migration_in pairs)
 with_pairs policies pairs Agent = option_map an_agent (guests_in pairs)
 with_pairs policies pairs Trial = option_and_then (λ shape. option_map (a_trial shape) (policy_in policies pairs)) (shape_in pairs)
 with_pairs policies pairs Run = option_and_then (λ limits. option_map (a_run limits) (policy_in policies pairs)) (limits_in pairs)
+with_pairs policies pairs Rollback = option_map a_rollback (rollback_in pairs)
+with_pairs policies pairs Held = option_map what_is_held (held_in pairs)
 
 abbrev pub with_kind : List (List ℕ × (OpView → ℕ)) → List (List ℕ) → Kind → Option Asked
 with_kind policies pairs kind = if are_pairs (names_of kind) pairs then with_pairs policies pairs kind else None

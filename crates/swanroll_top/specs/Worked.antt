@@ -51,4 +51,4 @@ failed_once = record never_used { faults = 1 }
 
 -- a fleet that hasn't failed: the port that was never used waits, and this one was given back
 abbrev pub fleet_with : Option PortTrace → FleetSeen PortTrace
-fleet_with back = record { ports = record { waiting = waiting_at_first never_used; kept = λ switch. (if switch == 0 then back else None); lent = λ switch. false }; faults = 0 }
+fleet_with back = record { ports = record { waiting = waiting_at_first never_used; kept = λ switch. (if switch == 0 then back else None); lent = λ switch. false; named = λ switch. None }; faults = 0 }

@@ -27,7 +27,8 @@ pub fn agent<K: Sink, F: Fleet>(alloc: Global, guests: u32, fleet: &mut F, sink:
     ensures visiting { F.visiting fleet.new ≡ F.visiting fleet.old }
     ensures ports { (F.waiting fleet.new ≡ F.waiting fleet.old)
         × (F.kept fleet.new ≡ F.kept fleet.old)
-        × (F.lent fleet.new ≡ F.lent fleet.old) }
+        × (F.lent fleet.new ≡ F.lent fleet.old)
+        × (F.named fleet.new ≡ F.named fleet.old) }
     ensures others { (result ≢ Ending.Usage)
         × (result ≢ Ending.ReadFault)
         × (result ≢ Ending.DiskFault) }

@@ -57,7 +57,7 @@ where
       sink = K.told;
       disk = D.told;
       fleet = λ fleet. record {
-        ports = ports_of F.waiting F.kept F.lent fleet;
+        ports = ports_of F.waiting F.kept F.lent F.named fleet;
         guests = record {
           coming = F.coming fleet;
           served = F.served fleet;

@@ -5,6 +5,7 @@ use crate::journal_line::journal_line;
 use crate::line::{Line, out_of_memory};
 use crate::no_plan_line::no_plan_line;
 use crate::unfinished::{Unfinished, unfinished_line};
+use crate::unshown::Unshown;
 use fewest_plan::{Cause, NotFound};
 use intent_journal::JournalFault;
 use lists::Memory;
@@ -29,6 +30,8 @@ pub enum Ending {
     NotValid(Problem, Broken),
     /// No plan is found for the problem.
     NoPlan(NotFound),
+    /// It isn't shown that fewer rate steps are impossible.
+    Unshown(Unshown),
     ReadFault,
     WriteFault,
     /// The disk of the journal failed.
@@ -56,6 +59,7 @@ impl Ending {
             Ending::Usage => 2,
             Ending::AboveLimit | Ending::Input(_) | Ending::NotValid(..) => 3,
             Ending::NoPlan(_) => 4,
+            Ending::Unshown(_) => 15,
             Ending::ReadFault => 6,
             Ending::WriteFault => 7,
             Ending::DiskFault => 8,
@@ -79,6 +83,7 @@ impl Ending {
             Ending::Input(fault) => input_line(alloc, fault),
             Ending::NotValid(problem, broken) => broken_line(alloc, problem, broken),
             Ending::NoPlan(missed) => no_plan_line(alloc, missed),
+            Ending::Unshown(why) => Ok(Line::Known(why.told())),
             Ending::ReadFault => Ok(Line::Known("read fault\n")),
             Ending::WriteFault => Ok(Line::Known("write fault\n")),
             Ending::DiskFault => Ok(Line::Known("journal device fault\n")),

@@ -3,10 +3,16 @@
 ghost use Rattle.rollout_rules.specs.Network.{IsNetwork};
 ghost use Rattle.rollout_rules.specs.Wan.{Problem, Rollout, Plan};
 ghost use Rattle.std.specs.Prelude.{◌≡◌, ◌≢◌, ℕ, ◌+◌, ◌*◌, ◌≤◌, List, length, Option, Some, None, Ok, IsTrue, IsSome, IsOk, Err};
+ghost use Rattle.std.specs.List.{AllByRecursion};
 ghost use Rattle.rollout_rules.specs.History.{History};
 ghost use Rattle.rollout_rules.specs.Items.{item_count};
 ghost use Rattle.rollout_rules.specs.Valid.{is_valid_plan};
+ghost use Rattle.rollout_rules.specs.Safe.{IsSafe};
 ghost use Rattle.rollout_rules.specs.Slack.{has_slack};
+ghost use Rattle.rollout_laws.specs.Good.{places_held};
+ghost use Rattle.wan_edge.specs.Switches.{Holdings};
+ghost use Rattle.rollout_ports.specs.Berths.{FleetPorts};
+ghost use Rattle.rollout_ports.specs.Homes.{working_homes};
 ghost use Rattle.rollout_rules.specs.declared.limits.TheConstants.{MOST_INPUT};
 ghost use Rattle.plan_check.specs.LeastSlack.{least_slack};
 ghost use Rattle.scratch_plan.specs.Frame.{has_equal_rates};
@@ -29,10 +35,12 @@ ghost use Rattle.swanroll_top.specs.ReportPromise.{ReportsBy};
 ghost use Rattle.swanroll_top.specs.Runs.{IsInput, TellsInput};
 ghost use Rattle.swanroll_top.specs.TextPromise.{TextPromise};
 ghost use Rattle.swanroll_top.specs.TrialPromise.{TrialPromise};
-ghost use Rattle.swanroll_top.specs.Ready.{CountsNoFault, GoesOnFrom, IsReadyFor};
+ghost use Rattle.swanroll_top.specs.Ready.{CountsNoFault, GoesOnFrom, IsReadyFor, IsServedFor};
+ghost use Rattle.swanroll_top.specs.Rollbacks.{RevertsAs};
 ghost use Rattle.swanroll_top.specs.Rollouts.{FleetSeen, RollsAs};
-ghost use Rattle.swanroll_top.specs.Taken.{IsValidDocument, IsValidScript};
-ghost use Rattle.swanroll_top.specs.Targets.{RestsHeld};
+ghost use Rattle.swanroll_top.specs.Taken.{IsShownDocument, IsValidDocument, IsValidScript};
+ghost use Rattle.swanroll_top.specs.Joined.{MayHoldNow, TellsHeld, chosen};
+ghost use Rattle.swanroll_top.specs.Targets.{RestsHeld, StaysSafe};
 ghost use Rattle.swanroll_top.specs.Words.{TextAsked, a_plan, a_check, the_loads, the_way_back, a_rehearsal, the_explanation};
 ghost use Rattle.swanroll_top.specs.declared.ending.Ending.TheVariants.{NoPlan};
 ghost use Rattle.swanroll_top.specs.declared.words.Planner.{Planner};
@@ -98,10 +106,11 @@ pub fn where_none_exists_there_is_no_valid_plan()
         → ⊥ }
 {}
 
-/// Every document with a valid plan has an answer of `check`, `loads`, `explain` and `back`, and every
-/// script on one of `sim`, whatever the policy.
+/// Every document with a valid plan has an answer of `loads`, `explain` and `back`, and of `check` where what it
+/// says of fewer rate steps, if it does, is shown; and every script on one has an answer of `sim`, whatever
+/// the policy.
 pub fn what_is_valid_is_answered()
-    ensures check { (input : List ℕ) → IsValidDocument input → IsOk (answer_to a_check input) }
+    ensures check { (input : List ℕ) → IsShownDocument input → IsOk (answer_to a_check input) }
     ensures loads { (input : List ℕ) → IsValidDocument input → IsOk (answer_to the_loads input) }
     ensures back { (input : List ℕ) → IsValidDocument input → IsOk (answer_to the_way_back input) }
     ensures explain { (input : List ℕ)
@@ -203,6 +212,40 @@ pub fn a_run_over_ready_ports_ends_well<D: Disk, F: Fleet>()
         → status ≡ 0 }
 {}
 
+/// A rollback ends with status 0 unless the source, the sink, the disk, the fleet or a port failed or memory
+/// ran out, where it finds what a run must find to be sure that it finishes, but for a policy, which is its
+/// own; and where the disk tells its bytes at the end, too. Neither disk, fleet nor port failed where no count
+/// of theirs has risen.
+pub fn a_rollback_over_ready_ports_ends_well<D: Disk, F: Fleet>()
+    ensures by_status { (limits : Limits) (source source_now : SourceTrace) (disk disk_now : D)
+        (before now : FleetSeen F.Port) (status : ℕ) (out out_now : Option (List ℕ)) (r : Rollout)
+        (found : History)
+        → RevertsAs D.told F.Port.told (IsInput source source_now) limits disk disk_now before now
+        status out out_now
+        → GoesOnFrom limits.migration source source_now (D.told disk).bytes r found
+        → IsServedFor F.Port.told limits before.ports.waiting r found
+        → IsSome (D.told disk_now).bytes
+        → status ≢ 6
+        → status ≢ 7
+        → status ≢ 8
+        → status ≢ 9
+        → status ≢ 12
+        → status ≡ 0 }
+    ensures by_counts { (limits : Limits) (source source_now : SourceTrace) (disk disk_now : D)
+        (before now : FleetSeen F.Port) (status : ℕ) (out out_now : Option (List ℕ)) (r : Rollout)
+        (found : History)
+        → RevertsAs D.told F.Port.told (IsInput source source_now) limits disk disk_now before now
+        status out out_now
+        → GoesOnFrom limits.migration source source_now (D.told disk).bytes r found
+        → IsServedFor F.Port.told limits before.ports.waiting r found
+        → IsSome (D.told disk_now).bytes
+        → CountsNoFault F.Port.told (D.told disk).faults (D.told disk_now).faults before now
+        → status ≢ 6
+        → status ≢ 7
+        → status ≢ 12
+        → status ≡ 0 }
+{}
+
 /// The room that the journal of a rollout is given is enough for the slots and three parts, each with every
 /// operation begun and done in a batch of its own: so no journal of it is refused for its length.
 pub fn a_journal_has_room()
@@ -222,4 +265,30 @@ pub fn a_rollout_is_held_by_its_policy_alone<D: Disk, F: Fleet>()
         → status ≡ 14
         → RestsHeld D.told F.Port.told limits policy (IsInput source source_now) disk before.ports
         now.ports }
+{}
+
+/// What all switches hold together behind a rollout that was begun, or a rollback, is one of the choices for
+/// which the network is safe, with each item whose home has no port where the history found left it: as the
+/// ports tell it, and whatever honest switches may hold by what went over their ports.
+pub fn what_all_switches_hold_is_safe<D: Disk, F: Fleet>()
+    ensures told { (limits : Limits) (source source_now : SourceTrace) (disk : D)
+        (before now : FleetPorts F.Port)
+        (stays : StaysSafe D.told F.Port.told limits (IsInput source source_now) disk before now)
+        (holdings : ℕ → Holdings)
+        → AllByRecursion (TellsHeld F.Port.told stays.r limits.migration stays.found now holdings)
+        stays.berths
+        → IsSafe stays.r.problem stays.r.plan
+        (places_held stays.r.problem
+        (chosen stays.r limits.migration stays.found
+        (working_homes stays.r.problem stays.r.plan) holdings)) }
+    ensures untold { (limits : Limits) (source source_now : SourceTrace) (disk : D)
+        (before now : FleetPorts F.Port)
+        (stays : StaysSafe D.told F.Port.told limits (IsInput source source_now) disk before now)
+        (holdings : ℕ → Holdings)
+        → AllByRecursion (MayHoldNow F.Port.told stays.r limits.migration stays.found now holdings)
+        stays.berths
+        → IsSafe stays.r.problem stays.r.plan
+        (places_held stays.r.problem
+        (chosen stays.r limits.migration stays.found
+        (working_homes stays.r.problem stays.r.plan) holdings)) }
 {}

@@ -46,8 +46,8 @@ where
         (K.told sink.old).written (K.told sink.new).written }
     ensures rolls { Rolls D.told F.Port.told (IsInput (S.told source.old) (S.told source.new))
         limits (rank_by policy.now.answers) disk result.disk
-        (fleet_of F.waiting F.kept F.lent F.faults fleet.old)
-        (fleet_of F.waiting F.kept F.lent F.faults fleet.new) result.ending
+        (fleet_of F.waiting F.kept F.lent F.named F.faults fleet.old)
+        (fleet_of F.waiting F.kept F.lent F.named F.faults fleet.new) result.ending
         (K.told sink.old).written (K.told sink.new).written }
     ensures guests { (F.coming fleet.new ≡ F.coming fleet.old)
         × (F.served fleet.new ≡ F.served fleet.old)
@@ -82,8 +82,8 @@ where
         (K.told sink.new).written }
     ensures rolls { RollsIn D.told F.Port.told (rollout_in input) limits
         (rank_by policy.now.answers) disk result.disk
-        (fleet_of F.waiting F.kept F.lent F.faults fleet.old)
-        (fleet_of F.waiting F.kept F.lent F.faults fleet.new) result.ending
+        (fleet_of F.waiting F.kept F.lent F.named F.faults fleet.old)
+        (fleet_of F.waiting F.kept F.lent F.named F.faults fleet.new) result.ending
         (K.told sink.old).written (K.told sink.new).written }
     ensures guests { (F.coming fleet.new ≡ F.coming fleet.old)
         × (F.served fleet.new ≡ F.served fleet.old)
@@ -113,8 +113,8 @@ fn roll_out_plan<R: Wait + Threads + Sync, K: Sink, D: Openable + Drop + Send, F
 where
     F::Port: Drop + Send,
     ensures rolls { OpensAndRolls D.told F.Port.told plan limits (rank_by policy.now.answers) disk
-        result.disk (fleet_of F.waiting F.kept F.lent F.faults fleet.old)
-        (fleet_of F.waiting F.kept F.lent F.faults fleet.new) result.ending
+        result.disk (fleet_of F.waiting F.kept F.lent F.named F.faults fleet.old)
+        (fleet_of F.waiting F.kept F.lent F.named F.faults fleet.new) result.ending
         (K.told sink.old).written (K.told sink.new).written }
     ensures ends { EndsRollout result.ending (K.told sink.old).written (K.told sink.new).written }
     ensures guests { (F.coming fleet.new ≡ F.coming fleet.old)
@@ -150,8 +150,8 @@ fn roll_out_opened<R: Wait + Threads + Sync, K: Sink, D: Disk + Drop + Send, F: 
 where
     F::Port: Drop + Send,
     ensures rolls { RollsOut D.told F.Port.told plan limits (rank_by policy.now.answers) disk
-        result.disk (fleet_of F.waiting F.kept F.lent F.faults fleet.old)
-        (fleet_of F.waiting F.kept F.lent F.faults fleet.new) result.ending
+        result.disk (fleet_of F.waiting F.kept F.lent F.named F.faults fleet.old)
+        (fleet_of F.waiting F.kept F.lent F.named F.faults fleet.new) result.ending
         (K.told sink.old).written (K.told sink.new).written }
     ensures ends { EndsRollout result.ending (K.told sink.old).written (K.told sink.new).written }
     ensures guests { (F.coming fleet.new ≡ F.coming fleet.old)
@@ -207,8 +207,8 @@ fn finished_line(alloc: Global, operations: u32, found: u32) -> Result<Text, Mem
     Ok(Text::from(line))
 }
 
-// How a run ends whose rollout was stopped for this cause.
-fn ending_of_stop(plan: CheckedPlan, cause: Cause) -> Ending
+/// How a run ends whose rollout was stopped for this cause.
+pub fn ending_of_stop(plan: CheckedPlan, cause: Cause) -> Ending
     ensures { result ≡ ending_of_stop plan cause }
 {
     match cause {

@@ -12,8 +12,10 @@ ghost use Rattle.swanroll_top.specs.Words.{asked, text_asked};
 
 use crate::agent::agent;
 use crate::ending::Ending;
+use crate::held::held;
 use crate::journal_report::report;
 use crate::reading::read_input;
+use crate::rollback::roll_back;
 use crate::rollout::roll_out;
 use crate::texts::text_of;
 use crate::trial::trial;
@@ -50,7 +52,7 @@ where
       sink = K.told;
       disk = D.told;
       fleet = λ fleet. record {
-        ports = ports_of F.waiting F.kept F.lent fleet;
+        ports = ports_of F.waiting F.kept F.lent F.named fleet;
         guests = record {
           coming = F.coming fleet;
           served = F.served fleet;
@@ -77,6 +79,11 @@ where
         Command::Run(limits, policy) => {
             roll_out(rt, alloc, limits, policy, source, sink, disk, fleet)
         }
+        Command::Rollback(limits) => roll_back(rt, alloc, limits, source, sink, disk, fleet),
+        Command::Held(rounds) => Closed {
+            ending: held(alloc, rounds, source, sink, fleet),
+            disk,
+        },
         Command::Trial(shape, policy) => Closed {
             ending: trial(alloc, &shape, policy, sink),
             disk,

@@ -4,6 +4,7 @@ mod back;
 mod check;
 mod checking;
 mod explain;
+mod least;
 mod loads;
 mod plan;
 mod sim;
@@ -18,7 +19,7 @@ use crate::ending::Ending;
 use crate::words::TextCommand;
 pub use checking::rollout_of;
 use lists::Text;
-pub use plan::by_slack;
+pub use plan::{by_slack, document_of};
 use std::alloc::Global;
 use wan_edge::Nums8;
 
@@ -34,6 +35,7 @@ pub fn text_of(alloc: Global, command: TextCommand<'_>, input: Nums8) -> Result<
         TextCommand::Loads => loads::loads(alloc, input),
         TextCommand::Back => back::back(alloc, input),
         TextCommand::Explain => explain::explain(alloc, input),
+        TextCommand::Least => least::least(alloc, input),
         TextCommand::Sim(policy) => sim::sim(alloc, policy, input),
     }
 }

@@ -8,16 +8,17 @@ use std::alloc::Global;
 use wan_model::{CheckedPlan, Problem};
 use wan_text::push_switch;
 
-/// Why a rollout wasn't finished.
+/// Why a rollout wasn't finished, or why not all switches told what they hold.
 #[derive(Debug, Drop)]
 pub enum Unfinished {
-    /// Commands were offered in as many rounds as were given, and this operation was still in flight.
+    /// Commands were offered in as many rounds as were given, and this operation was still in flight. A
+    /// question has number 0.
     RoundsSpent { rounds: u32, item: u32, number: u32 },
     /// There was no port to this switch of the plan's problem, or its port failed.
     PortFault(CheckedPlan, u32),
     /// A switch told that it holds more of an item than was begun of it.
     Above { item: u32, held: u32, begun: u32 },
-    /// This switch told of an item that isn't its own.
+    /// This switch told of an item that isn't its own, or that it wasn't asked about.
     NotMine(CheckedPlan, u32, u32),
     /// This switch told a byte that begins no answer.
     NoAnswer(CheckedPlan, u32, u8),

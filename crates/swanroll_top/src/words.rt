@@ -2,8 +2,8 @@ ghost use Rattle.std.specs.Prelude.{◌≡◌, ◌≤◌, map, string_bytes, byt
 ghost use Rattle.std.specs.List.{list_any};
 ghost use Rattle.order_policy.specs.Answers.{rank_by};
 ghost use Rattle.order_policy.specs.Named.{answers_in, policy_named};
-ghost use Rattle.swanroll_top.specs.Words.{asked, asked_by, kind_named, names_of, begins_with_dash, are_pairs, value_or, planner_in, planner_named, policy_in, migration_in, guests_in, in_millions, number_in, number_of, in_range, numbered, limits_in, shape_in, are_digits, trial_numbers, with_kind};
-ghost use Rattle.swanroll_top.specs.Tries.{IsAskedShape, IsShape};
+ghost use Rattle.swanroll_top.specs.Words.{asked, asked_by, kind_named, names_of, begins_with_dash, are_pairs, value_or, planner_in, planner_named, policy_in, migration_in, guests_in, in_millions, number_in, number_of, in_range, numbered, limits_in, shape_in, are_digits, trial_numbers, with_kind, before_last, rollback_in, held_in};
+ghost use Rattle.swanroll_top.specs.Tries.{HasNext, IsAskedShape, IsShape};
 
 use order_policy::{Policies, Policy};
 use rollout_rules::{MOST_FLOWS, MOST_SWITCHES};
@@ -16,8 +16,11 @@ const MOST_GUESTS: u32 = 1_000_000;
 /// How many workers a rollout may be asked for.
 const MOST_WORKERS: u64 = 16;
 
-/// In how many rounds a worker may be asked to offer commands.
+/// In how many rounds a worker may be asked to offer commands, or a switch be asked what it holds.
 const MOST_ROUNDS: u64 = 200_000;
+
+/// The last number of a migration, which has no next one.
+const LAST_MIGRATION: u32 = 4_294_967_295;
 
 /// The largest seed of a trial.
 const LARGEST_SEED: u64 = 1_000_000_000_000_000_000;
@@ -41,6 +44,10 @@ pub enum Command<'a> {
     Trial(Shape, &'a Policy),
     /// A rollout within these limits under a policy.
     Run(Limits, &'a Policy),
+    /// A rollback within these limits; its migration has a next one.
+    Rollback(Limits),
+    /// The question what switches hold, in at most so many rounds.
+    Held(u32),
 }
 
 /// A command that makes a text of its input alone.
@@ -52,6 +59,8 @@ pub enum TextCommand<'a> {
     Loads,
     Back,
     Explain,
+    /// A plan with what shows that fewer rate steps are impossible.
+    Least,
     /// A rehearsal under a policy.
     Sim(&'a Policy),
 }
@@ -73,11 +82,14 @@ pub enum Kind {
     Loads,
     Back,
     Explain,
+    Least,
     Sim,
     Report,
     Agent,
     Trial,
     Run,
+    Rollback,
+    Held,
 }
 
 /// What the words ask for, if they are a command line: the word of a command, and behind it pairs of a
@@ -103,11 +115,14 @@ fn kind_named(word: &str) -> Option<Kind>
         "loads" => Some(Kind::Loads),
         "back" => Some(Kind::Back),
         "explain" => Some(Kind::Explain),
+        "least" => Some(Kind::Least),
         "sim" => Some(Kind::Sim),
         "report" => Some(Kind::Report),
         "agent" => Some(Kind::Agent),
         "trial" => Some(Kind::Trial),
         "run" => Some(Kind::Run),
+        "rollback" => Some(Kind::Rollback),
+        "held" => Some(Kind::Held),
         _ => None,
     }
 }
@@ -130,11 +145,14 @@ fn command_with<'a>(
         Kind::Loads => Some(Command::Text(TextCommand::Loads)),
         Kind::Back => Some(Command::Text(TextCommand::Back)),
         Kind::Explain => Some(Command::Text(TextCommand::Explain)),
+        Kind::Least => Some(Command::Text(TextCommand::Least)),
         Kind::Sim => Some(Command::Text(TextCommand::Sim(policy_of(pairs, policies)?))),
         Kind::Report => Some(Command::Report(migration_of(pairs)?)),
         Kind::Agent => Some(Command::Agent(guests_of(pairs)?)),
         Kind::Trial => Some(Command::Trial(shape_of(pairs)?, policy_of(pairs, policies)?)),
         Kind::Run => Some(Command::Run(limits_of(pairs)?, policy_of(pairs, policies)?)),
+        Kind::Rollback => Some(Command::Rollback(rollback_of(pairs)?)),
+        Kind::Held => Some(Command::Held(held_of(pairs)?)),
     }
 }
 
@@ -144,12 +162,14 @@ fn takes(kind: Kind, name: &str) -> bool
 {
     match kind {
         Kind::Plan => name == "--planner",
-        Kind::Check | Kind::Loads | Kind::Explain | Kind::Back => false,
+        Kind::Check | Kind::Loads | Kind::Explain | Kind::Back | Kind::Least => false,
         Kind::Sim => name == "--policy",
         Kind::Report => name == "--migration",
         Kind::Agent => name == "--guests",
         Kind::Trial => names_a_number(name) || name == "--policy",
         Kind::Run => matches!(name, "--workers" | "--rounds" | "--policy" | "--migration"),
+        Kind::Rollback => matches!(name, "--workers" | "--rounds" | "--migration"),
+        Kind::Held => name == "--rounds",
     }
 }
 
@@ -228,6 +248,32 @@ fn limits_of(pairs: &[String]) -> Option<Limits>
         rounds: rounds as u32,
         migration,
     })
+}
+
+/// How a rollback is to be run: as a rollout, of a migration that has a next one.
+fn rollback_of(pairs: &[String]) -> Option<Limits>
+    ensures asked { result ≡ rollback_in (map string_bytes pairs.now) }
+    ensures within { IfSome result (λ limits. HasNext limits) }
+{
+    before_last(limits_of(pairs)?)
+}
+
+fn before_last(limits: Limits) -> Option<Limits>
+    ensures asked { result ≡ before_last limits }
+    ensures within { IfSome result (λ limits. HasNext limits) }
+{
+    if limits.migration < LAST_MIGRATION {
+        return Some(limits);
+    }
+    None
+}
+
+/// In how many rounds a switch may be asked what it holds, from 1 to 200,000; 10 where the pairs name none.
+fn held_of(pairs: &[String]) -> Option<u32>
+    ensures { result ≡ held_in (map string_bytes pairs.now) }
+{
+    let rounds = numbered(pairs, "--rounds", "10", 1, MOST_ROUNDS)?;
+    Some(rounds as u32)
 }
 
 /// The number of guests that the pairs name, from 1 to a million; 1 where they name none.

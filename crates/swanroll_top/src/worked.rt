@@ -5,7 +5,7 @@ ghost use Rattle.rollout_rules.specs.Worked.{fresh};
 ghost use Rattle.switch_laws.specs.Worked.{two_flows};
 ghost use Rattle.completion_laws.specs.Worked.{begun_one};
 ghost use Rattle.swanroll_top.specs.Ready.{CountsNoFault, IsReadyFor};
-ghost use Rattle.swanroll_top.specs.Words.{a_plan, a_check, the_loads, the_way_back, a_rehearsal, a_report, a_text, a_trial, an_agent, asked_in, the_explanation};
+ghost use Rattle.swanroll_top.specs.Words.{a_plan, a_check, the_loads, the_way_back, a_rehearsal, a_report, a_rollback, a_text, a_trial, an_agent, asked_in, the_explanation, the_least, what_is_held};
 ghost use Rattle.swanroll_top.specs.declared.words.Planner.TheVariants.{Slack, Fewest};
 ghost use Rattle.swanroll_top.specs.Worked.{answered_once, by_item, chain_first, failed_once, fleet_with, in_rounds, itself, never_used, none_begins, two_policies, unanswered, waiting_at_first};
 
@@ -20,6 +20,7 @@ pub fn command_lines()
     ensures loads { asked_in two_policies (codes "loads" ∷ []) ≡ Some (a_text the_loads) }
     ensures back { asked_in two_policies (codes "back" ∷ []) ≡ Some (a_text the_way_back) }
     ensures explain { asked_in two_policies (codes "explain" ∷ []) ≡ Some (a_text the_explanation) }
+    ensures least { asked_in two_policies (codes "least" ∷ []) ≡ Some (a_text the_least) }
     ensures sim { asked_in two_policies (codes "sim" ∷ [])
         ≡ Some (a_text (a_rehearsal chain_first)) }
     ensures critical { asked_in two_policies
@@ -34,6 +35,45 @@ pub fn command_lines()
     ensures migration { asked_in two_policies
         (codes "report" ∷ codes "--migration" ∷ codes "007" ∷ [])
         ≡ Some (a_report 7) }
+{}
+
+/// A rollback takes what a run does but for a policy, and its migration must have a next one.
+pub fn rollback_lines()
+    ensures default { asked_in two_policies (codes "rollback" ∷ [])
+        ≡ Some (a_rollback (record { workers = 2; rounds = 1000; migration = 0 })) }
+    ensures last { asked_in two_policies
+        (codes "rollback"
+        ∷ codes "--migration"
+        ∷ codes "4294967294"
+        ∷ codes "--workers"
+        ∷ codes "16"
+        ∷ [])
+        ≡ Some (a_rollback (record { workers = 16; rounds = 1000; migration = 4294967294 })) }
+    ensures no_next { asked_in two_policies
+        (codes "rollback" ∷ codes "--migration" ∷ codes "4294967295" ∷ [])
+        ≡ None }
+    ensures policy { asked_in two_policies
+        (codes "rollback" ∷ codes "--policy" ∷ codes "order" ∷ [])
+        ≡ None }
+    ensures joined { asked_in two_policies (codes "roll" ∷ codes "back" ∷ []) ≡ None }
+{}
+
+/// What switches hold is asked for in a number of rounds, and as no migration.
+pub fn lines_on_what_is_held()
+    ensures default { asked_in two_policies (codes "held" ∷ []) ≡ Some (what_is_held 10) }
+    ensures most { asked_in two_policies
+        (codes "held" ∷ codes "--rounds" ∷ codes "200000" ∷ [])
+        ≡ Some (what_is_held 200000) }
+    ensures none { asked_in two_policies (codes "held" ∷ codes "--rounds" ∷ codes "0" ∷ [])
+        ≡ None }
+    ensures above { asked_in two_policies
+        (codes "held" ∷ codes "--rounds" ∷ codes "200001" ∷ [])
+        ≡ None }
+    ensures migration { asked_in two_policies
+        (codes "held" ∷ codes "--migration" ∷ codes "1" ∷ [])
+        ≡ None }
+    ensures workers { asked_in two_policies (codes "held" ∷ codes "--workers" ∷ codes "1" ∷ [])
+        ≡ None }
 {}
 
 /// A word that is no command, or none.

@@ -36,7 +36,7 @@ both_at_first = Some 0 ∷ Some 0 ∷ []
 abbrev pub port_of : List ℕ → List ℕ → Holdings → PortView
 port_of offered heard holdings = record {
   switch = 0;
-  port = record { offered = Some offered; heard = Some heard; held = Some holdings; quiet = Some 0; faults = 0; honest = true; prompt = false; start = holding_nothing };
+  port = record { offered = Some offered; heard = Some heard; held = Some holdings; quiet = Some 0; waits = Some 0; faults = 0; honest = true; prompt = false; start = holding_nothing };
   stream = fresh_stream;
 }
 

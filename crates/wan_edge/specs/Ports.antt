@@ -1,6 +1,6 @@
 -- What a port tells, which ports keep to the agent rule, and what becomes of what is told in a call and in any number of them. What a port tells is
 -- Some, and what it does not tell is None.
-use Rattle.std.specs.Prelude.{◌≡◌, ◌⊎◌, ℕ, ◌-◌, ◌<◌, ◌≤◌, Bool, List, [], ◌++◌, length, take, true, All, Option, Some, IfSome}
+use Rattle.std.specs.Prelude.{◌≡◌, ◌⊎◌, ℕ, ◌-◌, ◌<◌, ◌≤◌, Bool, List, [], ◌++◌, length, take, true, false, All, Option, Some, IfSome}
 use Rattle.std.specs.Bool.{OnTrue}
 use Rattle.std.specs.List.{flat_map}
 use Rattle.rollout_rules.specs.Agent.{is_at_most}
@@ -8,13 +8,15 @@ use Rattle.wan_edge.specs.Frames.{AnswerFrame, CommandFrame, IsAnswer, IsCommand
 use Rattle.wan_edge.specs.Streams.{Appends, KeepsTelling, Rose}
 use Rattle.wan_edge.specs.Switches.{Holdings, after_commands, answers_to, pair_given}
 
--- All that a port tells: the bytes that went out, those that came back, what its switch holds of each item, and how often nothing came back, each where
--- it is told; how often it has failed; whether it is honest, and prompt; and what the switch held before the first byte went out.
+-- All that a port tells: the bytes that went out, those that came back, what its switch holds of each item, how often nothing came back until a time limit
+-- had passed since the last offer, and how often it was looked at before that, each where it is told; how often it has failed; whether it is honest, and
+-- prompt; and what the switch held before the first byte went out.
 pub record PortTrace : Type 0 where
   pub offered : Option (List ℕ)
   pub heard : Option (List ℕ)
   pub held : Option Holdings
   pub quiet : Option ℕ
+  pub waits : Option ℕ
   pub faults : ℕ
   pub honest : Bool
   pub prompt : Bool
@@ -103,12 +105,14 @@ pub record Sends (bytes : List ℕ) (before now : PortTrace) : Type 0 where
   pub offered : Appends before.offered bytes now.offered
   pub heard : now.heard ≡ before.heard
   pub quiet : now.quiet ≡ before.quiet
+  pub waits : now.waits ≡ before.waits
 
 -- the port failed: the first of the bytes went out, perhaps none or all of them, and nothing was heard
 pub record FailsToSend (bytes : List ℕ) (before now : PortTrace) : Type 0 where
   pub offered : AppendsFront before.offered bytes now.offered
   pub heard : now.heard ≡ before.heard
   pub quiet : now.quiet ≡ before.quiet
+  pub waits : now.waits ≡ before.waits
   pub cause : Rose before.faults now.faults
 
 -- So many bytes came back, the first of these, and nothing went out. None is nothing now: it is counted, and a prompt port has given all its answers.
@@ -117,6 +121,7 @@ pub record Hears (count : ℕ) (bytes : List ℕ) (before now : PortTrace) : Typ
   pub heard : Appends before.heard (take count bytes) now.heard
   pub quieter : count ≡ 0 → IsOneMore before.quiet now.quiet
   pub as_quiet : 0 < count → now.quiet ≡ before.quiet
+  pub waits : now.waits ≡ before.waits
   pub all_given : OnTrue before.prompt (count ≡ 0 → NothingToCome before.start now.offered now.heard)
 
 -- the port failed, and nothing came back or went out
@@ -124,7 +129,23 @@ pub record FailsToHear (before now : PortTrace) : Type 0 where
   pub offered : now.offered ≡ before.offered
   pub heard : now.heard ≡ before.heard
   pub quiet : now.quiet ≡ before.quiet
+  pub waits : now.waits ≡ before.waits
   pub cause : Rose before.faults now.faults
+
+-- A port wasn't ready when it was looked at: no byte is there that came back, and the time limit hasn't passed since the last offer. Nothing went out or was
+-- heard, and that is counted. A prompt port is always ready.
+pub record IsUnready (before now : PortTrace) : Type 0 where
+  pub offered : now.offered ≡ before.offered
+  pub heard : now.heard ≡ before.heard
+  pub quiet : now.quiet ≡ before.quiet
+  pub waits : IsOneMore before.waits now.waits
+  pub prompt : before.prompt ≡ false
+  pub step : Steps before now
+
+-- it was looked at, and this is whether it was ready; where it was, nothing has changed
+abbrev pub LooksAt : Bool → PortTrace → PortTrace → Type 0
+LooksAt true before now = now ≡ before
+LooksAt false before now = IsUnready before now
 
 -- A port went on by any number of calls. Bytes were added at the ends of what went out and of what came. Where some call was made, an honest switch moved
 -- by the agent rule alone, on commands that went out, and a prompt one answered in order.

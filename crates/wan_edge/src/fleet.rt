@@ -1,4 +1,4 @@
-ghost use Rattle.std.specs.Prelude.{◌≡◌, ℕ, ◌+◌, ◌<◌, ◌≤◌, [], ◌∷◌, ◌++◌, Bool, true, false, List, None, Option, IfOk, IfSome, OnErr, OnOk};
+ghost use Rattle.std.specs.Prelude.{◌≡◌, ℕ, ◌+◌, ◌<◌, ◌≤◌, [], ◌∷◌, ◌++◌, Bool, true, false, List, None, Option, Some, IfOk, IfSome, OnErr, OnOk};
 ghost use Rattle.std.specs.Option.{option_map};
 ghost use Rattle.wan_edge.specs.Fleets.{GivesGuest, GivesPort, marked, with_one, without};
 ghost use Rattle.wan_edge.specs.Streams.{Rose};
@@ -29,23 +29,32 @@ pub trait Fleet {
     /// Whether the port of a switch was given and not given back.
     ghost lent: { Self → ℕ → Bool };
 
+    /// The name under which the port of a switch waits, where that is told, or by which it was last given.
+    ghost named: { Self → ℕ → Option (List ℕ) };
+
     /// How many guests were given and not given back.
     ghost visiting: { Self → ℕ };
 
     /// How often a call has failed.
     ghost faults: { Self → ℕ };
 
-    /// Opens the connection to a switch. Where it isn't told what waits, the port is new: no call of it has
-    /// failed, and nothing has gone over it.
+    /// Opens the connection to the switch of this name, which goes by this number from then on. Where it is
+    /// told what waits, the port is the one that waits there under this name. Where it isn't, the port is new:
+    /// no call of it has failed, and nothing has gone over it.
     fn port(&mut self, switch: u32, name: &str) -> Result<Self::Port, Failed>
         ensures given { IfOk result
             (λ p. GivesPort Self.Port.told (waiting self.old) switch p (waiting self.new)) }
-        ensures none { OnErr result (IfSome (waiting self.old) (λ ports. ports switch ≡ None)) }
+        ensures own { OnOk result (IfSome (waiting self.old)
+            (λ _. named self.old switch ≡ Some name.now)) }
+        ensures none { OnErr result (IfSome (waiting self.old)
+            (λ ports. named self.old switch ≡ Some name.now → ports switch ≡ None)) }
         ensures still_waiting { OnErr result (waiting self.new ≡ waiting self.old) }
         ensures taken { OnOk result (kept self.new ≡ without (kept self.old) switch) }
         ensures left { OnErr result (kept self.new ≡ kept self.old) }
         ensures place { OnOk result (lent self.new ≡ marked (lent self.old) switch true) }
         ensures no_place { OnErr result (lent self.new ≡ lent self.old) }
+        ensures asked { OnOk result (named self.new ≡ with_one (named self.old) switch name.now) }
+        ensures unasked { OnErr result (named self.new ≡ named self.old) }
         ensures guests { (coming self.new ≡ coming self.old)
             × (served self.new ≡ served self.old)
             × (visiting self.new ≡ visiting self.old) }
@@ -59,6 +68,7 @@ pub trait Fleet {
             ≡ option_map (λ ports. with_one ports switch port) (waiting self.old) }
         ensures back { kept self.new ≡ with_one (kept self.old) switch port }
         ensures place { lent self.new ≡ marked (lent self.old) switch false }
+        ensures names { named self.new ≡ named self.old }
         ensures guests { (coming self.new ≡ coming self.old)
             × (served self.new ≡ served self.old)
             × (visiting self.new ≡ visiting self.old) }
@@ -81,7 +91,8 @@ pub trait Fleet {
         ensures others { served self.new ≡ served self.old }
         ensures ports { (waiting self.new ≡ waiting self.old)
             × (kept self.new ≡ kept self.old)
-            × (lent self.new ≡ lent self.old) }
+            × (lent self.new ≡ lent self.old)
+            × (named self.new ≡ named self.old) }
         ensures cause { OnErr result (Rose (faults self.old) (faults self.new)) }
         ensures count { faults self.old ≤ faults self.new };
 
@@ -93,6 +104,7 @@ pub trait Fleet {
         ensures others { coming self.new ≡ coming self.old }
         ensures ports { (waiting self.new ≡ waiting self.old)
             × (kept self.new ≡ kept self.old)
-            × (lent self.new ≡ lent self.old) }
+            × (lent self.new ≡ lent self.old)
+            × (named self.new ≡ named self.old) }
         ensures count { faults self.old ≤ faults self.new };
 }

@@ -1,23 +1,53 @@
-use lists::Memory;
+use lists::{Memory, Text};
 use lossy_link::{MemoryFleet, MemoryGuest, SilentPort};
 use std::alloc::Global;
 use std::test::Fail;
 use wan_edge::{Fleet, MemorySink, MemorySource, Nums8, Turns};
 
-// Whether a fleet of the switches 1 and 2 reaches each of them, where the second fails.
-fn reached(alloc: Global) -> Result<[bool; 2], Memory> {
+// A fleet of the switches 1 and 2, which are called A and B.
+fn two_switches(alloc: Global) -> Result<MemoryFleet<SilentPort>, Memory> {
     let mut fleet = MemoryFleet::new(alloc);
-    fleet.put(1, SilentPort::new(alloc))?;
-    fleet.put(2, SilentPort::new(alloc))?;
+    put(alloc, &mut fleet, 1, "A")?;
+    put(alloc, &mut fleet, 2, "B")?;
+    Ok(fleet)
+}
+
+fn put(
+    alloc: Global,
+    fleet: &mut MemoryFleet<SilentPort>,
+    switch: u32,
+    name: &str,
+) -> Result<(), Memory> {
+    fleet.call(switch, Text::from(String::from_str(alloc, name)?))?;
+    fleet.put(switch, SilentPort::new(alloc))
+}
+
+// Whether each of two switches is reached, where the second fails.
+fn reached(alloc: Global) -> Result<[bool; 2], Memory> {
+    let mut fleet = two_switches(alloc)?;
     fleet.fail_at(2);
-    let first = fleet.port(1, "").is_ok();
-    let second = fleet.port(2, "").is_ok();
+    let first = fleet.port(1, "A").is_ok();
+    let second = fleet.port(2, "B").is_ok();
     Ok([first, second])
+}
+
+// Whether a switch is reached by the name of another one, and then by its own.
+fn reached_by(alloc: Global) -> Result<[bool; 2], Memory> {
+    let mut fleet = two_switches(alloc)?;
+    let by_another = fleet.port(1, "B").is_ok();
+    let by_its_own = fleet.port(1, "A").is_ok();
+    Ok([by_another, by_its_own])
 }
 
 #[test]
 fn a_switch_that_fails_is_not_reached(rt: HostRuntime) -> Result<(), Fail> {
     assert_eq!(rt; reached(rt.alloc())?, [true, false]);
+    Ok(())
+}
+
+#[test]
+fn a_switch_is_reached_by_its_own_name_alone(rt: HostRuntime) -> Result<(), Fail> {
+    assert_eq!(rt; reached_by(rt.alloc())?, [false, true]);
     Ok(())
 }
 

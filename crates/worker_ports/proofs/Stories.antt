@@ -14,7 +14,7 @@ use Rattle.wan_edge.specs.Switches.{Holdings, after_command, after_commands}
 use Rattle.wan_edge.proofs.Chains.{Appends-chain, Appends-nothing, stays}
 use Rattle.port_session.specs.Offers.{frames_of}
 use Rattle.port_session.specs.Reading.{ReadsAnswers, answers_of}
-use Rattle.port_session.specs.Sessions.{HearsAnswers, Talk, listening}
+use Rattle.port_session.specs.Sessions.{HearsAnswers, Talk}
 use Rattle.port_session.proofs.Chaining.{answers_of-append, reads_nothing, reads_on}
 use Rattle.worker_ports.specs.Hearing.{HearsOut, IsOwn, Listens, Reads}
 use Rattle.worker_ports.specs.Lots.{home_at, is_switch, own}
@@ -117,7 +117,7 @@ unreckoned migration kept kept' bytes awaited awaited' earlier mine reads = reco
 tells-on : (migration : ℕ) (a b c d : PortView) (told mine : List Answer) → Tells migration a told b → c.port.heard ≡ b.port.heard → c.stream.kept ≡ b.stream.kept → Reads migration None c mine d → Tells migration a (told ++ mine) d
 tells-on migration a b c d told mine first heard kept more =
     let second = subst (λ (k : List ℕ). ReadsAnswers migration (record { kept = k; awaited = 0; told = told }) more.bytes None (record { kept = d.stream.kept; awaited = 0; told = told ++ mine })) kept
-    (unreckoned migration c.stream.kept d.stream.kept more.bytes c.stream.awaited d.stream.awaited told mine more.reads) in
+    (unreckoned migration c.stream.kept d.stream.kept more.bytes 0 0 told mine more.reads) in
     record {
       bytes = first.bytes ++ more.bytes;
       appended = Appends-chain a.port.heard b.port.heard d.port.heard first.bytes more.bytes first.appended (subst (λ (h : Option (List ℕ)). Appends h more.bytes d.port.heard) heard more.appended);

@@ -7,9 +7,10 @@ use Rattle.wan_edge.specs.Streams.{Appends, Rose}
 use Rattle.wan_edge.proofs.Chains.{Appends-nothing, stays}
 use Rattle.port_session.specs.Offers.{OffersUntil, frames_of}
 use Rattle.port_session.specs.Reading.{Stream, answers_of}
-use Rattle.port_session.specs.Sessions.{HearsAnswers, Talk, awaiting, listening}
+use Rattle.port_session.specs.Sessions.{HearsAnswers, Talk, awaiting, listening, uncounted}
 use Rattle.port_session.specs.declared.fault.SessionFault.{SessionFault}
 use Rattle.port_session.specs.declared.fault.SessionFault.TheVariants as fault
+use Rattle.port_session.proofs.Hearing.{uncount}
 use Rattle.worker_ports.specs.Views.{PortView, view}
 use Rattle.worker_ports.specs.Causes.{cause_of}
 use Rattle.worker_ports.specs.Hearing.{IsHearCause, Listens}
@@ -35,8 +36,8 @@ until_sent fault.Memory before now bytes until = none_sent before now bytes unti
 
 -- what was told of late, apart from what was told before
 pub told_apart : (migration : ℕ) (before now : Option (List ℕ)) (old new : Stream) (earlier all : List Answer) (why : Option SessionFault)
-    → HearsAnswers migration (listening before old earlier) why (listening now new all)
-    → (told : List Answer) × (all ≡ earlier ++ told) × HearsAnswers migration (listening before old []) why (listening now new told)
+    → (hears : HearsAnswers migration (uncounted before old earlier) why (uncounted now new all))
+    → (told : List Answer) × (all ≡ earlier ++ told) × (apart : HearsAnswers migration (uncounted before old []) why (uncounted now new told)) × (apart.reads.answers ≡ hears.reads.answers)
 told_apart migration before now old new earlier all why hears = (
   answers_of migration hears.reads.answers,
   hears.reads.told_more,
@@ -48,10 +49,11 @@ told_apart migration before now old new earlier all why hears = (
       rest = hears.reads.rest;
       whole = hears.reads.whole;
       told_more = refl;
-      awaited_less = hears.reads.awaited_less;
+      awaited_less = omega arith;
       ends = hears.reads.ends;
     };
   },
+  refl,
 )
 
 -- what was appended, behind what was there
@@ -85,7 +87,8 @@ module _ {P : Type 0} (tell : P → PortTrace) where
       → (why ≡ fault.Port → Rose (tell a.port).faults (tell b.port).faults) → IsHearCause migration homes (cause_of a.switch why) (view tell a) (view tell b)
   hear_cause migration homes a b earlier all fault.Port hears rose = (refl, rose refl)
   hear_cause migration homes a b earlier all (fault.NoAnswer byte) hears rose =
-      let apart = told_apart migration (tell a.port).heard (tell b.port).heard a.stream b.stream earlier all (Some (fault.NoAnswer byte)) hears in
+      let apart = told_apart migration (tell a.port).heard (tell b.port).heard a.stream b.stream earlier all (Some (fault.NoAnswer byte))
+      (uncount migration (tell a.port).heard (tell b.port).heard a.stream b.stream earlier all (Some (fault.NoAnswer byte)) hears).0 in
       (refl, apart.0, apart.2)
   hear_cause migration homes a b earlier all fault.Memory hears rose = tt
 

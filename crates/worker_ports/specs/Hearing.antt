@@ -1,10 +1,10 @@
 -- What comes from the ports in a round.
-use Rattle.std.specs.Prelude.{◌≡◌, ◌⊎◌, ℕ, ◌<◌, true, false, List, [], ◌∷◌, ◌++◌, All, Option, None, Some, IsTrue}
+use Rattle.std.specs.Prelude.{◌≡◌, ◌⊎◌, ℕ, ◌<◌, ◌≤◌, true, false, List, [], ◌∷◌, ◌++◌, length, All, Option, None, Some, IsTrue}
 use Rattle.std.specs.Bool.{OnTrue}
 use Rattle.wan_edge.specs.Frames.{Answer, IsCutAnswer}
 use Rattle.wan_edge.specs.Ports.{GoesOn, IsOneMore, NothingToCome}
 use Rattle.wan_edge.specs.Streams.{Rose}
-use Rattle.port_session.specs.Sessions.{EndsAnswer, HearsAnswers, IsHeardOut, listening}
+use Rattle.port_session.specs.Sessions.{EndsAnswer, HearsAnswers, IsOver, uncounted}
 use Rattle.port_session.specs.declared.fault.SessionFault.{SessionFault}
 use Rattle.port_session.specs.declared.fault.SessionFault.TheVariants as fault
 use Rattle.shared_history.specs.declared.note.Cause.{Cause}
@@ -20,14 +20,15 @@ pub record Listens (before now : PortView) : Type 0 where
 
 -- the answers that end in what came, as far as they were read, and of them those of the migration
 abbrev pub Reads : ℕ → Option SessionFault → PortView → List Answer → PortView → Type 0
-Reads migration why before told now = HearsAnswers migration (listening before.port.heard before.stream []) why (listening now.port.heard now.stream told)
+Reads migration why before told now = HearsAnswers migration (uncounted before.port.heard before.stream []) why (uncounted now.port.heard now.stream told)
 
 -- an answer tells of an item whose home is this switch
 abbrev pub IsOwn : List (Option ℕ) → ℕ → Answer → Type 0
 IsOwn homes switch a = is_switch switch (home_at homes a.item) ≡ true
 
--- A port was heard out: until as many answers were read as were awaited, or nothing came. Of what came every whole answer was read, and what is kept
--- is the front of one. Those of the migration are told, and each is of the port's own switch.
+-- A port was heard: until as many answers were read as were awaited, it was quiet, or it wasn't ready. Of what came every whole answer was read, and what is
+-- kept is the front of one. Those of the migration are told, and each is of the port's own switch. Where answers were awaited, and none is any more, one ended
+-- or the port was quiet; and a prompt port has given all that were awaited, or all that it had.
 pub record HearsOut (migration : ℕ) (homes : List (Option ℕ)) (before : PortView) (told : List Answer) (now : PortView) : Type 0 where
   pub listens : Listens before now
   pub reads : Reads migration None before told now
@@ -35,9 +36,9 @@ pub record HearsOut (migration : ℕ) (homes : List (Option ℕ)) (before : Port
   pub live : IsTrue now.stream.live
   pub cut : IsCutAnswer now.stream.kept
   pub idle : before.stream.awaited ≡ 0 → (now ≡ before) × (told ≡ [])
-  pub heard_out : IsHeardOut now.stream.awaited before.port.quiet now.port.quiet
-  pub comes : 0 < before.stream.awaited → EndsAnswer before.stream.kept before.port.heard now.port.heard ⊎ IsOneMore before.port.quiet now.port.quiet
-  pub all_given : OnTrue before.port.prompt (0 < now.stream.awaited → NothingToCome before.port.start now.port.offered now.port.heard)
+  pub over : IsOver (length reads.reads.answers) before.stream.awaited now.stream.awaited before.port now.port
+  pub comes : 0 < before.stream.awaited → now.stream.awaited ≡ 0 → EndsAnswer before.stream.kept before.port.heard now.port.heard ⊎ IsOneMore before.port.quiet now.port.quiet
+  pub all_given : OnTrue before.port.prompt ((before.stream.awaited ≤ length reads.reads.answers) ⊎ NothingToCome before.port.start now.port.offered now.port.heard)
 
 -- among answers is one of this item, whose home isn't this switch
 pub record HasAlien (homes : List (Option ℕ)) (switch item : ℕ) (answers : List Answer) : Type 0 where

@@ -4,6 +4,7 @@ use Rattle.wan_edge.specs.Frames.{Command}
 use Rattle.wan_edge.specs.Ports.{AppendsFront, GoesOn}
 use Rattle.wan_edge.specs.Streams.{Appends, Rose}
 use Rattle.port_session.specs.Offers.{frames_of}
+use Rattle.port_session.specs.Sessions.{awaited_behind}
 use Rattle.shared_history.specs.declared.note.Cause.{Cause}
 use Rattle.shared_history.specs.declared.note.Cause.TheVariants as cause
 use Rattle.worker_ports.specs.Views.{PortView}
@@ -18,11 +19,11 @@ pub record Offers (migration : ℕ) (commands : List Command) (before now : Port
   pub kept : now.stream.kept ≡ before.stream.kept
   pub live : now.stream.live ≡ before.stream.live
 
--- All of them went out, and as many answers are awaited.
+-- All of them went out, and as many answers are awaited; where there was none, as many as before.
 pub record OffersAll (migration : ℕ) (commands : List Command) (before now : PortView) : Type 0 where
   pub some : Offers migration commands before now
   pub all : Appends before.port.offered (frames_of migration commands) now.port.offered
-  pub awaits : now.stream.awaited ≡ length commands
+  pub awaits : now.stream.awaited ≡ awaited_behind before.stream.awaited (length commands)
 
 -- Why offering at a port stops a worker: the port failed, and its count rose, or memory ran out.
 abbrev pub IsOfferCause : Cause → PortView → PortView → Type 0

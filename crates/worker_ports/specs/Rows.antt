@@ -28,7 +28,7 @@ AtOneOrMemory R (cause.NoAnswer switch byte) ps bs = AtOne R ps bs
 AtOneOrMemory R cause.Disk ps bs = AtOne R ps bs
 AtOneOrMemory R cause.Memory ps bs = Unit {0}
 
--- Each port was heard out, one after the other, and what they told follows in this order.
+-- Each port was heard, one after the other, and what they told follows in this order.
 abbrev pub HearsEach : {P : Type 0} → (P → PortTrace) → ℕ → List (Option ℕ) → List (Talk P) → List (Talk P) → List Answer → Type 0
 HearsEach tell migration homes [] [] told = told ≡ []
 HearsEach tell migration homes [] (b ∷ bs) told = ⊥

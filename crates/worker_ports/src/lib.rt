@@ -3,11 +3,14 @@
 //! not the sum of all.
 //!
 //! Contracts see the ports as a row of what each tells, with the place where the worker stands in its
-//! answers. Each port is offered the commands whose items' home is its switch, in order and in one call.
+//! answers. A switch that owes answers, and whose time limit hasn't passed, is late, and nothing is offered
+//! there ([`WorkerPorts::due`] has the others); else each port is offered the commands whose items' home is
+//! its switch, in order and in one call. None is waited for.
 //! What is told in a round is told by each port in turn, of items of its own switch alone: an answer of
 //! another's item is refused before anything is made of it.
 #![tactic(auto)]
 
+mod due;
 mod laws;
 mod lots;
 mod ports;

@@ -1,5 +1,5 @@
-ghost use Rattle.std.specs.Prelude.{◌≡◌, ◌-◌, ◌==◌, ◌<◌, [], ◌∷◌, ◌++◌, length, map, slice_index_or, take, IfSome, OnErr, OnOk, false};
-ghost use Rattle.std.specs.List.{list_any};
+ghost use Rattle.std.specs.Prelude.{◌≡◌, ◌-◌, ◌==◌, ◌<◌, [], ◌∷◌, ◌++◌, length, map, nat_eq, slice_index_or, take, IfSome, OnErr, OnOk, false};
+ghost use Rattle.std.specs.List.{IsDistinct, list_any};
 ghost use Rattle.worker_ports.specs.Lots.{home_at, own, place_of, with_put};
 
 use indexmap::IndexSet;
@@ -43,6 +43,13 @@ impl Lots {
         ensures { result.now ≡ self.now.switches }
     {
         self.switches.as_slice()
+    }
+
+    /// No switch stands twice.
+    pub(crate) fn are_apart(&self)
+        ensures { IsDistinct nat_eq self.now.switches }
+    {
+        let _switches = &self.switches;
     }
 
     /// What lies ready for the switch at a place.

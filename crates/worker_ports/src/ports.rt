@@ -2,11 +2,14 @@ ghost use Rattle.std.specs.Prelude.{◌≡◌, ◌==◌, ◌++◌, [], ◌∷◌
 ghost use Rattle.std.specs.List.{list_any};
 ghost use Rattle.port_session.specs.Sessions.{first_talk};
 ghost use Rattle.shared_book.specs.Homes.{homes_of};
+ghost use Rattle.worker_ports.specs.Due.{AreApart, LeavesAlone, due_of};
 ghost use Rattle.worker_ports.specs.Rows.{IsLast, HearsEach, IsCauseOfHear, IsCauseOfOffer, ListensEach, OffersAllEach, OffersEach};
 
+use crate::due::due_each;
 use crate::lots::Lots;
 use crate::round::{hear_each, offer_each};
 use disk_model::Disk;
+use lists::Memory;
 use port_session::{Heard, Session};
 use shared_book::{Listed, Marker};
 use shared_history::Cause;
@@ -56,6 +59,26 @@ impl<T: Port> WorkerPorts<T> {
         self.lots.switches()
     }
 
+    /// The switches that are due, in the order of the ports: all but the late ones, which owe answers and
+    /// whose time limit hasn't passed.
+    pub fn due(&self, alloc: Global) -> Result<Vec<u32>, Memory>
+        ensures due { IfOk result (λ due. due.items ≡ due_of self.now) }
+        ensures apart { IfOk result (λ due. AreApart due.items self.now) }
+    {
+        self.lots.are_apart();
+        due_each(alloc, self.sessions.as_slice())
+    }
+
+    /// Waits a moment, in which something may come from a late switch.
+    pub fn rest(&self) {
+        for session in self.sessions.as_slice() {
+            if session.is_late() {
+                session.rest();
+                return;
+            }
+        }
+    }
+
     /// Adds a port to a switch that none of these is to, before its first round. The port comes back where
     /// memory runs out.
     pub fn add(&mut self, alloc: Global, switch: u32, port: T) -> Result<(), T>
@@ -85,8 +108,8 @@ impl<T: Port> WorkerPorts<T> {
     }
 
     /// Begins a round: each port is offered the commands whose items' home is its switch, in order and in
-    /// one call. The commands are such as a turn of a book has listed; `homes` and the migration are those
-    /// of its opening.
+    /// one call. The commands are such as a turn of a book has listed, and none of them is a late switch's, so
+    /// that nothing is offered there; `homes` and the migration are those of its opening.
     ///
     /// # Errors
     ///
@@ -99,6 +122,7 @@ impl<T: Port> WorkerPorts<T> {
     ) -> Result<(), Cause>
         requires homes { homes.now ≡ homes_of M.opening.rollout.problem }
         requires migration { migration ≡ M.migration }
+        requires alone { LeavesAlone homes.now listed.now self.old }
         ensures each { OffersEach T.told migration homes.now listed.now self.old self.new }
         ensures all { OnOk result
             (OffersAllEach T.told migration homes.now listed.now self.old self.new) }
@@ -115,9 +139,11 @@ impl<T: Port> WorkerPorts<T> {
         )
     }
 
-    /// Ends a round: each port in turn is heard out, until as many answers were read as commands were
-    /// offered there, or nothing comes. Those of the migration are told in this order, and none where one
-    /// port fails or tells what it may not. `homes` and the migration are those of the opening.
+    /// Ends a round: each port in turn is heard, until as many answers were read as commands were offered
+    /// there, now or in an earlier round, or its time limit has passed. None is waited for: where a port isn't
+    /// ready, its switch is late, and the next round hears further. Those of the migration are told in this
+    /// order, and none where one port fails or tells what it may not. `homes` and the migration are those of
+    /// the opening.
     ///
     /// # Errors
     ///

@@ -80,7 +80,7 @@ pub fn read_script(alloc: Global, bytes: &[u8]) -> Result<Scripted, InputFault>
 }
 
 #[tactic(auto, using(crate::proofs::Steps::steps), unfolding(crate::specs::GrammarDocuments::document_of))]
-fn document_of(alloc: Global, value: &Element<'_, '_>) -> Result<Document, InputFault>
+pub(super) fn document_of(alloc: Global, value: &Element<'_, '_>) -> Result<Document, InputFault>
     ensures { Reads result (document_of (view value.now)) }
 {
     let problem = problem_part(alloc, value)?;

@@ -4,7 +4,7 @@ ghost use Rattle.json_data.specs.View.{view, items_view};
 ghost use Rattle.rollout_rules.specs.Network.{IsRate};
 ghost use Rattle.rollout_rules.specs.declared.limits.TheConstants.{LONGEST_NAME, LARGEST_WIDTH};
 ghost use Rattle.problem_json.specs.GrammarResults.{Reads, ReadsAs};
-ghost use Rattle.problem_json.specs.GrammarValues.{member_in, text_in, whole_in, number_in, width_in, list_of, name_of, number_of, rate_of, width_of};
+ghost use Rattle.problem_json.specs.GrammarValues.{member_in, list_in, text_in, whole_in, number_in, width_in, list_of, name_of, number_of, rate_of, width_of};
 
 use crate::fault::InputFault;
 use crate::key::Key;
@@ -52,6 +52,24 @@ pub(super) fn list_of<'t, 'a>(
 {
     let list = member(object, key, value)?;
     let elements = list.as_array().ok_or(InputFault::WrongKind(place))?;
+    let count = elements.len();
+    if count > most {
+        return Err(InputFault::TooMany(place, count as u64, most as u64));
+    }
+    Ok(elements)
+}
+
+/// The elements of a list, of which there are at most so many.
+#[tactic(auto, using(crate::proofs::Steps::steps), unfolding(crate::specs::GrammarValues::list_in))]
+pub(super) fn elements_of<'t, 'a>(
+    place: Place,
+    most: usize,
+    value: &Element<'t, 'a>,
+) -> Result<Elements<'t, 'a>, InputFault>
+    ensures list { ReadsAs items_view result (list_in place most (view value.now)) }
+    ensures most { IfOk result (λ s. items_len (items_view s) ≤ most) }
+{
+    let elements = value.as_array().ok_or(InputFault::WrongKind(place))?;
     let count = elements.len();
     if count > most {
         return Err(InputFault::TooMany(place, count as u64, most as u64));

@@ -1,12 +1,26 @@
-ghost use Rattle.std.specs.Prelude.{◌≡◌, Ok};
+ghost use Rattle.std.specs.Prelude.{◌≡◌, Ok, Some};
 ghost use Rattle.rollout_rules.specs.Wan as wan;
 ghost use Rattle.rollout_rules.specs.Network.{IsNetwork};
 ghost use Rattle.problem_json.specs.Grammar.{problem_of};
 ghost use Rattle.problem_json.specs.declared.place.Place.{Place};
 ghost use Rattle.problem_json.specs.Writing.{problem_data};
+ghost use Rattle.problem_json.specs.GrammarLeast.{claimed_of};
+ghost use Rattle.problem_json.specs.WithinClaims.{IsClaimWithin};
+ghost use Rattle.problem_json.specs.WithinLimits.{IsPlanWithin};
+ghost use Rattle.problem_json.specs.WritingLeast.{claimed_data};
+ghost use Rattle.problem_json.specs.declared.claim.Claim.{Claim};
 
 /// What is written for a problem is read as that problem.
 pub fn written_problem_is_read()
     ensures { (place : Place) → (p : wan.Problem) → IsNetwork p
         → problem_of place (problem_data p) ≡ Ok p }
+{}
+
+/// What is written for a document with what it says of fewer rate steps is read as both.
+pub fn written_claim_is_read()
+    ensures { (p : wan.Problem) (plan : wan.Plan) (claim : Claim) → IsNetwork p
+        → IsPlanWithin plan
+        → IsClaimWithin claim
+        → claimed_of (claimed_data p plan claim)
+        ≡ Ok (record { document = record { problem = p; plan = plan }; claim = Some claim }) }
 {}

@@ -30,7 +30,7 @@ pub fn plan(alloc: Global, planner: Planner, input: Nums8) -> Result<Text, Endin
 }
 
 /// The problem that the bytes are. They are given up as soon as they are read.
-fn given(alloc: Global, input: Nums8) -> Result<Problem, InputFault>
+pub fn given(alloc: Global, input: Nums8) -> Result<Problem, InputFault>
     ensures { Reads result (problem_in input) }
 {
     read_problem(alloc, input.as_slice())

@@ -27,5 +27,6 @@ loop-service-preserved g c =
       waiting = c.in_ok-served.ensures.ports.0 ∙ i.waiting;
       kept = c.in_ok-served.ensures.ports.1 ∙ i.kept;
       lent = c.in_ok-served.ensures.ports.2 ∙ i.lent;
+      named = c.in_ok-served.ensures.ports.3 ∙ i.named;
       count = omega (arith, i.count, c.in_ok-served.ensures.count);
     }

@@ -18,6 +18,7 @@ invariant-loop-service g l = record {
   waiting : g.F.Fleet.waiting l.fleet ≡ g.F.Fleet.waiting l.fn.fleet;
   kept : g.F.Fleet.kept l.fleet ≡ g.F.Fleet.kept l.fn.fleet;
   lent : g.F.Fleet.lent l.fleet ≡ g.F.Fleet.lent l.fn.fleet;
+  named : g.F.Fleet.named l.fleet ≡ g.F.Fleet.named l.fn.fleet;
   count : g.F.Fleet.faults l.fn.fleet ≤ g.F.Fleet.faults l.fleet;
 }
 

@@ -8,6 +8,7 @@ ghosts-share_named g a = record {
   opening = opening_of a.book.chronicle (rank_by a.book.policy.now.answers);
   moment = (g.D.Disk.told a.book.chronicle.disk).moment;
   faults = (g.D.Disk.told a.book.chronicle.disk).faults;
+  stood = g.D.Disk.told a.book.chronicle.disk;
   seats = 4;
   migration = 0;
   heard = λ answer. Unit {0};

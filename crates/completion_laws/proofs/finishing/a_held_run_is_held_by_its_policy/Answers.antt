@@ -1,4 +1,3 @@
-use Rattle.rollout_run.specs.declared.end.RunEnd.TheVariants as run
 use Rattle.completion_laws.proofs.Excused.{held-rests, held-still}
 use Rattle.completion_laws.proofs.finishing.a_held_run_is_held_by_its_policy.Goals as goal
 

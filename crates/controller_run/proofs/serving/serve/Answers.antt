@@ -5,7 +5,11 @@ use Rattle.shared_book.specs.Calls.{IsStopCall}
 use Rattle.controller_run.specs.Serving.{Moment}
 use Rattle.controller_run.specs.declared.outcome.Outcome.TheVariants as outcome
 use Rattle.controller_run.proofs.Serves.{ends, of_seat, of_whole, one_more}
+use Rattle.controller_run.proofs.Works.{of-offered}
 use Rattle.controller_run.proofs.serving.serve.Goals as goal
+
+pub left_behind-left-requires : goal.left_behind-left-requires
+left_behind-left-requires g c = record { some = of-offered c.work-next.result.1 c.in-Whole.offered _ c.in-Whole.is c.work-next.ensures.some_left }
 
 pub loop-preserved : goal.loop-preserved
 loop-preserved g c =

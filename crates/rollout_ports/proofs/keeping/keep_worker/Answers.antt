@@ -16,8 +16,8 @@ loop-berth-preserved g c =
     record {
       apart = rest_apart (berths_of c.take.new.self) (berths_of c.loop-berth.ports) (c.in-Some.berth ∷ []) parts i.apart;
       lent = rest_lent (g.F.Fleet.lent c.loop-berth.fleet) (g.F.Fleet.lent c.keep.new.self) (berths_of c.take.new.self) (berths_of c.loop-berth.ports) c.in-Some.berth parts c.keep.ensures.place i.apart i.lent;
-      rest = keep_one (ports_of g.F.Fleet.waiting g.F.Fleet.kept g.F.Fleet.lent c.loop-berth.fleet) (ports_of g.F.Fleet.waiting g.F.Fleet.kept g.F.Fleet.lent c.keep.new.self)
-          (berths_of c.take.new.self) (berths_of c.loop-berth.ports) c.in-Some.berth parts c.keep.ensures.ready c.keep.ensures.back c.keep.ensures.place ∙ i.rest;
+      rest = keep_one (ports_of g.F.Fleet.waiting g.F.Fleet.kept g.F.Fleet.lent g.F.Fleet.named c.loop-berth.fleet) (ports_of g.F.Fleet.waiting g.F.Fleet.kept g.F.Fleet.lent g.F.Fleet.named c.keep.new.self)
+          (berths_of c.take.new.self) (berths_of c.loop-berth.ports) c.in-Some.berth parts c.keep.ensures.ready c.keep.ensures.back c.keep.ensures.place c.keep.ensures.names ∙ i.rest;
       coming = c.keep.ensures.guests.0 ∙ i.coming;
       served = c.keep.ensures.guests.1 ∙ i.served;
       visiting = c.keep.ensures.guests.2 ∙ i.visiting;

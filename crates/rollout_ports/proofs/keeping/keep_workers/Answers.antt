@@ -17,8 +17,8 @@ keep_worker-requires-clause-lent g c =
 pub loop-ports-preserved : goal.loop-ports-preserved
 loop-ports-preserved g c =
     let i = c.loop-ports.invariant in
-    let before = ports_of g.F.Fleet.waiting g.F.Fleet.kept g.F.Fleet.lent c.loop-ports.fleet in
-    let after = ports_of g.F.Fleet.waiting g.F.Fleet.kept g.F.Fleet.lent c.keep_worker.new.fleet in
+    let before = ports_of g.F.Fleet.waiting g.F.Fleet.kept g.F.Fleet.lent g.F.Fleet.named c.loop-ports.fleet in
+    let after = ports_of g.F.Fleet.waiting g.F.Fleet.kept g.F.Fleet.lent g.F.Fleet.named c.keep_worker.new.fleet in
     let rest = all_berths c.pop.new.self.items in
     let row = berths_of c.in-Some.ports in
     let all = all_berths c.loop-ports.workers.items in

@@ -1,8 +1,9 @@
-use Rattle.std.proofs.Common.{◌∷◌, length, nat_eq, subst, sym, ap, ◌∙◌, arith}
+use Rattle.std.proofs.Common.{ℕ, List, ◌∷◌, length, nat_eq, subst, sym, ap, ◌∙◌, arith}
 use Rattle.std.specs.List.{IsDistinct}
 use Rattle.rollout_rules.specs.Wan.{Problem}
 use Rattle.rollout_ports.specs.Berths.{ports_of}
 use Rattle.rollout_ports.specs.Homes.{is_working_home, working_homes}
+use Rattle.rollout_ports.specs.Opening.{Opens, StopsAt}
 use Rattle.rollout_ports.proofs.Given.{apart_by, opened_lent, stops_at}
 use Rattle.rollout_ports.proofs.Numbers.{distinct_front, passing_distinct, passing_inside}
 use Rattle.rollout_ports.proofs.opening.open_ports.Goals as goal
@@ -13,7 +14,6 @@ open_each-opened-requires-clause-inside g c k d lt =
     omega (
       arith,
       passing_inside (length p.switches) (is_working_home p c.args.plan.now.plan) c.as_slice-2.result.now (c.as_slice-2.ensures ∙ c.in_ok-homes.ensures) k d lt,
-      ap length c.switches.ensures.list,
       ap (λ (q : Problem). length q.switches) c.problem.ensures,
     )
 
@@ -21,6 +21,15 @@ pub open_each-opened-requires-clause-once : goal.open_each-opened-requires-claus
 open_each-opened-requires-clause-once g c =
     let p = c.args.plan.now.problem in
     subst (IsDistinct nat_eq) (sym (c.as_slice-2.ensures ∙ c.in_ok-homes.ensures)) (passing_distinct (length p.switches) (is_working_home p c.args.plan.now.plan))
+
+pub returns-in-Ok-clause-opened : goal.returns-in-Ok-clause-opened
+returns-in-Ok-clause-opened g c =
+    let before = ports_of g.F.Fleet.waiting g.F.Fleet.kept g.F.Fleet.lent g.F.Fleet.named c.args.fleet.now in
+    let now = ports_of g.F.Fleet.waiting g.F.Fleet.kept g.F.Fleet.lent g.F.Fleet.named c.open_each-opened.new.fleet in
+    let berths = c.open_each-opened.new.berths.items in
+    let p = c.args.plan.now.problem in
+    subst (λ (hs : List ℕ). Opens g.F.Port.Port.told p hs before berths now) (c.as_slice-2.ensures ∙ c.in_ok-homes.ensures)
+    (subst (λ (q : Problem). Opens g.F.Port.Port.told q c.as_slice-2.result.now before berths now) c.problem.ensures c.in-Ok.ensures.opened)
 
 pub returns-in-Ok-clause-apart : goal.returns-in-Ok-clause-apart
 returns-in-Ok-clause-apart g c =
@@ -39,12 +48,15 @@ keep_ports-requires-clause-apart g c =
 pub keep_ports-requires-clause-lent : goal.keep_ports-requires-clause-lent
 keep_ports-requires-clause-lent g c =
     let until = c.in-Err.ensures.until in
-    opened_lent g.F.Port.Port.told until.earlier (ports_of g.F.Fleet.waiting g.F.Fleet.kept g.F.Fleet.lent c.args.fleet.now) (ports_of g.F.Fleet.waiting g.F.Fleet.kept g.F.Fleet.lent c.open_each-opened.new.fleet)
+    opened_lent g.F.Port.Port.told c.problem.result.now until.earlier (ports_of g.F.Fleet.waiting g.F.Fleet.kept g.F.Fleet.lent g.F.Fleet.named c.args.fleet.now) (ports_of g.F.Fleet.waiting g.F.Fleet.kept g.F.Fleet.lent g.F.Fleet.named c.open_each-opened.new.fleet)
     c.open_each-opened.new.berths.items until.opens
 
 pub returns-clause-refused : goal.returns-clause-refused
 returns-clause-refused g c =
-    stops_at g.F.Port.Port.told c.as_slice-2.result.now (working_homes c.args.plan.now.problem c.args.plan.now.plan) c.in-Err.switch
-    (ports_of g.F.Fleet.waiting g.F.Fleet.kept g.F.Fleet.lent c.args.fleet.now) (ports_of g.F.Fleet.waiting g.F.Fleet.kept g.F.Fleet.lent c.open_each-opened.new.fleet)
-    (ports_of g.F.Fleet.waiting g.F.Fleet.kept g.F.Fleet.lent c.keep_ports.new.fleet) c.open_each-opened.new.berths.items
-    (c.as_slice-2.ensures ∙ c.in_ok-homes.ensures) c.in-Err.ensures.until c.keep_ports.ensures.ports
+    let homes = working_homes c.args.plan.now.problem c.args.plan.now.plan in
+    let before = ports_of g.F.Fleet.waiting g.F.Fleet.kept g.F.Fleet.lent g.F.Fleet.named c.args.fleet.now in
+    let now = ports_of g.F.Fleet.waiting g.F.Fleet.kept g.F.Fleet.lent g.F.Fleet.named c.open_each-opened.new.fleet in
+    let after = ports_of g.F.Fleet.waiting g.F.Fleet.kept g.F.Fleet.lent g.F.Fleet.named c.keep_ports.new.fleet in
+    subst (λ (q : Problem). StopsAt g.F.Port.Port.told q homes c.in-Err.switch before after) c.problem.ensures
+    (stops_at g.F.Port.Port.told c.problem.result.now c.as_slice-2.result.now homes c.in-Err.switch before now after c.open_each-opened.new.berths.items
+    (c.as_slice-2.ensures ∙ c.in_ok-homes.ensures) c.in-Err.ensures.until c.keep_ports.ensures.ports)

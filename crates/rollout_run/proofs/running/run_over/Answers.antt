@@ -6,6 +6,7 @@ use Rattle.rollout_ports.specs.Hands.{first_talks}
 use Rattle.shared_book.specs.Opened.{opening_of}
 use Rattle.rollout_run.specs.Runs.{Runs}
 use Rattle.rollout_run.specs.Teams.{team_ports}
+use Rattle.rollout_run.proofs.Stayed.{stays_alone}
 use Rattle.rollout_run.proofs.Over.{is_over, left_apart, left_lent, moved_switches, runs_over}
 use Rattle.rollout_run.proofs.running.run_over.Goals as goal
 
@@ -37,6 +38,12 @@ returns-in-Ok-clause-ran g c =
     let talks = first_talks c.args.berths.items in
     let tell = g.F.Port.Port.told in
     let runs : List (Talk g.row.F-Port.Denot) → List (Talk g.row.F-Port.Denot) → Type 0 = λ whole left. Runs g.D.Disk.told tell o (g.D.Disk.told c.args.book.chronicle.disk).moment (g.D.Disk.told c.args.book.chronicle.disk).faults c.args.limits.migration c.args.limits.rounds whole end book left in
-    is_over (ports_of g.F.Fleet.waiting g.F.Fleet.kept g.F.Fleet.lent c.args.fleet.now) (ports_of g.F.Fleet.waiting g.F.Fleet.kept g.F.Fleet.lent c.keep_team.new.fleet) c.args.berths.items (runs talks) (runs dealt ports) (book ≡ c.args.book.chronicle) dealt ports
+    is_over (ports_of g.F.Fleet.waiting g.F.Fleet.kept g.F.Fleet.lent g.F.Fleet.named c.args.fleet.now) (ports_of g.F.Fleet.waiting g.F.Fleet.kept g.F.Fleet.lent g.F.Fleet.named c.keep_team.new.fleet) c.args.berths.items (runs talks) (runs dealt ports) (book ≡ c.args.book.chronicle) dealt ports
     (runs_over g.D.Disk.told tell o (g.D.Disk.told c.args.book.chronicle.disk).moment (g.D.Disk.told c.args.book.chronicle.disk).faults c.args.limits.migration c.args.limits.rounds end book ports talks dealt c.in-Ok.ensures.same)
     c.keep_team.ensures.ports (moved_switches c.args.berths.items dealt ports c.in-Ok.ensures.same c.run_team-book.ensures.switches) c.in-Ok.ensures.same c.requires.apart end c.run_team-book.ensures.ran
+
+pub returns-in-Ok-clause-stays : goal.returns-in-Ok-clause-stays
+returns-in-Ok-clause-stays g c = c.run_team-book.ensures.stays
+
+pub returns-in-Err-clause-stays : goal.returns-in-Err-clause-stays
+returns-in-Err-clause-stays g c = stays_alone g.D.Disk.told (opening_of c.args.book.chronicle (rank_by c.args.book.policy.now.answers)) c.args.book.chronicle.disk

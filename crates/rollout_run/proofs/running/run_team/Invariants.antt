@@ -10,6 +10,7 @@ ghosts-run_named g a = record {
   opening = opening_of a.book.chronicle (rank_by a.book.policy.now.answers);
   moment = (g.D.Disk.told a.book.chronicle.disk).moment;
   faults = (g.D.Disk.told a.book.chronicle.disk).faults;
+  stood = g.D.Disk.told a.book.chronicle.disk;
   seats = max 1 a.limits.workers;
   migration = a.limits.migration;
   heard = λ answer. WasHeard g.T.Port.told (a.limits.migration, answer);

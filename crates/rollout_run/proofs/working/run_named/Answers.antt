@@ -1,7 +1,10 @@
-use Rattle.std.proofs.Common.{◌≡◌}
+use Rattle.std.proofs.Common.{◌≡◌, subst, sym}
 use Rattle.rollout_rules.specs.Legal.{is_finished}
 use Rattle.turn_lock.specs.Passes.{given_of, seen_of}
+use Rattle.rollout_book.specs.Chronicles.{Chronicled}
 use Rattle.shared_book.specs.Homes.{homes_of}
+use Rattle.shared_book.specs.Images.{StaysOpened}
+use Rattle.shared_book.proofs.Staying.{stays-first}
 use Rattle.rollout_run.specs.Runs.{Runs}
 use Rattle.rollout_run.specs.Teams.{team_ports}
 use Rattle.rollout_run.specs.declared.end.RunEnd.{RunEnd}
@@ -43,3 +46,11 @@ returns-in-Ok-clause-ran g c =
       worked = c.work-pass.ensures.worked;
       ends = end;
     })
+
+pub returns-in-Ok-clause-stays : goal.returns-in-Ok-clause-stays
+returns-in-Ok-clause-stays g c = c.close-book.ensures.stays
+
+pub returns-in-Err-clause-stays : goal.returns-in-Err-clause-stays
+returns-in-Err-clause-stays g c =
+    subst (λ (b : Chronicled g.row.D.Denot). StaysOpened g.D.Disk.told g.M.Marker.opening g.M.Marker.stood b.disk) (sym c.in-Err.ensures.err.0)
+    (stays-first g.D.Disk.told g.M.Marker.opening g.M.Marker.stood c.args.book.chronicle.disk c.requires.stood)

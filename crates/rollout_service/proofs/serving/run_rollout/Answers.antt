@@ -11,7 +11,7 @@ pub returns-in-Ok-clause-rolled : goal.returns-in-Ok-clause-rolled
 returns-in-Ok-clause-rolled g c =
     rolled-from g.D.Disk.told g.F.Port.Port.told
     c.args.plan (digest_for c.args.plan c.args.limits.migration) (rank_by c.args.policy.now.answers) (rank_by c.in-Ok.book.policy.now.answers) c.args.limits.migration c.args.limits.rounds c.args.disk c.in-Ok.book.chronicle
-    (ports_of g.F.Fleet.waiting g.F.Fleet.kept g.F.Fleet.lent c.args.fleet.now) (ports_of g.F.Fleet.waiting g.F.Fleet.kept g.F.Fleet.lent c.run_book.new.fleet) c.run_book.result.disk c.run_book.result.answer
+    (ports_of g.F.Fleet.waiting g.F.Fleet.kept g.F.Fleet.lent g.F.Fleet.named c.args.fleet.now) (ports_of g.F.Fleet.waiting g.F.Fleet.kept g.F.Fleet.lent g.F.Fleet.named c.run_book.new.fleet) c.run_book.result.disk c.run_book.result.answer
     (ap (λ p. rank_by p.answers) c.in-Ok.ensures.policy) (migration-is c.args.plan c.args.limits.migration) c.in-Ok.ensures.opened c.in-Ok.ensures.book c.run_book.ensures.run
 
 pub returns-in-Ok-clause-unopened : goal.returns-in-Ok-clause-unopened

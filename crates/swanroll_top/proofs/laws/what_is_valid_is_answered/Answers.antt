@@ -1,8 +1,8 @@
-use Rattle.swanroll_top.proofs.Complete.{valid-document-answers, valid-document-loads, valid-document-back, valid-script-answers, valid-document-explains}
+use Rattle.swanroll_top.proofs.Complete.{shown-document-answers, valid-document-loads, valid-document-back, valid-script-answers, valid-document-explains}
 use Rattle.swanroll_top.proofs.laws.what_is_valid_is_answered.Goals as goal
 
 pub returns-clause-check : goal.returns-clause-check
-returns-clause-check c = λ input taken. valid-document-answers input taken
+returns-clause-check c = λ input taken. shown-document-answers input taken
 
 pub returns-clause-loads : goal.returns-clause-loads
 returns-clause-loads c = λ input taken. valid-document-loads input taken

@@ -44,7 +44,7 @@ returns-in-Agent g c = ran-as _ _ _ _ _ _ (ap asked c.in-Agent.is) (record {
     unread = refl;
     disk = refl;
     fleet = tt;
-    ports = same-ports g.F.Fleet.waiting g.F.Fleet.kept g.F.Fleet.lent c.args.fleet.now c.agent.new.fleet c.agent.ensures.ports.0 c.agent.ensures.ports.1 c.agent.ensures.ports.2;
+    ports = same-ports g.F.Fleet.waiting g.F.Fleet.kept g.F.Fleet.lent g.F.Fleet.named c.args.fleet.now c.agent.new.fleet c.agent.ensures.ports.0 c.agent.ensures.ports.1 c.agent.ensures.ports.2 c.agent.ensures.ports.3;
   };
   visiting = c.agent.ensures.visiting;
 })
@@ -64,6 +64,43 @@ returns-in-Run g c = ran-as _ _ _ _ _ _ (ap asked c.in-Run.is) (record {
   ran = c.roll_out.ensures.others.0;
   unnamed = record { unread = tt; disk = tt; fleet = tt; ports = tt };
   visiting = c.roll_out.ensures.guests.2;
+})
+
+pub roll_back-requires-clause-migration : goal.roll_back-requires-clause-migration
+roll_back-requires-clause-migration g c κs within = subst IsAskedShape (ap asked c.in-Rollback.is) c.requires
+
+pub returns-in-Rollback : goal.returns-in-Rollback
+returns-in-Rollback g c = ran-as _ _ _ _ _ _ (ap asked c.in-Rollback.is) (record {
+  brings = record {
+    runs = c.roll_back.ensures.runs;
+    guests = same-guests _ _ c.roll_back.ensures.guests.0 c.roll_back.ensures.guests.1;
+    rolls = c.roll_back.ensures.rolls;
+  };
+  read_fault = c.roll_back.ensures.read_fault;
+  write_fault = c.roll_back.ensures.write_fault;
+  disk_fault = λ e. (refl, c.roll_back.ensures.disk_fault e);
+  guest_fault = λ e. absurd (c.roll_back.ensures.others.1 e);
+  unfinished = λ u e. refl;
+  ran = c.roll_back.ensures.others.0;
+  unnamed = record { unread = tt; disk = tt; fleet = tt; ports = tt };
+  visiting = c.roll_back.ensures.guests.2;
+})
+
+pub returns-in-Held : goal.returns-in-Held
+returns-in-Held g c = ran-as _ _ _ _ _ _ (ap asked c.in-Held.is) (record {
+  brings = record {
+    runs = c.held.ensures.runs;
+    guests = same-guests _ _ c.held.ensures.guests.0 c.held.ensures.guests.1;
+    asks = c.held.ensures.asks;
+  };
+  read_fault = c.held.ensures.read_fault;
+  write_fault = c.held.ensures.write_fault;
+  disk_fault = λ e. absurd (c.held.ensures.no_disk e);
+  guest_fault = λ e. absurd (c.held.ensures.others.1 e);
+  unfinished = λ u e. refl;
+  ran = c.held.ensures.others.0;
+  unnamed = record { unread = tt; disk = refl; fleet = tt; ports = tt };
+  visiting = c.held.ensures.guests.2;
 })
 
 pub returns-in-Trial : goal.returns-in-Trial

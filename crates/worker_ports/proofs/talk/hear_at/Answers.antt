@@ -1,7 +1,10 @@
-use Rattle.std.proofs.Common.{◌≡◌, List, ◌++◌, [], length, drop, Err, None, sym, subst, ap, ◌∙◌}
+use Rattle.std.proofs.Common.{◌≡◌, ◌⊎◌, ◌≤◌, ℕ, List, ◌++◌, [], length, drop, Err, None, sym, subst, ap, ◌∙◌}
 use Rattle.std.proofs.Math.Seq.{drop-length}
+use Rattle.std.specs.Bool.{OnTrue}
 use Rattle.std.specs.Prelude.{All}
 use Rattle.wan_edge.specs.Frames.{Answer}
+use Rattle.wan_edge.specs.Ports.{NothingToCome}
+use Rattle.port_session.specs.Sessions.{IsOver}
 use Rattle.worker_ports.specs.Causes.{cause_of}
 use Rattle.worker_ports.specs.Hearing.{HearsOut, IsHearCause, IsOwn, Listens}
 use Rattle.worker_ports.specs.Views.{view}
@@ -30,7 +33,8 @@ returns-in-None-clause-some g c =
 pub returns-in-None-clause-ok : goal.returns-in-None-clause-ok
 returns-in-None-clause-ok g c =
     let tell = g.T.Port.told in
-    let apart = told_apart c.args.migration (tell c.args.session.now.port).heard (tell c.hear_all.new.self.port).heard c.args.session.now.stream c.hear_all.new.self.stream c.args.heard.now.answers c.hear_all.new.heard.answers None c.in_default.ensures.ok in (
+    let said = c.in_default.ensures.ok in
+    let apart = told_apart c.args.migration (tell c.args.session.now.port).heard (tell c.hear_all.new.self.port).heard c.args.session.now.stream c.hear_all.new.self.stream c.args.heard.now.answers c.hear_all.new.heard.answers None said.hears in (
       apart.0,
       apart.1,
       record {
@@ -39,11 +43,11 @@ returns-in-None-clause-ok g c =
         own = subst (λ w. All (IsOwn c.args.homes.now w) apart.0) (c.switch-switch.ensures ∙ c.hear_all.ensures.switch)
             (subst (λ xs. All (IsOwn c.args.homes.now c.switch-switch.result) xs)
             (tail_told c.args.heard.now.answers apart.0 c.hear_all.new.heard.answers c.answers-before.result.now c.answers.result.now c.answers-before.ensures.answers c.answers.ensures.answers apart.1) c.in-None.ensures.none);
-        live = c.in_default.ensures.done.live;
-        cut = c.hear_all.ensures.cut c.in_default.ensures.done.live;
+        live = said.live;
+        cut = c.hear_all.ensures.cut said.live;
         idle = λ none. (ap (view tell) (c.in_default.ensures.idle none).1, sym (behind c.args.heard.now.answers apart.0 c.hear_all.new.heard.answers apart.1) ∙ ap (drop (length c.args.heard.now.answers)) (c.in_default.ensures.idle none).2 ∙ drop-length c.args.heard.now.answers);
-        heard_out = c.in_default.ensures.done.heard_out;
-        comes = c.in_default.ensures.done.comes;
-        all_given = c.in_default.ensures.done.all_given;
+        over = subst (λ (n : ℕ). IsOver n c.args.session.now.stream.awaited c.hear_all.new.self.stream.awaited (tell c.args.session.now.port) (tell c.hear_all.new.self.port)) (sym (ap length apart.3)) said.over;
+        comes = said.comes;
+        all_given = subst (λ (n : ℕ). OnTrue (tell c.args.session.now.port).prompt ((c.args.session.now.stream.awaited ≤ n) ⊎ NothingToCome (tell c.args.session.now.port).start (tell c.hear_all.new.self.port).offered (tell c.hear_all.new.self.port).heard)) (sym (ap length apart.3)) said.all_given;
       },
     )

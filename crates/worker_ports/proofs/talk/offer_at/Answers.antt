@@ -1,4 +1,5 @@
 use Rattle.std.proofs.Common.{length, ap}
+use Rattle.port_session.specs.Sessions.{awaited_behind}
 use Rattle.worker_ports.specs.Offering.{Offers}
 use Rattle.worker_ports.specs.Views.{view}
 use Rattle.worker_ports.proofs.Told.{all_sent, offers, until_sent}
@@ -8,7 +9,7 @@ pub returns-in-Ok-clause-some : goal.returns-in-Ok-clause-some
 returns-in-Ok-clause-some g c =
     let said = c.offer_all.ensures in
     offers g.T.Port.told
-    c.args.migration c.args.commands.now c.args.session.now c.offer_all.new.self (length c.args.commands.now) c.in-Ok.ensures.awaits (all_sent _ _ _ c.in-Ok.ensures.all)
+    c.args.migration c.args.commands.now c.args.session.now c.offer_all.new.self (awaited_behind c.args.session.now.stream.awaited (length c.args.commands.now)) c.in-Ok.ensures.awaits (all_sent _ _ _ c.in-Ok.ensures.all)
     said.unheard said.no_hear said.port
 
 pub returns-in-Ok-clause-all : goal.returns-in-Ok-clause-all

@@ -1,8 +1,11 @@
 use Rattle.std.proofs.Common.{[], take, ◌∙◌, subst}
 use Rattle.wan_edge.specs.Ports.{GoesOn}
-use Rattle.wan_edge.proofs.Chains.{Appends-nothing, goes_once}
+use Rattle.wan_edge.proofs.Chains.{Appends-nothing, goes_once, stays}
 use Rattle.port_session.specs.Sessions.{Talk}
 use Rattle.port_session.proofs.session.Session.offer_all.Goals as goal
+
+pub returns-then-is_empty-clause-port : goal.returns-then-is_empty-clause-port
+returns-then-is_empty-clause-port g c = stays (g.T.Port.told c.args.self.now.port)
 
 pub returns-in_err-offer-clause-port : goal.returns-in_err-offer-clause-port
 returns-in_err-offer-clause-port g c =

@@ -13,6 +13,7 @@ invariant-loop-buffer g l = record {
   ends : EndsWith l.fn.self.stream.kept (g.T.Port.told l.fn.self.port).heard;
   hears : HearsAnswers l.migration (listening (g.T.Port.told l.fn.self.port).heard l.fn.self.stream l.fn.answers) None (listening (g.T.Port.told l.self-inside.port).heard l.self-inside.stream l.answers);
   quiet : (g.T.Port.told l.self-inside.port).quiet ≡ (g.T.Port.told l.fn.self.port).quiet;
+  waits : (g.T.Port.told l.self-inside.port).waits ≡ (g.T.Port.told l.fn.self.port).waits;
   idle : l.fn.self.stream.awaited ≡ 0 → (l.self-inside.port ≡ l.fn.self.port) × (l.self-inside.stream ≡ l.fn.self.stream) × (l.answers ≡ l.fn.answers);
   switch : l.self-inside.switch ≡ l.fn.self.switch;
   port : GoesOn (g.T.Port.told l.fn.self.port) (g.T.Port.told l.self-inside.port);

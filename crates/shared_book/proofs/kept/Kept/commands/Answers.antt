@@ -19,6 +19,7 @@ invariant_of-self-2 g c =
           (images-at g.D.Disk.told g.M.Marker.opening g.M.Marker.moment g.M.Marker.faults c.self.inside.chronicle.value.disk _ _ c.self.view_is c.self.invariant.1)
           c.args.seat c.listed-reply.result),
       noted-heard g.M.Marker.heard c.args.seat c.args.self.now.log _ (list_notes c.listed-reply.result) [] (heard-at g.M.Marker.heard _ _ c.self.view_is c.self.invariant.2) (none-heard g.M.Marker.heard) leaves.noted,
+      c.self.invariant.3,
     )
 
 pub returns-clause-legal : goal.returns-clause-legal
@@ -50,5 +51,5 @@ invariant_of-out g c =
 
 pub invariant_of-self : goal.invariant_of-self
 invariant_of-self g c =
-    grown g.D.Disk.told g.M.Marker.opening g.M.Marker.seats g.M.Marker.moment g.M.Marker.faults g.M.Marker.heard c.self.inside.chronicle.value c.self.inside.notes.items c.make_room.new.notes.items c.self.inside.halted c.self.inside.spare
+    grown g.D.Disk.told g.M.Marker.opening g.M.Marker.seats g.M.Marker.moment g.M.Marker.faults g.M.Marker.heard g.M.Marker.stood c.self.inside.chronicle.value c.self.inside.notes.items c.make_room.new.notes.items c.self.inside.halted c.self.inside.spare
     (vec_capacity c.self.inside.notes) (vec_capacity c.make_room.new.notes) c.self.invariant c.make_room.ensures.same (omega (arith, c.self.invariant.0.room, c.make_room.ensures.kept))

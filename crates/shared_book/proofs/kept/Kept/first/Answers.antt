@@ -1,8 +1,10 @@
 use Rattle.std.proofs.Common.{rules, subst, sym, vec_capacity}
 use Rattle.rollout_book.specs.Chronicles.{Chronicled}
+use Rattle.shared_book.specs.Images.{StandsSo}
 use Rattle.shared_book.specs.Opened.{IsOpenedOn}
 use Rattle.shared_book.proofs.HeardDones.{first-heard}
 use Rattle.shared_book.proofs.Firsts.{first-images, first-shares}
+use Rattle.shared_book.proofs.Staying.{stays-first}
 use Rattle.shared_book.proofs.kept.Kept.first.Goals as goal
 
 pub invariant_of-result : goal.invariant_of-result
@@ -13,4 +15,6 @@ invariant_of-result g c =
       first-images g.D.Disk.told g.M.Marker.opening g.M.Marker.moment g.M.Marker.faults
           c.in-Ok.chronicle.value c.reserve.new.self.items opened (search rules) (g.met.D.Disk.only_now c.in-Ok.chronicle.value.disk),
       first-heard g.M.Marker.heard c.in-Ok.chronicle.value c.reserve.new.self.items (search rules),
+      stays-first g.D.Disk.told g.M.Marker.opening g.M.Marker.stood c.in-Ok.chronicle.value.disk
+          (subst (λ (b : Chronicled g.row.D.Denot). StandsSo g.M.Marker.stood (g.D.Disk.told b.disk)) (sym c.in-Ok.ensures.ok) c.requires.stood),
     )

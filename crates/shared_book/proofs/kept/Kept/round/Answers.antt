@@ -6,9 +6,10 @@ use Rattle.shared_history.specs.Histories.{history_of}
 use Rattle.shared_history.specs.Replies.{batch_at}
 use Rattle.shared_book.specs.Told.{OnFailed, round_notes}
 use Rattle.shared_book.proofs.HeardDones.{grown, heard-at, noted-heard, round-heard}
-use Rattle.shared_book.proofs.RoundImages.{grows-of, images-as, images-at, rose-of, round-images-by}
+use Rattle.shared_book.proofs.RoundImages.{grows-of, images-as, images-at, rose-of, round-images-by, round-stays-by}
 use Rattle.shared_book.proofs.Rounded.{made-plain, round-leaves}
 use Rattle.shared_book.proofs.Sharing.{shared-as, shared-at}
+use Rattle.shared_book.proofs.Staying.{stays-as}
 use Rattle.shared_book.proofs.kept.Kept.round.Goals as goal
 
 pub invariant_of-self-2 : goal.invariant_of-self-2
@@ -16,15 +17,21 @@ invariant_of-self-2 g c =
     let s = shared-as _ c.deref_mut.ensures.value (shared-at _ _ c.self.view_is c.self.invariant.0) in
     let plain = made-plain g.D.Disk.told c.deref_mut.result.now c.made-reply.new.chronicle _ (rank_by c.args.policy.now.answers) c.args.answers.now c.made-reply.result c.made-reply.ensures in
     let leaves = round-leaves _ _ _ _ _ _ _ _ _ _ _ (vec_capacity c.write_if.new.notes) c.args.self.now.log c.args.answers.now (rank_by c.args.policy.now.answers) c.args.seat c.args.call c.made-reply.result c.noted.result
-    s c.requires.policy c.requires.call plain c.noted.ensures c.make_room.ensures.same c.write_if.ensures.written (search rules) in (
+    s c.requires.policy c.requires.call plain c.noted.ensures c.make_room.ensures.same c.write_if.ensures.written (search rules) in
+    let images = images-as g.D.Disk.told g.M.Marker.opening g.M.Marker.moment g.M.Marker.faults c.self.inside.chronicle.value c.deref_mut.result.now _ c.deref_mut.ensures.value
+    (images-at g.D.Disk.told g.M.Marker.opening g.M.Marker.moment g.M.Marker.faults c.self.inside.chronicle.value.disk _ _ c.self.view_is c.self.invariant.1) in (
       leaves.shared,
       round-images-by g.D.Disk.told g.M.Marker.opening g.M.Marker.moment g.M.Marker.faults
           _ c.deref_mut.result.now c.made-reply.new.chronicle _ _ _ _ c.args.self.now.log _ c.args.answers.now (rank_by c.args.policy.now.answers) c.args.seat c.made-reply.result s c.requires.policy
-          (images-as g.D.Disk.told g.M.Marker.opening g.M.Marker.moment g.M.Marker.faults c.self.inside.chronicle.value c.deref_mut.result.now _ c.deref_mut.ensures.value
-          (images-at g.D.Disk.told g.M.Marker.opening g.M.Marker.moment g.M.Marker.faults c.self.inside.chronicle.value.disk _ _ c.self.view_is c.self.invariant.1))
+          images
           (g.met.D.Disk.counts_now c.made-reply.new.chronicle.disk) c.made-reply.ensures leaves.shared.legal leaves.noted,
       noted-heard g.M.Marker.heard c.args.seat c.args.self.now.log _ (round_notes c.made-reply.result) (batch_at g.M.Marker.opening (history_of g.M.Marker.opening c.args.self.now.log) (told_by c.args.answers.now)) (heard-at g.M.Marker.heard _ _ c.self.view_is c.self.invariant.2)
           (round-heard g.M.Marker.heard g.M.Marker.opening (history_of g.M.Marker.opening c.args.self.now.log) c.args.answers.now c.requires.heard) leaves.noted,
+      round-stays-by g.D.Disk.told g.M.Marker.opening g.M.Marker.moment g.M.Marker.faults g.M.Marker.stood
+          _ c.deref_mut.result.now c.made-reply.new.chronicle _ _ _ _ c.args.self.now.log _ c.args.answers.now (rank_by c.args.policy.now.answers) c.args.seat c.made-reply.result s c.requires.policy
+          images
+          (stays-as g.D.Disk.told g.M.Marker.opening g.M.Marker.stood c.self.inside.chronicle.value c.deref_mut.result.now c.deref_mut.ensures.value c.self.invariant.3)
+          (g.met.D.Disk.shows_one c.made-reply.new.chronicle.disk) (g.met.D.Disk.counts_now c.made-reply.new.chronicle.disk) c.made-reply.ensures leaves.shared.legal leaves.noted,
     )
 
 pub returns-clause-legal : goal.returns-clause-legal
@@ -64,5 +71,5 @@ returns-clause-count g c =
 
 pub invariant_of-self : goal.invariant_of-self
 invariant_of-self g c =
-    grown g.D.Disk.told g.M.Marker.opening g.M.Marker.seats g.M.Marker.moment g.M.Marker.faults g.M.Marker.heard c.self.inside.chronicle.value c.self.inside.notes.items c.make_room.new.notes.items c.self.inside.halted c.self.inside.spare
+    grown g.D.Disk.told g.M.Marker.opening g.M.Marker.seats g.M.Marker.moment g.M.Marker.faults g.M.Marker.heard g.M.Marker.stood c.self.inside.chronicle.value c.self.inside.notes.items c.make_room.new.notes.items c.self.inside.halted c.self.inside.spare
     (vec_capacity c.self.inside.notes) (vec_capacity c.make_room.new.notes) c.self.invariant c.make_room.ensures.same (omega (arith, c.self.invariant.0.room, c.make_room.ensures.kept))

@@ -34,6 +34,7 @@ invariant_of-self g c =
           (images-at g.D.Disk.told g.M.Marker.opening g.M.Marker.moment g.M.Marker.faults c.self.inside.chronicle.value.disk _ _ c.self.view_is c.self.invariant.1)
           c.args.seat c.args.cause),
       noted-heard g.M.Marker.heard c.args.seat c.args.self.now.log _ (Some (what.Stop c.args.cause)) [] (heard-at g.M.Marker.heard _ _ c.self.view_is c.self.invariant.2) (none-heard g.M.Marker.heard) leaves.noted,
+      c.self.invariant.3,
     )
 
 pub returns-then-not-has_asked-clause-legal : goal.returns-then-not-has_asked-clause-legal

@@ -1,7 +1,9 @@
-use Rattle.std.proofs.Common.{◌<◌, List, All, subst}
+use Rattle.std.proofs.Common.{◌<◌, List, All, subst, sym}
 use Rattle.shared_history.specs.declared.note.Written.{Written}
 use Rattle.turn_lock.specs.Passes.{given_of}
+use Rattle.rollout_book.specs.Chronicles.{Chronicled}
 use Rattle.shared_book.specs.Calls.{seat_of}
+use Rattle.shared_book.specs.Images.{StaysOpened}
 use Rattle.shared_book.specs.Lasting.{AllHeard}
 use Rattle.shared_book.proofs.seats.Shared+Kept+D+M+ref+Policy.close.Goals as goal
 
@@ -10,3 +12,7 @@ returns-clause-made g c = subst (λ (ws : List Written). All (λ w. seat_of w < 
 
 pub returns-clause-heard : goal.returns-clause-heard
 returns-clause-heard g c = subst (AllHeard g.M.Marker.heard) c.close.ensures.history c.into_parts-chronicle.ensures.heard
+
+pub returns-clause-stays : goal.returns-clause-stays
+returns-clause-stays g c =
+    subst (λ (b : Chronicled g.row.D.Denot). StaysOpened g.D.Disk.told g.M.Marker.opening g.M.Marker.stood b.disk) (sym c.into_parts-chronicle.ensures.book) c.into_parts-chronicle.ensures.stays

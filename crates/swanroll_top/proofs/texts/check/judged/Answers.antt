@@ -1,9 +1,8 @@
-use Rattle.std.proofs.Common.{ap, ◌∙◌}
-use Rattle.swanroll_top.proofs.Documents.{checked-judged}
+use Rattle.swanroll_top.proofs.Claims.{checked-claimed, sealed-claimed}
 use Rattle.swanroll_top.proofs.texts.check.judged.Goals as goal
 
-pub returns-in-Ok-clause-gives : goal.returns-in-Ok-clause-gives
-returns-in-Ok-clause-gives c =
-    checked-judged _ _ _ _ _ c.in_ok-plan.ensures.gives c.steps.ensures
-    (ap (λ plan. plan.scale) (c.behind-plan.view_is ∙ c.plan.ensures.part))
-    c.in-Ok.ensures
+pub returns-clause-gives : goal.returns-clause-gives
+returns-clause-gives c = checked-claimed c.args.claimed c.in_ok-plan.plan c.line_of-line.result c.in_ok-plan.ensures.gives c.line_of-line.ensures.gives
+
+pub returns-clause-claimed : goal.returns-clause-claimed
+returns-clause-claimed c = sealed-claimed c.args.claimed c.in_ok-plan.plan c.line_of-line.result c.in_ok-plan.ensures.sealed c.line_of-line.ensures.least

@@ -1,0 +1,9 @@
+pub mod Asked
+pub mod Noted
+pub mod Bytes
+pub mod Idle
+pub mod Heard
+pub mod Rounded
+pub mod Talked
+pub mod Visited
+pub mod Lined

@@ -1,0 +1,9 @@
+use Rattle.std.proofs.Common.{◌≡◌, ◌++◌, append_assoc, ap, ◌∙◌}
+use Rattle.std.proofs.lemmas.Result.{on_ok_weaker}
+use Rattle.held_service.specs.HeldText.{pair_text}
+use Rattle.held_service.proofs.held_lines.push_pair.Goals as goal
+
+pub returns : goal.returns
+returns c =
+    let line : c.deref.result.now ≡ pair_text c.args.migration c.args.number c.args.count = simp append_assoc (c.deref.ensures ∙ c.in_ok-part.ensures.ok) in
+    on_ok_weaker c.push_str.result (λ e. e ∙ ap (λ l. c.args.text.now ++ l) line) c.push_str.ensures.ok

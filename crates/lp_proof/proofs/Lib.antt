@@ -1,0 +1,6 @@
+pub mod Opened
+pub mod Moving
+pub mod Numbered
+pub mod NoFewer
+pub mod Built
+pub mod Answered

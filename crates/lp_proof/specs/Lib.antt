@@ -1,0 +1,4 @@
+pub mod RateSteps
+pub mod Shown
+pub mod Least
+pub mod Words

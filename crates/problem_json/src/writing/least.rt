@@ -1,0 +1,93 @@
+ghost use Rattle.std.specs.Prelude.{◌≡◌, ◌++◌, IfOk, OnOk, map, string_bytes};
+ghost use Rattle.serde_json.specs.Written.{compact_text};
+ghost use Rattle.step_proof.specs.declared.proof.Proof.TheVariants as said;
+ghost use Rattle.problem_json.specs.Writing.{list_data};
+ghost use Rattle.problem_json.specs.WritingLeast.{sign_text, fraction_text, fraction_data, claim_data};
+
+use crate::writing::pieces::{push_comma, push_name, push_number};
+use fraction_lp::Fraction;
+use lists::{Memory, Text};
+use std::alloc::Global;
+use step_proof::Proof;
+
+/// Adds that so many rate steps are impossible, and what shows it.
+pub fn push_claim(alloc: Global, text: &mut Text, steps: u32, proof: &Proof) -> Result<(), Memory>
+    ensures { OnOk result (text.new ≡ text.old ++ compact_text (claim_data steps proof.now)) }
+{
+    match proof {
+        Proof::Plain => push_plain(text, steps),
+        Proof::Link(link) => push_with_link(text, *link, steps),
+        Proof::Rows(rows) => push_with_rows(alloc, text, rows.as_slice(), steps),
+    }
+}
+
+fn push_plain(text: &mut Text, steps: u32) -> Result<(), Memory>
+    ensures { OnOk result (text.new ≡ text.old ++ compact_text (claim_data steps said.Plain)) }
+{
+    text.push_str(r#"{"steps":"#)?;
+    push_number(text, u64::from(steps))?;
+    text.push_str("}")
+}
+
+fn push_with_link(text: &mut Text, link: u32, steps: u32) -> Result<(), Memory>
+    ensures { OnOk result
+        (text.new ≡ text.old ++ compact_text (claim_data steps (said.Link link))) }
+{
+    text.push_str(r#"{"link":"#)?;
+    push_number(text, u64::from(link))?;
+    text.push_str(r#","steps":"#)?;
+    push_number(text, u64::from(steps))?;
+    text.push_str("}")
+}
+
+fn push_with_rows(
+    alloc: Global,
+    text: &mut Text,
+    rows: &[Fraction],
+    steps: u32,
+) -> Result<(), Memory>
+    ensures { OnOk result
+        (text.new ≡ text.old ++ compact_text (claim_data steps (said.Rows rows.now))) }
+{
+    text.push_str(r#"{"rows":"#)?;
+    push_fractions(alloc, text, rows)?;
+    text.push_str(r#","steps":"#)?;
+    push_number(text, u64::from(steps))?;
+    text.push_str("}")
+}
+
+fn push_fractions(alloc: Global, text: &mut Text, fractions: &[Fraction]) -> Result<(), Memory>
+    ensures { OnOk result
+        (text.new ≡ text.old ++ compact_text (list_data (map fraction_data fractions.now))) }
+{
+    text.push_str("[")?;
+    for (number, fraction) in fractions.iter().enumerate() {
+        push_comma(text, number)?;
+        push_fraction(alloc, text, fraction)?;
+    }
+    text.push_str("]")
+}
+
+/// Adds a fraction between quotes.
+fn push_fraction(alloc: Global, text: &mut Text, fraction: &Fraction) -> Result<(), Memory>
+    ensures { OnOk result (text.new ≡ text.old ++ compact_text (fraction_data fraction.now)) }
+{
+    let piece = fraction_piece(alloc, fraction)?;
+    push_name(alloc, text, &piece)
+}
+
+fn fraction_piece(alloc: Global, fraction: &Fraction) -> Result<String, Memory>
+    ensures { IfOk result (λ s. string_bytes s ≡ fraction_text fraction.now) }
+{
+    let sign = sign_of(fraction.top());
+    let top = fraction.top().unsigned_abs();
+    let bottom = fraction.bottom() as u128;
+    let piece = format!(in alloc; "{sign}{top}/{bottom}")?;
+    Ok(piece)
+}
+
+fn sign_of(top: i128) -> &'static str
+    ensures { result.now ≡ sign_text top }
+{
+    if top < 0 { "-" } else { "" }
+}

@@ -1,0 +1,18 @@
+use Rattle.rollout_ports.specs.Berths.{ports_of}
+use Rattle.rollout_report.specs.Journals.{digest_for}
+use Rattle.rollback_service.proofs.Levellings.{known-migration, levelled-from, stage-is}
+use Rattle.rollback_service.proofs.levelling.run_levelling.Goals as goal
+
+pub returns-in-Ok-clause-levelled : goal.returns-in-Ok-clause-levelled
+returns-in-Ok-clause-levelled g c =
+    levelled-from g.D.Disk.told g.F.Port.Port.told
+    c.args.plan (digest_for c.args.plan c.args.limits.migration) c.args.limits.migration c.args.limits.rounds c.args.disk c.in-Ok.chronicle
+    (ports_of g.F.Fleet.waiting g.F.Fleet.kept g.F.Fleet.lent g.F.Fleet.named c.args.fleet.now) (ports_of g.F.Fleet.waiting g.F.Fleet.kept g.F.Fleet.lent g.F.Fleet.named c.level.new.fleet) c.level.result.disk c.level.result.answer
+    (known-migration c.args.plan c.args.limits.migration) c.in-Ok.ensures.opened c.in-Ok.ensures.book c.level.ensures.levelled
+
+pub returns-in-Ok-clause-stage : goal.returns-in-Ok-clause-stage
+returns-in-Ok-clause-stage g c =
+    stage-is g.D.Disk.told g.F.Port.Port.told
+    c.args.limits.migration c.args.limits.rounds c.in-Ok.chronicle
+    (ports_of g.F.Fleet.waiting g.F.Fleet.kept g.F.Fleet.lent g.F.Fleet.named c.args.fleet.now) (ports_of g.F.Fleet.waiting g.F.Fleet.kept g.F.Fleet.lent g.F.Fleet.named c.level.new.fleet) c.level.result.disk c.level.result.answer
+    c.in-Ok.ensures.book c.level.ensures.levelled

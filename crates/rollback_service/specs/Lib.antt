@@ -1,0 +1,2 @@
+pub mod Levellings
+pub mod Placings

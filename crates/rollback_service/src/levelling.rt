@@ -1,0 +1,167 @@
+//! A rollout is levelled at the stage to which it has come.
+ghost use Rattle.std.specs.Prelude.{◌≡◌, ◌≤◌, ℕ, IfErr, IfOk, IfSome};
+ghost use Rattle.rollout_rules.specs.Wan.{Rollout};
+ghost use Rattle.intent_journal.specs.Openings.{IsLeft};
+ghost use Rattle.order_policy.specs.Answers.{rank_by};
+ghost use Rattle.wan_edge.specs.Streams.{Rose};
+ghost use Rattle.rollout_book.specs.Chronicles.{IsNewBook};
+ghost use Rattle.rollout_book.specs.Lists.{IsKeptList};
+ghost use Rattle.shared_book.specs.Opened.{IsOpened, opening_of};
+ghost use Rattle.rollout_ports.specs.Berths.{ports_of};
+ghost use Rattle.rollout_report.specs.Journals.{digest_for};
+ghost use Rattle.rollback_plan.specs.Levels as levels;
+ghost use Rattle.rollback_service.specs.Levellings.{HasLevelled, HasRunLevelling, HasRunUnder, IsStage, level_for};
+
+use crate::answer::{LevelAnswer, answer_behind};
+use crate::opening::open_chronicle;
+use disk_model::Disk;
+use intent_journal::Unopened;
+use order_policy::Policy;
+use rollback_plan::{ceiling, levelling_rank};
+use rollout_book::{Book, Chronicle};
+use rollout_run::{Limits, RunEnd, run};
+use std::alloc::Global;
+use std::sync::Wait;
+use std::thread::Threads;
+use wan_edge::Fleet;
+use wan_model::{CheckedPlan, OpView};
+
+/// What levelling comes to: the disk, and how it went.
+#[derive(Drop)]
+pub struct Levelled<D> {
+    pub disk: D,
+    pub answer: LevelAnswer,
+}
+
+/// Levels the rollout of a plan. Its journal is opened on the disk, or made where there is none yet; the stage
+/// is the greatest one to which an operation leads that was begun; and the rollout is run over the fleet's
+/// ports, longer chains first, with each operation held back of what stands at that stage or past it. What is
+/// in flight ends, and what stands before the stage comes there. The disk comes back with every answer. A
+/// journal that is refused is left as it was, and then no port is opened.
+pub fn run_levelling<R: Wait + Threads + Sync, D: Disk + Drop + Send, F: Fleet>(
+    rt: &R,
+    alloc: Global,
+    plan: CheckedPlan,
+    limits: Limits,
+    disk: D,
+    fleet: &mut F,
+) -> Result<Levelled<D>, Unopened<D>>
+where
+    F::Port: Drop + Send,
+    ensures levelled { IfOk result
+        (λ levelled. HasLevelled D.told F.Port.told plan (digest_for plan limits.migration)
+        limits.rounds disk (ports_of F.waiting F.kept F.lent F.named fleet.old)
+        (ports_of F.waiting F.kept F.lent F.named fleet.new) levelled.disk levelled.answer) }
+    ensures stage { IfOk result (λ levelled. IsStage levelled.answer) }
+    ensures left { IfErr result
+        (λ unopened. IsLeft D.told plan (digest_for plan limits.migration) disk unopened.cause
+        unopened.disk) }
+    ensures untouched { IfErr result (λ _. fleet.new ≡ fleet.old) }
+    ensures guests { (F.coming fleet.new ≡ F.coming fleet.old)
+        × (F.served fleet.new ≡ F.served fleet.old)
+        × (F.visiting fleet.new ≡ F.visiting fleet.old) }
+    ensures no_port { IfOk result
+        (λ levelled. (r : Rollout) (switch : ℕ)
+        → levelled.answer ≡ LevelAnswer.NoPort r switch
+        → Rose (F.faults fleet.old) (F.faults fleet.new)) }
+    ensures count { F.faults fleet.old ≤ F.faults fleet.new }
+{
+    match open_chronicle(alloc, plan, limits.migration, disk) {
+        Ok(chronicle) => Ok(level(rt, alloc, chronicle, fleet, limits)),
+        Err(unopened) => Err(unopened),
+    }
+}
+
+// Levels the rollout of a chronicle that was opened, under a policy that is made here and lent: longer chains
+// first, and nothing of what stands at the stage or past it. Without memory for it nothing is begun.
+fn level<R: Wait + Threads + Sync, D: Disk + Drop + Send, F: Fleet>(
+    rt: &R,
+    alloc: Global,
+    chronicle: Chronicle<D>,
+    fleet: &mut F,
+    limits: Limits,
+) -> Levelled<D>
+where
+    F::Port: Drop + Send,
+    requires { IsNewBook D.told chronicle }
+    ensures levelled { HasRunLevelling D.told F.Port.told limits.migration limits.rounds chronicle
+        (ports_of F.waiting F.kept F.lent F.named fleet.old)
+        (ports_of F.waiting F.kept F.lent F.named fleet.new) result.disk result.answer }
+    ensures guests { (F.coming fleet.new ≡ F.coming fleet.old)
+        × (F.served fleet.new ≡ F.served fleet.old)
+        × (F.visiting fleet.new ≡ F.visiting fleet.old) }
+    ensures no_port { (r : Rollout) (switch : ℕ)
+        → result.answer ≡ LevelAnswer.NoPort r switch
+        → Rose (F.faults fleet.old) (F.faults fleet.new) }
+    ensures count { F.faults fleet.old ≤ F.faults fleet.new }
+{
+    let stage = ceiling(chronicle.graph());
+    match Box::new(
+        alloc,
+        move |view: OpView| -> u64
+            ensures { result ≡ levels.levelling stage view }
+        { levelling_rank(stage, view) },
+    ) {
+        Ok(closure) => {
+            let ask: Box<dyn Fn(OpView) -> u64 + Send + Sync> = closure;
+            let policy = Policy::holding(ask);
+            let book = Book {
+                chronicle,
+                policy: &policy,
+            };
+            level_under(rt, alloc, book, stage, fleet, limits)
+        }
+        Err(_) => {
+            let (graph, disk) = chronicle.into_parts();
+            drop(graph);
+            Levelled {
+                disk,
+                answer: LevelAnswer::Memory,
+            }
+        }
+    }
+}
+
+// Runs a book whose policy levels at a stage, and takes it apart.
+fn level_under<R: Wait + Threads + Sync, D: Disk + Drop + Send, F: Fleet>(
+    rt: &R,
+    alloc: Global,
+    book: Book<'_, D>,
+    stage: u32,
+    fleet: &mut F,
+    limits: Limits,
+) -> Levelled<D>
+where
+    F::Port: Drop + Send,
+    requires opened { IsOpened (opening_of book.chronicle (rank_by book.policy.now.answers))
+        book.chronicle }
+    requires has { IfSome (D.told book.chronicle.disk).bytes
+        (IsKeptList book.chronicle.history.start book.chronicle.entries
+        (D.told book.chronicle.disk).may_leave) }
+    ensures run { HasRunUnder D.told F.Port.told (rank_by book.entry.policy.now.answers)
+        limits.migration limits.rounds book.entry.chronicle stage
+        (ports_of F.waiting F.kept F.lent F.named fleet.old)
+        (ports_of F.waiting F.kept F.lent F.named fleet.new) result.disk result.answer }
+    ensures guests { (F.coming fleet.new ≡ F.coming fleet.old)
+        × (F.served fleet.new ≡ F.served fleet.old)
+        × (F.visiting fleet.new ≡ F.visiting fleet.old) }
+    ensures no_port { (r : Rollout) (switch : ℕ)
+        → result.answer ≡ LevelAnswer.NoPort r switch
+        → Rose (F.faults fleet.old) (F.faults fleet.new) }
+    ensures count { F.faults fleet.old ≤ F.faults fleet.new }
+{
+    let (book, end) = run(rt, alloc, book, fleet, limits);
+    outcome_of(book, stage, end)
+}
+
+// What a run comes to that ended so and left this book, under the policy that levels at a stage.
+fn outcome_of<D: Disk>(book: Book<'_, D>, stage: u32, end: RunEnd) -> Levelled<D>
+    ensures disk { result.disk ≡ book.entry.chronicle.disk }
+    ensures answer { result.answer ≡ level_for book.entry.chronicle.rollout stage end }
+{
+    let (graph, disk) = book.into_parts();
+    Levelled {
+        disk,
+        answer: answer_behind(graph, stage, end),
+    }
+}

@@ -1,0 +1,45 @@
+use Rattle.std.proofs.Common.{◌∙◌, refl, sym, ap, subst}
+use Rattle.rollback_service.specs.Levellings.{IsStage}
+use Rattle.rollback_service.specs.declared.answer.LevelAnswer.{LevelAnswer}
+use Rattle.swanroll_top.specs.Rollbacks.{Closes}
+use Rattle.swanroll_top.specs.Rollouts.{may_end}
+use Rattle.swanroll_top.specs.declared.ending.Ending.TheVariants.{NotFinished, OutOfMemory}
+use Rattle.swanroll_top.specs.declared.unfinished.Unfinished.TheVariants.{PortFault}
+use Rattle.swanroll_top.proofs.Outcomes.{stop-may}
+use Rattle.swanroll_top.proofs.Reverting.{stop-not-cut}
+use Rattle.swanroll_top.proofs.rollback.close.Goals as goal
+
+pub take_back-requires-clause-stage : goal.take_back-requires-clause-stage
+take_back-requires-clause-stage g c = subst IsStage c.in-Level.is c.requires.stage
+
+pub returns-in-Level-clause-closes : goal.returns-in-Level-clause-closes
+returns-in-Level-clause-closes g c =
+    subst (λ (a : LevelAnswer). Closes g.D.Disk.told c.args.migration a c.args.disk c.take_back.result.disk c.take_back.result.ending (g.K.Sink.told c.args.sink.now).written (g.K.Sink.told c.take_back.new.sink).written)
+    (sym c.in-Level.is) c.take_back.ensures.takes
+
+pub returns-in-Stopped-clause-closes : goal.returns-in-Stopped-clause-closes
+returns-in-Stopped-clause-closes g c =
+    subst (λ (a : LevelAnswer). Closes g.D.Disk.told c.args.migration a c.args.disk c.args.disk c.ending_of_stop.result (g.K.Sink.told c.args.sink.now).written (g.K.Sink.told c.args.sink.now).written)
+    (sym c.in-Stopped.is) (record { is = c.ending_of_stop.ensures; disk_is = refl; silent = refl })
+
+pub returns-in-Stopped-clause-ends : goal.returns-in-Stopped-clause-ends
+returns-in-Stopped-clause-ends g c = record { may = ap may_end c.ending_of_stop.ensures ∙ stop-may c.in-Stopped.plan c.in-Stopped.halt.cause; silent = λ zero seven. refl }
+
+pub returns-in-Stopped-clause-write_fault : goal.returns-in-Stopped-clause-write_fault
+returns-in-Stopped-clause-write_fault g c = λ e. absurd (stop-not-cut c.in-Stopped.plan c.in-Stopped.halt.cause (sym c.ending_of_stop.ensures ∙ e))
+
+pub returns-in-NoPort-clause-closes : goal.returns-in-NoPort-clause-closes
+returns-in-NoPort-clause-closes g c =
+    subst (λ (a : LevelAnswer). Closes g.D.Disk.told c.args.migration a c.args.disk c.args.disk (NotFinished (PortFault c.in-NoPort.plan c.in-NoPort.switch)) (g.K.Sink.told c.args.sink.now).written (g.K.Sink.told c.args.sink.now).written)
+    (sym c.in-NoPort.is) (record { is = refl; disk_is = refl; silent = refl })
+
+pub returns-in-NoPort-clause-ends : goal.returns-in-NoPort-clause-ends
+returns-in-NoPort-clause-ends g c = record { may = refl; silent = λ zero seven. refl }
+
+pub returns-in-Memory-clause-closes : goal.returns-in-Memory-clause-closes
+returns-in-Memory-clause-closes g c =
+    subst (λ (a : LevelAnswer). Closes g.D.Disk.told c.args.migration a c.args.disk c.args.disk OutOfMemory (g.K.Sink.told c.args.sink.now).written (g.K.Sink.told c.args.sink.now).written)
+    (sym c.in-Memory.is) (record { is = refl; disk_is = refl; silent = refl })
+
+pub returns-in-Memory-clause-ends : goal.returns-in-Memory-clause-ends
+returns-in-Memory-clause-ends g c = record { may = refl; silent = λ zero seven. refl }

@@ -1,0 +1,264 @@
+//! The command `rollback`: a rollout is levelled at the stage to which it has come, and a journal of its way
+//! back takes the place of its own.
+
+ghost use Rattle.std.specs.Prelude.{◌≡◌, ◌≢◌, ◌+◌, ◌<◌, ◌≤◌, ◌^◌, Ok};
+ghost use Rattle.rollout_rules.specs.Wan.{Rollout, last_stage};
+ghost use Rattle.wan_edge.specs.Streams.{Rose};
+ghost use Rattle.rollback_service.specs.Levellings.{IsStage};
+ghost use Rattle.rollback_plan.specs.Turning as turning;
+ghost use Rattle.swanroll_top.specs.Reports.{rollout_in};
+ghost use Rattle.swanroll_top.specs.Rollbacks.{Closes, OpensAndRollsBack, Reverts, RevertsIn, RollsBack, TakesBack, back_text};
+ghost use Rattle.swanroll_top.specs.Rollouts.{EndsRollout, FollowsRolled, RunsRollout, fleet_of};
+ghost use Rattle.swanroll_top.specs.Runs.{Follows, IsInput};
+
+use crate::ending::Ending;
+use crate::journal_room::journal_room;
+use crate::reading::read_input;
+use crate::rollout::ending_of_stop;
+use crate::run::Closed;
+use crate::texts::{document_of, rollout_of};
+use crate::unfinished::Unfinished;
+use crate::writing::write_text;
+use dependency_graph::checked_plan_is_valid;
+use disk_mirror::Openable;
+use disk_model::Disk;
+use intent_journal::Unopened;
+use rollback_service::{LevelAnswer, Levelled, Placed, place_back, run_levelling};
+use rollout_run::Limits;
+use std::alloc::Global;
+use std::sync::Wait;
+use std::thread::Threads;
+use wan_edge::{Fleet, Nums8, Sink, Source};
+use wan_model::CheckedPlan;
+
+/// Reads all of the source, levels the rollout of its document within these limits, from what the journal on
+/// the disk has, and takes it back: a journal of the way back is placed, and then its document is written.
+pub fn roll_back<R: Wait + Threads + Sync, S: Source, K: Sink, D: Openable + Drop + Send, F: Fleet>(
+    rt: &R,
+    alloc: Global,
+    limits: Limits,
+    source: &mut S,
+    sink: &mut K,
+    disk: D,
+    fleet: &mut F,
+) -> Closed<D>
+where
+    F::Port: Drop + Send,
+    requires migration { limits.migration + 1 < 2 ^ 32 }
+    ensures runs { RunsRollout (S.told source.old) (S.told source.new) result.ending
+        (K.told sink.old).written (K.told sink.new).written }
+    ensures rolls { Reverts D.told F.Port.told (IsInput (S.told source.old) (S.told source.new))
+        limits disk result.disk (fleet_of F.waiting F.kept F.lent F.named F.faults fleet.old)
+        (fleet_of F.waiting F.kept F.lent F.named F.faults fleet.new) result.ending
+        (K.told sink.old).written (K.told sink.new).written }
+    ensures guests { (F.coming fleet.new ≡ F.coming fleet.old)
+        × (F.served fleet.new ≡ F.served fleet.old)
+        × (F.visiting fleet.new ≡ F.visiting fleet.old) }
+    ensures read_fault { result.ending ≡ Ending.ReadFault
+        → Rose (S.told source.old).faults (S.told source.new).faults }
+    ensures write_fault { result.ending ≡ Ending.WriteFault
+        → Rose (K.told sink.old).faults (K.told sink.new).faults }
+    ensures disk_fault { result.ending ≡ Ending.DiskFault
+        → Rose (D.told disk).faults (D.told result.disk).faults }
+    ensures others { (result.ending ≢ Ending.Usage) × (result.ending ≢ Ending.GuestFault) }
+{
+    match read_input(alloc, source) {
+        Ok(input) => roll_back_input(rt, alloc, limits, input, sink, disk, fleet),
+        Err(ending) => Closed { ending, disk },
+    }
+}
+
+fn roll_back_input<R: Wait + Threads + Sync, K: Sink, D: Openable + Drop + Send, F: Fleet>(
+    rt: &R,
+    alloc: Global,
+    limits: Limits,
+    input: Nums8,
+    sink: &mut K,
+    disk: D,
+    fleet: &mut F,
+) -> Closed<D>
+where
+    F::Port: Drop + Send,
+    requires { limits.migration + 1 < 2 ^ 32 }
+    ensures follows { FollowsRolled (rollout_in input) result.ending (K.told sink.old).written
+        (K.told sink.new).written }
+    ensures rolls { RevertsIn D.told F.Port.told (rollout_in input) limits disk result.disk
+        (fleet_of F.waiting F.kept F.lent F.named F.faults fleet.old)
+        (fleet_of F.waiting F.kept F.lent F.named F.faults fleet.new) result.ending
+        (K.told sink.old).written (K.told sink.new).written }
+    ensures guests { (F.coming fleet.new ≡ F.coming fleet.old)
+        × (F.served fleet.new ≡ F.served fleet.old)
+        × (F.visiting fleet.new ≡ F.visiting fleet.old) }
+    ensures write_fault { result.ending ≡ Ending.WriteFault
+        → Rose (K.told sink.old).faults (K.told sink.new).faults }
+    ensures disk_fault { result.ending ≡ Ending.DiskFault
+        → Rose (D.told disk).faults (D.told result.disk).faults }
+{
+    match rollout_of(alloc, input) {
+        Ok(plan) => roll_back_plan(rt, alloc, limits, plan, sink, disk, fleet),
+        Err(ending) => Closed { ending, disk },
+    }
+}
+
+/// Opens the disk, and rolls back from what it tells then.
+fn roll_back_plan<R: Wait + Threads + Sync, K: Sink, D: Openable + Drop + Send, F: Fleet>(
+    rt: &R,
+    alloc: Global,
+    limits: Limits,
+    plan: CheckedPlan,
+    sink: &mut K,
+    mut disk: D,
+    fleet: &mut F,
+) -> Closed<D>
+where
+    F::Port: Drop + Send,
+    requires { limits.migration + 1 < 2 ^ 32 }
+    ensures rolls { OpensAndRollsBack D.told F.Port.told plan limits disk result.disk
+        (fleet_of F.waiting F.kept F.lent F.named F.faults fleet.old)
+        (fleet_of F.waiting F.kept F.lent F.named F.faults fleet.new) result.ending
+        (K.told sink.old).written (K.told sink.new).written }
+    ensures ends { EndsRollout result.ending (K.told sink.old).written (K.told sink.new).written }
+    ensures guests { (F.coming fleet.new ≡ F.coming fleet.old)
+        × (F.served fleet.new ≡ F.served fleet.old)
+        × (F.visiting fleet.new ≡ F.visiting fleet.old) }
+    ensures write_fault { result.ending ≡ Ending.WriteFault
+        → Rose (K.told sink.old).faults (K.told sink.new).faults }
+    ensures disk_fault { result.ending ≡ Ending.DiskFault
+        → Rose (D.told disk).faults (D.told result.disk).faults }
+{
+    match disk.open(journal_room(&plan)) {
+        Ok(()) => roll_back_opened(rt, alloc, limits, plan, sink, disk, fleet),
+        Err(_) => {
+            drop(plan);
+            Closed {
+                ending: Ending::DiskFault,
+                disk,
+            }
+        }
+    }
+}
+
+fn roll_back_opened<R: Wait + Threads + Sync, K: Sink, D: Disk + Drop + Send, F: Fleet>(
+    rt: &R,
+    alloc: Global,
+    limits: Limits,
+    plan: CheckedPlan,
+    sink: &mut K,
+    disk: D,
+    fleet: &mut F,
+) -> Closed<D>
+where
+    F::Port: Drop + Send,
+    requires { limits.migration + 1 < 2 ^ 32 }
+    ensures rolls { RollsBack D.told F.Port.told plan limits disk result.disk
+        (fleet_of F.waiting F.kept F.lent F.named F.faults fleet.old)
+        (fleet_of F.waiting F.kept F.lent F.named F.faults fleet.new) result.ending
+        (K.told sink.old).written (K.told sink.new).written }
+    ensures ends { EndsRollout result.ending (K.told sink.old).written (K.told sink.new).written }
+    ensures guests { (F.coming fleet.new ≡ F.coming fleet.old)
+        × (F.served fleet.new ≡ F.served fleet.old)
+        × (F.visiting fleet.new ≡ F.visiting fleet.old) }
+    ensures write_fault { result.ending ≡ Ending.WriteFault
+        → Rose (K.told sink.old).faults (K.told sink.new).faults }
+    ensures disk_fault { result.ending ≡ Ending.DiskFault
+        → Rose (D.told disk).faults (D.told result.disk).faults }
+{
+    checked_plan_is_valid(&plan);
+    match run_levelling(rt, alloc, plan, limits, disk, fleet) {
+        Ok(levelled) => {
+            let Levelled { disk, answer } = levelled;
+            close(alloc, limits.migration, answer, sink, disk)
+        }
+        Err(unopened) => {
+            let Unopened { disk, cause } = unopened;
+            Closed {
+                ending: Ending::from(cause),
+                disk,
+            }
+        }
+    }
+}
+
+/// Takes a rollout back that is level, or says how the run ends without that.
+fn close<K: Sink, D: Disk>(
+    alloc: Global,
+    migration: u32,
+    answer: LevelAnswer,
+    sink: &mut K,
+    disk: D,
+) -> Closed<D>
+    requires stage { IsStage answer }
+    requires migration { migration + 1 < 2 ^ 32 }
+    ensures closes { Closes D.told migration answer disk result.disk result.ending
+        (K.told sink.old).written (K.told sink.new).written }
+    ensures ends { EndsRollout result.ending (K.told sink.old).written (K.told sink.new).written }
+    ensures write_fault { result.ending ≡ Ending.WriteFault
+        → Rose (K.told sink.old).faults (K.told sink.new).faults }
+{
+    match answer {
+        LevelAnswer::Level(plan, stage) => take_back(alloc, migration, plan, stage, sink, disk),
+        LevelAnswer::Stopped(plan, halt) => Closed {
+            ending: ending_of_stop(plan, halt.cause),
+            disk,
+        },
+        LevelAnswer::NoPort(plan, switch) => Closed {
+            ending: Ending::NotFinished(Unfinished::PortFault(plan, switch)),
+            disk,
+        },
+        LevelAnswer::Memory => Closed {
+            ending: Ending::OutOfMemory,
+            disk,
+        },
+    }
+}
+
+/// Places a journal of the way back from a stage, and then writes the document of the way back.
+fn take_back<K: Sink, D: Disk>(
+    alloc: Global,
+    migration: u32,
+    plan: CheckedPlan,
+    stage: u32,
+    sink: &mut K,
+    disk: D,
+) -> Closed<D>
+    requires stage { stage ≤ last_stage plan.plan }
+    requires migration { migration + 1 < 2 ^ 32 }
+    ensures takes { TakesBack D.told plan migration stage disk result.disk result.ending
+        (K.told sink.old).written (K.told sink.new).written }
+    ensures ends { EndsRollout result.ending (K.told sink.old).written (K.told sink.new).written }
+    ensures write_fault { result.ending ≡ Ending.WriteFault
+        → Rose (K.told sink.old).faults (K.told sink.new).faults }
+{
+    let Placed { disk, answer } = place_back(alloc, plan, migration, stage, disk);
+    match answer {
+        Ok(there) => Closed {
+            ending: write_back(alloc, there, sink),
+            disk,
+        },
+        Err(cause) => Closed {
+            ending: Ending::from(cause),
+            disk,
+        },
+    }
+}
+
+/// Writes the document of a rollout back, and a line feed.
+fn write_back<K: Sink>(alloc: Global, there: CheckedPlan, sink: &mut K) -> Ending
+    ensures follows { (r : Rollout)
+        → there ≡ turning.back r
+        → Follows (Ok (back_text r)) result (K.told sink.old).written (K.told sink.new).written }
+    ensures ends { EndsRollout result (K.told sink.old).written (K.told sink.new).written }
+    ensures write_fault { result ≡ Ending.WriteFault
+        → Rose (K.told sink.old).faults (K.told sink.new).faults }
+{
+    match document_of(alloc, &there) {
+        Ok(document) => {
+            drop(there);
+            write_text(sink, document.as_str())
+        }
+        Err(_) => {
+            drop(there);
+            Ending::OutOfMemory
+        }
+    }
+}
