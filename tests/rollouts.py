@@ -75,6 +75,7 @@ def from_nothing(program):
         yield "start 4, the report", same(one.report(), (0, FINISHED, ""))
     with rollout(program, NO_ROWS, b"\0") as one:
         yield "a network without rows", same(one.run(environment=one.without("SWANROLL_FLEET")), finished(0, 0))
+        yield "a network without rows, the report", same(one.report(), (0, "entries 0, settled 0 of 0, flying 0\nfinished\n", ""))
 
 
 def to_the_end(program):

@@ -11,7 +11,7 @@ use intent_journal::{Digest, Unopened, digest_of};
 use lists::Memory;
 use order_policy::Policy;
 use plan_check::check_plan;
-use problem_json::{Document, read_document};
+use problem_json::read_document;
 use rollout_book::Book;
 use std::alloc::Global;
 use std::test::Fail;
@@ -49,9 +49,14 @@ pub fn disk_of(alloc: Global, fails: &[u64]) -> Result<MemoryDisk, Memory> {
 
 /// The plan of a document. Fails where the document or its plan is refused.
 pub fn planned(alloc: Global, text: &str) -> Result<CheckedPlan, Fail> {
-    let Document { problem, plan } = read_document(alloc, text.as_bytes())?;
-    check_plan(alloc, &problem, &plan)?;
-    Ok(CheckedPlan::seal(problem, plan))
+    let document = read_document(alloc, text.as_bytes())?;
+    match check_plan(alloc, &document.problem, &document.plan) {
+        Ok(()) => Ok(CheckedPlan::seal(document.problem, document.plan)),
+        Err(fault) => {
+            drop(document);
+            Err(Fail::from(fault))
+        }
+    }
 }
 
 /// The graph of a rollout, at its start.
@@ -92,10 +97,10 @@ pub fn opened<'d, D: Disk>(
     Book::open(alloc, graph, digest, policy, disk)
 }
 
-/// Takes a book apart, and gives its disk.
+/// Takes a book apart, and gives its disk. What the graph kept beside its plan goes in the graph's own crate.
 pub fn disk_behind<D: Disk>(book: Book<'_, D>) -> D {
     let (graph, disk) = book.into_parts();
-    drop(graph);
+    drop(graph.into_plan());
     disk
 }
 

@@ -2,18 +2,18 @@
 ghost use Rattle.std.specs.Prelude.{◌≡◌, []};
 ghost use Rattle.rollout_rules.specs.History.{from_nothing};
 
-use crate::books::{SWITCHES, answers_to, digest, disk_behind, disk_of, graph_of, opened, tables};
+use crate::books::{digest, disk_behind, disk_of, graph_of, opened, tables};
+use crate::histories::listed;
 use dependency_graph::Graph;
 use disk_model::{Disk, MemoryDisk};
 use intent_journal::{JournalFault, Unopened};
 use lists::Memory;
 use order_policy::Policy;
-use rollout_book::{Book, CommandList};
+use rollout_book::Book;
 use rollout_rules::{Entry, OpView};
 use std::alloc::Global;
 use std::test::Fail;
 use wan_edge::{Nums8, Turns};
-use wire_frames::Answer;
 
 // More rounds than the rollout has.
 const ROUNDS: u32 = 10;
@@ -44,13 +44,6 @@ fn roll<D: Disk>(alloc: Global, book: &mut Book<'_, D>) -> Result<(), Memory> {
         answers = listed(alloc, book)?;
     }
     Ok(())
-}
-
-// The answers to all commands of a book.
-fn listed<D: Disk>(alloc: Global, book: &Book<'_, D>) -> Result<Vec<Answer>, Memory> {
-    let mut commands = CommandList::new(alloc);
-    book.commands(alloc, &SWITCHES, &mut commands)?;
-    answers_to(alloc, commands.as_slice())
 }
 
 // Rolls on, and says what was found and what has come of it.
@@ -129,7 +122,9 @@ fn rolled_from<D: Disk + Drop>(
 fn goes_on(alloc: Global, policy: &Policy, image: Nums8, entries: &[Entry]) -> Result<bool, Fail> {
     let disk = MemoryDisk::new(alloc, image, Turns::new(alloc));
     let again = rolled_over(alloc, policy, disk)?;
-    Ok(begins_with(again.lists.found.as_slice(), entries) && again.finished)
+    let goes_on = begins_with(again.lists.found.as_slice(), entries) && again.finished;
+    drop(again);
+    Ok(goes_on)
 }
 
 fn begins_with(all: &[Entry], front: &[Entry]) -> bool {
@@ -147,7 +142,9 @@ fn stopping(alloc: Global, call: u64) -> Result<MemoryDisk, Memory> {
 // it stopped at all.
 fn stopped_at(alloc: Global, policy: &Policy, call: u64) -> Result<(bool, bool), Fail> {
     let first = rolled_over(alloc, policy, stopping(alloc, call)?)?;
-    goes_on_behind(alloc, policy, &first)
+    let goes_on = goes_on_behind(alloc, policy, &first);
+    drop(first);
+    goes_on
 }
 
 fn goes_on_behind(
@@ -177,9 +174,9 @@ fn a_rollout_goes_on_from_what_any_crash_leaves(rt: HostRuntime) -> Result<(), F
     let mut stops = 0_u64;
     for call in 0..40 {
         let (goes_on, stopped) = stopped_ranked(rt.alloc(), call)?;
-        assert!(rt; goes_on, "at call {call}");
+        assert!(rt; goes_on);
         stops = stops.wrapping_add(u64::from(stopped));
     }
-    assert!(rt; stops > 10 && stops < 40, "{stops} stops");
+    assert!(rt; stops > 10 && stops < 40);
     Ok(())
 }

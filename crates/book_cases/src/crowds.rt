@@ -34,7 +34,10 @@ fn answers_alike<D: Disk + Drop>(
 {
     match opened(alloc, graph, &digest(), policy, disk) {
         Ok(book) => book_answers_alike(alloc, book, notes),
-        Err(_) => false,
+        Err(unopened) => {
+            drop(unopened);
+            false
+        }
     }
 }
 
@@ -46,7 +49,7 @@ fn book_answers_alike<D: Disk + Drop>(alloc: Global, book: Book<'_, D>, notes: &
 
 // Lets the book go.
 fn is_alike<D: Disk + Drop>(book: Book<'_, D>, answered: Result<bool, Memory>) -> bool {
-    let _disk = disk_behind(book);
+    drop(disk_behind(book));
     matches!(answered, Ok(true))
 }
 
@@ -58,8 +61,19 @@ fn answers_alike_ranked(alloc: Global, text: &str, notes: &[Note]) -> Result<boo
         { 0 },
     )?;
     let policy = Policy::holding(alike);
+    alike_by(alloc, text, &policy, notes)
+}
+
+// The same by a policy.
+fn alike_by(alloc: Global, text: &str, policy: &Policy, notes: &[Note]) -> Result<bool, Fail> {
     let disk = disk_of(alloc, &[])?;
-    Ok(answers_alike(alloc, graph_of(alloc, text)?, &policy, disk, notes))
+    match graph_of(alloc, text) {
+        Ok(graph) => Ok(answers_alike(alloc, graph, policy, disk, notes)),
+        Err(fail) => {
+            drop(disk);
+            Err(fail)
+        }
+    }
 }
 
 // Whether the notes are those of all calls of all seats, each of which was told its own.
@@ -111,7 +125,9 @@ fn crowd_over<R: Abort + Threads + Wait + Sync>(
 ) -> Result<[bool; 2], Fail> {
     let task = Task::Threads(&[], Part::Calls, Part::Calls);
     let done = share_ranked(rt, alloc, text, ALIKE, disk_of(alloc, fails)?, task)?;
-    told_of(alloc, text, &done)
+    let told = told_of(alloc, text, &done);
+    drop(done);
+    told
 }
 
 fn told_of(alloc: Global, text: &str, done: &Done<MemoryDisk>) -> Result<[bool; 2], Fail> {
@@ -126,7 +142,7 @@ fn told_of(alloc: Global, text: &str, done: &Done<MemoryDisk>) -> Result<[bool; 
 #[test]
 fn the_calls_of_all_threads_are_those_of_one_book(rt: HostRuntime) -> Result<(), Fail> {
     for text in [one(), late(), tables()] {
-        assert_eq!(rt; crowd_over(&rt, rt.alloc(), text, &[])?, [true, true]);
+        assert!(rt; crowd_over(&rt, rt.alloc(), text, &[])? == [true, true]);
     }
     Ok(())
 }
@@ -135,7 +151,7 @@ fn the_calls_of_all_threads_are_those_of_one_book(rt: HostRuntime) -> Result<(),
 fn a_disk_that_fails_at_any_call_stops_all_threads(rt: HostRuntime) -> Result<(), Fail> {
     for call in 0..24 {
         let found = crowd_over(&rt, rt.alloc(), late(), &[call])?;
-        assert_eq!(rt; found, [call >= CALLS_TO_OPEN, true], "at call {call}");
+        assert!(rt; found == [call >= CALLS_TO_OPEN, true]);
     }
     Ok(())
 }

@@ -13,7 +13,7 @@ use wire_frames::Answer;
 
 /// What the calls of a seat are, in turn: it lists the commands of all switches, makes a round with the
 /// answers to them, and looks for work of all switches.
-#[derive(Clone, Copy, Debug)]
+#[derive(Clone, Copy)]
 pub enum Kind {
     List,
     Round,
@@ -147,8 +147,8 @@ fn answer<D: Disk>(
     })
 }
 
-// The answers to all commands of a book.
-fn listed<D: Disk>(alloc: Global, book: &Book<'_, D>) -> Result<Vec<Answer>, Memory> {
+/// The answers to all commands of a book.
+pub fn listed<D: Disk>(alloc: Global, book: &Book<'_, D>) -> Result<Vec<Answer>, Memory> {
     let mut commands = CommandList::new(alloc);
     book.commands(alloc, &SWITCHES, &mut commands)?;
     answers_to(alloc, commands.as_slice())

@@ -22,7 +22,7 @@ use turn_lock::Counted;
 use wire_frames::Answer;
 
 /// A call of one of two seats, and what it is told.
-#[derive(Clone, Copy, Debug)]
+#[derive(Clone, Copy)]
 pub struct Row {
     pub seat: u32,
     pub call: Call,
@@ -104,7 +104,7 @@ pub fn all_calls<D: Disk, M: Marker, R: Abort + Wait>(
 {
     for row in rows {
         let (after, told) = one_call(rt, alloc, book, seats, *row);
-        assert!(rt; told == row.told, "{row:?} was told {told:?}");
+        assert!(rt; told == row.told);
         seats = after;
     }
     seats
@@ -117,62 +117,66 @@ const STOPPED: Halt = Halt {
 };
 
 // The second seat stops for a port.
-const A_STOP: [Row; 5] = [
-    Row {
-        seat: 0,
-        call: Call::Round(None),
-        told: Told::Round(RoundReply::Turned(Turn {
-            dones: 0,
-            begins: 1,
-        })),
-    },
-    Row {
-        seat: 1,
-        call: Call::List(0),
-        told: Told::List(ListReply::Listed, 1),
-    },
-    Row {
-        seat: 1,
-        call: Call::Stop(Cause::Port(0)),
-        told: Told::Halt(STOPPED),
-    },
-    Row {
-        seat: 0,
-        call: Call::Round(None),
-        told: Told::Round(RoundReply::Stopped(STOPPED)),
-    },
-    Row {
-        seat: 1,
-        call: Call::Stop(Cause::Memory),
-        told: Told::Halt(STOPPED),
-    },
-];
-
-const NOTES_OF_A_STOP: [Note; 4] = [
-    Note {
-        seat: 0,
-        call: 0,
-        what: What::Turned {
-            dones: 0,
-            begins: 1,
+fn a_stop() -> [Row; 5] {
+    [
+        Row {
+            seat: 0,
+            call: Call::Round(None),
+            told: Told::Round(RoundReply::Turned(Turn {
+                dones: 0,
+                begins: 1,
+            })),
         },
-    },
-    Note {
-        seat: 1,
-        call: 0,
-        what: What::Listed,
-    },
-    Note {
-        seat: 1,
-        call: 1,
-        what: What::Stop(Cause::Port(0)),
-    },
-    Note {
-        seat: 0,
-        call: 1,
-        what: What::Stopped,
-    },
-];
+        Row {
+            seat: 1,
+            call: Call::List(0),
+            told: Told::List(ListReply::Listed, 1),
+        },
+        Row {
+            seat: 1,
+            call: Call::Stop(Cause::Port(0)),
+            told: Told::Halt(STOPPED),
+        },
+        Row {
+            seat: 0,
+            call: Call::Round(None),
+            told: Told::Round(RoundReply::Stopped(STOPPED)),
+        },
+        Row {
+            seat: 1,
+            call: Call::Stop(Cause::Memory),
+            told: Told::Halt(STOPPED),
+        },
+    ]
+}
+
+fn notes_of_a_stop() -> [Note; 4] {
+    [
+        Note {
+            seat: 0,
+            call: 0,
+            what: What::Turned {
+                dones: 0,
+                begins: 1,
+            },
+        },
+        Note {
+            seat: 1,
+            call: 0,
+            what: What::Listed,
+        },
+        Note {
+            seat: 1,
+            call: 1,
+            what: What::Stop(Cause::Port(0)),
+        },
+        Note {
+            seat: 0,
+            call: 1,
+            what: What::Stopped,
+        },
+    ]
+}
 
 // The notes that two seats leave which make these calls of the book of one operation.
 fn notes_of<R: Abort + Threads + Wait + Sync>(
@@ -187,13 +191,6 @@ fn notes_of<R: Abort + Threads + Wait + Sync>(
     notes_over(rt, alloc, one(), rank, fails, Task::Rows(rows))
 }
 
-#[test]
-fn a_stop_of_one_seat_is_told_to_the_other(rt: HostRuntime) -> Result<(), Fail> {
-    let notes = notes_of(&rt, rt.alloc(), ALIKE, &[], &A_STOP)?;
-    assert_eq!(rt; notes.as_slice(), NOTES_OF_A_STOP.as_slice());
-    Ok(())
-}
-
 const FAILED: Halt = Halt {
     seat: 0,
     call: 0,
@@ -201,81 +198,71 @@ const FAILED: Halt = Halt {
 };
 
 // The disk fails in the first round.
-const A_FAILURE: [Row; 5] = [
-    Row {
-        seat: 0,
-        call: Call::Round(None),
-        told: Told::Round(RoundReply::Refused(BookFault::Disk)),
-    },
-    Row {
-        seat: 1,
-        call: Call::List(0),
-        told: Told::List(ListReply::Stopped(FAILED), 0),
-    },
-    Row {
-        seat: 1,
-        call: Call::Await(0),
-        told: Told::Awake(Wake::Stopped(FAILED)),
-    },
-    Row {
-        seat: 1,
-        call: Call::Stop(Cause::Port(0)),
-        told: Told::Halt(FAILED),
-    },
-    Row {
-        seat: 0,
-        call: Call::Round(None),
-        told: Told::Round(RoundReply::Stopped(FAILED)),
-    },
-];
-
-#[test]
-fn a_disk_that_fails_in_a_round_stops_all(rt: HostRuntime) -> Result<(), Fail> {
-    let notes = notes_of(&rt, rt.alloc(), ALIKE, &[CALLS_TO_OPEN], &A_FAILURE)?;
-    assert_eq!(rt; notes.as_slice().len(), A_FAILURE.len());
-    Ok(())
+fn a_failure() -> [Row; 5] {
+    [
+        Row {
+            seat: 0,
+            call: Call::Round(None),
+            told: Told::Round(RoundReply::Refused(BookFault::Disk)),
+        },
+        Row {
+            seat: 1,
+            call: Call::List(0),
+            told: Told::List(ListReply::Stopped(FAILED), 0),
+        },
+        Row {
+            seat: 1,
+            call: Call::Await(0),
+            told: Told::Awake(Wake::Stopped(FAILED)),
+        },
+        Row {
+            seat: 1,
+            call: Call::Stop(Cause::Port(0)),
+            told: Told::Halt(FAILED),
+        },
+        Row {
+            seat: 0,
+            call: Call::Round(None),
+            told: Told::Round(RoundReply::Stopped(FAILED)),
+        },
+    ]
 }
 
 // One seat begins, waits, answers and waits again.
-const AN_END: [Row; 5] = [
-    Row {
-        seat: 1,
-        call: Call::Round(None),
-        told: Told::Round(RoundReply::Turned(Turn {
-            dones: 0,
-            begins: 1,
-        })),
-    },
-    Row {
-        seat: 0,
-        call: Call::Await(0),
-        told: Told::Awake(Wake::Work(Op { item: 0, number: 1 })),
-    },
-    Row {
-        seat: 0,
-        call: Call::Round(Some(Answer { item: 0, held: 1 })),
-        told: Told::Round(RoundReply::Turned(Turn {
-            dones: 1,
-            begins: 0,
-        })),
-    },
-    Row {
-        seat: 0,
-        call: Call::Await(0),
-        told: Told::Awake(Wake::Finished),
-    },
-    Row {
-        seat: 1,
-        call: Call::Await(2),
-        told: Told::Awake(Wake::Finished),
-    },
-];
-
-#[test]
-fn who_waits_is_told_of_work_and_then_of_the_end(rt: HostRuntime) -> Result<(), Fail> {
-    let notes = notes_of(&rt, rt.alloc(), ALIKE, &[], &AN_END)?;
-    assert_eq!(rt; notes.as_slice().len(), AN_END.len());
-    Ok(())
+fn an_end() -> [Row; 5] {
+    [
+        Row {
+            seat: 1,
+            call: Call::Round(None),
+            told: Told::Round(RoundReply::Turned(Turn {
+                dones: 0,
+                begins: 1,
+            })),
+        },
+        Row {
+            seat: 0,
+            call: Call::Await(0),
+            told: Told::Awake(Wake::Work(Op { item: 0, number: 1 })),
+        },
+        Row {
+            seat: 0,
+            call: Call::Round(Some(Answer { item: 0, held: 1 })),
+            told: Told::Round(RoundReply::Turned(Turn {
+                dones: 1,
+                begins: 0,
+            })),
+        },
+        Row {
+            seat: 0,
+            call: Call::Await(0),
+            told: Told::Awake(Wake::Finished),
+        },
+        Row {
+            seat: 1,
+            call: Call::Await(2),
+            told: Told::Awake(Wake::Finished),
+        },
+    ]
 }
 
 const ALIEN: Halt = Halt {
@@ -289,46 +276,41 @@ const ALIEN: Halt = Halt {
 };
 
 // Nothing may begin, so an answer that tells of an operation is alien.
-const A_HOLD: [Row; 5] = [
-    Row {
-        seat: 0,
-        call: Call::Round(None),
-        told: Told::Round(RoundReply::Turned(Turn {
-            dones: 0,
-            begins: 0,
-        })),
-    },
-    Row {
-        seat: 0,
-        call: Call::Await(0),
-        told: Told::Awake(Wake::Held),
-    },
-    Row {
-        seat: 0,
-        call: Call::Round(Some(Answer { item: 0, held: 1 })),
-        told: Told::Round(RoundReply::Refused(BookFault::Alien {
-            item: 0,
-            held: 1,
-            begun: 0,
-        })),
-    },
-    Row {
-        seat: 0,
-        call: Call::Await(0),
-        told: Told::Awake(Wake::Stopped(ALIEN)),
-    },
-    Row {
-        seat: 1,
-        call: Call::List(0),
-        told: Told::List(ListReply::Stopped(ALIEN), 0),
-    },
-];
-
-#[test]
-fn who_waits_is_told_that_all_is_held_and_of_an_alien_answer(rt: HostRuntime) -> Result<(), Fail> {
-    let notes = notes_of(&rt, rt.alloc(), HELD, &[], &A_HOLD)?;
-    assert_eq!(rt; notes.as_slice().len(), A_HOLD.len());
-    Ok(())
+fn a_hold() -> [Row; 5] {
+    [
+        Row {
+            seat: 0,
+            call: Call::Round(None),
+            told: Told::Round(RoundReply::Turned(Turn {
+                dones: 0,
+                begins: 0,
+            })),
+        },
+        Row {
+            seat: 0,
+            call: Call::Await(0),
+            told: Told::Awake(Wake::Held),
+        },
+        Row {
+            seat: 0,
+            call: Call::Round(Some(Answer { item: 0, held: 1 })),
+            told: Told::Round(RoundReply::Refused(BookFault::Alien {
+                item: 0,
+                held: 1,
+                begun: 0,
+            })),
+        },
+        Row {
+            seat: 0,
+            call: Call::Await(0),
+            told: Told::Awake(Wake::Stopped(ALIEN)),
+        },
+        Row {
+            seat: 1,
+            call: Call::List(0),
+            told: Told::List(ListReply::Stopped(ALIEN), 0),
+        },
+    ]
 }
 
 // The first seat asks for the switch of an item.
@@ -353,9 +335,39 @@ fn homes() -> [Row; 7] {
     ]
 }
 
+// Whether two seats are told what these rows say, and as many notes are made.
+fn are_noted<R: Abort + Threads + Wait + Sync>(
+    rt: &R,
+    alloc: Global,
+    rank: u64,
+    fails: &[u64],
+    rows: &[Row],
+) -> Result<bool, Fail>
+    requires { rank ≤ 4294967296 }
+{
+    let notes = notes_of(rt, alloc, rank, fails, rows)?;
+    Ok(notes.as_slice().len() == rows.len())
+}
+
+// Whether they leave these notes.
+fn leave<R: Abort + Threads + Wait + Sync>(
+    rt: &R,
+    alloc: Global,
+    rows: &[Row],
+    wanted: &[Note],
+) -> Result<bool, Fail> {
+    let notes = notes_of(rt, alloc, ALIKE, &[], rows)?;
+    Ok(notes.as_slice() == wanted)
+}
+
+// A stop of one seat is told to the other, and so is a disk that fails in a round. Who waits is told of work and then of the
+// end, that all is held, and of an alien answer. Each item belongs to a switch, and of that no note is made.
 #[test]
-fn each_item_belongs_to_a_switch(rt: HostRuntime) -> Result<(), Fail> {
-    let notes = notes_of(&rt, rt.alloc(), ALIKE, &[], &homes())?;
-    assert!(rt; notes.as_slice().is_empty());
+fn two_seats_are_told_what_their_rows_say(rt: HostRuntime) -> Result<(), Fail> {
+    assert!(rt; leave(&rt, rt.alloc(), &a_stop(), &notes_of_a_stop())?);
+    assert!(rt; are_noted(&rt, rt.alloc(), ALIKE, &[CALLS_TO_OPEN], &a_failure())?);
+    assert!(rt; are_noted(&rt, rt.alloc(), ALIKE, &[], &an_end())?);
+    assert!(rt; are_noted(&rt, rt.alloc(), HELD, &[], &a_hold())?);
+    assert!(rt; leave(&rt, rt.alloc(), &homes(), &[])?);
     Ok(())
 }

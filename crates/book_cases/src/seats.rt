@@ -14,7 +14,7 @@ use wire_frames::Answer;
 
 /// A call of a seat: a round with at most one answer, the listing of a switch's commands, waiting for work of
 /// a switch, asking that all stop, and asking for the switch of an item, of which no note is made.
-#[derive(Clone, Copy, Debug)]
+#[derive(Clone, Copy)]
 pub enum Call {
     Round(Option<Answer>),
     List(u32),
@@ -24,7 +24,7 @@ pub enum Call {
 }
 
 /// What a call was told, and of a listing how many commands came.
-#[derive(Clone, Copy, Debug, PartialEq, Eq)]
+#[derive(Clone, Copy, PartialEq, Eq)]
 pub enum Told {
     Round(RoundReply),
     List(ListReply, usize),

@@ -227,5 +227,21 @@ pub fn notes_over<R: Abort + Threads + Wait + Sync>(
 ) -> Result<NoteList, Fail>
     requires { rank ≤ 4294967296 }
 {
-    Ok(share_ranked(rt, alloc, text, rank, disk_of(alloc, fails)?, task)?.notes)
+    let done = share_ranked(rt, alloc, text, rank, disk_of(alloc, fails)?, task)?;
+    Ok(notes_in(done))
+}
+
+// The notes alone; all else goes.
+fn notes_in<D: Drop>(done: Done<D>) -> NoteList {
+    let Done {
+        opened: _,
+        told,
+        notes,
+        halt: _,
+        finished: _,
+        disk,
+    } = done;
+    drop(told);
+    drop(disk);
+    notes
 }

@@ -12,56 +12,58 @@ use std::test::Fail;
 use wire_frames::Answer;
 
 // Behind these rounds only the entry at the second switch is in flight, which the flow at the first waits for.
-const BEFORE: [Row; 6] = [
-    Row {
-        seat: 0,
-        call: Call::Round(None),
-        told: Told::Round(RoundReply::Turned(Turn {
-            dones: 0,
-            begins: 4,
-        })),
-    },
-    Row {
-        seat: 0,
-        call: Call::Round(Some(Answer { item: 4, held: 1 })),
-        told: Told::Round(RoundReply::Turned(Turn {
-            dones: 1,
-            begins: 1,
-        })),
-    },
-    Row {
-        seat: 0,
-        call: Call::Round(Some(Answer { item: 6, held: 1 })),
-        told: Told::Round(RoundReply::Turned(Turn {
-            dones: 1,
-            begins: 1,
-        })),
-    },
-    Row {
-        seat: 0,
-        call: Call::Round(Some(Answer { item: 5, held: 1 })),
-        told: Told::Round(RoundReply::Turned(Turn {
-            dones: 1,
-            begins: 0,
-        })),
-    },
-    Row {
-        seat: 0,
-        call: Call::Round(Some(Answer { item: 8, held: 1 })),
-        told: Told::Round(RoundReply::Turned(Turn {
-            dones: 1,
-            begins: 0,
-        })),
-    },
-    Row {
-        seat: 0,
-        call: Call::Round(Some(Answer { item: 7, held: 1 })),
-        told: Told::Round(RoundReply::Turned(Turn {
-            dones: 1,
-            begins: 0,
-        })),
-    },
-];
+fn before() -> [Row; 6] {
+    [
+        Row {
+            seat: 0,
+            call: Call::Round(None),
+            told: Told::Round(RoundReply::Turned(Turn {
+                dones: 0,
+                begins: 4,
+            })),
+        },
+        Row {
+            seat: 0,
+            call: Call::Round(Some(Answer { item: 4, held: 1 })),
+            told: Told::Round(RoundReply::Turned(Turn {
+                dones: 1,
+                begins: 1,
+            })),
+        },
+        Row {
+            seat: 0,
+            call: Call::Round(Some(Answer { item: 6, held: 1 })),
+            told: Told::Round(RoundReply::Turned(Turn {
+                dones: 1,
+                begins: 1,
+            })),
+        },
+        Row {
+            seat: 0,
+            call: Call::Round(Some(Answer { item: 5, held: 1 })),
+            told: Told::Round(RoundReply::Turned(Turn {
+                dones: 1,
+                begins: 0,
+            })),
+        },
+        Row {
+            seat: 0,
+            call: Call::Round(Some(Answer { item: 8, held: 1 })),
+            told: Told::Round(RoundReply::Turned(Turn {
+                dones: 1,
+                begins: 0,
+            })),
+        },
+        Row {
+            seat: 0,
+            call: Call::Round(Some(Answer { item: 7, held: 1 })),
+            told: Told::Round(RoundReply::Turned(Turn {
+                dones: 1,
+                begins: 0,
+            })),
+        },
+    ]
+}
 
 // What lies behind so many notes.
 fn behind(notes: &[Note], count: usize) -> &[Note] {
@@ -100,10 +102,11 @@ fn are_woken(notes: &[Note]) -> bool {
 // Whether a waiting thread looks ahead of the first one's round, and sleeps, or behind it: it is told of the work.
 #[test]
 fn all_that_wait_are_woken_by_the_round_of_another(rt: HostRuntime) -> Result<(), Fail> {
-    let task = Task::Threads(&BEFORE, Part::Begins, Part::Waits);
+    let before = before();
+    let task = Task::Threads(&before, Part::Begins, Part::Waits);
     let all = notes_over(&rt, rt.alloc(), tables(), ALIKE, &[], task)?;
-    let notes = behind(all.as_slice(), BEFORE.len());
-    assert_eq!(rt; notes.first(), Some(&BEGUN));
+    let notes = behind(all.as_slice(), before.len());
+    assert!(rt; notes.first() == Some(&BEGUN));
     assert!(rt; are_woken(behind(notes, 1)));
     Ok(())
 }

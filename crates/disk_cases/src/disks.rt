@@ -1,8 +1,10 @@
+//! A disk in memory: what it reads, what a crash leaves of it, and at which calls it fails.
+
 use disk_model::{Disk, MemoryDisk, put};
 use lists::Memory;
 use std::alloc::Global;
 use std::test::Fail;
-use wan_edge::{Failed, Nums8, Turns};
+use wan_edge::{Nums8, Turns};
 
 // A disk with these bytes, whose calls with these numbers fail.
 fn disk_of(alloc: Global, bytes: &[u8], fails: &[u64]) -> Result<MemoryDisk, Memory> {
@@ -13,78 +15,108 @@ fn disk_of(alloc: Global, bytes: &[u8], fails: &[u64]) -> Result<MemoryDisk, Mem
     Ok(MemoryDisk::new(alloc, all, turns))
 }
 
-#[test]
-fn what_was_written_is_read(rt: HostRuntime) -> Result<(), Fail> {
-    let mut disk = disk_of(rt.alloc(), &[1, 2, 3, 4], &[])?;
-    assert_eq!(rt; disk.write_at(1, &[9, 8]), Ok(()));
-    let mut into = [0; 3];
-    assert_eq!(rt; disk.read_at(1, &mut into), Ok(3));
-    assert_eq!(rt; into, [9, 8, 4]);
-    assert_eq!(rt; disk.read_at(3, &mut into), Ok(1));
-    assert_eq!(rt; disk.read_at(4, &mut into), Ok(0));
-    assert_eq!(rt; disk.len(), Ok(4));
-    Ok(())
+// Whether a crash leaves these bytes, with what wasn't synced or without it.
+fn leaves(disk: &MemoryDisk, keep: bool, bytes: &[u8]) -> Result<bool, Memory> {
+    let left = disk.left(keep)?;
+    Ok(left.as_slice() == bytes)
 }
 
-#[test]
-fn a_gap_past_the_end_reads_as_zeros(rt: HostRuntime) -> Result<(), Fail> {
-    let mut disk = disk_of(rt.alloc(), &[1, 2], &[])?;
-    assert_eq!(rt; disk.write_at(4, &[7]), Ok(()));
-    assert_eq!(rt; disk.bytes(), [1, 2, 0, 0, 7].as_slice());
-    assert_eq!(rt; disk.write_at(u64::MAX, &[7]), Err(Failed));
-    assert_eq!(rt; disk.len(), Ok(5));
-    Ok(())
+// Whether a read of at most four bytes gives so many, which are these.
+fn reads<D: Disk>(disk: &mut D, at: u64, count: usize, bytes: [u8; 4]) -> bool {
+    let mut into = [0; 4];
+    let read = disk.read_at(at, &mut into) == Ok(count);
+    read && into == bytes
 }
 
-#[test]
-fn a_crash_leaves_what_was_synced_or_all_that_was_written(rt: HostRuntime) -> Result<(), Fail> {
-    let mut disk = disk_of(rt.alloc(), &[1, 2], &[])?;
-    assert_eq!(rt; disk.write_at(0, &[5]), Ok(()));
-    assert_eq!(rt; disk.write_at(2, &[6]), Ok(()));
-    assert_eq!(rt; disk.left(false)?.as_slice(), [1, 2].as_slice());
-    assert_eq!(rt; disk.left(true)?.as_slice(), [5, 2, 6].as_slice());
-    assert_eq!(rt; disk.sync(), Ok(()));
-    assert_eq!(rt; disk.left(false)?.as_slice(), [5, 2, 6].as_slice());
-    Ok(())
+// Bytes 1 and 2. A write past the end leaves zeros in between, and one past all places fails. Before a sync a crash
+// leaves what was there, or all that was written.
+fn keeps_what_was_written(disk: &mut MemoryDisk) -> Result<bool, Memory> {
+    let inside = disk.write_at(1, &[9]).is_ok();
+    let past = disk.write_at(4, &[7]).is_ok();
+    let beyond = disk.write_at(u64::MAX, &[7]).is_err();
+    let lost = leaves(disk, false, &[1, 2])?;
+    let kept = leaves(disk, true, &[1, 9, 0, 0, 7])?;
+    Ok(inside && past && beyond && lost && kept)
 }
 
-#[test]
-fn a_disk_fails_at_its_turns_alone(rt: HostRuntime) -> Result<(), Fail> {
-    let mut disk = disk_of(rt.alloc(), &[1], &[0, 2])?;
-    for wanted in [Err(Failed), Ok(()), Err(Failed), Ok(())] {
-        assert_eq!(rt; disk.sync(), wanted);
-    }
-    assert_eq!(rt; disk.failures(), 2);
-    Ok(())
+// Behind that.
+fn gives_what_was_written(disk: &mut MemoryDisk) -> Result<bool, Memory> {
+    let front = reads(disk, 1, 4, [9, 0, 0, 7]);
+    let end = reads(disk, 4, 1, [7, 0, 0, 0]);
+    let past = reads(disk, 5, 0, [0; 4]);
+    let length = disk.len() == Ok(5);
+    let synced = disk.sync().is_ok();
+    let kept = leaves(disk, false, &[1, 9, 0, 0, 7])?;
+    Ok(front && end && past && length && synced && kept)
 }
 
-#[test]
-fn a_stopped_disk_fails_from_that_call_on(rt: HostRuntime) -> Result<(), Fail> {
-    let mut disk = disk_of(rt.alloc(), &[1], &[])?;
+// A byte 1. A put is one write and one sync; one whose sync fails is none. The disk fails at its turns alone.
+fn puts(disk: &mut MemoryDisk) -> Result<bool, Memory> {
+    let unsynced = put(disk, 1, &[2, 3]).is_err();
+    let lost = leaves(disk, false, &[1])?;
+    let kept = leaves(disk, true, &[1, 2, 3])?;
+    let synced = put(disk, 1, &[4, 3]).is_ok();
+    let both = disk.calls() == 4 && disk.failures() == 1;
+    let durable = leaves(disk, false, &[1, 4, 3])?;
+    Ok(unsynced && lost && kept && synced && both && durable)
+}
+
+fn fails_at_its_turns(disk: &mut MemoryDisk) -> bool {
+    let fifth = disk.sync().is_err();
+    let sixth = disk.sync().is_ok();
+    fifth && sixth && disk.failures() == 2
+}
+
+// A byte 1, of a disk that fails from its second call on.
+fn stops(disk: &mut MemoryDisk) -> Result<bool, Memory> {
     disk.stop_at(1);
-    assert_eq!(rt; disk.write_at(0, &[5]), Ok(()));
-    assert_eq!(rt; disk.sync(), Err(Failed));
-    assert_eq!(rt; disk.read_at(0, &mut [0]), Err(Failed));
-    assert_eq!(rt; disk.len(), Err(Failed));
-    assert_eq!(rt; (disk.calls(), disk.failures()), (4, 3));
-    assert_eq!(rt; disk.left(false)?.as_slice(), [1].as_slice());
-    Ok(())
+    let written = disk.write_at(0, &[5]).is_ok();
+    let unsynced = disk.sync().is_err();
+    let unread = disk.read_at(0, &mut [0]).is_err();
+    let unknown = disk.len().is_err();
+    let lost = leaves(disk, false, &[1])?;
+    Ok(written && unsynced && unread && unknown && lost && disk.calls() == 4)
+}
+
+fn keeps_and_gives(disk: &mut MemoryDisk) -> Result<bool, Memory> {
+    let kept = keeps_what_was_written(disk)?;
+    let given = gives_what_was_written(disk)?;
+    Ok(kept && given)
+}
+
+fn puts_and_fails(disk: &mut MemoryDisk) -> Result<bool, Memory> {
+    let both = puts(disk)?;
+    let failed = fails_at_its_turns(disk);
+    Ok(both && failed)
+}
+
+// What is tried of a disk.
+#[derive(Clone, Copy)]
+enum Trial {
+    Keeping,
+    Putting,
+    Stopping,
+}
+
+fn is_passed(disk: &mut MemoryDisk, trial: Trial) -> Result<bool, Memory> {
+    match trial {
+        Trial::Keeping => keeps_and_gives(disk),
+        Trial::Putting => puts_and_fails(disk),
+        Trial::Stopping => stops(disk),
+    }
+}
+
+fn passes(alloc: Global, bytes: &[u8], fails: &[u64], trial: Trial) -> Result<bool, Memory> {
+    let mut disk = disk_of(alloc, bytes, fails)?;
+    let passed = is_passed(&mut disk, trial);
+    drop(disk);
+    passed
 }
 
 #[test]
-fn a_put_is_one_write_and_one_sync(rt: HostRuntime) -> Result<(), Fail> {
-    let mut disk = disk_of(rt.alloc(), &[1], &[])?;
-    assert_eq!(rt; put(&mut disk, 1, &[2, 3]), Ok(()));
-    assert_eq!(rt; disk.calls(), 2);
-    assert_eq!(rt; disk.left(false)?.as_slice(), [1, 2, 3].as_slice());
-    Ok(())
-}
-
-#[test]
-fn a_put_whose_sync_fails_is_no_put(rt: HostRuntime) -> Result<(), Fail> {
-    let mut disk = disk_of(rt.alloc(), &[1], &[1])?;
-    assert_eq!(rt; put(&mut disk, 1, &[2, 3]), Err(Failed));
-    assert_eq!(rt; disk.left(false)?.as_slice(), [1].as_slice());
-    assert_eq!(rt; disk.left(true)?.as_slice(), [1, 2, 3].as_slice());
+fn a_disk_keeps_what_was_synced_and_fails_where_it_is_to(rt: HostRuntime) -> Result<(), Fail> {
+    assert!(rt; passes(rt.alloc(), &[1, 2], &[], Trial::Keeping)?);
+    assert!(rt; passes(rt.alloc(), &[1], &[1, 4], Trial::Putting)?);
+    assert!(rt; passes(rt.alloc(), &[1], &[], Trial::Stopping)?);
     Ok(())
 }

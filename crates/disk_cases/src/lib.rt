@@ -1,12 +1,8 @@
-//! Tests of the disk, the journal and the report: what no clause of theirs says. They stand apart, since a
-//! crate with tests is proved twice.
+//! Tests of the disk in memory and of the one over another: what no clause of theirs says. They stand apart, since a
+//! crate with tests is proved twice. What is tried is lent, and is let go by one call.
 #![tactic(auto)]
 
 #[cfg(test)]
 mod disks;
 #[cfg(test)]
-mod journals;
-#[cfg(test)]
 mod mirrors;
-#[cfg(test)]
-mod reports;

@@ -1,7 +1,7 @@
 //! Ports that answer only while two threads hear at once.
 ghost use Rattle.std.specs.Prelude.{◌≡◌};
 
-use disk_model::MemoryDisk;
+use disk_model::{Disk, MemoryDisk};
 use lists::{Memory, Text};
 use lossy_link::{Gate, GatedPort, MemoryFleet};
 use order_policy::Policy;
@@ -13,7 +13,7 @@ use std::alloc::Global;
 use std::sync::Wait;
 use std::test::Fail;
 use std::thread::Threads;
-use wan_edge::{Nums8, Turns};
+use wan_edge::{Fleet, Nums8, Turns};
 use wan_model::{CheckedPlan, OpView};
 
 /// Two flows at two switches, which each move 3 of their 4 at once.
@@ -25,12 +25,6 @@ pub fn two() -> &'static str {
 fn four() -> &'static str {
     "{\"plan\":{\"scale\":1,\"stages\":[{\"installed\":[true,true,true,true,true,true,true,true],\"rates\":[4,0,4,0,4,0,4,0]},{\"installed\":[true,true,true,true,true,true,true,true],\"rates\":[1,3,1,3,1,3,1,3]}]},\"problem\":{\"flows\":[{\"name\":\"f\",\"tunnels\":[{\"new\":1,\"old\":4,\"path\":[\"A\",\"X\"]},{\"new\":3,\"old\":0,\"path\":[\"A\",\"Y\",\"X\"]}]},{\"name\":\"g\",\"tunnels\":[{\"new\":1,\"old\":4,\"path\":[\"B\",\"X\"]},{\"new\":3,\"old\":0,\"path\":[\"B\",\"Y\",\"X\"]}]},{\"name\":\"h\",\"tunnels\":[{\"new\":1,\"old\":4,\"path\":[\"C\",\"X\"]},{\"new\":3,\"old\":0,\"path\":[\"C\",\"Y\",\"X\"]}]},{\"name\":\"i\",\"tunnels\":[{\"new\":1,\"old\":4,\"path\":[\"D\",\"X\"]},{\"new\":3,\"old\":0,\"path\":[\"D\",\"Y\",\"X\"]}]}],\"links\":[{\"capacity\":20,\"from\":\"A\",\"to\":\"X\"},{\"capacity\":20,\"from\":\"A\",\"to\":\"Y\"},{\"capacity\":20,\"from\":\"Y\",\"to\":\"X\"},{\"capacity\":20,\"from\":\"B\",\"to\":\"X\"},{\"capacity\":20,\"from\":\"B\",\"to\":\"Y\"},{\"capacity\":20,\"from\":\"C\",\"to\":\"X\"},{\"capacity\":20,\"from\":\"C\",\"to\":\"Y\"},{\"capacity\":20,\"from\":\"D\",\"to\":\"X\"},{\"capacity\":20,\"from\":\"D\",\"to\":\"Y\"}],\"switches\":[{\"name\":\"A\",\"table\":8},{\"name\":\"B\",\"table\":8},{\"name\":\"C\",\"table\":8},{\"name\":\"D\",\"table\":8},{\"name\":\"X\",\"table\":8},{\"name\":\"Y\",\"table\":8}]}}"
 }
-
-// In how many rounds each worker may offer commands: so many that workers which serve side by side meet on a
-// busy machine too, and so few that one which is alone has soon spent them.
-const MANY_ROUNDS: u32 = 1000;
-
-const FEW_ROUNDS: u32 = 3;
 
 /// The plan of a document. Fails where the document or its plan is refused.
 pub fn planned(alloc: Global, text: &str) -> Result<CheckedPlan, Fail> {
@@ -80,13 +74,19 @@ fn put_gate(
     Ok(())
 }
 
-// How a rollout from a blank disk goes over the ports of a fleet, by so many workers.
+// By how many workers a rollout is made, and in how many rounds each may offer commands.
+#[derive(Clone, Copy)]
+struct Crew {
+    workers: u32,
+    rounds: u32,
+}
+
+// How the rollout of a document goes over the ports of a fleet, by item.
 fn rolled_out<R: Wait + Threads + Sync>(
     rt: &R,
     alloc: Global,
     text: &str,
-    workers: u32,
-    rounds: u32,
+    crew: Crew,
     fleet: &mut MemoryFleet<GatedPort>,
 ) -> Result<RunAnswer, Fail> {
     let by_item: Box<dyn Fn(OpView) -> u64 + Send + Sync> = Box::new(
@@ -95,30 +95,62 @@ fn rolled_out<R: Wait + Threads + Sync>(
             ensures { result ≡ view.item }
         { u64::from(view.item) },
     )?;
-    let limits = Limits {
-        workers,
-        rounds,
-        migration: 0,
-    };
     let policy = Policy::new(by_item);
-    let plan = planned(alloc, text)?;
-    let disk = MemoryDisk::new(alloc, Nums8::new(alloc), Turns::new(alloc));
-    let Outcome { answer, disk } = run_rollout(rt, alloc, plan, &policy, limits, disk, fleet);
-    drop(disk);
-    Ok(answer)
+    rolled_by(rt, alloc, text, &policy, crew, fleet)
 }
 
-// The same over ports of which the two of each of these pairs wait at a gate.
+// The same by a policy, from a blank disk.
+fn rolled_by<R: Wait + Threads + Sync>(
+    rt: &R,
+    alloc: Global,
+    text: &str,
+    policy: &Policy,
+    crew: Crew,
+    fleet: &mut MemoryFleet<GatedPort>,
+) -> Result<RunAnswer, Fail> {
+    let plan = planned(alloc, text)?;
+    let disk = MemoryDisk::new(alloc, Nums8::new(alloc), Turns::new(alloc));
+    Ok(answer_of(rolled_over(rt, alloc, plan, policy, crew, disk, fleet)))
+}
+
+// Over any disk and any fleet.
+fn rolled_over<R: Wait + Threads + Sync, D: Disk + Drop + Send, F: Fleet>(
+    rt: &R,
+    alloc: Global,
+    plan: CheckedPlan,
+    policy: &Policy,
+    crew: Crew,
+    disk: D,
+    fleet: &mut F,
+) -> Outcome<D>
+where
+    F::Port: Drop + Send,
+{
+    let limits = Limits {
+        workers: crew.workers,
+        rounds: crew.rounds,
+        migration: 0,
+    };
+    run_rollout(rt, alloc, plan, policy, limits, disk, fleet)
+}
+
+// The disk goes.
+fn answer_of<D: Drop>(outcome: Outcome<D>) -> RunAnswer {
+    let Outcome { answer, disk } = outcome;
+    drop(disk);
+    answer
+}
+
+// How a rollout goes over ports of which the two of each of these pairs wait at a gate.
 fn met<R: Wait + Threads + Sync>(
     rt: &R,
     alloc: Global,
     text: &str,
-    workers: u32,
-    rounds: u32,
+    crew: Crew,
     gates: &[[u32; 2]],
 ) -> Result<RunAnswer, Fail> {
     let mut fleet = MemoryFleet::new(alloc);
-    let answer = met_over(rt, alloc, text, workers, rounds, gates, &mut fleet);
+    let answer = met_over(rt, alloc, text, crew, gates, &mut fleet);
     drop(fleet);
     answer
 }
@@ -127,15 +159,14 @@ fn met_over<R: Wait + Threads + Sync>(
     rt: &R,
     alloc: Global,
     text: &str,
-    workers: u32,
-    rounds: u32,
+    crew: Crew,
     gates: &[[u32; 2]],
     fleet: &mut MemoryFleet<GatedPort>,
 ) -> Result<RunAnswer, Fail> {
     for gate in gates {
         put_gate(alloc, fleet, *gate)?;
     }
-    rolled_out(rt, alloc, text, workers, rounds, fleet)
+    rolled_out(rt, alloc, text, crew, fleet)
 }
 
 // Whether a rollout without a journal has settled so many operations.
@@ -154,23 +185,31 @@ fn has_stopped(answer: RunAnswer) -> bool {
     has_stopped
 }
 
-#[test]
-fn two_workers_meet_at_a_gate(rt: HostRuntime) -> Result<(), Fail> {
-    let answer = met(&rt, rt.alloc(), two(), 2, MANY_ROUNDS, &[[0, 1]])?;
-    assert!(rt; has_finished(answer, 2));
-    Ok(())
+// So many workers with so many rounds that they meet on a busy machine, too.
+fn many(workers: u32) -> Crew {
+    Crew {
+        workers,
+        rounds: 1000,
+    }
+}
+
+// Too few rounds to wait for ever.
+fn alone() -> Crew {
+    Crew {
+        workers: 1,
+        rounds: 3,
+    }
 }
 
 #[test]
-fn one_worker_is_alone_at_a_gate_and_spends_its_rounds(rt: HostRuntime) -> Result<(), Fail> {
-    let answer = met(&rt, rt.alloc(), two(), 1, FEW_ROUNDS, &[[0, 1]])?;
-    assert!(rt; has_stopped(answer));
-    Ok(())
-}
-
-#[test]
-fn four_workers_meet_at_two_gates(rt: HostRuntime) -> Result<(), Fail> {
-    let answer = met(&rt, rt.alloc(), four(), 4, MANY_ROUNDS, &[[0, 1], [2, 3]])?;
-    assert!(rt; has_finished(answer, 4));
+fn workers_meet_at_their_gates_and_one_alone_spends_its_rounds(
+    rt: HostRuntime,
+) -> Result<(), Fail> {
+    let by_two = met(&rt, rt.alloc(), two(), many(2), &[[0, 1]])?;
+    assert!(rt; has_finished(by_two, 2));
+    let by_four = met(&rt, rt.alloc(), four(), many(4), &[[0, 1], [2, 3]])?;
+    assert!(rt; has_finished(by_four, 4));
+    let by_one = met(&rt, rt.alloc(), two(), alone(), &[[0, 1]])?;
+    assert!(rt; has_stopped(by_one));
     Ok(())
 }
