@@ -50,8 +50,8 @@ int main(int count, char **words) {
 def moved(switches, flows, steps):
     """A document: at each switch of a ring so many flows, which each move to a second path in so many steps. No link is ever full."""
     names = [f"s{number}" for number in range(switches)]
-    ends = sorted({(at, (at + way) % switches) for at in range(switches) for way in (1, 2)} | {((at + 2) % switches, (at + 1) % switches) for at in range(switches)})
-    tunnels = [[[at, (at + 1) % switches], [at, (at + 2) % switches, (at + 1) % switches]] for at in range(switches)]
+    ends = sorted((at, (at + way) % switches) for at in range(switches) for way in (1, 2))
+    tunnels = [[[at, (at + 2) % switches], [at, (at + 1) % switches, (at + 2) % switches]] for at in range(switches)]
     problem = {
         "switches": [{"name": name, "table": 100_000} for name in names],
         "links": [{"from": names[a], "to": names[b], "capacity": 10 ** 9} for a, b in ends],
