@@ -70,9 +70,11 @@ class Agents:
     def __init__(self, program, folder, names):
         self.program, self.folder, self.running = program, folder, []
         with open(os.path.join(folder, "fleet"), "w", encoding="utf-8") as fleet:
-            for name in names:
-                with socket.create_server(("127.0.0.1", 0)) as free:
-                    address = "127.0.0.1:%d" % free.getsockname()[1]
+            # All are chosen before the first is given up, so that no two agents get one.
+            free = [socket.create_server(("127.0.0.1", 0)) for _ in names]
+            for name, place in zip(names, free):
+                address = "127.0.0.1:%d" % place.getsockname()[1]
+                place.close()
                 self.running.append(subprocess.Popen([program, "agent"], env=dict(os.environ, SWANROLL_LISTEN=address), stdin=subprocess.DEVNULL, stdout=subprocess.DEVNULL))
                 fleet.write(f"{name} {address}\n")
         time.sleep(1)

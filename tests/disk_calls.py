@@ -51,10 +51,10 @@ class Turn:
             return file.read()
 
 
-def rolled(one, turn):
-    """How a start ended over which the turn was taken; None where calls can't be seen here."""
+def rolled(one, turn, *command):
+    """How a start, of `run` or of another command, ended over which the turn was taken; None where calls can't be seen here."""
     calls = Calls(one.journal, NUMBERS, turn)
-    started = one.start(preexec_fn=calls.in_child)
+    started = one.start(*command, preexec_fn=calls.in_child)
     seen = calls.attach()
     end = one.ended(started)
     for switch in one.switches.values():

@@ -11,13 +11,12 @@ import signal
 import sys
 
 from carried import Items, backwards
-from disk_calls import MOST_CALLS, Turn
+from disk_calls import MOST_CALLS, Turn, rolled
 from journal_files import BEGIN, DONE, PARTS, SLOT, digest_of, entries_in, kept_in, part, size_of, slot, text_of
 from named import EXCHANGE, FULL_TABLES, LATE, ONE, TWO, document
 from outcomes import report
 from rolling import finished, planned, rollout, same, stopped
 from switches import plain, silent
-from syncs import NUMBERS, Calls
 
 USAGE = (2, "", "usage: swanroll COMMAND [--NAME VALUE]\n")
 FAULT = stopped(8, "journal device fault")
@@ -187,18 +186,6 @@ def unwritten(program):
 
 # Each call of the journal's file.
 
-def rolled_back(one, turn):
-    """How a rollback ended over which the turn was taken; None where calls can't be seen here."""
-    calls = Calls(one.journal, NUMBERS, turn)
-    started = one.start("rollback", preexec_fn=calls.in_child)
-    seen = calls.attach()
-    end = one.ended(started)
-    for switch in one.switches.values():
-        switch.settle()
-    calls.close()
-    return end if seen else None
-
-
 def gone_on(one, front, stage):
     """Takes a rollout back of which a rollback was cut off: what is wrong, or None."""
     digest, migration, _, entries = kept_in(one.image())
@@ -220,7 +207,7 @@ def calls(program, name, value, front):
     image, stage = journal(value, front), came_to(value, front)
     with rollout(program, value, image) as one:
         whole = Turn(one.journal)
-        if rolled_back(one, whole) is None:
+        if rolled(one, whole, "rollback") is None:
             yield "calls can't be seen on this machine", None
             return
         yield f"{name}, its calls", None if whole.count > 8 else f"there are {whole.count}"
@@ -231,7 +218,7 @@ def calls(program, name, value, front):
             with rollout(program, value, image) as one:
                 case, turn = f"{name}, call {number} {fate}, {left}", Turn(one.journal, number, fate)
                 turn.synced = image
-                end = rolled_back(one, turn)
+                end = rolled(one, turn, "rollback")
                 if left == "lost":
                     one.put(turn.durable())
                 yield case, None if end in ends | {taken_back(value)} else f"{end}"
