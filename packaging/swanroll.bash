@@ -5,10 +5,12 @@ _swanroll_options() {
     case $1 in
         plan) echo --planner ;;
         sim) echo --policy ;;
+        rehearse) echo --seed --events --policy ;;
         trial) echo --k --switches --flows --seed --events --policy ;;
         run) echo --workers --rounds --policy --migration ;;
-        rollback) echo --workers --rounds --migration ;;
-        report) echo --migration ;;
+        drain) echo --workers --rounds --migration ;;
+        rollback) echo --workers --rounds --migration --from ;;
+        report) echo --live --follow --migration ;;
         held) echo --rounds ;;
         agent) echo --guests ;;
     esac
@@ -19,12 +21,14 @@ _swanroll() {
     if [[ $before == [\<\>]* ]]; then
         : # a file, by the default
     elif [ "$COMP_CWORD" -eq 1 ]; then
-        words="plan check loads explain back least sim trial run rollback report held agent"
+        words="plan check loads explain back least sim rehearse trial run drain rollback report held agent"
     elif [ "$before" = --policy ]; then
         words="critical order freeze"
     elif [ "$before" = --planner ]; then
         words="slack fewest"
-    elif [[ $before != --* ]]; then
+    elif [ "$before" = --from ]; then
+        words="level here"
+    elif [[ $before != --* || $before = --live ]]; then
         # each option at most once
         for option in $(_swanroll_options "${COMP_WORDS[1]}"); do
             [[ " ${COMP_WORDS[*]:2:COMP_CWORD-2} " == *" $option "* ]] || words+=" $option"

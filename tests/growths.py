@@ -2,8 +2,8 @@
 
     python3 tests/growths.py [PROGRAM]
 
-With the program: `plan`, `check`, `sim`, `trial`, `report`, `run`, `rollback`, `held` and `agent` over small inputs end as they would, or with status 12 and its line, and with nothing else; the
-journal of a `run` has what its switches carried out, and the next start goes on to the end; a `rollback` is gone on with by the journal that is there; where a worker's thread can't be started, the others serve its ports. Without: the calls of a journal, made by `measure journal` (which has to be
+With the program: `plan`, `check`, `sim`, `rehearse`, `trial`, `report`, `report --live`, `run`, `drain`, `rollback`, `held` and `agent` over small inputs end as they would, or with status 12 and its line, and with nothing else; the
+journal of a `run` has what its switches carried out, and the next start goes on to the end; a `drain` is given again, and a `rollback` is gone on with by the journal that is there; where a worker's thread can't be started, the others serve its ports. Without: the calls of a journal, made by `measure journal` (which has to be
 built, by `rt run -- linear < stdin` in its folder), and whether each image that is left is still a journal with the list before or after the batch, or with the journal
 that was placed. A few lines of C that refuse one allocation or thread stand before the C library's; where there is no C compiler nothing is tried, and it is said.
 """
@@ -20,6 +20,8 @@ import tempfile
 
 from agents import PATIENCE, command, connected, exchange, held_port
 from carried import Items
+from drains import drained, goes_on
+from from_here import gone_on as gone_on_from_here
 from journal_files import BEGIN, entries_in
 from named import EXCHANGE, FULL_TABLES, ONE, TWO, read
 from outcomes import report
@@ -160,7 +162,7 @@ def texts(program, refusing):
     script, tables, problem = (read(name).encode() for name in ("ahead.json", "tables.json", "three-steps.json"))
     changing = json.dumps(EXCHANGE).encode()
     small = ["trial", "--switches", "4", "--flows", "3", "--events", "20"]
-    for words, text in ((["plan"], problem), (["plan"], changing), (["plan", "--planner", "fewest"], problem), (["check"], ONE.encode()), (["loads"], ONE.encode()), (["explain"], ONE.encode()), (["back"], ONE.encode()), (["sim"], script), (["sim"], tables), (small, b""), (["plan"], b"[1"), (["check"], problem), (["loads"], problem), (["explain"], problem)):
+    for words, text in ((["plan"], problem), (["plan"], changing), (["plan", "--planner", "fewest"], problem), (["check"], ONE.encode()), (["loads"], ONE.encode()), (["explain"], ONE.encode()), (["back"], ONE.encode()), (["sim"], script), (["sim"], tables), (["rehearse", "--events", "40"], ONE.encode()), (small, b""), (["plan"], b"[1"), (["check"], problem), (["loads"], problem), (["explain"], problem)):
         whole = ended(program, words, text, refusing.environment(0))
         for refused in range(1, refusing.count() + 1):
             yield f"allocation {refused} of {words[0]}", wrong_end(ended(program, words, text, refusing.environment(refused)), whole)
@@ -195,18 +197,34 @@ def rollouts(program, refusing):
 
 
 def taken(program, refusing):
-    """A rollback at which one allocation is refused, and what is done behind it."""
+    """A rollback, from a level and from where it stands, at which one allocation is refused, and what is done behind it."""
     front = [(BEGIN, 0, 1)]
     stage, image = came_to(TWO, front), journal(TWO, front)
+    ends = (taken_back(TWO), (12, "", "out of memory\n"), (8, "", "journal device fault\n"), (9, "", "port fault at \"A\"\n"), (9, "", "port fault at \"B\"\n"))
+    for words, then in (("rollback", lambda one: gone_on(one, front, stage)), ("rollback --from here", lambda one: gone_on_from_here(one, front))):
+        with rollout(program, TWO, image) as one:
+            one.run(f"{words} --workers 1", refusing.environment(0, one.environment))
+            count = refusing.count()
+        for refused in range(1, count + 1):
+            with rollout(program, TWO, image) as one:
+                end = one.run(f"{words} --workers 1", refusing.environment(refused, one.environment))
+                yield f"allocation {refused} of {words}", None if end in ends else f"{end}"
+                yield f"allocation {refused} of {words}, gone on with", then(one)
+
+
+def drains(program, refusing):
+    """A drain at which one allocation is refused, and what is done behind it."""
+    front = [(BEGIN, 0, 1)]
+    image = journal(TWO, front)
     with rollout(program, TWO, image) as one:
-        one.run("rollback --workers 1", refusing.environment(0, one.environment))
+        one.run("drain --workers 1", refusing.environment(0, one.environment))
         count = refusing.count()
     for refused in range(1, count + 1):
         with rollout(program, TWO, image) as one:
-            end = one.run("rollback --workers 1", refusing.environment(refused, one.environment))
-            ends = (taken_back(TWO), (12, "", "out of memory\n"), (8, "", "journal device fault\n"), (9, "", "port fault at \"A\"\n"), (9, "", "port fault at \"B\"\n"))
-            yield f"allocation {refused} of rollback", None if end in ends else f"{end}"
-            yield f"allocation {refused} of rollback, gone on with", gone_on(one, front, stage)
+            end = one.run("drain --workers 1", refusing.environment(refused, one.environment))
+            ends = (drained(TWO, front), (12, "", "out of memory\n"), (8, "", "journal device fault\n"), (9, "", "port fault at \"A\"\n"), (9, "", "port fault at \"B\"\n"))
+            yield f"allocation {refused} of drain", None if end in ends else f"{end}"
+            yield f"allocation {refused} of drain, gone on with", same(one.run("drain"), drained(TWO, front)) or goes_on(one, front)
 
 
 def holdings(program, refusing):
@@ -236,11 +254,16 @@ def threads(program, refusing):
 def reports(program, refusing):
     with rollout(program, TWO) as one:
         one.run()
-        whole = one.run("report", refusing.environment(0, one.environment))
-        for refused in range(1, refusing.count() + 1):
-            end = one.run("report", refusing.environment(refused, one.environment))
-            yield f"allocation {refused} of report", None if end in (whole, (12, "", "out of memory\n"), (8, "", "journal device fault\n")) else f"{end}"
-        yield "report after all of them", None if one.report() == whole else "another text"
+        for words in ("report", "report --live"):
+            yield from reports_of(one, refusing, words)
+
+
+def reports_of(one, refusing, words):
+    whole = one.run(words, refusing.environment(0, one.environment))
+    for refused in range(1, refusing.count() + 1):
+        end = one.run(words, refusing.environment(refused, one.environment))
+        yield f"allocation {refused} of {words}", None if end in (whole, (12, "", "out of memory\n"), (8, "", "journal device fault\n")) else f"{end}"
+    yield f"{words} after all of them", None if one.report() == whole else "another text"
 
 
 def agents(program, refusing):
@@ -277,7 +300,7 @@ def outcomes(program):
         if program is None:
             yield from journals(refusing)
             return
-        for kind in (texts, reports, rollouts, taken, holdings, threads, agents):
+        for kind in (texts, reports, rollouts, drains, taken, holdings, threads, agents):
             yield from kind(program, refusing)
 
 

@@ -125,13 +125,14 @@ def completions(house):
         return sorted(done.stdout.split()) if (done.returncode, done.stderr) == (0, "") else done.stderr
 
     yield "the commands", same(completed(""), sorted(commands()))
-    yield "the commands by their first letter", same(completed("r"), ["report", "rollback", "run"])
+    yield "the commands by their first letter", same(completed("r"), ["rehearse", "report", "rollback", "run"])
     for command, names in options_of().items():
         yield f"the options of {command}", same(completed(command, ""), names)
         if names:
             yield f"what is left after one of {command}", same(completed(command, names[0], "7", "--"), names[1:])
     policies = re.findall(r'"([a-z]+)"', (TOP / "crates/swanroll/src/policies.rt").read_text(encoding="utf-8"))
     yield "the policies", same(completed("run", "--workers", "3", "--policy", ""), sorted(set(policies)))
+    yield "from where", same(completed("rollback", "--from", ""), ["here", "level"])
     yield "no number is guessed", same(completed("run", "--workers", ""), [])
     yield "a file is the shell's", same((completed("run", "<", ""), completed("plan", "<", "p", ">", "")), ([], []))
 

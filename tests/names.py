@@ -27,8 +27,13 @@ def commands():
     return re.findall(r'^\s*"([a-z]+)" => Some\(Kind::', text("crates/swanroll_top/src/words.rt"), re.M)
 
 
+def live_options():
+    """Those of a report of a journal as it stands, whose words are read apart."""
+    return re.findall(r'"(--[a-z]+)"', text("crates/swanroll_top/src/live_words.rt"))
+
+
 def options():
-    return sorted(set(re.findall(r'"(--[a-z]+)"', text("crates/swanroll_top/src/words.rt"))))
+    return sorted(set(re.findall(r'"(--[a-z]+)"', text("crates/swanroll_top/src/words.rt")) + live_options()))
 
 
 def options_of():
@@ -38,6 +43,7 @@ def options_of():
     numbers = re.findall(r'"(--[a-z]+)"', re.search(r"^fn names_a_number\(.*?^}", code, re.M | re.S).group())
     arms = re.findall(r"((?:Kind::\w+(?: \| )?)+) => (.*?),\n", body)
     taken = {kind.lower(): re.findall(r'"(--[a-z]+)"', arm) + ("names_a_number" in arm) * numbers for kinds, arm in arms for kind in re.findall(r"Kind::(\w+)", kinds)}
+    taken["report"] = list({*taken["report"], *live_options()})
     return {command: sorted(names) for command, names in taken.items()}
 
 

@@ -34,6 +34,9 @@ REFUSALS = [
     ("no file", ["/nowhere/document.json"], 2, ["picture: /nowhere/document.json: No such file or directory"]),
     ("no program", [os.path.join(EXAMPLES, "loads.json"), "--program", "/nowhere/swanroll"], 7, ["picture: /nowhere/swanroll: No such file or directory"]),
     ("another program", [os.path.join(EXAMPLES, "loads.json"), "--program", "/bin/echo"], 7, ["picture: /bin/echo loads prints no loads"]),
+]
+# The same where a page can be drawn: the folder is asked for last.
+DRAWN_AND_REFUSED = [
     ("a page in no folder", [os.path.join(EXAMPLES, "loads.json"), "-o", "/nowhere/page.html"], 2, ["picture: /nowhere/page.html: No such file or directory"]),
 ]
 # What the page says of the steps of NSFNET.
@@ -85,9 +88,9 @@ def drawn(program, words, text=None, *options):
     return done.returncode, done.stdout.decode(), done.stderr.decode().split("\n")[:-1]
 
 
-def refusals(program, folder):
+def refusals(program, folder, python):
     page = os.path.join(folder, "refused.html")
-    for name, words, status, lines in REFUSALS:
+    for name, words, status, lines in REFUSALS + (DRAWN_AND_REFUSED if python else []):
         found = drawn(program, words + ([] if "-o" in words else ["-o", page]))
         fits = found[0] == status and not found[1] and all(line in "\n".join(found[2]) for line in lines) and not os.path.exists(page)
         yield name, None if fits else f"gives {found}"
@@ -282,7 +285,7 @@ def with_networkx():
 
 def outcomes(program, python):
     with tempfile.TemporaryDirectory() as folder, contextlib.ExitStack() as stack:
-        yield from refusals(program, folder)
+        yield from refusals(program, folder, python)
         if not python:
             return skipped("this machine has no Python with networkx and scipy")
         if not browser.program():

@@ -11,7 +11,7 @@ from journal_files import text_of
 from named import ONE
 from switches import Switch, plain, write_fleet
 
-DEVICES = ("SWANROLL_JOURNAL", "SWANROLL_FLEET", "SWANROLL_LISTEN", "SWANROLL_TIMEOUT")
+DEVICES = ("SWANROLL_JOURNAL", "SWANROLL_FLEET", "SWANROLL_LISTEN", "SWANROLL_TIMEOUT", "SWANROLL_LOG")
 PATIENCE = 120
 
 

@@ -5,6 +5,7 @@ how many commands it may send. Runs the program on each input and compares its s
 """
 
 import json
+import resource
 import subprocess
 import sys
 
@@ -12,6 +13,9 @@ from outcomes import report
 
 FLOWS = 64
 MOST_SENT = 4000000
+STARTS = 4000
+# How much of a processor's time so many starts may take, in seconds; where each read the whole journal anew they took thirty.
+STARTED_WITHIN = 5
 MOST_EVENTS = 100000
 
 
@@ -110,8 +114,34 @@ def counts_of_commands(program):
     yield "an act behind the last command", lines[last + 3] == f"{last + 3} hand 0: item 0 held 1"
 
 
+def starts_in(script):
+    """The lines of a script in which each round is followed by a stop and a start, and what each start finds."""
+    return [f"{at} start: entries {script[at][1]}" if script[at][0] == "start" else None for at in range(len(script))]
+
+
+def starts_find_what_came(program):
+    """Each start finds all that became durable before it: behind a round, behind one that was lost or kept in a crash, and where nothing came."""
+    begun, done = FLOWS, 2 * FLOWS
+    acts = [("stop", 0), ("start", 0), ("crash lost", 0), ("start", 0), ("crash kept", 0), ("start", begun), ("stop", 0), ("start", begun), ("all", 0), ("crash lost", 0), ("start", begun),
+            ("all", 0), ("crash kept", 0), ("start", done), ("round", 0), ("stop", 0), ("start", done)]
+    status, out, _ = run(program, document(FLOWS, [act.split(" ") for act, _ in acts]))
+    lines = out.decode().split("\n")
+    for at, line in enumerate(starts_in(acts)):
+        if line:
+            yield f"what start {at} finds", status == 0 and lines[at] == line
+
+
+def time_of_starts(program):
+    """As many starts as would have held a machine up for half a minute."""
+    before = resource.getrusage(resource.RUSAGE_CHILDREN)
+    status, out, _ = run(program, document(1, [["round"], ["stop"], ["start"]] * STARTS))
+    after = resource.getrusage(resource.RUSAGE_CHILDREN)
+    yield f"{STARTS} starts", status == 0 and out.decode().split("\n")[3 * STARTS - 1] == f"{3 * STARTS - 1} start: entries 1"
+    yield f"{STARTS} starts, their time", after.ru_utime + after.ru_stime - before.ru_utime - before.ru_stime < STARTED_WITHIN
+
+
 def outcomes(program):
-    for cases in (words_with_a_policy, documents, events_of_any_kind, counts_of_events, counts_of_commands):
+    for cases in (words_with_a_policy, documents, events_of_any_kind, counts_of_events, counts_of_commands, starts_find_what_came, time_of_starts):
         for name, passed in cases(program):
             yield name, None if passed else "another answer than wanted"
 

@@ -56,6 +56,21 @@ def journals(program):
         yield "a journal that no process holds any more", same(why(one), (0, [FINE, FINE], ""))
 
 
+def logs(program):
+    """Of a log there is a line where one is named."""
+    with rollout(program) as one:
+        folder = os.path.dirname(one.journal)
+        path = os.path.join(folder, "log")
+        for name, place, said in (("a log that isn't there", path, FINE), ("no log", "", None), ("a log that is a folder", folder, "it is no regular file"),
+                                  ("a log that is a device", "/dev/full", "it is no regular file"), ("a log in no folder", folder + "/none/log", "it lies in a folder that isn't there")):
+            yield name, same(why(one, one.having(SWANROLL_LOG=place)), (int(said not in (None, FINE)), [FINE] + [said] * (said is not None) + [FINE], ""))
+        one.put(b"")
+        yield "a log that is the journal", same(why(one, one.having(SWANROLL_LOG=one.journal)), (1, [FINE, "it is the journal", FINE], ""))
+        with open(path, "wb") as held:
+            fcntl.flock(held, fcntl.LOCK_EX)
+            yield "a log that another process holds", same(why(one, one.having(SWANROLL_LOG=path)), (1, [FINE, f"process {os.getpid()} holds it", FINE], ""))
+
+
 def fleets(program):
     with rollout(program) as one:
         there = one.switches["A"].address
@@ -117,7 +132,7 @@ def homes(one):
 
 
 def outcomes(program):
-    for rows in (journals, fleets, connections):
+    for rows in (journals, logs, fleets, connections):
         yield from rows(program)
 
 

@@ -16,7 +16,7 @@ use Rattle.agent_service.specs.declared.service.ServiceFault.TheVariants.{Memory
 use Rattle.agent_service.specs.Services.{EndsWithoutRoom, FoundRoom, Guests, InTurn, IsVisit, Serves, ServesNext, ServesOne, Tells, Visit, commands_of, most, refused_by, refused_of, service_of, with_guest}
 
 -- each command has a byte
-some_bytes : (c : CommandFrame) → 0 < length (command_bytes c)
+pub some_bytes : (c : CommandFrame) → 0 < length (command_bytes c)
 unfolding command_bytes command_head
 some_bytes c = omega arith
 
@@ -37,15 +37,15 @@ few items now source source_now served written written_now is =
     let commands = is.carried.commands in
     omega (arith, is.carried.counted, few_commands commands, ap length is.carried.whole.parts, length-append (flat_map command_bytes commands) is.carried.rest, few_bytes served.fault (length is.bytes) source_now.left is.so_many)
 
-InTurn-more : {G : Type 0} (tells : Tells G) (items a : Items) (coming b : Option (List G)) (visits : List (Visit G)) (visit : Visit G) → InTurn tells items coming visits a b → IsVisit tells a b visit → InTurn tells items coming (visits ++ visit ∷ []) visit.items visit.coming
+pub InTurn-more : {G : Type 0} (tells : Tells G) (items a : Items) (coming b : Option (List G)) (visits : List (Visit G)) (visit : Visit G) → InTurn tells items coming visits a b → IsVisit tells a b visit → InTurn tells items coming (visits ++ visit ∷ []) visit.items visit.coming
 InTurn-more tells items a coming b [] visit row next = (subst (λ (i : Items). IsVisit tells i coming visit) row.0 (subst (λ (c : Option (List _)). IsVisit tells a c visit) row.1 next), (refl, refl))
 InTurn-more tells items a coming b (v ∷ vs) visit row next = (row.0, InTurn-more tells v.items a v.coming b vs visit row.1 next)
 
-commands_of-more : {G : Type 0} (visits : List (Visit G)) (visit : Visit G) → commands_of (visits ++ visit ∷ []) ≡ commands_of visits + visit.served.commands
+pub commands_of-more : {G : Type 0} (visits : List (Visit G)) (visit : Visit G) → commands_of (visits ++ visit ∷ []) ≡ commands_of visits + visit.served.commands
 commands_of-more [] visit = omega arith
 commands_of-more (v ∷ vs) visit = omega (arith, commands_of-more vs visit)
 
-refused_of-more : {G : Type 0} (visits : List (Visit G)) (visit : Visit G) → refused_of (visits ++ visit ∷ []) ≡ refused_of visits + refused_by visit.served.fault
+pub refused_of-more : {G : Type 0} (visits : List (Visit G)) (visit : Visit G) → refused_of (visits ++ visit ∷ []) ≡ refused_of visits + refused_by visit.served.fault
 refused_of-more [] visit = omega arith
 refused_of-more (v ∷ vs) visit = omega (arith, refused_of-more vs visit)
 

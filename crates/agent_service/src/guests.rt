@@ -77,7 +77,7 @@ fn serve_next<F: Fleet>(agent: &mut Agent, fleet: &mut F) -> Result<Option<Serve
 }
 
 // Whether the serving ended for want of memory for an item.
-fn wants_room(served: &Served) -> bool
+pub(crate) fn wants_room(served: &Served) -> bool
     ensures yes { result ≡ true → served.now.fault ≡ Some fault.Memory }
     ensures no { result ≡ false → served.now.fault ≢ Some fault.Memory }
 {

@@ -7,6 +7,8 @@
 //! disk in memory tells, by the same definitions, and its type keeps that the disk behind holds what is
 //! in memory, and leaves behind a crash what is told. What it was, and what was synced, takes no memory.
 //!
+//! A [`Shown`] disk hands out its bytes without a call: a mirror has them in memory.
+//!
 //! The words of the contracts are in `specs/`: `Openings` for an opening, `Images` for a reading of all
 //! bytes, `Mirrors` for what is told and the tie to the disk behind.
 #![tactic(auto)]
@@ -19,7 +21,9 @@ mod mirror;
 mod openable;
 mod past;
 mod pending;
+mod shown;
 mod standing;
 
 pub use mirror::Mirror;
 pub use openable::Openable;
+pub use shown::Shown;

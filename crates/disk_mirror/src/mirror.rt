@@ -133,7 +133,7 @@ impl<D: Disk> Mirror<D> {
     }
 
     // The bytes in memory.
-    fn bytes(&self) -> Result<&[u8], Failed>
+    pub(crate) fn bytes(&self) -> Result<&[u8], Failed>
         ensures told { IfOk result (λ bytes. bytes_in self.now.course ≡ Some bytes.now) }
         ensures live { OnOk result (IsTrue self.now.live) }
     {

@@ -2,6 +2,8 @@ pub mod Connections
 pub mod Histories
 pub mod Inboxes
 pub mod Ledgers
+pub mod Logs
+pub mod Looks
 pub mod Outboxes
 pub mod Places
 pub mod Sinks

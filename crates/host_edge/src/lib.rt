@@ -9,7 +9,7 @@
 //! and the rest is lost. What it heard is what it gave on of the bytes that came over its connection.
 //!
 //! A file is open behind a trait (`PlacedFile`): over one that tells its bytes a disk reads and writes at the
-//! place asked for, and has it locked.
+//! place asked for, and has it locked. A [`WatchedFile`] is read as it stands, whoever has its lock.
 //!
 //! This is the trusted edge all the same: the system's own streams, sockets and files tell nothing, so that
 //! the system moved the bytes that it says it moved is trusted. What a source is still to give, what a file
@@ -23,6 +23,7 @@ mod dialer;
 mod farewell;
 mod faults;
 mod file_disk;
+mod file_log;
 mod fleet_file;
 mod history;
 mod inbox;
@@ -40,10 +41,13 @@ mod tcp_guest;
 mod tcp_port;
 mod time_limit;
 mod unbroken;
+mod watched_file;
 
 pub use file_disk::FileDisk;
+pub use file_log::FileLog;
 pub use std_sink::StdSink;
 pub use std_source::StdSource;
 pub use tcp_fleet::TcpFleet;
 pub use tcp_guest::TcpGuest;
 pub use tcp_port::TcpPort;
+pub use watched_file::WatchedFile;

@@ -1,6 +1,7 @@
 pub mod Alone
 pub mod Appends
 pub mod Batches
+pub mod Behind
 pub mod Blanks
 pub mod Clearings
 pub mod Closings

@@ -1,5 +1,5 @@
 -- What list an image stands for, by what was judged of it and by what it keeps.
-use Rattle.std.proofs.Common.{◌≡◌, ⊎_elim, ◌==◌, ◌&&◌, ◌||◌, not, nat_le, nat_lt, Bool, true, false, ℕ, List, [], ◌∷◌, ◌++◌, length, drop, Option, Some, None, if◌then◌else◌, refl, sym, ◌∙◌, ap, arith}
+use Rattle.std.proofs.Common.{◌≡◌, ⊎_elim, ◌==◌, ◌&&◌, ◌||◌, not, nat_le, nat_lt, Bool, true, false, ℕ, List, [], ◌∷◌, ◌++◌, length, drop, Option, Some, None, IfSome, if◌then◌else◌, refl, sym, ◌∙◌, ap, arith}
 use Rattle.std.proofs.lemmas.List.{append_assoc, append-nil}
 use Rattle.std.proofs.lemmas.Bool.{cases_Bool, eqb-true}
 use Rattle.std.proofs.lemmas.Bool.Decides.{nat_tests}
@@ -120,3 +120,35 @@ blank_none (x ∷ y ∷ rest) blank = ⊎_elim
 
 pub blank_lists : (image : List ℕ) → is_blank image ≡ true → Lists [] image
 blank_lists image blank = ap (λ (k : Option Kept). with_rows nothing_read (rows_of_kept k)) (blank_none image blank)
+
+-- no gate, and no list
+pub no_journal_lists : (first : ℕ) (image : List ℕ) → first ≡ byte_at 0 image → (first == open_journal) ≡ false → Lists [] image
+no_journal_lists first image is other = ap (λ (b : Bool). with_rows nothing_read (rows_of_kept (if b then live_part image else None))) (ap (λ (n : ℕ). n == open_journal) (sym is) ∙ other)
+
+either_is : {A : Type 0} (b : Bool) (x : A) → (if b then x else x) ≡ x
+either_is true x = refl
+either_is false x = refl
+
+-- no part is live, and there is no list
+pub no_side_lists : (image : List ℕ) → live_side image ≡ None → Lists [] image
+no_side_lists image none =
+    let part : live_part image ≡ None = live_part-side image ∙ ap (option_map (λ (s : ℕ). kept_at (slot_at s image) image)) none in
+    ap (λ (k : Option Kept). with_rows nothing_read (rows_of_kept k)) (ap (λ (p : Option Kept). if byte_at 0 image == open_journal then p else None) part ∙ either_is (byte_at 0 image == open_journal) None)
+
+-- the rows of the live part are the list
+pub side_lists : (image part : List ℕ) (side : ℕ) (slot : Slot) (listed : Listed) (list : List Entry) → byte_at 0 image ≡ open_journal → live_side image ≡ Some side → slot ≡ slot_at side image → part ≡ drop slot.start image
+    → listed ≡ with_rows nothing_read (part_rows slot part) → listed ≡ whole_list list → Lists list image
+side_lists image part side slot listed list journal found is part_is read whole =
+    let kept : live_part image ≡ Some (kept_at slot image) =
+    live_part-side image ∙ ap (option_map (λ (s : ℕ). kept_at (slot_at s image) image)) found ∙ ap (λ (s : Slot). Some (kept_at s image)) (sym is) in
+    let rows : with_rows nothing_read (part_rows slot (drop slot.start image)) ≡ whole_list list =
+    ap (λ (p : List ℕ). with_rows nothing_read (part_rows slot p)) (sym part_is) ∙ sym read ∙ whole in
+    ap (λ (n : ℕ). with_rows nothing_read (rows_of_kept (if n == open_journal then live_part image else None))) journal
+    ∙ ap (λ (k : Option Kept). with_rows nothing_read (rows_of_kept k)) kept
+    ∙ rows
+
+-- of rows that were read, where each is an entry
+pub side_listed : (image part : List ℕ) (side : ℕ) (slot : Slot) (listed : Listed) (answer : Option (List Entry)) → byte_at 0 image ≡ open_journal → live_side image ≡ Some side → slot ≡ slot_at side image → part ≡ drop slot.start image
+    → listed ≡ with_rows nothing_read (part_rows slot part) → IfSome answer (λ list. listed ≡ record { entries = list; whole = true }) → IfSome answer (λ list. Lists list image)
+side_listed image part side slot listed None journal found is part_is read whole = tt
+side_listed image part side slot listed (Some list) journal found is part_is read whole = side_lists image part side slot listed list journal found is part_is read whole

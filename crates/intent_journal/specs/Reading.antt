@@ -47,6 +47,18 @@ batch_at bytes gate =
     if (byte_at gate bytes == open_batch) && nat_lt (4 + 9 * number_4 (drop (gate + 1) bytes)) (length (drop (gate + 1) bytes))
     then Some (number_4 (drop (gate + 1) bytes)) else None
 
+-- the entries that were read, where each row is one
+abbrev pub whole_list : Listed → Option (List Entry)
+whole_list listed = if listed.whole then Some listed.entries else None
+
+-- the entries of the batches that stand from a gate on, where each of their rows is one
+abbrev pub entries_from : ℕ → List ℕ → Option (List Entry)
+entries_from gate image = whole_list (with_rows nothing_read (batches_of (drop gate image)))
+
+-- the image has a byte at this gate, and no batch stands from there on
+abbrev pub HasNoMore : ℕ → List ℕ → Type 0
+HasNoMore gate image = (gate < length image) × (batches_of (drop gate image) ≡ [])
+
 -- From one gate to another stand batches with these rows, which were read.
 pub record Walks (bytes : List ℕ) (from gate : ℕ) (old new : Listed) : Type 0 where
   pub rows : List (List ℕ)

@@ -3,6 +3,7 @@ ghost use Rattle.disk_model.specs.Moments.{LeavesOnly};
 ghost use Rattle.intent_journal.specs.Entries.{entry_rows};
 ghost use Rattle.intent_journal.specs.Images.{journal_in};
 ghost use Rattle.intent_journal.specs.Opened.{HasAdded, HasRoom, IsKept};
+ghost use Rattle.intent_journal.specs.Reading.{HasNoMore};
 ghost use Rattle.intent_journal.specs.States.{IsBeforeOrAfter};
 ghost use Rattle.wan_edge.specs.Streams.{KeepsTelling, Rose};
 
@@ -84,6 +85,22 @@ impl<D: Disk> Journal<D> {
         ensures { result ≡ self.now.entries }
     {
         self.entries
+    }
+
+    /// The disk, for a look at it.
+    pub fn disk(&self) -> &D
+        ensures { result.now ≡ self.now.disk }
+    {
+        &self.disk
+    }
+
+    /// The place of the gate behind the list, from which on the batches of later appends stand: a byte of the
+    /// image, and while the journal lives no batch stands there.
+    pub fn gate(&self) -> u64
+        ensures { self.now.live ≡ true
+            → IfSome (D.told self.now.disk).bytes (HasNoMore result) }
+    {
+        self.gate
     }
 
     /// Gives the disk back.

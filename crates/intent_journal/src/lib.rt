@@ -9,7 +9,10 @@
 //! no journal, one of another plan or migration, its start is none of the plan, or its list isn't legal at
 //! a place. What is refused is refused before the first write. A blank image is made a journal, and else
 //! the list is written anew into a new part; a graph is brought to the start and the list. [`place`] puts
-//! a journal with another start in the place of any other.
+//! a journal with another start in the place of any other. [`entries_behind`] reads the batches that came behind
+//! a gate, for whoever has read all before it.
+//!
+//! [`list_of`] reads the list that an image stands for, and no more.
 //!
 //! `specs/` has the grammar: `Parts` what a part keeps, `Images` which part is live, what an image stands
 //! for and which images are blank, `Entries` the bytes of an entry, `Digests` how a journal knows its
@@ -33,6 +36,7 @@ mod judging;
 pub mod laws;
 mod layout;
 mod listed;
+mod listing;
 mod live;
 mod making;
 mod new_part;
@@ -49,5 +53,7 @@ pub mod worked;
 pub use digest::{Digest, digest_of};
 pub use fault::{JournalFault, Unopened};
 pub use journal::Journal;
+pub use listing::list_of;
 pub use placing::place;
 pub use recovering::recover;
+pub use walking::entries_behind;

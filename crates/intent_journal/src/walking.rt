@@ -1,13 +1,14 @@
 ghost use Rattle.std.specs.Prelude.{◌≡◌, ◌<◌, length, IfOk, IsTrue};
 ghost use Rattle.intent_journal.specs.Parts as parts;
 ghost use Rattle.intent_journal.specs.Reading as reading;
-ghost use Rattle.intent_journal.specs.Reading.{IsRead, Walks};
+ghost use Rattle.intent_journal.specs.Reading.{IsRead, Walks, entries_from, whole_list};
 
 use crate::bytes::{byte_in, from_place, number_of_4, up_to};
 use crate::listed::Listed;
 use crate::part::{count_place, entry_count, first_gate};
 use crate::slot::Slot;
 use lists::Memory;
+use rollout_rules::EntryList;
 use std::alloc::Global;
 
 pub(crate) const OPEN_BATCH: u8 = 0x47;
@@ -23,6 +24,29 @@ pub(crate) fn read_list(alloc: Global, slot: &Slot, part: &[u8]) -> Result<(List
     let inside = up_to(part, slot.size() as usize);
     let gate = walk(&mut listed, inside, first_gate(slot, part))?;
     Ok((listed, gate))
+}
+
+/// The entries of the batches that stand from a gate on, up to the first gate that is closed or whose batch is
+/// cut off; none where a row there is no entry. Time and memory: those batches.
+pub fn entries_behind(alloc: Global, image: &[u8], gate: usize) -> Result<Option<EntryList>, Memory>
+    requires { gate < length image.now }
+    ensures { IfOk result (λ read. read ≡ entries_from gate image.now) }
+{
+    let mut listed = Listed::new(alloc);
+    walk(&mut listed, image, gate)?;
+    Ok(whole_of(listed))
+}
+
+// The entries, where each row that was read is one.
+#[tactic(auto, using(crate::proofs::Behind::whole_is, crate::proofs::Behind::none_is))]
+fn whole_of(listed: Listed) -> Option<EntryList>
+    ensures { result ≡ whole_list listed }
+{
+    if listed.whole {
+        Some(listed.entries)
+    } else {
+        None
+    }
 }
 
 // Reads the rows of the batches from a gate on, and finds the gate behind them.

@@ -1,8 +1,10 @@
--- A shared history under a policy that holds from a stage on: nothing is begun past it.
-use Rattle.std.proofs.Common.{◌≡◌, ℕ, ◌+◌, ◌≤◌, true, false, not, ◌&&◌, ◌==◌, List, [], ◌∷◌, ◌++◌, refl, sym, ap, ap₂, ◌∙◌, subst, arith, append_assoc, append-nil, eqb-true}
+-- A shared history under a policy that holds from a stage on: nothing is begun past it, nor past what was begun at first.
+use Rattle.std.proofs.Common.{◌≡◌, ℕ, ◌+◌, ◌<◌, ◌≤◌, true, false, not, ◌&&◌, ◌==◌, List, [], ◌∷◌, ◌++◌, refl, sym, ap, ap₂, ◌∙◌, subst, arith, append_assoc, append-nil, eqb-true, le_refl}
 use Rattle.std.proofs.lemmas.Bool.{and_parts, both_ways}
 use Rattle.rollout_rules.specs.Wan.{Problem, Plan, last_stage}
 use Rattle.rollout_rules.specs.Network.{IsNetwork}
+use Rattle.rollout_rules.specs.Items.{item_at, item_count}
+use Rattle.rollout_rules.specs.Operations.{changes_to}
 use Rattle.rollout_rules.specs.Valid.{is_valid_plan}
 use Rattle.rollout_rules.specs.History.{History, with_entries, begins_in, begun}
 use Rattle.rollout_rules.specs.Legal.{may_begin, may_follow, is_legal, is_finished}
@@ -23,9 +25,11 @@ use Rattle.shared_history.specs.declared.note.What.TheVariants as what
 use Rattle.shared_history.specs.declared.note.Written.{Written}
 use Rattle.shared_history.proofs.Going.{front_is_legal, next_may_be}
 use Rattle.shared_history.proofs.Lists.{history-next, list-is_legal}
-use Rattle.rollback_plan.specs.Levels.{ceiling, BegunUpTo, is_levelled, HoldsFrom}
+use Rattle.rollback_plan.specs.Levels.{ceiling, BegunTo, BegunUpTo, is_levelled, HoldsFrom}
+use Rattle.rollback_plan.specs.Turns.{BegunSoFar, HasComeSoFar, comes_to}
 use Rattle.rollback_plan.proofs.Ceilings.{ceiling-most, begun-up_to_ceiling, ceiling-least}
-use Rattle.rollback_plan.proofs.Levelling.{finished-levelled, release-up_to, held-levelled}
+use Rattle.rollback_plan.proofs.Coming.{begun-so_far, come-so_far, comes-above, finished-so_far}
+use Rattle.rollback_plan.proofs.Levelling.{finished-levelled, release-to, held-levelled}
 
 -- ---- lists of entries that are the same
 one-op : (a b : Op) → same_op a b ≡ true → a ≡ b
@@ -39,7 +43,7 @@ one-entry (Begin a) (Done b) same = absurd (both_ways false refl same)
 one-entry (Done a) (Begin b) same = absurd (both_ways false refl same)
 one-entry (Done a) (Done b) same = ap Done (one-op a b same)
 
-one-list : (es fs : List Entry) → same_entries es fs ≡ true → es ≡ fs
+pub one-list : (es fs : List Entry) → same_entries es fs ≡ true → es ≡ fs
 one-list [] [] same = refl
 one-list [] (f ∷ fs) same = absurd (both_ways false refl same)
 one-list (e ∷ es) [] same = absurd (both_ways false refl same)
@@ -48,19 +52,20 @@ one-list (e ∷ es) (f ∷ fs) same =
     ap₂ (λ (x : Entry) (xs : List Entry). x ∷ xs) (one-entry e f parts.0) (one-list es fs parts.1)
 
 -- a list is its Dones ahead, and what comes after them; these begin nothing
-two-parts : (es : List Entry) → es ≡ ends (dones_ahead es) ++ behind_dones es
+pub two-parts : (es : List Entry) → es ≡ ends (dones_ahead es) ++ behind_dones es
 two-parts [] = refl
 two-parts (Begin op ∷ es) = refl
 two-parts (Done op ∷ es) = ap (λ (xs : List Entry). Done op ∷ xs) (two-parts es)
 
-ends-begin_nothing : (ops : List Op) (n : ℕ) → begins_in (ends ops) n ≡ 0
+pub ends-begin_nothing : (ops : List Op) (n : ℕ) → begins_in (ends ops) n ≡ 0
 ends-begin_nothing [] n = refl
 ends-begin_nothing (op ∷ ops) n = ends-begin_nothing ops n
 
-module _ (p : Problem) (plan : Plan) (s : ℕ) (most : s ≤ last_stage plan) (net : IsNetwork p) (valid : is_valid_plan p plan ≡ true) (policy : OpView → ℕ) (holds : HoldsFrom s policy) where
-  -- a batch leads no further
-  batch-up_to : (h : History) (es : List Entry) → is_legal p plan h ≡ true → BegunUpTo p plan s h → is_batch p plan policy h es ≡ true → BegunUpTo p plan s (with_entries h es)
-  batch-up_to h es legal up batch =
+module _ (p : Problem) (plan : Plan) (s : ℕ) (most : s ≤ last_stage plan) (net : IsNetwork p) (valid : is_valid_plan p plan ≡ true) (policy : OpView → ℕ) (holds : HoldsFrom s policy)
+    (b : ℕ → ℕ) (above : (n : ℕ) → n < item_count p → changes_to p plan (item_at p n) s ≤ b n) where
+  -- a batch leads no further than a bound that is at least the stage
+  batch-to : (h : History) (es : List Entry) → is_legal p plan h ≡ true → BegunTo p b h → is_batch p plan policy h es ≡ true → BegunTo p b (with_entries h es)
+  batch-to h es legal up batch =
       let done = ends (dones_ahead es) in
       let later = with_entries h done in
       let parts = and_parts (items_rise 0 (dones_ahead es) && may_follow p plan h es) (same_entries (behind_dones es) (release p plan policy later)) batch in
@@ -68,13 +73,13 @@ module _ (p : Problem) (plan : Plan) (s : ℕ) (most : s ≤ last_stage plan) (n
       let split = two-parts es in
       let ended = front_follows p plan h done (behind_dones es) (subst (λ xs. may_follow p plan h xs ≡ true) split follows) in
       let legal' = is_legal-append p plan h done legal ended in
-      let still : BegunUpTo p plan s later = λ n lt. omega (arith, up n lt, begun-with h done n, ends-begin_nothing (dones_ahead es) n) in
+      let still : BegunTo p b later = λ n lt. omega (arith, up n lt, begun-with h done n, ends-begin_nothing (dones_ahead es) n) in
       let whole : with_entries later (release p plan policy later) ≡ with_entries h es =
       ap (with_entries later) (sym (one-list (behind_dones es) (release p plan policy later) parts.1)) ∙ with_both h done (behind_dones es) ∙ ap (with_entries h) (sym split) in
-      subst (λ g. BegunUpTo p plan s g) whole (release-up_to p plan s most net valid policy holds later legal' still)
+      subst (λ g. BegunTo p b g) whole (release-to p plan s most net valid policy holds b above later legal' still)
 
 -- no entries begin nothing
-empty-none : (es : List Entry) → is_empty es ≡ true → es ≡ []
+pub empty-none : (es : List Entry) → is_empty es ≡ true → es ≡ []
 empty-none [] e = refl
 empty-none (x ∷ es) e = absurd (both_ways false refl e)
 
@@ -85,60 +90,73 @@ module _ (o : Opening) (s : ℕ) (most : s ≤ last_stage o.rollout.plan) (net :
   abbrev plan : Plan
   plan = o.rollout.plan
 
-  abbrev UpTo : History → Type 0
-  UpTo h = BegunUpTo p plan s h
+  -- nothing is begun past a bound that is at least the stage
+  module _ (b : ℕ → ℕ) (above : (n : ℕ) → n < item_count p → changes_to p plan (item_at p n) s ≤ b n) where
+    abbrev To : History → Type 0
+    To h = BegunTo p b h
 
-  nothing-up_to : (h : History) (es : List Entry) → UpTo h → is_empty es ≡ true → UpTo (with_entries h es)
-  nothing-up_to h es up none = subst UpTo (sym (with_none h) ∙ ap (with_entries h) (sym (empty-none es none))) up
+    nothing-to : (h : History) (es : List Entry) → To h → is_empty es ≡ true → To (with_entries h es)
+    nothing-to h es up none = subst To (sym (with_none h) ∙ ap (with_entries h) (sym (empty-none es none))) up
 
-  -- the entries that come with a note lead no further
-  note-up_to : (ws : List Written) (seat : ℕ) (es : List Entry) (said : What) → is_legal p plan (history_of o ws) ≡ true → UpTo (history_of o ws) → may_say o ws seat es said ≡ true → UpTo (with_entries (history_of o ws) es)
-  note-up_to ws seat es (what.Turned dones begins) legal up may =
-      let turn = (and_parts (not (is_stopped ws)) (is_turn o (history_of o ws) dones begins es) may).1 in
-      batch-up_to p plan s most net valid o.policy holds (history_of o ws) es legal up (and_parts _ (is_batch p plan o.policy (history_of o ws) es) turn).1
-  note-up_to ws seat es (what.Alien item held begun) legal up may =
-      nothing-up_to (history_of o ws) es up (and_parts (not (is_stopped ws)) (is_empty es) (and_parts _ _ (and_parts _ _ may).0).0).1
-  note-up_to ws seat es what.Disk legal up may =
-      batch-up_to p plan s most net valid o.policy holds (history_of o ws) es legal up (and_parts (not (is_stopped ws)) (is_batch p plan o.policy (history_of o ws) es) may).1
-  note-up_to ws seat es what.Listed legal up may = nothing-up_to (history_of o ws) es up (and_parts (not (is_stopped ws)) (is_empty es) may).1
-  note-up_to ws seat es what.Work legal up may = nothing-up_to (history_of o ws) es up (and_parts (not (is_stopped ws)) (is_empty es) (and_parts _ _ may).0).1
-  note-up_to ws seat es what.Finished legal up may = nothing-up_to (history_of o ws) es up (and_parts (not (is_stopped ws)) (is_empty es) (and_parts _ _ may).0).1
-  note-up_to ws seat es what.Held legal up may =
-      nothing-up_to (history_of o ws) es up (and_parts (not (is_stopped ws)) (is_empty es) (and_parts _ _ (and_parts _ _ may).0).0).1
-  note-up_to ws seat es what.Stopped legal up may = nothing-up_to (history_of o ws) es up (and_parts (is_stopped ws) (is_empty es) may).1
-  note-up_to ws seat es (what.Stop why) legal up may = nothing-up_to (history_of o ws) es up (and_parts _ (is_empty es) may).1
+    -- the entries that come with a note lead no further
+    note-to : (ws : List Written) (seat : ℕ) (es : List Entry) (said : What) → is_legal p plan (history_of o ws) ≡ true → To (history_of o ws) → may_say o ws seat es said ≡ true → To (with_entries (history_of o ws) es)
+    note-to ws seat es (what.Turned dones begins) legal up may =
+        let turn = (and_parts (not (is_stopped ws)) (is_turn o (history_of o ws) dones begins es) may).1 in
+        batch-to p plan s most net valid o.policy holds b above (history_of o ws) es legal up (and_parts _ (is_batch p plan o.policy (history_of o ws) es) turn).1
+    note-to ws seat es (what.Alien item held begun) legal up may =
+        nothing-to (history_of o ws) es up (and_parts (not (is_stopped ws)) (is_empty es) (and_parts _ _ (and_parts _ _ may).0).0).1
+    note-to ws seat es what.Disk legal up may =
+        batch-to p plan s most net valid o.policy holds b above (history_of o ws) es legal up (and_parts (not (is_stopped ws)) (is_batch p plan o.policy (history_of o ws) es) may).1
+    note-to ws seat es what.Listed legal up may = nothing-to (history_of o ws) es up (and_parts (not (is_stopped ws)) (is_empty es) may).1
+    note-to ws seat es what.Work legal up may = nothing-to (history_of o ws) es up (and_parts (not (is_stopped ws)) (is_empty es) (and_parts _ _ may).0).1
+    note-to ws seat es what.Finished legal up may = nothing-to (history_of o ws) es up (and_parts (not (is_stopped ws)) (is_empty es) (and_parts _ _ may).0).1
+    note-to ws seat es what.Held legal up may =
+        nothing-to (history_of o ws) es up (and_parts (not (is_stopped ws)) (is_empty es) (and_parts _ _ (and_parts _ _ may).0).0).1
+    note-to ws seat es what.Stopped legal up may = nothing-to (history_of o ws) es up (and_parts (is_stopped ws) (is_empty es) may).1
+    note-to ws seat es (what.Stop why) legal up may = nothing-to (history_of o ws) es up (and_parts _ (is_empty es) may).1
 
-  -- and so what it adds to the list
-  segment-up_to : (h : History) (es : List Entry) (said : What) → UpTo h → UpTo (with_entries h es) → UpTo (with_entries h (segment_of said es))
-  segment-up_to h es (what.Turned dones begins) up with_all = with_all
-  segment-up_to h es (what.Alien item held begun) up with_all = subst UpTo (sym (with_none h)) up
-  segment-up_to h es what.Disk up with_all = subst UpTo (sym (with_none h)) up
-  segment-up_to h es what.Listed up with_all = subst UpTo (sym (with_none h)) up
-  segment-up_to h es what.Work up with_all = subst UpTo (sym (with_none h)) up
-  segment-up_to h es what.Finished up with_all = subst UpTo (sym (with_none h)) up
-  segment-up_to h es what.Held up with_all = subst UpTo (sym (with_none h)) up
-  segment-up_to h es what.Stopped up with_all = subst UpTo (sym (with_none h)) up
-  segment-up_to h es (what.Stop why) up with_all = subst UpTo (sym (with_none h)) up
+    -- and so what it adds to the list
+    segment-to : (h : History) (es : List Entry) (said : What) → To h → To (with_entries h es) → To (with_entries h (segment_of said es))
+    segment-to h es (what.Turned dones begins) up with_all = with_all
+    segment-to h es (what.Alien item held begun) up with_all = subst To (sym (with_none h)) up
+    segment-to h es what.Disk up with_all = subst To (sym (with_none h)) up
+    segment-to h es what.Listed up with_all = subst To (sym (with_none h)) up
+    segment-to h es what.Work up with_all = subst To (sym (with_none h)) up
+    segment-to h es what.Finished up with_all = subst To (sym (with_none h)) up
+    segment-to h es what.Held up with_all = subst To (sym (with_none h)) up
+    segment-to h es what.Stopped up with_all = subst To (sym (with_none h)) up
+    segment-to h es (what.Stop why) up with_all = subst To (sym (with_none h)) up
 
-  module _ (found : UpTo o.found) where
-    next-up_to : (ws later : List Written) (w : Written) → is_legal_shared o (ws ++ w ∷ later) ≡ true → UpTo (history_of o ws) → UpTo (with_entries (history_of o ws) w.entries)
-    next-up_to ws later w legal up =
-        let says = (and_parts _ (may_say o ws w.note.seat w.entries w.note.what) (next_may_be o ws later w legal)).1 in
-        note-up_to ws w.note.seat w.entries w.note.what (list-is_legal o ws (front_is_legal o ws (w ∷ later) legal)) up says
+    module _ (found : To o.found) where
+      next-to : (ws later : List Written) (w : Written) → is_legal_shared o (ws ++ w ∷ later) ≡ true → To (history_of o ws) → To (with_entries (history_of o ws) w.entries)
+      next-to ws later w legal up =
+          let says = (and_parts _ (may_say o ws w.note.seat w.entries w.note.what) (next_may_be o ws later w legal)).1 in
+          note-to ws w.note.seat w.entries w.note.what (list-is_legal o ws (front_is_legal o ws (w ∷ later) legal)) up says
 
-    goes_on-up_to : (ws later : List Written) → is_legal_shared o (ws ++ later) ≡ true → UpTo (history_of o ws) → UpTo (history_of o (ws ++ later))
-    goes_on-up_to ws [] legal up = subst (λ vs. UpTo (history_of o vs)) (sym (append-nil ws)) up
-    goes_on-up_to ws (w ∷ later) legal up =
-        let more = append_assoc ws (w ∷ []) later in
-        let next = segment-up_to (history_of o ws) w.entries w.note.what up (next-up_to ws later w legal up) in
-        subst (λ vs. UpTo (history_of o vs)) more
-        (goes_on-up_to (ws ++ w ∷ []) later (subst (λ vs. is_legal_shared o vs ≡ true) (sym more) legal) (subst UpTo (sym (history-next o ws w)) next))
+      goes_on-to : (ws later : List Written) → is_legal_shared o (ws ++ later) ≡ true → To (history_of o ws) → To (history_of o (ws ++ later))
+      goes_on-to ws [] legal up = subst (λ vs. To (history_of o vs)) (sym (append-nil ws)) up
+      goes_on-to ws (w ∷ later) legal up =
+          let more = append_assoc ws (w ∷ []) later in
+          let next = segment-to (history_of o ws) w.entries w.note.what up (next-to ws later w legal up) in
+          subst (λ vs. To (history_of o vs)) more
+          (goes_on-to (ws ++ w ∷ []) later (subst (λ vs. is_legal_shared o vs ≡ true) (sym more) legal) (subst To (sym (history-next o ws w)) next))
 
-    pub list-up_to : (ws : List Written) → is_legal_shared o ws ≡ true → UpTo (history_of o ws)
-    list-up_to ws legal = goes_on-up_to [] ws legal (subst UpTo (sym (with_none o.found)) found)
+      pub list-to : (ws : List Written) → is_legal_shared o ws ≡ true → To (history_of o ws)
+      list-to ws legal = goes_on-to [] ws legal (subst To (sym (with_none o.found)) found)
 
-    pub each-up_to : (ws later : List Written) (w : Written) → is_legal_shared o (ws ++ w ∷ later) ≡ true → UpTo (with_entries (history_of o ws) w.entries)
-    each-up_to ws later w legal = next-up_to ws later w legal (list-up_to ws (front_is_legal o ws (w ∷ later) legal))
+      pub each-to : (ws later : List Written) (w : Written) → is_legal_shared o (ws ++ w ∷ later) ≡ true → To (with_entries (history_of o ws) w.entries)
+      each-to ws later w legal = next-to ws later w legal (list-to ws (front_is_legal o ws (w ∷ later) legal))
+
+  -- so nothing past the stage, where the list found is begun up to there
+  module _ (found : BegunUpTo p plan s o.found) where
+    abbrev to_stage : ℕ → ℕ
+    to_stage n = changes_to p plan (item_at p n) s
+
+    pub list-up_to : (ws : List Written) → is_legal_shared o ws ≡ true → BegunUpTo p plan s (history_of o ws)
+    list-up_to ws legal = list-to to_stage (λ n lt. le_refl (to_stage n)) found ws legal
+
+    pub each-up_to : (ws later : List Written) (w : Written) → is_legal_shared o (ws ++ w ∷ later) ≡ true → BegunUpTo p plan s (with_entries (history_of o ws) w.entries)
+    each-up_to ws later w legal = each-to to_stage (λ n lt. le_refl (to_stage n)) found ws later w legal
 
     module _ (ws : List Written) (legal : is_legal_shared o ws ≡ true) where
       pub held-is_levelled : NothingFlies p (history_of o ws) → ((n : ℕ) → may_begin p plan (history_of o ws) (next_op (history_of o ws) n) ≡ true → is_held_back o.policy (view_of p plan (history_of o ws) n) ≡ true)
@@ -148,6 +166,25 @@ module _ (o : Opening) (s : ℕ) (most : s ≤ last_stage o.rollout.plan) (net :
 
       pub finished-is_levelled : is_finished p plan (history_of o ws) ≡ true → is_levelled p plan (history_of o ws) s ≡ true
       finished-is_levelled finished = finished-levelled p plan s most (history_of o ws) (list-up_to ws legal) finished
+
+  -- and nothing past what was begun at first, but what leads up to the stage, whatever was begun at first
+  abbrev so_far : ℕ → ℕ
+  so_far n = comes_to p plan o.found s n
+
+  pub list-so_far : (ws : List Written) → is_legal_shared o ws ≡ true → BegunSoFar p plan o.found s (history_of o ws)
+  list-so_far ws legal = list-to so_far (λ n lt. comes-above p plan o.found s n) (begun-so_far p plan o.found s) ws legal
+
+  pub each-so_far : (ws later : List Written) (w : Written) → is_legal_shared o (ws ++ w ∷ later) ≡ true → BegunSoFar p plan o.found s (with_entries (history_of o ws) w.entries)
+  each-so_far ws later w legal = each-to so_far (λ n lt. comes-above p plan o.found s n) (begun-so_far p plan o.found s) ws later w legal
+
+  module _ (ws : List Written) (legal : is_legal_shared o ws ≡ true) where
+    pub held-so_far : NothingFlies p (history_of o ws) → ((n : ℕ) → may_begin p plan (history_of o ws) (next_op (history_of o ws) n) ≡ true → is_held_back o.policy (view_of p plan (history_of o ws) n) ≡ true)
+        → HasComeSoFar p plan o.found s (history_of o ws)
+    held-so_far idle held =
+        come-so_far p plan s most net valid o.policy holds (history_of o ws) (list-is_legal o ws legal) idle (held-none p plan o.policy (history_of o ws) held) o.found (added ws) refl (list-so_far ws legal)
+
+    pub ended-so_far : is_finished p plan (history_of o ws) ≡ true → HasComeSoFar p plan o.found s (history_of o ws)
+    ended-so_far finished = finished-so_far p plan s most o.found (added ws) (list-is_legal o ws legal) finished (list-so_far ws legal)
 
 -- the ceiling of the list found is that of each later list
 pub ceiling-stays : (o : Opening) (ws : List Written) → IsNetwork o.rollout.problem → is_valid_plan o.rollout.problem o.rollout.plan ≡ true

@@ -20,3 +20,5 @@ mod ReadText
 mod ReadAgain
 mod Respelled
 mod ReadClaims
+pub mod ReadScripts
+mod ReadWithin

@@ -8,6 +8,9 @@ use Rattle.serde_json.specs.View.{items_of}
 use Rattle.serde_json.specs.Written.{has_float, items_have_float, members_have_float}
 use Rattle.step_proof.specs.declared.proof.Proof.{Proof}
 use Rattle.step_proof.specs.declared.proof.Proof.TheVariants as said
+use Rattle.rollout_rules.specs.declared.event.Act.{Act}
+use Rattle.rollout_rules.specs.declared.event.Act.TheVariants as act
+use Rattle.problem_json.specs.WritingScripts.{act_data, scripted_data}
 use Rattle.problem_json.specs.declared.claim.Claim.{Claim}
 use Rattle.problem_json.specs.WritingLeast.{fraction_data, claim_data, claimed_data}
 use Rattle.problem_json.specs.Writing.{number_data, rate_data, width_member, format_before, list_data, name_data, switch_data, link_data, tunnel_data, flow_data, problem_data, stage_data, plan_data, document_data}
@@ -118,3 +121,22 @@ claimed_is_plain p plan claim =
     let steps = of_plan plan in
     let problem = of_problem p in
     record { whole = or_from _ _ claimed.whole (or_from _ _ steps.whole (or_from _ _ problem.whole refl)); shallow = omega arith }
+
+of_act : (a : Act) → IsPlain 1 (act_data a)
+of_act act.Round = record { whole = refl; shallow = omega arith }
+of_act (act.Send n) = record { whole = refl; shallow = omega arith }
+of_act (act.Deliver n) = record { whole = refl; shallow = omega arith }
+of_act (act.Hand n) = record { whole = refl; shallow = omega arith }
+of_act act.All = record { whole = refl; shallow = omega arith }
+of_act act.CrashLost = record { whole = refl; shallow = omega arith }
+of_act act.CrashKept = record { whole = refl; shallow = omega arith }
+of_act act.Stop = record { whole = refl; shallow = omega arith }
+of_act act.Start = record { whole = refl; shallow = omega arith }
+
+pub scripted_is_plain : (p : Problem) (plan : Plan) (script : List Act) → IsPlain 7 (scripted_data p plan script)
+unfolding scripted_data
+scripted_is_plain p plan script =
+    let steps = of_plan plan in
+    let problem = of_problem p in
+    let acts = of_map 1 act_data of_act script in
+    record { whole = or_from _ _ steps.whole (or_from _ _ problem.whole (or_from _ _ acts.whole refl)); shallow = omega arith }

@@ -28,7 +28,10 @@ use Rattle.step_proof.specs.declared.proof.Proof.TheVariants as said
 use Rattle.problem_json.specs.declared.claim.Claim.{Claim}
 use Rattle.problem_json.specs.WithinClaims.{IsClaimWithin, IsProofWithin}
 use Rattle.problem_json.specs.WritingLeast.{fraction_text, fraction_data, claim_data, claimed_data}
-use Rattle.problem_json.proofs.Plain.{of_problem as problem_is_plain, of_plan as plan_is_plain, document_is_plain, claimed_is_plain}
+use Rattle.rollout_rules.specs.declared.event.Act.{Act}
+use Rattle.rollout_rules.specs.declared.event.Act.TheVariants as act
+use Rattle.problem_json.specs.WritingScripts.{act_data, scripted_data, AreActsWithin, IsActWithin}
+use Rattle.problem_json.proofs.Plain.{of_problem as problem_is_plain, of_plan as plan_is_plain, document_is_plain, claimed_is_plain, scripted_is_plain}
 
 -- a value whose numbers have 64 bits, and whose objects have their keys in order
 record IsReadable (d : Data) : Type 0 where
@@ -203,6 +206,34 @@ unfolding claimed_data
 of_claimed p plan claim net words is =
     of_object _ (of_claim claim.steps claim.proof (omega (arith, is.steps)) is.proof, (of_plan plan words, (of_problem p net, tt))) refl
 
+-- ---- a script
+
+of_plain : (name : List ℕ) → IsReadable (list_data (string name ∷ []))
+of_plain name = list_reads (string name ∷ []) (of_string name, tt)
+
+of_numbered : (name : List ℕ) (n : ℕ) → n < 2 ^ 64 → IsReadable (list_data (string name ∷ number_data n ∷ []))
+of_numbered name n fits = list_reads (string name ∷ number_data n ∷ []) (of_string name, (of_number n fits, tt))
+
+of_pair : (name batch : List ℕ) → IsReadable (list_data (string name ∷ string batch ∷ []))
+of_pair name batch = list_reads (string name ∷ string batch ∷ []) (of_string name, (of_string batch, tt))
+
+of_act : (a : Act) → IsActWithin a → IsReadable (act_data a)
+of_act act.Round is = of_plain (codes "round")
+of_act (act.Send n) is = of_numbered (codes "send") n (omega (arith, is))
+of_act (act.Deliver n) is = of_numbered (codes "deliver") n (omega (arith, is))
+of_act (act.Hand n) is = of_numbered (codes "hand") n (omega (arith, is))
+of_act act.All is = of_plain (codes "all")
+of_act act.CrashLost is = of_pair (codes "crash") (codes "lost")
+of_act act.CrashKept is = of_pair (codes "crash") (codes "kept")
+of_act act.Stop is = of_plain (codes "stop")
+of_act act.Start is = of_plain (codes "start")
+
+of_scripted : (p : Problem) (plan : Plan) (script : List Act) → IsNetwork p → IsPlanOfWords plan → AreActsWithin (length script) script → IsReadable (scripted_data p plan script)
+unfolding scripted_data
+of_scripted p plan script net words within =
+    let acts = of_map act_data script act.Round (λ k lt. of_act (get_or script k act.Round) (within k lt)) in
+    of_object _ (of_plan plan words, (of_problem p net, (acts, tt))) refl
+
 -- ---- the texts
 
 pub problem_text_reads : (p : Problem) → IsNetwork p → read (compact_text (problem_data p)) ≡ Some (problem_data p)
@@ -217,3 +248,7 @@ document_text_reads p plan net words = text_reads (document_data p plan) (of_doc
 pub claimed_text_reads : (p : Problem) (plan : Plan) (claim : Claim) → IsNetwork p → IsPlanOfWords plan → IsClaimWithin claim → read (compact_text (claimed_data p plan claim)) ≡ Some (claimed_data p plan claim)
 claimed_text_reads p plan claim net words is =
     text_reads (claimed_data p plan claim) (of_claimed p plan claim net words is) (omega (arith, (claimed_is_plain p plan claim).shallow))
+
+pub scripted_text_reads : (p : Problem) (plan : Plan) (script : List Act) → IsNetwork p → IsPlanOfWords plan → AreActsWithin (length script) script → read (compact_text (scripted_data p plan script)) ≡ Some (scripted_data p plan script)
+scripted_text_reads p plan script net words within =
+    text_reads (scripted_data p plan script) (of_scripted p plan script net words within) (omega (arith, (scripted_is_plain p plan script).shallow))

@@ -47,6 +47,12 @@ pub one_member : (old head first t₁ t₂ t₃ : List ℕ)
     → t₃ ≡ old ++ (head ++ (first ++ 125 ∷ []))
 one_member old head first t₁ t₂ t₃ e₁ e₂ e₃ = rw (e₃, e₂, e₁) (simp append_assoc)
 
+-- one number of a list, behind its front
+pub one_in_list : (old front number t₁ t₂ t₃ : List ℕ)
+    → t₁ ≡ old ++ front → t₂ ≡ t₁ ++ number → t₃ ≡ t₂ ++ 93 ∷ []
+    → t₃ ≡ old ++ (front ++ (number ++ 93 ∷ []))
+one_in_list old front number t₁ t₂ t₃ e₁ e₂ e₃ = rw (e₃, e₂, e₁) (simp append_assoc)
+
 -- two members of an object, behind one another
 pub two_members : (old head first mid second t₁ t₂ t₃ t₄ t₅ : List ℕ)
     → t₁ ≡ old ++ head → t₂ ≡ t₁ ++ first → t₃ ≡ t₂ ++ mid → t₄ ≡ t₃ ++ second → t₅ ≡ t₄ ++ 125 ∷ []

@@ -16,3 +16,4 @@ pub mod WithinLimits
 pub mod Writing
 pub mod WritingLeast
 pub mod WithinClaims
+pub mod WritingScripts

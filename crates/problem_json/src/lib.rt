@@ -2,8 +2,8 @@
 //!
 //! The grammar stands in `specs/`, as functions on the data that a text is: [`read_problem`],
 //! [`read_document`], [`read_claimed`] and [`read_script`] answer a value exactly where the grammar does, and
-//! else the fault of the first place that it refuses. [`write_problem`], [`write_plan`], [`write_document`] and
-//! [`write_claimed`] give the one canonical text, which the grammar reads again.
+//! else the fault of the first place that it refuses. [`write_problem`], [`write_plan`], [`write_document`],
+//! [`write_claimed`] and [`write_scripted`] give the one canonical text, which the grammar reads again.
 #![tactic(auto)]
 
 mod claim;
@@ -20,5 +20,6 @@ pub use key::Key;
 pub use place::{Part, Place};
 pub use read::{Document, Scripted, read_claimed, read_document, read_problem, read_script};
 pub use writing::{
-    write_claimed, write_document, write_plan, write_problem, written_problem_is_read,
+    a_plan_that_is_read_is_within, write_claimed, write_document, write_plan, write_problem,
+    write_scripted, written_problem_is_read,
 };

@@ -4,16 +4,19 @@ mod plan;
 mod problem;
 mod room;
 mod round_trip;
+mod script;
 
-ghost use Rattle.std.specs.Prelude.{◌≡◌, IfOk, Ok, Some};
+ghost use Rattle.std.specs.Prelude.{◌≡◌, ◌≤◌, length, IfOk, Ok, Some};
 ghost use Rattle.rollout_rules.specs.Network.{IsNetwork};
+ghost use Rattle.rollout_rules.specs.declared.limits.TheConstants.{MOST_ACTS};
 ghost use Rattle.problem_json.specs.Grammar.{problem_in};
-ghost use Rattle.problem_json.specs.GrammarDocuments.{plan_in, document_in};
+ghost use Rattle.problem_json.specs.GrammarDocuments.{plan_in, document_in, scripted_in};
 ghost use Rattle.problem_json.specs.WithinLimits.{IsPlanWithin};
 ghost use Rattle.problem_json.specs.Writing.{problem_text, plan_text, document_text, HoldsProblem};
 ghost use Rattle.problem_json.specs.GrammarLeast.{claimed_in};
 ghost use Rattle.problem_json.specs.WithinClaims.{IsClaimWithin};
 ghost use Rattle.problem_json.specs.WritingLeast.{claimed_text};
+ghost use Rattle.problem_json.specs.WritingScripts.{scripted_text};
 
 use crate::claim::Claim;
 use least::push_claim;
@@ -21,8 +24,12 @@ use lists::{Memory, Text};
 use pieces::finished;
 use plan::push_plan;
 use problem::push_problem;
-use room::{plan_bytes, problem_bytes};
-pub use round_trip::{written_claim_is_read, written_problem_is_read};
+use rollout_rules::Act;
+use room::{plan_bytes, problem_bytes, script_bytes};
+pub use round_trip::{
+    a_plan_that_is_read_is_within, written_claim_is_read, written_problem_is_read,
+};
+use script::push_script;
 use std::alloc::Global;
 use wan_model::{Plan, Problem};
 
@@ -90,6 +97,37 @@ pub fn write_claimed(
     push_plan(&mut text, plan)?;
     text.push_str(r#","problem":"#)?;
     push_problem(alloc, &mut text, problem)?;
+    text.push_str("}")?;
+    Ok(finished(text))
+}
+
+/// The text of a problem with a plan for it and a script, likewise: the key `script` stands last, a list of
+/// events, each a list of its name and of what the name asks for.
+pub fn write_scripted(
+    alloc: Global,
+    problem: &Problem,
+    plan: &Plan,
+    script: &[Act],
+) -> Result<Text, Memory>
+    ensures text { IfOk result (λ text. text ≡ scripted_text problem.now plan.now script.now) }
+    ensures reads { IfOk result (λ text. IsPlanWithin plan.now
+        → length script.now ≤ MOST_ACTS
+        → scripted_in text
+        ≡ Ok (record {
+          document = record { problem = problem.now; plan = plan.now };
+          script = script.now;
+        })) }
+{
+    let bytes = problem_bytes(problem)
+        .saturating_add(plan_bytes(plan))
+        .saturating_add(script_bytes(script));
+    let mut text = Text::with_capacity(alloc, bytes)?;
+    text.push_str(r#"{"plan":"#)?;
+    push_plan(&mut text, plan)?;
+    text.push_str(r#","problem":"#)?;
+    push_problem(alloc, &mut text, problem)?;
+    text.push_str(r#","script":"#)?;
+    push_script(&mut text, script)?;
     text.push_str("}")?;
     Ok(finished(text))
 }

@@ -1,22 +1,13 @@
--- What the calls rest on: the rollout back as it is copied, and what a stage leaves an item.
-use Rattle.std.proofs.Common.{◌≡◌, ℕ, suc, ◌+◌, ◌-◌, ◌<◌, ◌≤◌, true, List, [], ◌∷◌, ◌++◌, length, map, take, reverse, get_or, Option, None, Result, Ok, Err, IfOk, sym, ap, ap₂, ◌∙◌, arith}
+-- What the calls rest on: the rollout back as it is copied.
+use Rattle.std.proofs.Common.{◌≡◌, ℕ, ◌+◌, ◌-◌, ◌<◌, ◌≤◌, true, List, [], ◌∷◌, ◌++◌, length, map, take, reverse, get_or, Option, None, Result, Ok, Err, IfOk, sym, ap, ap₂, ◌∙◌, arith}
 use Rattle.std.proofs.lemmas.List.{take_more, take_all, length-reverse, get_or-reverse, get_or-map}
-use Rattle.rollout_rules.specs.Sums.{list_below}
-use Rattle.rollout_rules.specs.Wan.{Problem, Plan, Stage, Rollout, no_tunnel, no_stage, tunnel_at, last_stage}
-use Rattle.rollout_rules.specs.Items.{item_count, item_at}
-use Rattle.rollout_rules.specs.Operations.{changes_to, operations}
+use Rattle.rollout_rules.specs.Wan.{Problem, Plan, Stage, Rollout, no_tunnel, no_stage, tunnel_at}
 use Rattle.rollout_rules.specs.Valid.{is_valid_plan}
-use Rattle.rollout_rules.specs.declared.item.Item.{Item}
-use Rattle.rollout_laws.proofs.Standing.{changes-up}
-use Rattle.rollout_laws.proofs.Validity.{plan-is_valid}
 use Rattle.wan_model.specs.Rates.{with_rates}
 use Rattle.wan_model.specs.Sides.{rate_on}
 use Rattle.wan_model.specs.declared.side.Side.TheVariants.{Old, New}
 use Rattle.wan_model.proofs.Rated.{rows-are}
 use Rattle.rollback_plan.specs.Turning.{turned, back_problem, back_plan, back}
-use Rattle.rollback_plan.specs.Levels.{back_start}
-use Rattle.rollback_plan.proofs.Alike.{count-turned, item_at-turned}
-use Rattle.rollback_plan.proofs.Mirror.{changes-mirrored}
 use Rattle.rollback_plan.proofs.Ways.{back-is_valid}
 
 -- new rates in place of the old ones, and old in place of the new
@@ -49,29 +40,3 @@ parts-valid r p plan valid problem stages = ap₂ is_valid_plan problem stages �
 
 pub parts-back : (r : Rollout) (p : Problem) (plan : Plan) → p ≡ back_problem r.problem → plan ≡ back_plan r.plan → record { problem = p; plan = plan } ≡ back r
 parts-back r p plan problem stages = ap₂ (λ (x : Problem) (y : Plan). record { problem = x; plan = y }) problem stages
-
--- what a stage leaves an item is what the way back has made of it there
-module _ (p : Problem) (plan : Plan) (i : Item) (s : ℕ) (valid : is_valid_plan p plan ≡ true) (most : s ≤ last_stage plan) where
-  pub made-at_most : changes_to p plan i s ≤ operations p plan i
-  made-at_most = changes-up p plan i s (last_stage plan) most
-
-  pub left-is_made : operations p plan i - changes_to p plan i s ≡ changes_to (back_problem p) (back_plan plan) i (last_stage plan - s)
-  left-is_made =
-      let here : last_stage plan - (last_stage plan - s) ≡ s = omega (arith, most) in
-      let mirrored = changes-mirrored plan p (plan-is_valid p plan valid).stages i (last_stage plan - s) (omega arith) in
-      let same = ap (changes_to p plan i) here in
-      omega (arith, mirrored, same)
-
--- one item more of the start of the way back
-abbrev pub made : Problem → Plan → ℕ → ℕ → ℕ
-made p plan s n = changes_to (back_problem p) (back_plan plan) (item_at (back_problem p) n) (last_stage plan - s)
-
-pub start-next : (p : Problem) (plan : Plan) (s n number : ℕ) (start next : List ℕ) → start ≡ list_below n (made p plan s)
-    → number ≡ changes_to (back_problem p) (back_plan plan) (item_at p n) (last_stage plan - s) → next ≡ start ++ number ∷ [] → next ≡ list_below (n + 1) (made p plan s)
-start-next p plan s n number start next so this is =
-    let more : suc n ≡ n + 1 = omega arith in
-    let same = ap (λ i. changes_to (back_problem p) (back_plan plan) i (last_stage plan - s)) (sym (item_at-turned p n)) in
-    is ∙ ap₂ (λ xs x. xs ++ x ∷ []) so (this ∙ same) ∙ ap (λ m. list_below m (made p plan s)) more
-
-pub start-all : (p : Problem) (plan : Plan) (s n : ℕ) (start : List ℕ) → n ≡ item_count p → start ≡ list_below n (made p plan s) → start ≡ back_start p plan s
-start-all p plan s n start all so = so ∙ ap (λ m. list_below m (made p plan s)) (all ∙ sym (count-turned p))

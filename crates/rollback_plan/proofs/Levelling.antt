@@ -1,5 +1,5 @@
 -- Levelling: what a round begins under a policy that holds, where it has nothing to begin, and the way to a level.
-use Rattle.std.proofs.Common.{◌≡◌, ℕ, ◌+◌, ◌-◌, ◌<◌, ◌≤◌, ◌⊎◌, Bool, true, false, ◌==◌, if◌then◌else◌, nat_le, List, [], ◌∷◌, inl, inr, refl, sym, ap, ◌∙◌, subst, arith, leb-true, le-leb, eqb-true, ne_eqb}
+use Rattle.std.proofs.Common.{◌≡◌, ℕ, ◌+◌, ◌-◌, ◌<◌, ◌≤◌, ◌⊎◌, Bool, true, false, ◌==◌, if◌then◌else◌, nat_le, List, [], ◌∷◌, inl, inr, refl, sym, ap, ◌∙◌, subst, arith, leb-true, le-leb, le_refl, eqb-true, ne_eqb}
 use Rattle.std.proofs.lemmas.Bool.{and_parts, and_from, both_ways, cases_eq, cases_lt, lt-leb}
 use Rattle.std.proofs.lemmas.List.Elements.{All-head, All-tail}
 use Rattle.std.specs.List.{All}
@@ -29,7 +29,7 @@ use Rattle.rollout_laws.proofs.Rounds.{dones_follow, release_follows, release_be
 use Rattle.rollout_laws.proofs.Stuck.{least-begins}
 use Rattle.rollout_laws.proofs.Validity.{plan-is_valid}
 use Rattle.order_policy.specs.Answers.{last_rank}
-use Rattle.rollback_plan.specs.Levels.{BegunUpTo, is_levelled_at, is_levelled, HoldsFrom, levelling}
+use Rattle.rollback_plan.specs.Levels.{BegunTo, BegunUpTo, is_levelled_at, is_levelled, HoldsFrom, levelling}
 use Rattle.rollback_plan.proofs.Views.{views-are_views}
 
 -- the policy that levels at a stage holds from it on
@@ -86,24 +86,28 @@ module _ (p : Problem) (plan : Plan) (s : ℕ) (most : s ≤ last_stage plan) wh
         | inr past ↦ absurd (both_ways (is_held_back policy (view_of p plan h n)) free (holds.from (view_of p plan h n) (views-are_views p plan h n net is_valid legal lt) past))
       ]
 
-      module _ (h : History) (legal : is_legal p plan h ≡ true) (up : BegunUpTo p plan s h) where
+      -- a round leads no further than a bound that is at least the stage
+      module _ (b : ℕ → ℕ) (above : (n : ℕ) → n < item_count p → changes_to p plan (item_at p n) s ≤ b n) (h : History) (legal : is_legal p plan h ≡ true) (up : BegunTo p b h) where
         abbrev es : List Entry
         es = release p plan policy h
 
-        released-up_to : (n : ℕ) → n < item_count p → 0 < begins_in es n → begun (with_entries h es) n ≤ changes_to p plan (item_at p n) s
-        released-up_to n lt some =
+        released-to : (n : ℕ) → n < item_count p → 0 < begins_in es n → begun (with_entries h es) n ≤ b n
+        released-to n lt some =
             let there = begin-of (BeginsUnheld p plan policy h) es n (release_begins_unheld p plan policy h) some in
             let free : is_held_back policy (view_of p plan h n) ≡ false = subst (λ m. is_held_back policy (view_of p plan h m) ≡ false) there.1 there.2 in
             let next = next-up_to h n lt (unheld-before h legal n lt free) in
             let after = (is_counted p plan (with_entries h es) (is_legal-append p plan h es legal (release_follows p plan policy h)) n).one_flies in
             let none = begins-settle_nothing h es n (release_begins_next p plan policy h) in
-            omega (arith, next, after, none, settled-with h es n)
+            omega (arith, above n lt, next, after, none, settled-with h es n)
 
-        pub release-up_to : BegunUpTo p plan s (with_entries h es)
-        release-up_to n lt = elim (cases_lt 0 (begins_in es n)) as (λ c. begun (with_entries h es) n ≤ changes_to p plan (item_at p n) s) [
-          | inl some ↦ released-up_to n lt some
+        pub release-to : BegunTo p b (with_entries h es)
+        release-to n lt = elim (cases_lt 0 (begins_in es n)) as (λ c. begun (with_entries h es) n ≤ b n) [
+          | inl some ↦ released-to n lt some
           | inr none ↦ omega (arith, none, up n lt, begun-with h es n)
         ]
+
+      pub release-up_to : (h : History) → is_legal p plan h ≡ true → BegunUpTo p plan s h → BegunUpTo p plan s (with_entries h (release p plan policy h))
+      release-up_to h legal up = release-to (λ n. changes_to p plan (item_at p n) s) (λ n lt. le_refl (changes_to p plan (item_at p n) s)) h legal up
 
       pub batch-up_to : (h : History) → is_legal p plan h ≡ true → BegunUpTo p plan s h → (answers : List Op) → BegunUpTo p plan s (with_entries h (batch p plan policy h answers))
       batch-up_to h legal up answers =

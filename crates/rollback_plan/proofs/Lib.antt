@@ -8,3 +8,8 @@ pub mod Views
 pub mod Levelling
 pub mod Leading
 pub mod Calls
+pub mod TurnStages
+pub mod TurnContents
+pub mod Coming
+pub mod Undone
+pub mod Turned

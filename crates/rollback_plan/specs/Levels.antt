@@ -32,6 +32,10 @@ leads_to p plan h n = if begun h n == 0 then 0 else stand_after p plan (item_at 
 abbrev pub ceiling : Problem → Plan → History → ℕ
 ceiling p plan h = most_below (item_count p) (leads_to p plan h)
 
+-- of no item is more begun than these numbers say
+abbrev pub BegunTo : Problem → (ℕ → ℕ) → History → Type 0
+BegunTo p most h = (n : ℕ) → n < item_count p → begun h n ≤ most n
+
 -- no operation is begun that leads past stage s
 abbrev pub BegunUpTo : Problem → Plan → ℕ → History → Type 0
 BegunUpTo p plan s h = (n : ℕ) → n < item_count p → begun h n ≤ changes_to p plan (item_at p n) s

@@ -6,8 +6,11 @@ ghost use Rattle.rollout_rules.specs.History.{started};
 ghost use Rattle.rollout_rules.specs.Legal.{is_sound};
 ghost use Rattle.rollout_rules.specs.Release.{release};
 ghost use Rattle.rollout_rules.specs.Named.{one, ahead, late, table_network, wide_network, replaced, one_plan, ahead_plan, late_plan, table_plan, replaced_plan, tunnel_along, all_installed, stage_with};
-ghost use Rattle.rollout_rules.specs.Worked.{fresh, begin_of, done_of};
+ghost use Rattle.rollout_rules.specs.Worked.{fresh, begin_of, done_of, op_of};
 ghost use Rattle.rollback_plan.specs.Turning.{back_problem, back_plan};
+ghost use Rattle.rollback_plan.specs.Turns.{comes_to, may_turn, turn_start};
+ghost use Rattle.rollback_plan.specs.Undoing.{goes_back, may_go_back, without};
+ghost use Rattle.rollback_plan.specs.Passing.{passing, passing_plan};
 ghost use Rattle.rollback_plan.specs.Levels.{stage_start, back_start, leads_to, ceiling, is_levelled, levelling};
 
 /// The first network's way back: 1 and 3 become 4 and 0.
@@ -95,4 +98,62 @@ pub fn a_way_back_begins_where_the_stage_left_it()
     ensures sound { is_sound (back_problem late) (back_plan late_plan)
         (back_start late late_plan 1) ≡ true }
     ensures not_sound { is_sound (back_problem late) (back_plan late_plan) (1 ∷ 0 ∷ []) ≡ false }
+{}
+
+/// The way back begins with what is left once all that was begun is settled: here with the first operations of
+/// two flows, where that of the third one was begun. At a stage it comes as far as that for all, too.
+pub fn a_way_back_begins_with_what_is_left()
+    ensures none { turn_start passing passing_plan (fresh []) 0
+        ≡ (1 ∷ 1 ∷ 1 ∷ []) ++ replicate 15 0 }
+    ensures begun { turn_start passing passing_plan (fresh (begin_of 1 1 ∷ [])) 0
+        ≡ (1 ∷ 0 ∷ 1 ∷ []) ++ replicate 15 0 }
+    ensures settled { turn_start passing passing_plan
+        (fresh (begin_of 1 1 ∷ done_of 1 1 ∷ [])) 0
+        ≡ (1 ∷ 0 ∷ 1 ∷ []) ++ replicate 15 0 }
+    ensures stage { turn_start passing passing_plan (fresh (begin_of 1 1 ∷ [])) 1
+        ≡ (0 ∷ 0 ∷ 1 ∷ []) ++ replicate 15 0 }
+    ensures past { comes_to passing passing_plan (fresh (begin_of 1 1 ∷ [])) 1 1 ≡ 1 }
+    ensures up_to { comes_to passing passing_plan (fresh (begin_of 1 1 ∷ [])) 1 0 ≡ 1 }
+    ensures at_the_ceiling { turn_start ahead ahead_plan (fresh (begin_of 0 1 ∷ [])) 1
+        ≡ back_start ahead ahead_plan 1 }
+{}
+
+/// Where the second flow has left the link, and the third has come, going back at once would bring the second one
+/// there beside both others. Levelled at stage 1, below the ceiling, the first has left it, too.
+pub fn a_rollout_turns_where_its_way_back_is_sound()
+    ensures valid { is_valid_plan passing passing_plan ≡ true }
+    ensures at_once { may_turn passing passing_plan (fresh (begin_of 1 1 ∷ done_of 1 1 ∷ [])) 0
+        ≡ true }
+    ensures not_here { may_turn passing passing_plan
+        (fresh (begin_of 1 1 ∷ done_of 1 1 ∷ begin_of 2 1 ∷ [])) 0
+        ≡ false }
+    ensures levelled { may_turn passing passing_plan
+        (fresh (begin_of 1 1 ∷ done_of 1 1 ∷ begin_of 2 1 ∷ [])) 1
+        ≡ true }
+    ensures reached { ceiling passing passing_plan
+        (fresh (begin_of 1 1 ∷ done_of 1 1 ∷ begin_of 2 1 ∷ []))
+        ≡ 2 }
+{}
+
+/// What was begun behind another one's Done has to be back before that may go; what was in flight together may go
+/// together.
+pub fn an_operation_waits_for_those_begun_behind_it()
+    ensures last { may_go_back (λ n. 1)
+        (begin_of 1 1 ∷ done_of 1 1 ∷ begin_of 2 1 ∷ done_of 2 1 ∷ []) (op_of 2 1)
+        ≡ true }
+    ensures first { may_go_back (λ n. 1)
+        (begin_of 1 1 ∷ done_of 1 1 ∷ begin_of 2 1 ∷ done_of 2 1 ∷ []) (op_of 1 1)
+        ≡ false }
+    ensures then_first { may_go_back (without (op_of 2 1) (λ n. 1))
+        (begin_of 1 1 ∷ done_of 1 1 ∷ begin_of 2 1 ∷ done_of 2 1 ∷ []) (op_of 1 1)
+        ≡ true }
+    ensures in_turn { goes_back (λ n. 0) (without (op_of 2 1) (λ n. 1))
+        (begin_of 1 1 ∷ done_of 1 1 ∷ begin_of 2 1 ∷ done_of 2 1 ∷ [])
+        ≡ true }
+    ensures not_at_once { goes_back (λ n. 0) (λ n. 1)
+        (begin_of 1 1 ∷ done_of 1 1 ∷ begin_of 2 1 ∷ done_of 2 1 ∷ [])
+        ≡ false }
+    ensures together { goes_back (λ n. 0) (λ n. 1)
+        (begin_of 0 1 ∷ begin_of 1 1 ∷ done_of 0 1 ∷ done_of 1 1 ∷ [])
+        ≡ true }
 {}

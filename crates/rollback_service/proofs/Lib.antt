@@ -1,3 +1,4 @@
 pub mod Boxes
 pub mod Levellings
 pub mod Placings
+pub mod Drainings

@@ -1,7 +1,9 @@
 -- What levelling a rollout comes to.
-use Rattle.std.specs.Prelude.{◌≡◌, ⊤, ◌≤◌, ℕ, true}
-use Rattle.rollout_rules.specs.Wan.{Rollout, last_stage}
+use Rattle.std.specs.Prelude.{◌≡◌, ⊤, ℕ, true, List, length, IsTrue}
+use Rattle.rollout_rules.specs.Wan.{Rollout}
+use Rattle.rollout_rules.specs.Items.{item_count}
 use Rattle.rollout_rules.specs.History.{History}
+use Rattle.rollout_rules.specs.Legal.{is_sound}
 use Rattle.rollout_rules.specs.declared.op.OpView.{OpView}
 use Rattle.order_policy.specs.Answers.{is_view}
 use Rattle.disk_model.specs.Traces.{DiskTrace}
@@ -14,48 +16,74 @@ use Rattle.rollout_run.specs.declared.end.RunEnd.TheVariants as run
 use Rattle.rollout_service.specs.Outcomes.{HasRolled, HasRun}
 use Rattle.rollout_service.specs.declared.answer.RunAnswer.{RunAnswer}
 use Rattle.rollback_plan.specs.Levels.{ceiling, levelling}
+use Rattle.rollback_plan.specs.Turning.{back_plan, back_problem}
+use Rattle.rollback_plan.specs.Turns.{TurnsFirstAt, turn_start}
 use Rattle.rollback_service.specs.declared.answer.LevelAnswer.{LevelAnswer}
 use Rattle.rollback_service.specs.declared.answer.LevelAnswer.TheVariants as level
+use Rattle.rollback_service.specs.declared.origin.BackFrom.{BackFrom}
+use Rattle.rollback_service.specs.declared.origin.BackFrom.TheVariants as whence
 
 -- the stage to which a history of a rollout has come
 abbrev pub ceiling_of : Rollout → History → ℕ
 ceiling_of r h = ceiling r.problem r.plan h
 
+-- the stage at which a rollout with this history is levelled before it goes back: the one to which it has come, or the first one at which it may turn
+abbrev pub TurnsFrom : BackFrom → Rollout → History → ℕ → Type 0
+TurnsFrom whence.Level r h s = s ≡ ceiling_of r h
+TurnsFrom whence.Here r h s = TurnsFirstAt r.problem r.plan h s
+
+-- where its way back begins then
+abbrev pub start_of : Rollout → History → ℕ → List ℕ
+start_of r h s = turn_start r.problem r.plan h s
+
+-- The way back of a rollout may begin so, with a number of each item.
+pub record IsStartBack (r : Rollout) (start : List ℕ) : Type 0 where
+  pub numbers : length start ≡ item_count r.problem
+  pub sound : IsTrue (is_sound (back_problem r.problem) (back_plan r.plan) start)
+
 -- A policy levels at a stage: of each operation that it is asked about it answers as that says.
 abbrev pub LevelsBy : ℕ → (OpView → ℕ) → Type 0
 LevelsBy s policy = (view : OpView) → is_view view ≡ true → policy view ≡ levelling s view
 
--- The answer behind a run that ended so and levelled a rollout at this stage: it is level where the run finished, and where the policy holds back the rest.
-abbrev pub level_for : Rollout → ℕ → RunEnd → LevelAnswer
-level_for r s run.Finished = level.Level r s
-level_for r s run.Held = level.Level r s
-level_for r s (run.Stopped halt) = level.Stopped r halt
-level_for r s (run.NoPort switch) = level.NoPort r switch
-level_for r s run.Memory = level.Memory
+-- The answer behind a run that ended so, under the policy that levels a rollout where its way back begins so: it is level where the run finished, and where the policy holds back the rest.
+abbrev pub level_for : Rollout → List ℕ → RunEnd → LevelAnswer
+level_for r start run.Finished = level.Level r start
+level_for r start run.Held = level.Level r start
+level_for r start (run.Stopped halt) = level.Stopped r halt
+level_for r start (run.NoPort switch) = level.NoPort r switch
+level_for r start run.Memory = level.Memory
 
--- the stage of a level is one of its plan
-abbrev pub IsStage : LevelAnswer → Type 0
-IsStage (level.Level r s) = s ≤ last_stage r.plan
-IsStage (level.Stopped r halt) = ⊤
-IsStage (level.NoPort r switch) = ⊤
-IsStage level.Memory = ⊤
+-- the way back may begin where it does behind a level
+abbrev pub MayStart : LevelAnswer → Type 0
+MayStart (level.Level r start) = IsStartBack r start
+MayStart (level.Stopped r halt) = ⊤
+MayStart (level.NoPort r switch) = ⊤
+MayStart level.Memory = ⊤
 
--- A book was run from its opening on under this policy, and closed; the answer is the one for this stage.
-pub record HasRunUnder {D P : Type 0} (trace : D → DiskTrace) (tell : P → PortTrace) (policy : OpView → ℕ) (migration rounds : ℕ) (opened : Chronicled D) (stage : ℕ) (before now : FleetPorts P) (disk : D) (answer : LevelAnswer) : Type 0 where
+-- A book was run from its opening on under this policy, and closed; the answer is the one for this start.
+pub record HasRunUnder {D P : Type 0} (trace : D → DiskTrace) (tell : P → PortTrace) (policy : OpView → ℕ) (migration rounds : ℕ) (opened : Chronicled D) (start : List ℕ) (before now : FleetPorts P) (disk : D) (answer : LevelAnswer) : Type 0 where
   pub run : RunAnswer
   pub has : HasRun trace tell policy migration rounds opened before now disk run
-  pub tells : answer ≡ level_for opened.rollout stage has.end
+  pub tells : answer ≡ level_for opened.rollout start has.end
 
--- the same under a policy that levels at the stage to which what the book found has come
-pub record HasRunLevelling {D P : Type 0} (trace : D → DiskTrace) (tell : P → PortTrace) (migration rounds : ℕ) (opened : Chronicled D) (before now : FleetPorts P) (disk : D) (answer : LevelAnswer) : Type 0 where
+-- the same under a policy that levels at this stage
+pub record HasRunAt {D P : Type 0} (trace : D → DiskTrace) (tell : P → PortTrace) (stage : ℕ) (start : List ℕ) (migration rounds : ℕ) (opened : Chronicled D) (before now : FleetPorts P) (disk : D) (answer : LevelAnswer) : Type 0 where
   pub policy : OpView → ℕ
-  pub levels : LevelsBy (ceiling_of opened.rollout opened.history) policy
-  pub under : HasRunUnder trace tell policy migration rounds opened (ceiling_of opened.rollout opened.history) before now disk answer
+  pub levels : LevelsBy stage policy
+  pub under : HasRunUnder trace tell policy migration rounds opened start before now disk answer
 
--- The book of a rollout was opened on this disk, and run as that of a rollout is, under a policy that levels at the stage to which what was found has come.
-pub record HasLevelled {D P : Type 0} (trace : D → DiskTrace) (tell : P → PortTrace) (r : Rollout) (digest : Digest) (rounds : ℕ) (disk : D) (before now : FleetPorts P) (levelled : D) (answer : LevelAnswer) : Type 0 where
+-- at the stage at which what the book found is levelled
+pub record HasRunLevelling {D P : Type 0} (trace : D → DiskTrace) (tell : P → PortTrace) (origin : BackFrom) (migration rounds : ℕ) (opened : Chronicled D) (before now : FleetPorts P) (disk : D) (answer : LevelAnswer) : Type 0 where
+  pub stage : ℕ
+  pub turns : TurnsFrom origin opened.rollout opened.history stage
+  pub at : HasRunAt trace tell stage (start_of opened.rollout opened.history stage) migration rounds opened before now disk answer
+
+-- The book of a rollout was opened on this disk, and run as that of a rollout is, under a policy that levels at the stage at which what was found is levelled before it goes back.
+pub record HasLevelled {D P : Type 0} (trace : D → DiskTrace) (tell : P → PortTrace) (origin : BackFrom) (r : Rollout) (digest : Digest) (rounds : ℕ) (disk : D) (before now : FleetPorts P) (levelled : D) (answer : LevelAnswer) : Type 0 where
   pub policy : OpView → ℕ
   pub run : RunAnswer
   pub rolled : HasRolled trace tell r digest policy rounds disk before now levelled run
-  pub levels : LevelsBy (ceiling_of rolled.book.rollout rolled.book.history) policy
-  pub tells : answer ≡ level_for rolled.book.rollout (ceiling_of rolled.book.rollout rolled.book.history) rolled.run.end
+  pub stage : ℕ
+  pub turns : TurnsFrom origin rolled.book.rollout rolled.book.history stage
+  pub levels : LevelsBy stage policy
+  pub tells : answer ≡ level_for rolled.book.rollout (start_of rolled.book.rollout rolled.book.history stage) rolled.run.end

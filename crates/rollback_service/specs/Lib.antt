@@ -1,2 +1,3 @@
 pub mod Levellings
 pub mod Placings
+pub mod Drainings

@@ -11,12 +11,11 @@ use Rattle.intent_journal.specs.Phases.{kept_of}
 use Rattle.intent_journal.specs.Placements.{IsPlaced, IsPlacingFault, IsStoodOrPlaced}
 use Rattle.intent_journal.specs.Recovered.{OnRefusal}
 use Rattle.rollout_report.specs.Journals.{digest_for}
-use Rattle.rollback_plan.specs.Levels.{back_start}
 use Rattle.rollback_plan.specs.Turning.{back}
 
--- What the journal of the way back from a stage keeps: it knows the rollout back, as the next migration; it begins where that has the stage's content; and its list is empty.
-abbrev pub kept_back : Rollout → ℕ → ℕ → Kept
-kept_back r migration s = kept_of (digest_for (back r) (migration + 1)) (back_start r.problem r.plan s) []
+-- What the journal of the way back from a start keeps: it knows the rollout back, as the next migration; it begins there; and its list is empty.
+abbrev pub kept_from : Rollout → ℕ → List ℕ → Kept
+kept_from r migration start = kept_of (digest_for (back r) (migration + 1)) start []
 
 -- A disk shows one of the images that a crash now may leave, and this moment is one of those since an earlier one.
 pub record IsSeen {D : Type 0} (trace : D → DiskTrace) (disk : D) : Type 0 where

@@ -1,6 +1,8 @@
-//! A rollout is levelled at the stage to which it has come.
-ghost use Rattle.std.specs.Prelude.{◌≡◌, ◌≤◌, ℕ, IfErr, IfOk, IfSome};
+//! A rollout is levelled: at the stage to which it has come, or at the first one at which it may turn.
+ghost use Rattle.std.specs.Prelude.{◌≡◌, ◌≤◌, ℕ, IfErr, IfOk, IfSome, IsTrue};
 ghost use Rattle.rollout_rules.specs.Wan.{Rollout};
+ghost use Rattle.rollout_rules.specs.Network.{IsNetwork};
+ghost use Rattle.rollout_rules.specs.Valid.{is_valid_plan};
 ghost use Rattle.intent_journal.specs.Openings.{IsLeft};
 ghost use Rattle.order_policy.specs.Answers.{rank_by};
 ghost use Rattle.wan_edge.specs.Streams.{Rose};
@@ -10,14 +12,18 @@ ghost use Rattle.shared_book.specs.Opened.{IsOpened, opening_of};
 ghost use Rattle.rollout_ports.specs.Berths.{ports_of};
 ghost use Rattle.rollout_report.specs.Journals.{digest_for};
 ghost use Rattle.rollback_plan.specs.Levels as levels;
-ghost use Rattle.rollback_service.specs.Levellings.{HasLevelled, HasRunLevelling, HasRunUnder, IsStage, level_for};
+ghost use Rattle.rollback_service.specs.Levellings.{HasLevelled, HasRunAt, HasRunLevelling, HasRunUnder, MayStart, level_for};
 
 use crate::answer::{LevelAnswer, answer_behind};
 use crate::opening::open_chronicle;
+use crate::origin::BackFrom;
+use crate::turn::{Turn, turn_of};
+use dependency_graph::checked_plan_is_valid;
 use disk_model::Disk;
 use intent_journal::Unopened;
+use lists::Ids;
 use order_policy::Policy;
-use rollback_plan::{ceiling, levelling_rank};
+use rollback_plan::levelling_rank;
 use rollout_book::{Book, Chronicle};
 use rollout_run::{Limits, RunEnd, run};
 use std::alloc::Global;
@@ -34,14 +40,16 @@ pub struct Levelled<D> {
 }
 
 /// Levels the rollout of a plan. Its journal is opened on the disk, or made where there is none yet; the stage
-/// is the greatest one to which an operation leads that was begun; and the rollout is run over the fleet's
-/// ports, longer chains first, with each operation held back of what stands at that stage or past it. What is
-/// in flight ends, and what stands before the stage comes there. The disk comes back with every answer. A
-/// journal that is refused is left as it was, and then no port is opened.
+/// is the greatest one to which an operation leads that was begun, or the first one at which the rollout may
+/// turn; and the rollout is run over the fleet's ports, longer chains first, with each operation held back of
+/// what stands at that stage or past it. What is in flight ends, and what stands before the stage comes there.
+/// The disk comes back with every answer. A journal that is refused is left as it was, and then no port is
+/// opened.
 pub fn run_levelling<R: Wait + Threads + Sync, D: Disk + Drop + Send, F: Fleet>(
     rt: &R,
     alloc: Global,
     plan: CheckedPlan,
+    origin: BackFrom,
     limits: Limits,
     disk: D,
     fleet: &mut F,
@@ -49,10 +57,11 @@ pub fn run_levelling<R: Wait + Threads + Sync, D: Disk + Drop + Send, F: Fleet>(
 where
     F::Port: Drop + Send,
     ensures levelled { IfOk result
-        (λ levelled. HasLevelled D.told F.Port.told plan (digest_for plan limits.migration)
-        limits.rounds disk (ports_of F.waiting F.kept F.lent F.named fleet.old)
+        (λ levelled. HasLevelled D.told F.Port.told origin plan
+        (digest_for plan limits.migration) limits.rounds disk
+        (ports_of F.waiting F.kept F.lent F.named fleet.old)
         (ports_of F.waiting F.kept F.lent F.named fleet.new) levelled.disk levelled.answer) }
-    ensures stage { IfOk result (λ levelled. IsStage levelled.answer) }
+    ensures start { IfOk result (λ levelled. MayStart levelled.answer) }
     ensures left { IfErr result
         (λ unopened. IsLeft D.told plan (digest_for plan limits.migration) disk unopened.cause
         unopened.disk) }
@@ -66,25 +75,78 @@ where
         → Rose (F.faults fleet.old) (F.faults fleet.new)) }
     ensures count { F.faults fleet.old ≤ F.faults fleet.new }
 {
+    checked_plan_is_valid(&plan);
     match open_chronicle(alloc, plan, limits.migration, disk) {
-        Ok(chronicle) => Ok(level(rt, alloc, chronicle, fleet, limits)),
+        Ok(chronicle) => Ok(level(rt, alloc, chronicle, origin, fleet, limits)),
         Err(unopened) => Err(unopened),
     }
 }
 
-// Levels the rollout of a chronicle that was opened, under a policy that is made here and lent: longer chains
-// first, and nothing of what stands at the stage or past it. Without memory for it nothing is begun.
+// Levels the rollout of a chronicle that was opened. Without memory to find out how far, nothing is begun.
 fn level<R: Wait + Threads + Sync, D: Disk + Drop + Send, F: Fleet>(
     rt: &R,
     alloc: Global,
     chronicle: Chronicle<D>,
+    origin: BackFrom,
     fleet: &mut F,
     limits: Limits,
 ) -> Levelled<D>
 where
     F::Port: Drop + Send,
     requires { IsNewBook D.told chronicle }
-    ensures levelled { HasRunLevelling D.told F.Port.told limits.migration limits.rounds chronicle
+    ensures levelled { HasRunLevelling D.told F.Port.told origin limits.migration limits.rounds
+        chronicle (ports_of F.waiting F.kept F.lent F.named fleet.old)
+        (ports_of F.waiting F.kept F.lent F.named fleet.new) result.disk result.answer }
+    ensures guests { (F.coming fleet.new ≡ F.coming fleet.old)
+        × (F.served fleet.new ≡ F.served fleet.old)
+        × (F.visiting fleet.new ≡ F.visiting fleet.old) }
+    ensures no_port { (r : Rollout) (switch : ℕ)
+        → result.answer ≡ LevelAnswer.NoPort r switch
+        → Rose (F.faults fleet.old) (F.faults fleet.new) }
+    ensures count { F.faults fleet.old ≤ F.faults fleet.new }
+{
+    plan_is_valid(&chronicle);
+    match turn_of(alloc, chronicle.graph(), origin) {
+        Ok(turn) => {
+            let Turn { stage, start } = turn;
+            level_at(rt, alloc, chronicle, stage, start, fleet, limits)
+        }
+        Err(_) => {
+            let (graph, disk) = chronicle.into_parts();
+            drop(graph);
+            Levelled {
+                disk,
+                answer: LevelAnswer::Memory,
+            }
+        }
+    }
+}
+
+// What the plan's type keeps.
+fn plan_is_valid<D: Disk>(chronicle: &Chronicle<D>)
+    ensures network { IsNetwork chronicle.now.rollout.problem }
+    ensures valid { IsTrue (is_valid_plan chronicle.now.rollout.problem
+        chronicle.now.rollout.plan) }
+{
+    let graph = chronicle.graph();
+    checked_plan_is_valid(graph.plan());
+}
+
+// Levels it at a stage, under a policy that is made here and lent: longer chains first, and nothing of what
+// stands at the stage or past it. Without memory for it nothing is begun.
+fn level_at<R: Wait + Threads + Sync, D: Disk + Drop + Send, F: Fleet>(
+    rt: &R,
+    alloc: Global,
+    chronicle: Chronicle<D>,
+    stage: u32,
+    start: Ids,
+    fleet: &mut F,
+    limits: Limits,
+) -> Levelled<D>
+where
+    F::Port: Drop + Send,
+    requires { IsNewBook D.told chronicle }
+    ensures run { HasRunAt D.told F.Port.told stage start limits.migration limits.rounds chronicle
         (ports_of F.waiting F.kept F.lent F.named fleet.old)
         (ports_of F.waiting F.kept F.lent F.named fleet.new) result.disk result.answer }
     ensures guests { (F.coming fleet.new ≡ F.coming fleet.old)
@@ -95,7 +157,6 @@ where
         → Rose (F.faults fleet.old) (F.faults fleet.new) }
     ensures count { F.faults fleet.old ≤ F.faults fleet.new }
 {
-    let stage = ceiling(chronicle.graph());
     match Box::new(
         alloc,
         move |view: OpView| -> u64
@@ -109,7 +170,7 @@ where
                 chronicle,
                 policy: &policy,
             };
-            level_under(rt, alloc, book, stage, fleet, limits)
+            level_under(rt, alloc, book, start, fleet, limits)
         }
         Err(_) => {
             let (graph, disk) = chronicle.into_parts();
@@ -127,7 +188,7 @@ fn level_under<R: Wait + Threads + Sync, D: Disk + Drop + Send, F: Fleet>(
     rt: &R,
     alloc: Global,
     book: Book<'_, D>,
-    stage: u32,
+    start: Ids,
     fleet: &mut F,
     limits: Limits,
 ) -> Levelled<D>
@@ -139,7 +200,7 @@ where
         (IsKeptList book.chronicle.history.start book.chronicle.entries
         (D.told book.chronicle.disk).may_leave) }
     ensures run { HasRunUnder D.told F.Port.told (rank_by book.entry.policy.now.answers)
-        limits.migration limits.rounds book.entry.chronicle stage
+        limits.migration limits.rounds book.entry.chronicle start
         (ports_of F.waiting F.kept F.lent F.named fleet.old)
         (ports_of F.waiting F.kept F.lent F.named fleet.new) result.disk result.answer }
     ensures guests { (F.coming fleet.new ≡ F.coming fleet.old)
@@ -151,17 +212,17 @@ where
     ensures count { F.faults fleet.old ≤ F.faults fleet.new }
 {
     let (book, end) = run(rt, alloc, book, fleet, limits);
-    outcome_of(book, stage, end)
+    outcome_of(book, start, end)
 }
 
-// What a run comes to that ended so and left this book, under the policy that levels at a stage.
-fn outcome_of<D: Disk>(book: Book<'_, D>, stage: u32, end: RunEnd) -> Levelled<D>
+// What a run comes to that ended so and left this book, under the policy that levels where the way back begins so.
+fn outcome_of<D: Disk>(book: Book<'_, D>, start: Ids, end: RunEnd) -> Levelled<D>
     ensures disk { result.disk ≡ book.entry.chronicle.disk }
-    ensures answer { result.answer ≡ level_for book.entry.chronicle.rollout stage end }
+    ensures answer { result.answer ≡ level_for book.entry.chronicle.rollout start end }
 {
     let (graph, disk) = book.into_parts();
     Levelled {
         disk,
-        answer: answer_behind(graph, stage, end),
+        answer: answer_behind(graph, start, end),
     }
 }

@@ -1,20 +1,18 @@
 //! A journal of the way back takes the place of the journal of the way there.
-ghost use Rattle.std.specs.Prelude.{◌≡◌, ◌+◌, ◌<◌, ◌≤◌, ◌^◌, ℕ, [], length, false, IfErr, IfOk, IsTrue};
+ghost use Rattle.std.specs.Prelude.{◌≡◌, ◌+◌, ◌<◌, ◌^◌, ℕ, [], length, false, IfErr, IfOk, IsTrue};
 ghost use Rattle.rollout_rules.specs.History.{flies, started};
 ghost use Rattle.rollout_rules.specs.Items.{item_count};
 ghost use Rattle.rollout_rules.specs.Legal.{is_sound};
-ghost use Rattle.rollout_rules.specs.Wan.{last_stage};
-ghost use Rattle.rollback_plan.specs.Levels as levels;
 ghost use Rattle.rollback_plan.specs.Turning as turning;
 ghost use Rattle.rollout_report.specs.Journals.{digest_for};
 ghost use Rattle.intent_journal.specs.Placements.{placed_kept};
-ghost use Rattle.rollback_service.specs.Placings.{HasPlaced, IsNotPlaced, IsSeen, MayPlace, kept_back};
+ghost use Rattle.rollback_service.specs.Levellings.{IsStartBack};
+ghost use Rattle.rollback_service.specs.Placings.{HasPlaced, IsNotPlaced, IsSeen, MayPlace, kept_from};
 
-use dependency_graph::checked_plan_is_valid;
 use disk_model::Disk;
 use intent_journal::{JournalFault, place};
-use lists::Memory;
-use rollback_plan::{back, back_start, the_way_back_begins_at_each_stage};
+use lists::{Ids, Memory};
+use rollback_plan::back;
 use rollout_report::{KnownPlan, known_plan};
 use std::alloc::Global;
 use wan_model::CheckedPlan;
@@ -26,27 +24,27 @@ pub struct Placed<D> {
     pub answer: Result<CheckedPlan, JournalFault>,
 }
 
-/// Puts a journal of the way back from a stage in the place of the one on the disk, as the migration behind
-/// that of this number: it knows the rollout back, begins where that has the stage's content, and has no
-/// entry. A crash at any moment leaves what stood or the new journal.
+/// Puts a journal of the way back in the place of the one on the disk, as the migration behind that of this
+/// number: it knows the rollout back, begins at this start, and has no entry. A crash at any moment leaves what
+/// stood or the new journal.
 pub fn place_back<D: Disk>(
     alloc: Global,
     plan: CheckedPlan,
     migration: u32,
-    stage: u32,
+    start: Ids,
     disk: D,
 ) -> Placed<D>
-    requires stage { stage ≤ last_stage plan.plan }
+    requires start { IsStartBack plan start }
     requires migration { migration + 1 < 2 ^ 32 }
     ensures seen { IsSeen D.told disk }
-    ensures may { MayPlace D.told (kept_back plan migration stage) disk result.disk }
+    ensures may { MayPlace D.told (kept_from plan migration start) disk result.disk }
     ensures placed { IfOk result.answer
         (λ there. (there ≡ turning.back plan)
-        × HasPlaced D.told (kept_back plan migration stage) result.disk) }
+        × HasPlaced D.told (kept_from plan migration start) result.disk) }
     ensures err { IfErr result.answer (λ cause. IsNotPlaced D.told cause disk result.disk) }
 {
     see(&disk);
-    match way_back(alloc, &plan, migration, stage) {
+    match way_back(alloc, &plan, migration, start.as_slice()) {
         Ok(known) => {
             drop(plan);
             place_known(alloc, known, disk)
@@ -66,28 +64,23 @@ fn see<D: Disk>(disk: &D)
     ensures { IsSeen D.told disk.now }
 {}
 
-// The way back from a stage, as the next migration, with what its journal is known by.
+// The way back from a start, as the next migration, with what its journal is known by.
 fn way_back(
     alloc: Global,
     plan: &CheckedPlan,
     migration: u32,
-    stage: u32,
+    start: &[u32],
 ) -> Result<KnownPlan, Memory>
-    requires stage { stage ≤ last_stage plan.now.plan }
+    requires start { IsStartBack plan.now start.now }
     requires migration { migration + 1 < 2 ^ 32 }
     ensures rollout { IfOk result (λ known. known.graph.rollout ≡ turning.back plan.now) }
-    ensures history { IfOk result
-        (λ known. known.graph.history
-        ≡ started (levels.back_start plan.now.problem plan.now.plan stage)) }
+    ensures history { IfOk result (λ known. known.graph.history ≡ started start.now) }
     ensures digest { IfOk result
         (λ known. known.digest ≡ digest_for (turning.back plan.now) (migration + 1)) }
 {
-    checked_plan_is_valid(plan);
-    the_way_back_begins_at_each_stage();
-    let start = back_start(alloc, plan, stage)?;
     let there = back(alloc, plan)?;
     let known = known_plan(alloc, there, migration + 1)?;
-    Ok(restarted(known, start.as_slice()))
+    Ok(restarted(known, start))
 }
 
 // The same plan, begun at another sound start.

@@ -17,6 +17,6 @@ mod rollout;
 mod room;
 mod world;
 
-pub use rollout::any_rollout;
+pub use rollout::{any_rollout, copied_event};
 pub use rollout_rules::{Event, EventList};
 pub use world::World;

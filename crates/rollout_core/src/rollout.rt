@@ -58,13 +58,14 @@ fn follow(alloc: Global, world: &mut World<'_>, events: &[Event]) -> Result<(), 
 {
     for event in events {
         if world.allows(event) {
-            world.step(copied(alloc, event)?)?;
+            world.step(copied_event(alloc, event)?)?;
         }
     }
     Ok(())
 }
 
-fn copied(alloc: Global, event: &Event) -> Result<Event, Memory>
+/// The same event once more.
+pub fn copied_event(alloc: Global, event: &Event) -> Result<Event, Memory>
     ensures { IfOk result (λ copy. copy ≡ event.now) }
 {
     Ok(match event {

@@ -69,8 +69,8 @@ where
     }
 }
 
-// Runs the rollout of a book that was opened, and takes the book apart.
-fn run_book<R: Wait + Threads + Sync, D: Disk + Drop + Send, F: Fleet>(
+/// Runs the rollout of a book that was opened, and takes the book apart.
+pub fn run_book<R: Wait + Threads + Sync, D: Disk + Drop + Send, F: Fleet>(
     rt: &R,
     alloc: Global,
     book: Book<'_, D>,

@@ -10,7 +10,7 @@ use Rattle.sim_run.specs.Trials.{Trial, after_trial, after_turn, all_operations,
 
 module _ (p : Problem) (plan : Plan) (policy : OpView → ℕ) where
   -- acts behind others
-  behind : (r : Rehearsal) (acts more : List Act) → after_acts p plan policy r (acts ++ more) ≡ after_acts p plan policy (after_acts p plan policy r acts) more
+  pub behind : (r : Rehearsal) (acts more : List Act) → after_acts p plan policy r (acts ++ more) ≡ after_acts p plan policy (after_acts p plan policy r acts) more
   behind r [] more = refl
   behind r (b ∷ rest) more = behind (after_act p plan policy r b) rest more
 

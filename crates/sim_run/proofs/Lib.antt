@@ -16,6 +16,8 @@ pub mod Draining
 pub mod Answering
 pub mod Finishing
 pub mod Drained
+pub mod Drafting
+pub mod Drafted
 pub mod Fullest
 pub mod Told
 pub mod Shapes

@@ -1,6 +1,7 @@
 -- How many commands and answers there are after so many events of a trial: an event adds at most one of each.
 use Rattle.std.proofs.Common.{◌≡◌, ℕ, zero, suc, ◌+◌, ◌≤◌, Bool, true, false, cond, List, [], ◌∷◌, ◌++◌, length, get_or, Option, Some, None, IfSome, option_map, nat_lt, refl, arith, length-append}
 use Rattle.std.proofs.lemmas.Bool.{cond_both}
+use Rattle.sim_run.specs.Drafts.{Draft, joined, joins, sketched, with_chosen}
 use Rattle.rand_pcg.specs.Lcg.{Lcg}
 use Rattle.rollout_rules.specs.Wan.{Plan, Problem}
 use Rattle.rollout_rules.specs.Items.{item_at}
@@ -149,3 +150,27 @@ module _ (p : Problem) (plan : Plan) (policy : OpView → ℕ) where
   trial-few draws (suc n) =
       let t = after_trial p plan policy draws n in
       one-more t (next_act p t.rehearsal.world t.draws).chosen n (next-single p t.rehearsal.world t.draws) (trial-few draws n)
+
+-- ---- and so of a script that is drawn
+
+module _ (p : Problem) (plan : Plan) (policy : OpView → ℕ) where
+  abbrev longer_draft : Draft → Act → Draft
+  longer_draft d a = record { acts = d.acts ++ a ∷ []; rehearsal = acted p plan policy d.rehearsal a }
+
+  joined-few : (d : Draft) (a : Act) (n : ℕ) → is_single a ≡ true → IsFew d.rehearsal.world n → IsFew (joined p plan policy d a).rehearsal.world (suc n)
+  joined-few d a n single few =
+      let done = events-add p plan d.rehearsal.world (events_of p plan policy d.rehearsal a) in
+      let costs = act-costs p plan policy d.rehearsal a single in
+      cond_both (joins p d a) (longer_draft d a) d (λ (e : Draft). IsFew e.rehearsal.world (suc n))
+      (λ _. record { sent = omega (arith, done.sent, costs, few.sent); given = omega (arith, done.given, costs, few.given) })
+      (λ _. record { sent = omega (arith, few.sent); given = omega (arith, few.given) })
+
+  chosen-few : (d : Draft) (chosen : Option Act) (n : ℕ) → IfSome chosen (λ a. is_single a ≡ true) → IsFew d.rehearsal.world n → IsFew (with_chosen p plan policy d chosen).rehearsal.world (suc n)
+  chosen-few d None n single few = record { sent = omega (arith, few.sent); given = omega (arith, few.given) }
+  chosen-few d (Some a) n single few = joined-few d a n single few
+
+  pub sketch-few : (draws : Lcg) (n : ℕ) → IsFew (sketched p plan policy draws n).draft.rehearsal.world n
+  sketch-few draws zero = record { sent = omega arith; given = omega arith }
+  sketch-few draws (suc n) =
+      let s = sketched p plan policy draws n in
+      chosen-few s.draft (next_act p s.draft.rehearsal.world s.draws).chosen n (next-single p s.draft.rehearsal.world s.draws) (sketch-few draws n)

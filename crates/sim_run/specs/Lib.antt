@@ -9,4 +9,6 @@ pub mod Rehearsing
 pub mod Trials
 pub mod TrialText
 pub mod Trying
+pub mod Drafts
+pub mod DrawnTexts
 pub mod Named

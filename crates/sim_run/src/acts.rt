@@ -88,7 +88,8 @@ impl Rehearsal {
         }
     }
 
-    fn can_happen(&self, act: Act) -> bool
+    /// Whether an act can happen.
+    pub(crate) fn can_happen(&self, act: Act) -> bool
         requires { IsTrue self.now.live }
         ensures { result ≡ can_happen self.now.rollout.problem self.now.state act }
     {
@@ -189,7 +190,8 @@ impl Rehearsal {
         }
     }
 
-    fn act_out(&mut self, policy: &Policy, act: Act) -> Result<ActLine, Memory>
+    /// Does an act that can happen, and answers what its line says.
+    pub(crate) fn act_out(&mut self, policy: &Policy, act: Act) -> Result<ActLine, Memory>
         requires live { IsTrue self.old.live }
         requires happens { IsTrue (can_happen self.old.rollout.problem self.old.state act) }
         ensures state { OnOk result

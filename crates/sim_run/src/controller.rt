@@ -13,6 +13,7 @@ ghost use Rattle.sim_run.specs.Controlling.{IsAgain, IsKeeper, IsOpened, IsOpene
 
 use crate::earlier::{Earlier, hear_all};
 use crate::keeper::Keeper;
+use crate::mark::{Mark, tells_the_same};
 use crate::plain::Plain;
 use dependency_graph::Graph;
 use disk_model::MemoryDisk;
@@ -35,6 +36,8 @@ use wire_frames::Answer;
 pub(crate) struct Controller {
     alloc: Global,
     keeper: Keeper,
+    // How far the journal of its book was read; of no account without a book.
+    mark: Mark,
     earlier: Earlier,
     // Those handed over since the last round.
     answers: Vec<Answer>,
@@ -58,7 +61,8 @@ impl Controller {
         ensures { IfOk result (λ c. c ≡ first_controlling plan) }
     {
         let book = first_book(alloc, plan)?;
-        Ok(of_keeper(alloc, Keeper::Book(Some(book))))
+        let mark = Mark::behind(&book);
+        Ok(of_keeper(alloc, Keeper::Book(Some(book)), mark))
     }
 
     /// Up, without a book: a start reads nothing, and costs nothing.
@@ -66,7 +70,7 @@ impl Controller {
         ensures { IfOk result (λ c. c ≡ first_controlling plan) }
     {
         let plain = Plain::new(alloc, plan)?;
-        Ok(of_keeper(alloc, Keeper::Plain(plain)))
+        Ok(of_keeper(alloc, Keeper::Plain(plain), Mark::nothing()))
     }
 
     pub(crate) fn is_up(&self) -> bool
@@ -150,27 +154,28 @@ impl Controller {
     }
 
     /// Starts over what a crash left, and tells how many entries were found there. Without memory it is given
-    /// up.
+    /// up. Time: what came to the journal since the last start.
     pub(crate) fn start(&mut self) -> Result<usize, Memory>
         requires { IsTrue self.old.live }
         ensures state { OnOk result (self.new ≡ record self.old { up = true }) }
         ensures found { IfOk result (λ found. found ≡ length self.old.history.entries) }
         ensures given_up { OnErr result (self.new.live ≡ false) }
     {
-        let found = start_of(self.alloc, &mut self.keeper)?;
+        let found = start_of(self.alloc, &mut self.keeper, &mut self.mark)?;
         self.is_up = true;
         Ok(found)
     }
 }
 
 /// A controller that starts for the first time.
-fn of_keeper(alloc: Global, keeper: Keeper) -> Controller
+fn of_keeper(alloc: Global, keeper: Keeper, mark: Mark) -> Controller
     requires { IsKeeper keeper }
     ensures { result ≡ controlling_of keeper [] [] true }
 {
     Controller {
         alloc,
         keeper,
+        mark,
         earlier: Earlier::Nothing,
         answers: Vec::new(alloc),
         is_up: true,
@@ -200,7 +205,7 @@ fn round_of(keeper: &mut Keeper, policy: &Policy, answers: &[Answer]) -> Result<
 }
 
 /// Brings a rollout up again, and tells how many entries are found.
-fn start_of(alloc: Global, keeper: &mut Keeper) -> Result<usize, Memory>
+fn start_of(alloc: Global, keeper: &mut Keeper, mark: &mut Mark) -> Result<usize, Memory>
     requires own { IsKeeper keeper.old }
     requires live { IsTrue (keeper_lives keeper.old) }
     ensures own { IsKeeper keeper.new }
@@ -211,8 +216,8 @@ fn start_of(alloc: Global, keeper: &mut Keeper) -> Result<usize, Memory>
 {
     match keeper {
         Keeper::Book(seat) => {
-            let found = reopen(alloc, seat)?;
-            Ok(found as usize)
+            let found = reopen(alloc, seat, mark)?;
+            Ok(found)
         }
         Keeper::Plain(plain) => Ok(plain.entries().len()),
     }
@@ -317,9 +322,47 @@ fn want_of_memory(cause: JournalFault) -> Memory
     }
 }
 
+/// Brings a book up again over what a crash leaves of its disk, and tells how many entries are found there. What
+/// came to the journal since the last start is read; where the book has followed it, it goes on. None is left
+/// without memory.
+fn reopen(
+    alloc: Global,
+    seat: &mut Option<Chronicle<MemoryDisk>>,
+    mark: &mut Mark,
+) -> Result<usize, Memory>
+    requires own { IsSeat seat.old }
+    requires live { IsTrue (lives seat.old) }
+    ensures own { IsSeat seat.new }
+    ensures live { OnOk result (lives seat.new ≡ true) }
+    ensures same { OnOk result (graph_in seat.new ≡ graph_in seat.old) }
+    ensures found { IfOk result (λ found. found ≡ length (graph_in seat.old).history.entries) }
+    ensures given_up { OnErr result (lives seat.new ≡ false) }
+{
+    if tells_the_same(alloc, book_on(seat), *mark) {
+        return Ok(go_on(seat, mark));
+    }
+    let found = open_again(alloc, seat, mark)?;
+    Ok(found as usize)
+}
+
+/// Goes on with a book whose journal was read, and tells how many entries that has.
+fn go_on(seat: &Option<Chronicle<MemoryDisk>>, mark: &mut Mark) -> usize
+    requires own { IsSeat seat.now }
+    requires live { IsTrue (lives seat.now) }
+    ensures { result ≡ length (graph_in seat.now).history.entries }
+{
+    let book = book_on(seat);
+    *mark = Mark::behind(book);
+    book.entries().len()
+}
+
 /// Opens a book again over what a crash leaves of its disk, and tells how many entries are found there. None
 /// is left without memory.
-fn reopen(alloc: Global, seat: &mut Option<Chronicle<MemoryDisk>>) -> Result<u32, Memory>
+fn open_again(
+    alloc: Global,
+    seat: &mut Option<Chronicle<MemoryDisk>>,
+    mark: &mut Mark,
+) -> Result<u32, Memory>
     requires own { IsSeat seat.old }
     requires live { IsTrue (lives seat.old) }
     ensures own { IsSeat seat.new }
@@ -332,6 +375,7 @@ fn reopen(alloc: Global, seat: &mut Option<Chronicle<MemoryDisk>>) -> Result<u32
         unreachable!()
     };
     let again = reopened(alloc, book)?;
+    *mark = Mark::behind(&again);
     let found = again.found();
     put(seat, again);
     Ok(found)

@@ -88,7 +88,7 @@ fn turn(rehearsal: &mut Rehearsal, policy: &Policy) -> Result<(), Memory>
 }
 
 /// Whether every operation is settled. Time: the items.
-fn is_finished(rehearsal: &Rehearsal) -> bool
+pub(crate) fn is_finished(rehearsal: &Rehearsal) -> bool
     requires { IsTrue rehearsal.now.live }
     ensures { result
         ≡ is_finished rehearsal.now.rollout.problem rehearsal.now.rollout.plan rehearsal.now.state }

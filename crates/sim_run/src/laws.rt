@@ -8,6 +8,7 @@ ghost use Rattle.rollout_rules.specs.declared.op.OpView.{OpView};
 ghost use Rattle.rollout_rules.specs.declared.event.Act.{Act};
 ghost use Rattle.rollout_laws.specs.Waiting.{HoldsNothing};
 ghost use Rattle.sim_run.specs.Acts.{after_acts, first_rehearsal};
+ghost use Rattle.sim_run.specs.Drafts.{IsDrawnScript, drawn_script};
 ghost use Rattle.sim_run.specs.Rehearsed.{IsSafeRehearsal};
 ghost use Rattle.sim_run.specs.Trials.{after_trial, all_operations, end_of_trial, is_finished, trial_script};
 
@@ -46,4 +47,15 @@ pub fn a_trial_ends_finished()
         → HoldsNothing policy
         → events + all_operations p plan ≤ MOST_SENT
         → IsTrue (is_finished p plan (end_of_trial p plan policy draws events)) }
+{}
+
+/// A script that is drawn has the acts that happen, and no more than a script may have. It leads where the trial
+/// of the same draws does, unless it ended for want of room; then, under a policy that holds nothing back, it
+/// ends finished, where there is room for a command for each event and each operation. Each of its worlds is
+/// safe.
+pub fn a_drawn_script_happens()
+    ensures { (p : Problem) (plan : Plan) (policy : OpView → ℕ) (draws : Lcg) (events : ℕ)
+        → IsNetwork p
+        → IsTrue (is_valid_plan p plan)
+        → IsDrawnScript p plan policy draws events (drawn_script p plan policy draws events) }
 {}

@@ -5,35 +5,45 @@
 //! table over the durable history, and whether every operation is settled; its contract is the definition
 //! `script_text`, over worlds. No world is kept: a rehearsal has the controller, what has passed on the
 //! network and what the switches have applied, and each act changes what it touches alone. A script's
-//! controller is the real one: a book over a disk in memory, which a start opens again over what a crash
-//! leaves. A trial's has the graph alone, since it starts thousands of times, and an opening reads the whole
-//! history.
+//! controller is the real one: a book over a disk in memory. A start reads the bytes that came to the journal
+//! since the last one, and goes on with the graph where they are the batches that it has followed; else the book
+//! is opened again over what a crash leaves. A trial's controller has the graph alone.
 //! [`every_rehearsal_is_safe`] says that the worlds of a script are those of a schedule, each of them safe,
 //! that no peak is above its capacity, and that what ends finished is the new split, whatever the policy.
 //!
 //! [`run_trial`] draws the acts itself, one for each event, and then drains the rollout; its contract is the
 //! definition `trial_text`, of which two texts of an independent reference are worked examples. That its
 //! events are a script is a law of the definitions ([`a_trial_is_a_script`]).
+//!
+//! [`write_rehearsal`] draws a script in the same way, of a plan that is given, and writes its document with
+//! it: what of it happens, [`a_drawn_script_happens`] says.
 #![tactic(auto)]
 
 mod act_line;
 mod acts;
 mod controller;
+mod draft;
 mod drain;
 mod earlier;
 mod events;
 mod keeper;
 mod laws;
 mod lines;
+mod mark;
 mod network;
 mod outcome;
 mod plain;
 mod run;
+mod script_shape;
 mod shape;
 mod trial;
 pub mod worked;
 
-pub use laws::{a_trial_ends_finished, a_trial_is_a_script, every_rehearsal_is_safe};
+pub use draft::write_rehearsal;
+pub use laws::{
+    a_drawn_script_happens, a_trial_ends_finished, a_trial_is_a_script, every_rehearsal_is_safe,
+};
 pub use run::run_script;
+pub use script_shape::ScriptShape;
 pub use shape::Shape;
 pub use trial::run_trial;

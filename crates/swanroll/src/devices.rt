@@ -1,10 +1,11 @@
 //! What the environment names: the devices, of which one that isn't named fails at each call, and numbers.
 
-ghost use Rattle.std.specs.Prelude.{◌≡◌};
+ghost use Rattle.std.specs.Prelude.{◌≡◌, IfSome};
 ghost use Rattle.swanroll.specs.Limits.{limit_in, ceiling_in, IsSaid};
 
 use disk_mirror::Mirror;
-use host_edge::{FileDisk, TcpFleet};
+use host_edge::{FileDisk, FileLog, TcpFleet, WatchedFile};
+use rollout_log::Logged;
 use rollout_rules::MOST_STAGES;
 use std::env;
 use swanroll_top::number_in;
@@ -15,12 +16,39 @@ const USUAL: u64 = 1_000;
 /// The most digits of a time limit.
 const MOST_DIGITS: usize = 7;
 
-/// The journal's file, `SWANROLL_JOURNAL`, as a disk that reads it when it is opened.
-pub fn journal(rt: HostRuntime) -> Mirror<FileDisk<HostRuntime>>
-    ensures { result.faults ≡ 0 }
+/// A journal's disk with its log.
+pub type LoggedFile = Logged<Mirror<FileDisk<HostRuntime>>, FileLog<HostRuntime>, HostRuntime>;
+
+/// The journal's file, `SWANROLL_JOURNAL`, as a disk that reads it when it is opened, with a log in the file
+/// that `SWANROLL_LOG` names; where it names none, no list is read for a log.
+pub fn journal(rt: HostRuntime) -> LoggedFile
+    ensures disk { result.disk.faults ≡ 0 }
+    ensures log { result.log.faults ≡ 0 }
 {
     let file = FileDisk::new(rt, named(rt, "SWANROLL_JOURNAL"));
-    Mirror::new(rt.alloc(), file)
+    let disk = Mirror::new(rt.alloc(), file);
+    let path = named(rt, "SWANROLL_LOG");
+    let asked = !path.is_empty();
+    let log = FileLog::new(rt, path);
+    Logged::new(rt, rt.alloc(), disk, log, asked)
+}
+
+/// The journal's file, `SWANROLL_JOURNAL`, as it stands, whoever has it: nothing can be written to it.
+pub fn sight(rt: HostRuntime) -> WatchedFile<HostRuntime>
+    ensures { result.faults ≡ 0 }
+{
+    WatchedFile::new(rt, named(rt, "SWANROLL_JOURNAL"))
+}
+
+/// The agent's file, `SWANROLL_STATE`, as a disk that reads it when it is opened; None where it isn't named.
+pub fn state(rt: HostRuntime) -> Option<Mirror<FileDisk<HostRuntime>>>
+    ensures { IfSome result (λ disk. disk.faults ≡ 0) }
+{
+    let path = named(rt, "SWANROLL_STATE");
+    if path.is_empty() {
+        return None;
+    }
+    Some(Mirror::new(rt.alloc(), FileDisk::new(rt, path)))
 }
 
 /// The switches of the file that `SWANROLL_FLEET` names, and the guests that come to the address

@@ -1,13 +1,14 @@
-//! The program: hands the arguments, the standard streams, the journal's file, the switches and guests
-//! behind sockets, the allocator and its policies to the call that does everything, and ends with its
-//! status.
+//! The program: hands the arguments, the standard streams, the journal's file with its log, the switches
+//! and guests behind sockets, the allocator and its policies to the call that does everything, and ends with
+//! its status. An agent for which the environment names a file is a call of its own, and so is a report of the
+//! journal as it stands.
 #![tactic(auto)]
 
 ghost use Rattle.std.specs.Prelude.{◌≡◌, ◌≢◌};
 ghost use Rattle.std.specs.IoError.{error_kind};
 ghost use Rattle.swanroll.specs.Policies as spec;
 
-use devices::{ceiling, fleet, journal};
+use devices::{ceiling, fleet, journal, sight, state};
 use host_edge::{StdSink, StdSource};
 use lists::Memory;
 use order_policy::{Policies, Policy};
@@ -17,7 +18,9 @@ use std::io::{Error, ErrorKind};
 use std::process::ExitCode;
 use std::sync::Wait;
 use std::thread::Threads;
-use swanroll_top::{Unread, start};
+use swanroll_top::{
+    LiveAsked, Unread, guests_asked, keep_agent, live_asked, report_live, start_logged, watch,
+};
 use wan_model::OpView;
 
 mod devices;
@@ -30,7 +33,7 @@ fn main(rt: HostRuntime) -> ExitCode {
     match run(&rt, rt, &mut source, &mut sink, &mut notes) {
         Ok(status) => ExitCode::from(status),
         Err(_) => ExitCode::from(
-            start(
+            start_logged(
                 &rt,
                 rt.alloc(),
                 Err(Unread::Memory),
@@ -80,18 +83,58 @@ fn run(
         Policy::new(by_item),
         Policy::holding(frozen),
     )?;
-    let ended = start(
+    Ok(begin(wait, rt, source, sink, notes, &policies))
+}
+
+/// Does what the arguments ask for: an agent over the file that the environment names for it, where they ask
+/// for an agent and it names one; a report of the journal as it stands; and else all that there is.
+fn begin(
+    wait: &(impl Wait + Threads + Sync),
+    rt: HostRuntime,
+    source: &mut StdSource<HostRuntime>,
+    sink: &mut StdSink<HostRuntime>,
+    notes: &mut StdSink<HostRuntime>,
+    policies: &Policies<Policy>,
+) -> u8 {
+    let arguments = arguments(&rt);
+    if let Some(guests) = guests_asked(&arguments, policies) {
+        if let Some(disk) = state(rt) {
+            drop(arguments);
+            return keep_agent(rt.alloc(), guests, sink, notes, disk, &mut fleet(rt)).status;
+        }
+    }
+    if let Some(asked) = live_asked(&arguments) {
+        drop(arguments);
+        return look(wait, rt, asked, source, sink, notes);
+    }
+    start_logged(
         wait,
         rt.alloc(),
-        arguments(&rt),
+        arguments,
         source,
         sink,
         notes,
         journal(rt),
         &mut fleet(rt),
-        &policies,
-    );
-    Ok(ended.status)
+        policies,
+    )
+    .status
+}
+
+/// Looks at the journal as it stands: once, or again and again.
+fn look(
+    wait: &(impl Wait + Threads + Sync),
+    rt: HostRuntime,
+    asked: LiveAsked,
+    source: &mut StdSource<HostRuntime>,
+    sink: &mut StdSink<HostRuntime>,
+    notes: &mut StdSink<HostRuntime>,
+) -> u8 {
+    let mut file = sight(rt);
+    if asked.seconds == 0 {
+        return report_live(rt.alloc(), asked.migration, source, sink, notes, &mut file);
+    }
+    watch(wait, &rt, rt.alloc(), asked, source, sink, notes, &mut file)
 }
 
 fn arguments(rt: &HostRuntime) -> Result<Vec<String>, Unread> {

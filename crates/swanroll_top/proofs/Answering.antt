@@ -21,14 +21,15 @@ use Rattle.lp_proof.specs.Least.{least_of}
 use Rattle.lp_proof.specs.declared.least.Least.{Least}
 use Rattle.lp_proof.specs.declared.least.Least.TheVariants as least
 use Rattle.sim_run.specs.Script.{script_text}
-use Rattle.swanroll_top.specs.Answers.{◌>>=◌, or_ending, with_choice, where_few, with_least, with_proof, planned, proved, least_planned, checked, claimed_line, is_shown, judged, where_shown, loaded, turned_back, rehearsed, answer_in, chosen_by, explained}
+use Rattle.sim_run.specs.declared.script_shape.ScriptShape.{ScriptShape}
+use Rattle.swanroll_top.specs.Answers.{◌>>=◌, or_ending, with_choice, where_few, with_least, with_proof, planned, proved, least_planned, checked, claimed_line, is_shown, judged, where_shown, loaded, turned_back, rehearsed, drawn_up, rehearsal_text, answer_in, chosen_by, explained}
 use Rattle.swanroll_top.specs.Endings.{ending_of}
 use Rattle.swanroll_top.specs.Reports.{rollout_in}
 use Rattle.swanroll_top.specs.Runs.{EndsWith, Follows, Gives}
 use Rattle.swanroll_top.specs.declared.ending.Ending.{Ending}
 use Rattle.swanroll_top.specs.declared.ending.Ending.TheVariants.{Done, Usage, AboveLimit, Input, NotValid, NoPlan, Unshown, ReadFault, WriteFault, DiskFault, GuestFault, Refused, NotFinished, OutOfMemory}
 use Rattle.swanroll_top.proofs.Documents.{as_rollout, back_text, checked-by}
-use Rattle.swanroll_top.specs.Words.{TextAsked, a_plan, a_check, the_loads, the_way_back, a_rehearsal, the_explanation, the_least}
+use Rattle.swanroll_top.specs.Words.{TextAsked, a_plan, a_check, the_loads, the_way_back, a_rehearsal, a_script, the_explanation, the_least}
 use Rattle.swanroll_top.specs.declared.words.Planner.{Planner}
 use Rattle.swanroll_top.specs.declared.words.Planner.TheVariants.{Slack}
 use Rattle.swanroll_top.proofs.Steps.{fault-ends}
@@ -132,6 +133,10 @@ rehearsed-answers : (policy : OpView → ℕ) (s : ScriptedRead) → HasAnswer (
 unfolding rehearsed
 rehearsed-answers policy s = checked-step-by s.document (λ o. Ok (script_text o.problem o.plan policy s.script)) (first_broken s.document.problem s.document.plan) refl (λ o. tt)
 
+drawn-answers : (shape : ScriptShape) (policy : OpView → ℕ) (d : DocumentRead) → HasAnswer (drawn_up shape policy d)
+unfolding drawn_up
+drawn-answers shape policy d = checked-step-by d (λ o. Ok (rehearsal_text shape policy o)) (first_broken d.problem d.plan) refl (λ o. tt)
+
 pub command-answers : (c : TextAsked) (input : List ℕ) → HasAnswer (answer_in c input)
 unfolding answer_in
 command-answers (a_plan planner) input = step-answers (problem_in input) (planned planner) (planned-answers planner)
@@ -141,6 +146,7 @@ command-answers the_way_back input = step-answers (document_in input) turned_bac
 command-answers the_explanation input = step-answers (document_in input) explained explained-answers
 command-answers the_least input = step-answers (problem_in input) least_planned least-answers
 command-answers (a_rehearsal policy) input = step-answers (scripted_in input) (rehearsed policy) (rehearsed-answers policy)
+command-answers (a_script shape policy) input = step-answers (document_in input) (drawn_up shape policy) (drawn-answers shape policy)
 
 ends-only : (answer : Result (List ℕ) Ending) (e : Ending) (out now : Option (List ℕ)) → HasAnswer answer → EndsWith answer e out now → (e ≡ Done) ⊎ ((e ≡ WriteFault) ⊎ (is_answer e ≡ true))
 ends-only (Ok text) e out now h (inl done) = inl done.0

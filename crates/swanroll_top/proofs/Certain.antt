@@ -54,7 +54,7 @@ use Rattle.swanroll_top.proofs.Outcomes.{rose-later}
 use Rattle.swanroll_top.proofs.Programs.{follows-ends, told-same}
 
 -- what holds of what an option has, where it has this
-of-some : {X : Type 0} (Q : X → Type 0) (x : X) (o : Option X) → o ≡ Some x → IfSome o Q → Q x
+pub of-some : {X : Type 0} (Q : X → Type 0) (x : X) (o : Option X) → o ≡ Some x → IfSome o Q → Q x
 of-some Q x o is holds = subst (λ p. IfSome p Q) is holds
 
 pub some-same : {X : Type 0} (x y : X) → Some x ≡ Some y → x ≡ y

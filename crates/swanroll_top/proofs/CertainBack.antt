@@ -1,5 +1,5 @@
 -- A rollback that finds all that it needs ends well.
-use Rattle.std.proofs.Common.{◌≡◌, ◌≢◌, ℕ, ◌+◌, ◌<◌, ◌^◌, true, List, Option, Some, None, Ok, Err, refl, sym, ap, ◌∙◌, subst, inl, inr, arith}
+use Rattle.std.proofs.Common.{◌≡◌, ◌≢◌, ℕ, ◌+◌, ◌<◌, ◌^◌, true, List, [], Option, Some, None, Ok, Err, refl, sym, ap, ◌∙◌, subst, inl, inr, arith}
 use Rattle.std.specs.Prelude.{IsSome}
 use Rattle.std.specs.List.{AllByRecursion}
 use Rattle.std.proofs.lemmas.List.Elements.{All-contains}
@@ -37,10 +37,11 @@ use Rattle.completion_laws.specs.Finishing.{EndsOrIsExcused, IsProvided, IsWant}
 use Rattle.completion_laws.proofs.Excused.{ran-ends}
 use Rattle.completion_laws.proofs.Finished.{only-want}
 use Rattle.completion_laws.proofs.NoFaults.{no-fault}
-use Rattle.rollback_service.specs.Levellings.{HasLevelled, ceiling_of}
+use Rattle.rollback_service.specs.Levellings.{HasLevelled, start_of}
 use Rattle.rollback_service.specs.Placings.{IsNotPlaced, IsSeen}
 use Rattle.rollback_service.specs.declared.answer.LevelAnswer.{LevelAnswer}
 use Rattle.rollback_service.specs.declared.answer.LevelAnswer.TheVariants as ended
+use Rattle.rollback_service.specs.declared.origin.BackFrom.{BackFrom}
 use Rattle.swanroll_top.specs.Endings.{ending_of_journal, status_of}
 use Rattle.swanroll_top.specs.Ready.{CountsNoFault, GoesOnFrom, IsServedFor, WaitsReady}
 use Rattle.swanroll_top.specs.Reports.{rollout_to}
@@ -66,7 +67,7 @@ is-some (Some a) h = (a, refl)
 -- ---- a stop
 
 -- what may stop a run over ready ports has a status of its own
-excused-never : (e : Ending) (other : Rollout) (why : Cause) → e ≡ ending_of_stop other why → IsExcused why → (status_of e ≡ 8 → ⊥) → (status_of e ≡ 9 → ⊥) → (status_of e ≡ 12 → ⊥) → ⊥
+pub excused-never : (e : Ending) (other : Rollout) (why : Cause) → e ≡ ending_of_stop other why → IsExcused why → (status_of e ≡ 8 → ⊥) → (status_of e ≡ 9 → ⊥) → (status_of e ≡ 12 → ⊥) → ⊥
 excused-never e other (cause.Spent rounds item number) is excused device fleet memory = excused
 excused-never e other (cause.Port switch) is excused device fleet memory = fleet (ap status_of is)
 excused-never e other (cause.Above item held begun) is excused device fleet memory = excused
@@ -75,7 +76,7 @@ excused-never e other (cause.NoAnswer switch byte) is excused device fleet memor
 excused-never e other cause.Disk is excused device fleet memory = device (ap status_of is)
 excused-never e other cause.Memory is excused device fleet memory = memory (ap status_of is)
 
-wanting-never : (e : Ending) (other : Rollout) (why : Cause) → e ≡ ending_of_stop other why → IsWant why → (status_of e ≡ 12 → ⊥) → ⊥
+pub wanting-never : (e : Ending) (other : Rollout) (why : Cause) → e ≡ ending_of_stop other why → IsWant why → (status_of e ≡ 12 → ⊥) → ⊥
 wanting-never e other (cause.Spent rounds item number) is want memory = want
 wanting-never e other (cause.Port switch) is want memory = want
 wanting-never e other (cause.Above item held begun) is want memory = want
@@ -84,17 +85,68 @@ wanting-never e other (cause.NoAnswer switch byte) is want memory = want
 wanting-never e other cause.Disk is want memory = want
 wanting-never e other cause.Memory is want memory = memory (ap status_of is)
 
--- ---- a rollout that was levelled, from a disk that tells its image
+-- ---- what isn't begun
 
 module _ {D P : Type 0} (trace : D → DiskTrace) (tell : P → PortTrace)
     (limits : Limits) (source source_now : SourceTrace) (disk disk_now : D) (before now : FleetSeen P) (out out_now : Option (List ℕ)) (r : Rollout) (found : History)
     (goes : GoesOnFrom limits.migration source source_now (trace disk).bytes r found) (served : IsServedFor tell limits before.ports.waiting r found) where
+  -- an image that is refused has no history to go on from
+  no-verdict : (v : Verdict) → verdict r (digest_for r limits.migration) goes.image ≡ v → found_by r v ≡ None → ⊥
+  no-verdict v is none = let both : None ≡ Some found = sym none ∙ (sym (ap (found_by r) is) ∙ goes.begins) in cc
+
+  pub unopened-never : (why : JournalFault) (e : Ending) → IsCause why (digest_for r limits.migration) (verdict r (digest_for r limits.migration) goes.image) → e ≡ ending_of_journal why
+      → (why ≡ fault.Disk → status_of e ≡ 8 → ⊥) → (status_of e ≡ 12 → ⊥) → ⊥
+  unopened-never (fault.NotJournal first) e told is device memory = no-verdict (NoJournal first) told refl
+  unopened-never (fault.OtherPlan kept wanted) e told is device memory = no-verdict (OfAnother kept.bytes kept.migration) told.0 refl
+  unopened-never (fault.Illegal place) e told is device memory = no-verdict (NotLegal place) told refl
+  unopened-never fault.BadStart e told is device memory = no-verdict NoStart told refl
+  unopened-never fault.Disk e told is device memory = device refl (ap status_of is)
+  unopened-never fault.Memory e told is device memory = memory (ap status_of is)
+
+  -- what it told it tells once it is opened
+  pub goes-opened : (opened : D) → Opens (trace disk) (trace opened) → GoesOnFrom limits.migration source source_now (trace opened).bytes r found
+  goes-opened opened opens = record {
+    input = goes.input;
+    told_input = goes.told_input;
+    is = goes.is;
+    image = goes.image;
+    told = some_at (λ all. (trace opened).bytes ≡ Some all) (trace disk).bytes goes.image goes.told opens.same;
+    begins = goes.begins;
+  }
+
+  refused-never : (e : Ending) → RefusesAs (IsInput source source_now) e → ⊥
+  refused-never e refuses =
+      let same : goes.input ≡ refuses.input = told-within source source_now refuses.input goes.input refuses.given (rolled-within goes.input r goes.is) goes.told_input in
+      let both : Ok r ≡ Err e = sym goes.is ∙ (ap rollout_to same ∙ refuses.refused) in
+      cc
+
+  pub unbegun-never : (e : Ending) → IsUnbegun (IsInput source source_now) e → (status_of e ≡ 6 → ⊥) → (status_of e ≡ 12 → ⊥) → ⊥
+  unbegun-never Done why read memory = refused-never Done why
+  unbegun-never Usage why read memory = refused-never Usage why
+  unbegun-never AboveLimit why read memory = refused-never AboveLimit why
+  unbegun-never (Input f) why read memory = refused-never (Input f) why
+  unbegun-never (NotValid p b) why read memory = refused-never (NotValid p b) why
+  unbegun-never (NoPlan u) why read memory = refused-never (NoPlan u) why
+  unbegun-never (Unshown u) why read memory = refused-never (Unshown u) why
+  unbegun-never ReadFault why read memory = read refl
+  unbegun-never WriteFault why read memory = refused-never WriteFault why
+  unbegun-never DiskFault why read memory = refused-never DiskFault why
+  unbegun-never GuestFault why read memory = refused-never GuestFault why
+  unbegun-never (Refused f) why read memory = refused-never (Refused f) why
+  unbegun-never (NotFinished u) why read memory = refused-never (NotFinished u) why
+  unbegun-never OutOfMemory why read memory = memory refl
+
+-- ---- a rollout that was levelled, from a disk that tells its image
+
+module _ {D P : Type 0} (trace : D → DiskTrace) (tell : P → PortTrace)
+    (origin : BackFrom) (limits : Limits) (source source_now : SourceTrace) (disk disk_now : D) (before now : FleetSeen P) (out out_now : Option (List ℕ)) (r : Rollout) (found : History)
+    (goes : GoesOnFrom limits.migration source source_now (trace disk).bytes r found) (served : IsServedFor tell limits before.ports.waiting r found) where
   abbrev HasLevelledTo : D → LevelAnswer → Type 0
-  HasLevelledTo levelled answer = HasLevelled trace tell r (digest_for r limits.migration) limits.rounds disk before.ports now.ports levelled answer
+  HasLevelledTo levelled answer = HasLevelled trace tell origin r (digest_for r limits.migration) limits.rounds disk before.ports now.ports levelled answer
 
   module _ (network : IsNetwork r.problem) (valid : is_valid_plan r.problem r.plan ≡ true) (small : limits.migration + 1 < 2 ^ 32) (levelled : D) (answer : LevelAnswer) (has : HasLevelledTo levelled answer) where
     abbrev RanTo : RunEnd → Type 0
-    RanTo end = Begun trace tell r limits.migration limits.rounds disk levelled before.ports now.ports answer has end
+    RanTo end = Begun trace tell origin r limits.migration limits.rounds disk levelled before.ports now.ports answer has end
 
     -- the book has what was found
     found-is : found ≡ has.rolled.book.history
@@ -127,8 +179,8 @@ module _ {D P : Type 0} (trace : D → DiskTrace) (tell : P → PortTrace)
     module _ (other : Rollout) (halt : Halt) (is : answer ≡ ended.Stopped other halt) where
       stopped-ran : RanTo (run.Stopped halt)
       stopped-ran =
-          subst RanTo (level-stopped has.rolled.book.rollout other (ceiling_of has.rolled.book.rollout has.rolled.book.history) has.rolled.run.end halt (sym is ∙ has.tells))
-          (run-begun trace tell r limits.migration limits.rounds disk levelled before.ports now.ports answer has (ap is_run is))
+          subst RanTo (level-stopped has.rolled.book.rollout other (start_of has.rolled.book.rollout has.rolled.book.history has.stage) has.rolled.run.end halt (sym is ∙ has.tells))
+          (run-begun trace tell origin r limits.migration limits.rounds disk levelled before.ports now.ports answer has (ap is_run is))
 
       stop-excused : IsExcused halt.cause
       stop-excused = ends-so (run.Stopped halt) stopped-ran
@@ -154,24 +206,9 @@ module _ {D P : Type 0} (trace : D → DiskTrace) (tell : P → PortTrace)
     placing-never first image told seen ran neither =
         let images : HasImages trace (opening_of has.rolled.book has.policy) (trace has.rolled.book.disk).moment (trace has.rolled.book.disk).faults levelled ran.log =
         subst (λ (d : D). HasImages trace (opening_of has.rolled.book has.policy) (trace has.rolled.book.disk).moment (trace has.rolled.book.disk).faults d ran.log) (sym has.rolled.run.back) ran.images in
-        let list = here trace (opening_of has.rolled.book has.policy) ran.log limits.migration 0 (trace has.rolled.book.disk).moment (trace has.rolled.book.disk).faults levelled images image told seen in
+        let list = here trace (opening_of has.rolled.book has.policy) ran.log limits.migration [] (trace has.rolled.book.disk).moment (trace has.rolled.book.disk).faults levelled images image told seen in
         let no : ◌≡◌ {A = Option Kept} None (Some list.has.kept) = sym neither.no_journal ∙ list.has.is in
         cc
-
-  -- ---- what isn't begun
-
-  -- an image that is refused has no history to go on from
-  no-verdict : (v : Verdict) → verdict r (digest_for r limits.migration) goes.image ≡ v → found_by r v ≡ None → ⊥
-  no-verdict v is none = let both : None ≡ Some found = sym none ∙ (sym (ap (found_by r) is) ∙ goes.begins) in cc
-
-  unopened-never : (why : JournalFault) (e : Ending) → IsCause why (digest_for r limits.migration) (verdict r (digest_for r limits.migration) goes.image) → e ≡ ending_of_journal why
-      → (why ≡ fault.Disk → status_of e ≡ 8 → ⊥) → (status_of e ≡ 12 → ⊥) → ⊥
-  unopened-never (fault.NotJournal first) e told is device memory = no-verdict (NoJournal first) told refl
-  unopened-never (fault.OtherPlan kept wanted) e told is device memory = no-verdict (OfAnother kept.bytes kept.migration) told.0 refl
-  unopened-never (fault.Illegal place) e told is device memory = no-verdict (NotLegal place) told refl
-  unopened-never fault.BadStart e told is device memory = no-verdict NoStart told refl
-  unopened-never fault.Disk e told is device memory = device refl (ap status_of is)
-  unopened-never fault.Memory e told is device memory = memory (ap status_of is)
 
   -- ---- how it ends
 
@@ -184,7 +221,7 @@ module _ {D P : Type 0} (trace : D → DiskTrace) (tell : P → PortTrace)
         → is_run answer ≡ true → IsSeen trace levelled → (image : List ℕ) → (trace levelled).bytes ≡ Some image
         → (why : JournalFault) → IsNotPlaced trace why levelled disk_now → e ≡ ending_of_journal why → (e ≡ DiskFault → Rose (trace disk).faults (trace disk_now).faults) → ⊥
     unplaced-never network valid small levelled answer has begun seen image is (fault.NotJournal first) left ends rose =
-        placing-never network valid small levelled answer has first image is seen (run-begun trace tell r limits.migration limits.rounds disk levelled before.ports now.ports answer has begun)
+        placing-never network valid small levelled answer has first image is seen (run-begun trace tell origin r limits.migration limits.rounds disk levelled before.ports now.ports answer has begun)
         (some_at (IsNeither first) (trace levelled).bytes image is left.why)
     unplaced-never network valid small levelled answer has begun seen image is (fault.OtherPlan kept wanted) left ends rose = left.why
     unplaced-never network valid small levelled answer has begun seen image is (fault.Illegal place) left ends rose = left.why
@@ -192,10 +229,10 @@ module _ {D P : Type 0} (trace : D → DiskTrace) (tell : P → PortTrace)
     unplaced-never network valid small levelled answer has begun seen image is fault.Disk left ends rose = device (rose ends) (ap status_of ends)
     unplaced-never network valid small levelled answer has begun seen image is fault.Memory left ends rose = memory (ap status_of ends)
 
-    takes-well : (other : Rollout) (s : ℕ) (levelled : D) → TakesBack trace other limits.migration s levelled disk_now e out out_now
+    takes-well : (other : Rollout) (start : List ℕ) (levelled : D) → TakesBack trace other limits.migration start levelled disk_now e out out_now
         → ((image : List ℕ) → (trace levelled).bytes ≡ Some image → IsSeen trace levelled → (why : JournalFault) → IsNotPlaced trace why levelled disk_now → e ≡ ending_of_journal why → ⊥)
         → status_of e ≡ 0
-    takes-well other s levelled takes never = elim takes.ends as (λ _. status_of e ≡ 0) [
+    takes-well other start levelled takes never = elim takes.ends as (λ _. status_of e ≡ 0) [
       | inl writes ↦ elim (follows-ends (Ok (back_text other)) e out out_now writes.follows memory) as (λ _. status_of e ≡ 0) [
         | inl done ↦ ap status_of done.0
         | inr cut ↦ absurd (sink (ap status_of cut.0))
@@ -206,12 +243,12 @@ module _ {D P : Type 0} (trace : D → DiskTrace) (tell : P → PortTrace)
           absurd (never was.0 was.1 takes.seen none.cause none.left none.is)
     ]
 
-    closes-well : (network : IsNetwork r.problem) (valid : is_valid_plan r.problem r.plan ≡ true) (small : limits.migration + 1 < 2 ^ 32) (levels : Levels trace tell r limits disk disk_now before now e out out_now)
+    closes-well : (network : IsNetwork r.problem) (valid : is_valid_plan r.problem r.plan ≡ true) (small : limits.migration + 1 < 2 ^ 32) (levels : Levels trace tell r origin limits disk disk_now before now e out out_now)
         (a : LevelAnswer) → levels.answer ≡ a → Closes trace limits.migration a levels.levelled disk_now e out out_now → status_of e ≡ 0
-    closes-well network valid small levels (ended.Level other s) is closes =
-        takes-well other s levels.levelled closes
+    closes-well network valid small levels (ended.Level other start) is closes =
+        takes-well other start levels.levelled closes
         (λ image at seen why left ends. unplaced-never network valid small levels.levelled levels.answer levels.has (ap is_run is) seen image at why left ends
-        (λ fails. levels-rose trace tell r limits disk disk_now before now e out out_now fails levels))
+        (λ fails. levels-rose trace tell r origin limits disk disk_now before now e out out_now fails levels))
     closes-well network valid small levels (ended.Stopped other halt) is closes =
         absurd (stop network valid small levels.levelled levels.answer levels.has closes.disk_is other halt is closes.is)
     closes-well network valid small levels (ended.NoPort other switch) is closes = absurd (fleet (levels.no_port other switch is) (ap status_of closes.is))
@@ -219,11 +256,11 @@ module _ {D P : Type 0} (trace : D → DiskTrace) (tell : P → PortTrace)
 
     none-well : FindsNoJournal trace r limits disk disk_now before now e out out_now → ⊥
     none-well none =
-        unopened-never none.cause e
+        unopened-never trace tell limits source source_now disk disk_now before now out out_now r found goes served none.cause e
         (some_at (λ image. IsCause none.cause (digest_for r limits.migration) (verdict r (digest_for r limits.migration) image)) (trace disk).bytes goes.image goes.told none.left.refusal)
         none.is (λ is. device (none.left.failed is)) memory
 
-    rolled-well : RollsBack trace tell r limits disk disk_now before now e out out_now → status_of e ≡ 0
+    rolled-well : RollsBack trace tell r origin limits disk disk_now before now e out out_now → status_of e ≡ 0
     rolled-well rolls = elim rolls.ends as (λ _. status_of e ≡ 0) [
       | inl levels ↦ closes-well rolls.network rolls.valid rolls.small levels levels.answer refl levels.closes
       | inr none ↦ absurd (none-well none)
@@ -232,92 +269,61 @@ module _ {D P : Type 0} (trace : D → DiskTrace) (tell : P → PortTrace)
 -- ---- by the disk as it was at first
 
 module _ {D P : Type 0} (trace : D → DiskTrace) (tell : P → PortTrace)
-    (limits : Limits) (source source_now : SourceTrace) (disk disk_now : D) (before now : FleetSeen P) (out out_now : Option (List ℕ)) (r : Rollout) (found : History)
-    (goes : GoesOnFrom limits.migration source source_now (trace disk).bytes r found) (served : IsServedFor tell limits before.ports.waiting r found) (told : IsSome (trace disk_now).bytes) where
-  -- what it told it tells once it is opened
-  goes-opened : (opened : D) → Opens (trace disk) (trace opened) → GoesOnFrom limits.migration source source_now (trace opened).bytes r found
-  goes-opened opened opens = record {
-    input = goes.input;
-    told_input = goes.told_input;
-    is = goes.is;
-    image = goes.image;
-    told = some_at (λ all. (trace opened).bytes ≡ Some all) (trace disk).bytes goes.image goes.told opens.same;
-    begins = goes.begins;
-  }
+    (origin : BackFrom) (limits : Limits) (source source_now : SourceTrace) (disk disk_now : D) (before now : FleetSeen P) (out out_now : Option (List ℕ)) (r : Rollout) (found : History)
+    (goes : GoesOnFrom limits.migration source source_now (trace disk).bytes r found) (served : IsServedFor tell limits before.ports.waiting r found) where
+  -- over a disk that tells its bytes at the end, too
+  module _ (told : IsSome (trace disk_now).bytes) where
+    abbrev StopsNever : Ending → D → Type 0
+    StopsNever e opened = (network : IsNetwork r.problem) (valid : is_valid_plan r.problem r.plan ≡ true) (small : limits.migration + 1 < 2 ^ 32) (levelled : D) (answer : LevelAnswer)
+        → HasLevelled trace tell origin r (digest_for r limits.migration) limits.rounds opened before.ports now.ports levelled answer → disk_now ≡ levelled
+        → (other : Rollout) (halt : Halt) → answer ≡ ended.Stopped other halt → e ≡ ending_of_stop other halt.cause → ⊥
 
-  refused-never : (e : Ending) → RefusesAs (IsInput source source_now) e → ⊥
-  refused-never e refuses =
-      let same : goes.input ≡ refuses.input = told-within source source_now refuses.input goes.input refuses.given (rolled-within goes.input r goes.is) goes.told_input in
-      let both : Ok r ≡ Err e = sym goes.is ∙ (ap rollout_to same ∙ refuses.refused) in
-      cc
+    module _ (e : Ending) (read : status_of e ≡ 6 → ⊥) (sink : status_of e ≡ 7 → ⊥) (memory : status_of e ≡ 12 → ⊥) (device : Rose (trace disk).faults (trace disk_now).faults → status_of e ≡ 8 → ⊥) (fleet : Rose before.faults now.faults → status_of e ≡ 9 → ⊥)
+        (stop : (opened : D) → Opens (trace disk) (trace opened) → StopsNever e opened) where
+      opened-well : OpensAndRollsBack trace tell r origin limits disk disk_now before now e out out_now → status_of e ≡ 0
+      opened-well (inl fails) = absurd (device fails.failed (ap status_of fails.is))
+      opened-well (inr begun) =
+          rolled-well trace tell origin limits source source_now begun.opened disk_now before now out out_now r found (goes-opened trace tell limits source source_now disk disk_now before now out out_now r found goes served begun.opened begun.opens) served
+          e sink memory (λ rose. device (rose-later (trace disk).faults (trace begun.opened).faults (trace disk_now).faults begun.opens.count rose)) fleet (stop begun.opened begun.opens) told begun.rolls
 
-  unbegun-never : (e : Ending) → IsUnbegun (IsInput source source_now) e → (status_of e ≡ 6 → ⊥) → (status_of e ≡ 12 → ⊥) → ⊥
-  unbegun-never Done why read memory = refused-never Done why
-  unbegun-never Usage why read memory = refused-never Usage why
-  unbegun-never AboveLimit why read memory = refused-never AboveLimit why
-  unbegun-never (Input f) why read memory = refused-never (Input f) why
-  unbegun-never (NotValid p b) why read memory = refused-never (NotValid p b) why
-  unbegun-never (NoPlan u) why read memory = refused-never (NoPlan u) why
-  unbegun-never (Unshown u) why read memory = refused-never (Unshown u) why
-  unbegun-never ReadFault why read memory = read refl
-  unbegun-never WriteFault why read memory = refused-never WriteFault why
-  unbegun-never DiskFault why read memory = refused-never DiskFault why
-  unbegun-never GuestFault why read memory = refused-never GuestFault why
-  unbegun-never (Refused f) why read memory = refused-never (Refused f) why
-  unbegun-never (NotFinished u) why read memory = refused-never (NotFinished u) why
-  unbegun-never OutOfMemory why read memory = memory refl
+      reverts-well : Reverts trace tell (IsInput source source_now) origin limits disk disk_now before now e out out_now → status_of e ≡ 0
+      reverts-well (inl none) = absurd (unbegun-never trace tell limits source source_now disk disk_now before now out out_now r found goes served e none.why read memory)
+      reverts-well (inr rolled) =
+          let same_input : goes.input ≡ rolled.input = told-within source source_now rolled.input goes.input rolled.given (rolled-within goes.input r goes.is) goes.told_input in
+          let both : Ok r ≡ Ok rolled.r = sym goes.is ∙ (ap rollout_to same_input ∙ rolled.is) in
+          let same : rolled.r ≡ r = sym (cc both) in
+          opened-well (subst (λ (x : Rollout). OpensAndRollsBack trace tell x origin limits disk disk_now before now e out out_now) same rolled.rolls)
 
-  abbrev StopsNever : Ending → D → Type 0
-  StopsNever e opened = (network : IsNetwork r.problem) (valid : is_valid_plan r.problem r.plan ≡ true) (small : limits.migration + 1 < 2 ^ 32) (levelled : D) (answer : LevelAnswer)
-      → HasLevelled trace tell r (digest_for r limits.migration) limits.rounds opened before.ports now.ports levelled answer → disk_now ≡ levelled
-      → (other : Rollout) (halt : Halt) → answer ≡ ended.Stopped other halt → e ≡ ending_of_stop other halt.cause → ⊥
+    -- by the status of an ending that is told by itself
+    by-ending : (status : ℕ) → RevertsAs trace tell (IsInput source source_now) origin limits disk disk_now before now status out out_now → status ≢ 12
+        → ((e : Ending) → Reverts trace tell (IsInput source source_now) origin limits disk disk_now before now e out out_now → ((n : ℕ) → status ≢ n → status_of e ≡ n → ⊥) → status_of e ≡ 0) → status ≡ 0
+    by-ending status rolls memory well =
+        let tells : (n : ℕ) → status ≢ n → status_of rolls.told ≡ n → ⊥ = λ n other is. other (rolls.is_status ∙ is) in
+        let same : rolls.told ≡ rolls.ending = sym (told-same rolls.ending rolls.told rolls.told_as (λ m. tells 12 memory (ap status_of m))) in
+        rolls.is_status ∙ (ap status_of same ∙ well rolls.ending rolls.rolls (λ n other is. tells n other (ap status_of same ∙ is)))
 
-  module _ (e : Ending) (read : status_of e ≡ 6 → ⊥) (sink : status_of e ≡ 7 → ⊥) (memory : status_of e ≡ 12 → ⊥) (device : Rose (trace disk).faults (trace disk_now).faults → status_of e ≡ 8 → ⊥) (fleet : Rose before.faults now.faults → status_of e ≡ 9 → ⊥)
-      (stop : (opened : D) → Opens (trace disk) (trace opened) → StopsNever e opened) where
-    opened-well : OpensAndRollsBack trace tell r limits disk disk_now before now e out out_now → status_of e ≡ 0
-    opened-well (inl fails) = absurd (device fails.failed (ap status_of fails.is))
-    opened-well (inr begun) =
-        rolled-well trace tell limits source source_now begun.opened disk_now before now out out_now r found (goes-opened begun.opened begun.opens) served
-        e sink memory (λ rose. device (rose-later (trace disk).faults (trace begun.opened).faults (trace disk_now).faults begun.opens.count rose)) fleet (stop begun.opened begun.opens) told begun.rolls
+    pub served-ends-well : (status : ℕ) → RevertsAs trace tell (IsInput source source_now) origin limits disk disk_now before now status out out_now
+        → status ≢ 6 → status ≢ 7 → status ≢ 8 → status ≢ 9 → status ≢ 12 → status ≡ 0
+    served-ends-well status rolls read sink device fleet memory =
+        by-ending status rolls memory
+        (λ e to over. reverts-well e (over 6 read) (over 7 sink) (over 12 memory) (λ rose. over 8 device) (λ rose. over 9 fleet)
+        (λ opened opens network valid small levelled answer has left other halt is ends.
+        excused-never e other halt.cause ends
+        (stop-excused trace tell origin limits source source_now opened disk_now before now out out_now r found (goes-opened trace tell limits source source_now disk disk_now before now out out_now r found goes served opened opens) served network valid small levelled answer has other halt is)
+        (over 8 device) (over 9 fleet) (over 12 memory)) to)
 
-    reverts-well : Reverts trace tell (IsInput source source_now) limits disk disk_now before now e out out_now → status_of e ≡ 0
-    reverts-well (inl none) = absurd (unbegun-never e none.why read memory)
-    reverts-well (inr rolled) =
-        let same_input : goes.input ≡ rolled.input = told-within source source_now rolled.input goes.input rolled.given (rolled-within goes.input r goes.is) goes.told_input in
-        let both : Ok r ≡ Ok rolled.r = sym goes.is ∙ (ap rollout_to same_input ∙ rolled.is) in
-        let same : rolled.r ≡ r = sym (cc both) in
-        opened-well (subst (λ (x : Rollout). OpensAndRollsBack trace tell x limits disk disk_now before now e out out_now) same rolled.rolls)
-
-  -- by the status of an ending that is told by itself
-  by-ending : (status : ℕ) → RevertsAs trace tell (IsInput source source_now) limits disk disk_now before now status out out_now → status ≢ 12
-      → ((e : Ending) → Reverts trace tell (IsInput source source_now) limits disk disk_now before now e out out_now → ((n : ℕ) → status ≢ n → status_of e ≡ n → ⊥) → status_of e ≡ 0) → status ≡ 0
-  by-ending status rolls memory well =
-      let tells : (n : ℕ) → status ≢ n → status_of rolls.told ≡ n → ⊥ = λ n other is. other (rolls.is_status ∙ is) in
-      let same : rolls.told ≡ rolls.ending = sym (told-same rolls.ending rolls.told rolls.told_as (λ m. tells 12 memory (ap status_of m))) in
-      rolls.is_status ∙ (ap status_of same ∙ well rolls.ending rolls.rolls (λ n other is. tells n other (ap status_of same ∙ is)))
-
-  pub served-ends-well : (status : ℕ) → RevertsAs trace tell (IsInput source source_now) limits disk disk_now before now status out out_now
-      → status ≢ 6 → status ≢ 7 → status ≢ 8 → status ≢ 9 → status ≢ 12 → status ≡ 0
-  served-ends-well status rolls read sink device fleet memory =
-      by-ending status rolls memory
-      (λ e to over. reverts-well e (over 6 read) (over 7 sink) (over 12 memory) (λ rose. over 8 device) (λ rose. over 9 fleet)
-      (λ opened opens network valid small levelled answer has left other halt is ends.
-      excused-never e other halt.cause ends
-      (stop-excused trace tell limits source source_now opened disk_now before now out out_now r found (goes-opened opened opens) served network valid small levelled answer has other halt is)
-      (over 8 device) (over 9 fleet) (over 12 memory)) to)
-
-  pub counted-ends-well : CountsNoFault tell (trace disk).faults (trace disk_now).faults before now
-      → (status : ℕ) → RevertsAs trace tell (IsInput source source_now) limits disk disk_now before now status out out_now
-      → status ≢ 6 → status ≢ 7 → status ≢ 12 → status ≡ 0
-  counted-ends-well counts status rolls read sink memory =
-      by-ending status rolls memory
-      (λ e to over. reverts-well e (over 6 read) (over 7 sink) (over 12 memory) (λ rose eight. counts.disk rose) (λ rose nine. counts.fleet rose)
-      (λ opened opens network valid small levelled answer has left other halt is ends.
-      wanting-never e other halt.cause ends
-      (stop-wants trace tell limits source source_now opened disk_now before now out out_now r found (goes-opened opened opens) served network valid small levelled answer has other halt is
-      (record {
-        disk = λ rose. counts.disk (rose-later (trace disk).faults (trace opened).faults (trace disk_now).faults opens.count (subst (λ (d : D). Rose (trace opened).faults (trace d).faults) (sym left) rose));
-        fleet = counts.fleet;
-        ports = counts.ports;
-      }))
-      (over 12 memory)) to)
+    pub counted-ends-well : CountsNoFault tell (trace disk).faults (trace disk_now).faults before now
+        → (status : ℕ) → RevertsAs trace tell (IsInput source source_now) origin limits disk disk_now before now status out out_now
+        → status ≢ 6 → status ≢ 7 → status ≢ 12 → status ≡ 0
+    counted-ends-well counts status rolls read sink memory =
+        by-ending status rolls memory
+        (λ e to over. reverts-well e (over 6 read) (over 7 sink) (over 12 memory) (λ rose eight. counts.disk rose) (λ rose nine. counts.fleet rose)
+        (λ opened opens network valid small levelled answer has left other halt is ends.
+        wanting-never e other halt.cause ends
+        (stop-wants trace tell origin limits source source_now opened disk_now before now out out_now r found (goes-opened trace tell limits source source_now disk disk_now before now out out_now r found goes served opened opens) served network valid small levelled answer has other halt is
+        (record {
+          disk = λ rose. counts.disk (rose-later (trace disk).faults (trace opened).faults (trace disk_now).faults opens.count (subst (λ (d : D). Rose (trace opened).faults (trace d).faults) (sym left) rose));
+          fleet = counts.fleet;
+          ports = counts.ports;
+        }))
+        (over 12 memory)) to)

@@ -8,14 +8,16 @@ use Rattle.problem_json.specs.GrammarLeast.{claimed_in}
 use Rattle.problem_json.specs.declared.claim.Claimed.{Claimed}
 use Rattle.problem_json.specs.GrammarResults as grammar
 use Rattle.problem_json.specs.declared.fault.InputFault.{InputFault}
+use Rattle.problem_json.specs.WithinLimits.{IsPlanWithin}
 use Rattle.sim_run.specs.Rehearsed.{IsSafeRehearsal}
-use Rattle.swanroll_top.specs.Answers.{planned, least_planned, judged, loaded, turned_back, rehearsed, checked, answer_in, explained}
+use Rattle.sim_run.specs.declared.script_shape.ScriptShape.{ScriptShape}
+use Rattle.swanroll_top.specs.Answers.{planned, least_planned, judged, loaded, turned_back, rehearsed, drawn_up, checked, answer_in, explained}
 use Rattle.swanroll_top.specs.Endings.{ending_of}
 use Rattle.swanroll_top.specs.Reports.{rollout_in}
 use Rattle.swanroll_top.specs.Runs.{Gives}
-use Rattle.swanroll_top.specs.Safety.{IsPlanned, PlansSafely, ChecksValid, LoadsSafely, TurnsSafely, RehearsesSafely, IsLoaded, IsTurned, IsClaimed, ExplainsTruly, IsExplained, IsLeast, PlansLeast}
+use Rattle.swanroll_top.specs.Safety.{IsPlanned, PlansSafely, ChecksValid, LoadsSafely, TurnsSafely, RehearsesSafely, RehearsesTruly, IsDrawnUp, IsLoaded, IsTurned, IsClaimed, ExplainsTruly, IsExplained, IsLeast, PlansLeast}
 use Rattle.swanroll_top.specs.declared.ending.Ending.{Ending}
-use Rattle.swanroll_top.specs.Words.{a_plan, a_check, the_loads, the_way_back, a_rehearsal, the_explanation, the_least}
+use Rattle.swanroll_top.specs.Words.{a_plan, a_check, the_loads, the_way_back, a_rehearsal, a_script, the_explanation, the_least}
 use Rattle.swanroll_top.specs.declared.words.Planner.{Planner}
 use Rattle.swanroll_top.proofs.Steps.{fault-gives, next-is}
 
@@ -75,6 +77,14 @@ pub sim-answers : (policy : OpView → ℕ) (input : List ℕ) (s : ScriptedRead
 unfolding answer_in
 sim-answers policy input s h = next-is (scripted_in input) s (rehearsed policy) h
 
+pub rehearse-refuses : (shape : ScriptShape) (policy : OpView → ℕ) (input : List ℕ) (e : InputFault) → grammar.Refuses e (document_in input) → Gives {A = List ℕ} (Err (ending_of e)) (answer_in (a_script shape policy) input)
+unfolding answer_in
+rehearse-refuses shape policy input e h = fault-gives e (document_in input) (drawn_up shape policy) h
+
+pub rehearse-answers : (shape : ScriptShape) (policy : OpView → ℕ) (input : List ℕ) (d : DocumentRead) → document_in input ≡ Ok d → answer_in (a_script shape policy) input ≡ drawn_up shape policy d
+unfolding answer_in
+rehearse-answers shape policy input d h = next-is (document_in input) d (drawn_up shape policy) h
+
 -- ---- what is known of the input where a text was made
 
 pub read-plans-safely : {A : Type 0} (planner : Planner) (input : List ℕ) (p : Problem) (answer : Result A Ending) → problem_in input ≡ Ok p → IfOk answer (λ text. IsPlanned planner p) → IfOk answer (λ text. PlansSafely planner input)
@@ -105,6 +115,11 @@ pub read-rehearses-safely : {A : Type 0} (policy : OpView → ℕ) (input : List
     → IfOk answer (λ text. IsSafeRehearsal s.document.problem s.document.plan policy s.script) → IfOk answer (λ text. RehearsesSafely policy input)
 read-rehearses-safely policy input s (Ok text) read safe = record { scripted = s; read = read; safe = safe }
 read-rehearses-safely policy input s (Err e) read safe = tt
+
+pub read-rehearses-truly : {A : Type 0} (shape : ScriptShape) (policy : OpView → ℕ) (input : List ℕ) (d : DocumentRead) (answer : Result A Ending) → document_in input ≡ Ok d → IsPlanWithin d.plan
+    → IfOk answer (λ text. IsPlanWithin d.plan → IsDrawnUp shape policy d) → IfOk answer (λ text. RehearsesTruly shape policy input)
+read-rehearses-truly shape policy input d (Ok text) read within drawn = record { document = d; read = read; drawn = drawn within }
+read-rehearses-truly shape policy input d (Err e) read within drawn = tt
 
 pub rollout-refuses : (input : List ℕ) (e : InputFault) → grammar.Refuses e (document_in input) → Gives {A = Rollout} (Err (ending_of e)) (rollout_in input)
 unfolding rollout_in

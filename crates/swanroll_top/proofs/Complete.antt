@@ -21,13 +21,14 @@ use Rattle.fewest_plan.specs.declared.cause.Cause.TheVariants.{Stuck}
 use Rattle.plan_choose.specs.Choice.{Choice, chosen}
 use Rattle.plan_texts.specs.Explain.{explain_text}
 use Rattle.plan_texts.specs.Loads.{loads_text}
+use Rattle.sim_run.specs.declared.script_shape.ScriptShape.{ScriptShape}
 use Rattle.sim_run.specs.declared.shape.Shape.{Shape}
 use Rattle.agent_service.specs.Services.{Guests, Tells}
 use Rattle.agent_service.specs.declared.service.Service.{Service}
 use Rattle.agent_service.specs.declared.service.ServiceFault.{ServiceFault}
 use Rattle.agent_service.specs.declared.service.ServiceFault.TheVariants as service
 use Rattle.swanroll_top.specs.Agents.{ServesAs, service_answer}
-use Rattle.swanroll_top.specs.Answers.{◌>>=◌, with_choice, planned, checked, claimed_line, judged, loaded, turned_back, rehearsed, answer_to, or_ending, chosen_by, answer_in, explained}
+use Rattle.swanroll_top.specs.Answers.{◌>>=◌, with_choice, planned, checked, claimed_line, judged, loaded, turned_back, rehearsed, drawn_up, rehearsal_text, answer_to, or_ending, chosen_by, answer_in, explained}
 use Rattle.swanroll_top.specs.Endings.{status_of}
 use Rattle.swanroll_top.specs.Program.{Streams}
 use Rattle.swanroll_top.specs.ReportPromise.{ReportsAndNotes, ReportsBy}
@@ -39,10 +40,10 @@ use Rattle.swanroll_top.specs.Safety.{IsValid}
 use Rattle.swanroll_top.specs.Tries.{IsShape, tried}
 use Rattle.swanroll_top.specs.Taken.{IsShownDocument, IsValidDocument, IsValidScript, is_as_said}
 use Rattle.swanroll_top.specs.declared.ending.Ending.{Ending}
-use Rattle.swanroll_top.proofs.Commands.{plan-answers, check-answers, loads-answers, back-answers, sim-answers, explain-answers}
+use Rattle.swanroll_top.proofs.Commands.{plan-answers, check-answers, loads-answers, back-answers, sim-answers, explain-answers, rehearse-answers}
 use Rattle.swanroll_top.proofs.Claims.{claim-shown}
 use Rattle.swanroll_top.proofs.Documents.{as_rollout, checked-by, back_text}
-use Rattle.swanroll_top.specs.Words.{TextAsked, a_plan, a_check, the_loads, the_way_back, a_rehearsal, the_explanation}
+use Rattle.swanroll_top.specs.Words.{TextAsked, a_plan, a_check, the_loads, the_way_back, a_rehearsal, a_script, the_explanation}
 use Rattle.swanroll_top.specs.declared.ending.Ending.TheVariants.{AboveLimit, NoPlan}
 use Rattle.swanroll_top.specs.declared.words.Planner.{Planner}
 use Rattle.swanroll_top.specs.declared.words.Planner.TheVariants.{Slack}
@@ -126,6 +127,10 @@ valid-rehearsed : (policy : OpView → ℕ) (s : ScriptedRead) → IsValid s.doc
 unfolding rehearsed
 valid-rehearsed policy s valid = valid-goes-on s.document (λ o. script_text o.problem o.plan policy s.script) (first_broken s.document.problem s.document.plan) refl valid
 
+valid-drawn : (shape : ScriptShape) (policy : OpView → ℕ) (d : DocumentRead) → IsValid d.problem d.plan → IsOk (drawn_up shape policy d)
+unfolding drawn_up
+valid-drawn shape policy d valid = valid-goes-on d (rehearsal_text shape policy) (first_broken d.problem d.plan) refl valid
+
 pub shown-document-answers : (input : List ℕ) → IsShownDocument input → IsOk (answer_to a_check input)
 shown-document-answers input t = subst (λ r. IsOk r) (sym (short-answered a_check input t.within ∙ check-answers input t.claimed t.read)) (valid-judged t.claimed t.valid t.shown)
 
@@ -140,6 +145,10 @@ valid-document-explains input t = subst (λ r. IsOk r) (sym (short-answered the_
 
 pub valid-script-answers : (policy : OpView → ℕ) (input : List ℕ) → IsValidScript input → IsOk (answer_to (a_rehearsal policy) input)
 valid-script-answers policy input t = subst (λ r. IsOk r) (sym (short-answered (a_rehearsal policy) input t.within ∙ sim-answers policy input t.scripted t.read)) (valid-rehearsed policy t.scripted t.valid)
+
+pub valid-document-rehearses : (shape : ScriptShape) (policy : OpView → ℕ) (input : List ℕ) → IsValidDocument input → IsOk (answer_to (a_script shape policy) input)
+valid-document-rehearses shape policy input t =
+    subst (λ r. IsOk r) (sym (short-answered (a_script shape policy) input t.within ∙ rehearse-answers shape policy input t.document t.read)) (valid-drawn shape policy t.document t.valid)
 
 -- ---- a run with an answer
 
@@ -165,7 +174,7 @@ module _ (m : ℕ) (before after : Streams) (status : ℕ) (input image : List �
   ok-journal (Ok text) ok = refl
   ok-journal (Err e) ok = absurd cc
 
-  reported : (r : Result Rollout Ending) (e : Ending) → r ≡ Ok o → before.stored ≡ Some image → IsOk (journal_report o m image) → EndsReport m r before.stored e before.sink.written after.sink.written → (status_of e ≡ 7 → ⊥) → status_of e ≡ 0
+  pub reported : (r : Result Rollout Ending) (e : Ending) → r ≡ Ok o → before.stored ≡ Some image → IsOk (journal_report o m image) → EndsReport m r before.stored e before.sink.written after.sink.written → (status_of e ≡ 7 → ⊥) → status_of e ≡ 0
   reported (Err x) e is stored ok ends cut = absurd (cc is)
   reported (Ok other) e is stored ok ends cut =
       let same : other ≡ o = cc is in

@@ -12,12 +12,15 @@ use Rattle.plan_check.specs.declared.fault.PlanFault.{PlanFault}
 use Rattle.plan_check.specs.declared.fault.PlanFault.TheVariants as plan_fault
 use Rattle.problem_json.specs.Writing.{document_text}
 use Rattle.rollback_plan.specs.Turning.{back_problem, back_plan, back}
-use Rattle.problem_json.specs.GrammarDocuments.{DocumentRead, ScriptedRead}
+use Rattle.problem_json.specs.GrammarDocuments.{DocumentRead, ScriptedRead, scripted_in}
+use Rattle.problem_json.specs.WithinLimits.{IsPlanWithin}
+use Rattle.sim_run.specs.DrawnTexts.{IsWrittenFrom}
 use Rattle.sim_run.specs.Rehearsed.{IsSafeRehearsal}
 use Rattle.sim_run.specs.Script.{script_text}
-use Rattle.swanroll_top.specs.Answers.{◌>>=◌, unless_broken, checked, loaded, turned_back, rehearsed, explained}
+use Rattle.sim_run.specs.declared.script_shape.ScriptShape.{ScriptShape}
+use Rattle.swanroll_top.specs.Answers.{◌>>=◌, unless_broken, checked, loaded, turned_back, rehearsed, drawn_up, rehearsal_text, script_for, explained}
 use Rattle.swanroll_top.specs.Runs.{Gives}
-use Rattle.swanroll_top.specs.Safety.{HoldsItsLoads, MayBeginBack, IsLoaded, IsSealed, IsSafePlan, IsTurned, IsValid, IsExplained, TellsEachNext}
+use Rattle.swanroll_top.specs.Safety.{HoldsItsLoads, MayBeginBack, IsLoaded, IsSealed, IsSafePlan, IsTurned, IsValid, IsExplained, TellsEachNext, IsDrawn, IsDrawnUp, IsRehearsed}
 use Rattle.swanroll_top.specs.declared.ending.Ending.{Ending}
 use Rattle.swanroll_top.specs.declared.ending.Ending.TheVariants.{NotValid}
 use Rattle.swanroll_top.proofs.Steps.{step-gives}
@@ -118,6 +121,30 @@ refused-rehearsed policy s e h = step-gives e (checked s.document) (λ o. Ok (sc
 pub sealed-rehearsal : (policy : OpView → ℕ) (s : ScriptedRead) (o : Rollout) → IsSealed s.document o → IsSafeRehearsal o.problem o.plan policy s.script → IsSafeRehearsal s.document.problem s.document.plan policy s.script
 sealed-rehearsal policy s o sealed safe = rw sealed.same at safe
 
+-- ---- a script that is drawn for a valid plan
+
+-- the text with its line feed, of the text without
+pub written-rehearsed : (shape : ScriptShape) (policy : OpView → ℕ) (o : Rollout) (bare text : List ℕ) → IsWrittenFrom policy shape o bare → IsDrawn shape policy o → text ≡ bare ++ 10 ∷ [] → IsRehearsed shape policy o text
+written-rehearsed shape policy o bare text written drawn ends = record {
+  is = ends ∙ ap (λ t. t ++ 10 ∷ []) written.is;
+  again = λ within.
+      subst (λ t. scripted_in t ≡ Ok (record { document = record { problem = o.problem; plan = o.plan }; script = script_for shape policy o })) written.is (written.again within);
+  drawn = drawn;
+}
+
+pub checked-drawn : (shape : ScriptShape) (policy : OpView → ℕ) (d : DocumentRead) (o : Rollout) (text : List ℕ) → checked d ≡ Ok o → IsRehearsed shape policy o text → drawn_up shape policy d ≡ Ok text
+unfolding drawn_up
+checked-drawn shape policy d o text e is = ap (λ r. r >>= λ o. Ok (rehearsal_text shape policy o)) e ∙ sym (ap Ok is.is)
+
+pub refused-drawn : (shape : ScriptShape) (policy : OpView → ℕ) (d : DocumentRead) (e : Ending) → Gives {A = Rollout} (Err e) (checked d) → Gives {A = List ℕ} (Err e) (drawn_up shape policy d)
+unfolding drawn_up
+refused-drawn shape policy d e h = step-gives e (checked d) (λ o. Ok (rehearsal_text shape policy o)) h
+
+pub sealed-drawn : (shape : ScriptShape) (policy : OpView → ℕ) (d : DocumentRead) (o : Rollout) (text : List ℕ) → IsSealed d o → IsRehearsed shape policy o text → IsPlanWithin d.plan → IsDrawnUp shape policy d
+sealed-drawn shape policy d o text sealed is within =
+    let same = subst (λ (x : Rollout). IsRehearsed shape policy x text) sealed.same is in
+    record { valid = sealed.valid; again = same.again within; drawn = same.drawn }
+
 pub ruleset checking = (unbroken-checked, valid-sealed)
 
 pub ruleset loading = (checked-loaded, refused-loaded, sealed-loads)
@@ -127,3 +154,5 @@ pub ruleset turning = (checked-turned, refused-turned, sealed-turned)
 pub ruleset explaining = (checked-explained, refused-explained, sealed-explained)
 
 pub ruleset rehearsing = (checked-rehearsed, refused-rehearsed, sealed-rehearsal)
+
+pub ruleset drawing = (checked-drawn, refused-drawn, sealed-drawn)

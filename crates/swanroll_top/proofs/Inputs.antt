@@ -16,7 +16,7 @@ use Rattle.swanroll_top.specs.Taken.{IsTaken}
 use Rattle.swanroll_top.specs.Reading.{IsShortInput, IsCut}
 use Rattle.swanroll_top.specs.declared.ending.Ending.{Ending}
 use Rattle.swanroll_top.specs.declared.ending.Ending.TheVariants.{AboveLimit}
-use Rattle.swanroll_top.specs.Words.{TextAsked, a_plan, a_check, the_loads, the_way_back, a_rehearsal, the_explanation, the_least}
+use Rattle.swanroll_top.specs.Words.{TextAsked, a_plan, a_check, the_loads, the_way_back, a_rehearsal, a_script, the_explanation, the_least}
 
 pub long-refused : (c : TextAsked) (input : List ℕ) → MOST_INPUT < length input → answer_to c input ≡ Err AboveLimit
 unfolding answer_to
@@ -45,6 +45,7 @@ long-untaken the_way_back input long t = omega (arith, long, t.within)
 long-untaken the_explanation input long t = omega (arith, long, t.within)
 long-untaken the_least input long t = omega (arith, long, t.within)
 long-untaken (a_rehearsal policy) input long t = omega (arith, long, t.within)
+long-untaken (a_script shape policy) input long t = omega (arith, long, t.within)
 
 -- where more than the limit was read, the answer to the input is that it is too long
 long-follows : (c : TextAsked) (before now : SourceTrace) (out : Option (List ℕ)) (input : List ℕ) → IsInput before now input → MOST_INPUT < length input → FollowsInput c before now AboveLimit out out

@@ -1,5 +1,6 @@
--- Behind a rollback that was begun the network is safe and nothing was begun past the stage; behind status 0 the rollout is level and its way back begins.
-use Rattle.std.proofs.Common.{◌≡◌, ◌⊎◌, ◌+◌, ◌<◌, ◌≤◌, ◌==◌, ◌^◌, ℕ, List, [], ◌∷◌, ◌++◌, Bool, true, false, nat_le, Option, Some, None, IfSome, Ok, refl, sym, ap, ◌∙◌, subst, inl, inr, arith, leb-true}
+-- Behind a rollback that was begun the network is safe and nothing was begun past what the list found had begun but what leads up to a stage; behind status 0 exactly so much is settled, and its way
+-- back begins there.
+use Rattle.std.proofs.Common.{◌≡◌, ◌⊎◌, ◌+◌, ◌<◌, ◌≤◌, ◌==◌, ◌^◌, ℕ, List, [], ◌∷◌, ◌++◌, Bool, true, false, nat_le, Option, Some, None, IfSome, Ok, refl, sym, ap, ◌∙◌, subst, inl, inr, arith, leb-true, ne_eqb}
 use Rattle.std.specs.List.{All, AllByRecursion}
 use Rattle.std.proofs.lemmas.Bool.{and_parts}
 use Rattle.std.proofs.lemmas.List.Elements.{All-head, All-tail, All-weaker}
@@ -15,6 +16,7 @@ use Rattle.rollout_rules.specs.Valid.{is_valid_plan}
 use Rattle.rollout_rules.specs.Agent.{Holding}
 use Rattle.rollout_rules.specs.declared.op.Entry.{Entry}
 use Rattle.rollout_rules.specs.declared.op.OpView.{OpView}
+use Rattle.rollout_laws.specs.Waiting.{NothingFlies}
 use Rattle.rollout_laws.proofs.Histories.{begins_in-append, begun-with, front_follows, is_counted, is_legal-append, rest_follows}
 use Rattle.rollout_laws.proofs.Safety.{legal-safe}
 use Rattle.rollout_laws.proofs.Within.{held-safe}
@@ -42,7 +44,7 @@ use Rattle.shared_book.specs.Homes.{homes_of}
 use Rattle.shared_book.specs.Images.{HasImages, HasLegalList}
 use Rattle.shared_book.specs.Opened.{opening_of}
 use Rattle.port_session.specs.Sessions.{first_talk}
-use Rattle.worker_ports.specs.Views.{PortView, view}
+use Rattle.worker_ports.specs.Views.{view}
 use Rattle.worker_ports.specs.declared.ports.Berth.{Berth}
 use Rattle.rollout_ports.specs.Berths.{FleetPorts}
 use Rattle.rollout_ports.specs.Hands.{first_talks}
@@ -51,7 +53,6 @@ use Rattle.switch_laws.specs.Holdings.{AreHeldAt, IsHeldAt}
 use Rattle.switch_laws.proofs.Answered.{some_at}
 use Rattle.switch_laws.proofs.Begun.{begun_within}
 use Rattle.switch_laws.proofs.Stands.{if_some, was_told}
-use Rattle.holding_laws.specs.Untold.{EachMayHold, IsFoundWith, MayHold}
 use Rattle.rollout_report.specs.Journals.{digest_for}
 use Rattle.rollout_run.specs.Keeping.{IsBegun}
 use Rattle.rollout_run.specs.PortRuns.{IsBack}
@@ -60,18 +61,23 @@ use Rattle.rollout_run.specs.declared.end.RunEnd.TheVariants as run
 use Rattle.rollout_run.specs.declared.running.Limits.{Limits}
 use Rattle.completion_laws.proofs.Excused.{held-rests, held-still}
 use Rattle.completion_laws.proofs.InFlight.{still-flies}
-use Rattle.rollback_plan.specs.Levelling.{IsOnTheWay}
-use Rattle.rollback_plan.specs.Levels.{BegunUpTo, HoldsFrom, is_levelled, is_levelled_at}
-use Rattle.rollback_plan.proofs.Ceilings.{begun-up_to_ceiling, ceiling-most}
+use Rattle.rollback_plan.specs.Levels.{HoldsFrom, is_levelled, is_levelled_at}
+use Rattle.rollback_plan.specs.Turns.{BeginsBack, BegunSoFar, HasComeSoFar, IsOnTheTurn}
+use Rattle.rollback_plan.proofs.Ceilings.{ceiling-most}
 use Rattle.rollback_plan.proofs.Levelling.{levelled-contents, levelling-holds}
 use Rattle.rollback_plan.proofs.StageStarts.{back_start-contents, back_start-is_sound}
-use Rattle.levelling_laws.proofs.Shared.{finished-is_levelled, held-is_levelled, list-up_to}
-use Rattle.rollback_service.specs.Levellings.{HasLevelled, LevelsBy, ceiling_of, level_for}
-use Rattle.rollback_service.specs.Placings.{HasPlaced, IsSeen, MayPlace, kept_back}
+use Rattle.rollback_plan.proofs.TurnContents.{begins-back, so_far-levelled}
+use Rattle.rollback_plan.proofs.TurnStages.{start-at_ceiling}
+use Rattle.levelling_laws.proofs.Shared.{ended-so_far, held-so_far, list-so_far}
+use Rattle.rollback_service.specs.Levellings.{HasLevelled, LevelsBy, TurnsFrom, ceiling_of, level_for, start_of}
+use Rattle.rollback_service.specs.Placings.{HasPlaced, IsSeen, MayPlace, kept_from}
 use Rattle.rollback_service.specs.declared.answer.LevelAnswer.{LevelAnswer}
 use Rattle.rollback_service.specs.declared.answer.LevelAnswer.TheVariants as ended
+use Rattle.rollback_service.specs.declared.origin.BackFrom.{BackFrom}
+use Rattle.rollback_service.specs.declared.origin.BackFrom.TheVariants as whence
+use Rattle.rollback_service.proofs.Levellings.{turns-most, turns-sound}
 use Rattle.swanroll_top.specs.Endings.{ending_of_journal}
-use Rattle.swanroll_top.specs.LevelTargets.{AreHeldAtStage, EndsAtStage, EndsBackSafely, HasListFrom, IsFoundOrPlaced, IsHeldAtStage, IsTakenBack, IsUpTo, LevelsSafely, SendsUpTo, operations_to}
+use Rattle.swanroll_top.specs.LevelTargets.{AreHeldAtStage, EndsAtStage, EndsBackSafely, HasListFrom, IsFoundOrPlaced, IsHeldAtStage, IsLevelThere, IsTakenBack, LeadsSoFar, LevelsSafely, OnLevel, SendsSoFar, operations_to}
 use Rattle.swanroll_top.specs.Reports.{rollout_to}
 use Rattle.swanroll_top.specs.Rollbacks.{Closes, Levels, Reverts, RevertsAs, RollsBackOpened, RollsBackOutOf, TakesBack, back_text}
 use Rattle.swanroll_top.specs.Rollouts.{FleetSeen, ending_of_stop}
@@ -82,6 +88,7 @@ use Rattle.swanroll_top.specs.declared.unfinished.Unfinished.TheVariants.{PortFa
 use Rattle.swanroll_top.proofs.Elsewhere.{none-settled}
 use Rattle.swanroll_top.proofs.Reaching.{begun-told, berths-within, is-told, is_of_begun, journal-begun, not-begun, of-begun, unbegun-refused}
 use Rattle.swanroll_top.proofs.Reverting.{Begun, is_run, run-begun, run-unbegun}
+use Rattle.swanroll_top.proofs.SettledPorts.{berths-settled, each-more, told-more}
 use Rattle.swanroll_top.proofs.Statuses.{is-done}
 
 -- ---- the policy
@@ -96,9 +103,9 @@ levels-holds s policy levels = record {
 -- ---- the lists on the way
 
 module _ (p : Problem) (plan : Plan) (s : ℕ) (net : IsNetwork p) (valid : is_valid_plan p plan ≡ true) (found : History) (first : is_legal p plan found ≡ true) (es : List Entry)
-    (legal : is_legal p plan (with_entries found es) ≡ true) (up : BegunUpTo p plan s (with_entries found es)) where
-  fronts-on_the_way : (front rest : List Entry) → front ++ rest ≡ es → IsOnTheWay p plan s (with_entries found front)
-  fronts-on_the_way front rest is =
+    (legal : is_legal p plan (with_entries found es) ≡ true) (so : BegunSoFar p plan found s (with_entries found es)) where
+  fronts-on_the_turn : (front rest : List Entry) → front ++ rest ≡ es → IsOnTheTurn p plan found s (with_entries found front)
+  fronts-on_the_turn front rest is =
       let follows : may_follow p plan found (front ++ rest) ≡ true = subst (λ (xs : List Entry). may_follow p plan found xs ≡ true) (sym is) (rest_follows p plan found es legal) in
       let here = is_legal-append p plan found front first (front_follows p plan found front rest follows) in
       record {
@@ -106,21 +113,21 @@ module _ (p : Problem) (plan : Plan) (s : ℕ) (net : IsNetwork p) (valid : is_v
         safe = legal-safe p plan (with_entries found front) net valid here;
         begun = λ n lt.
             let more : begins_in es n ≡ begins_in front n + begins_in rest n = ap (λ (xs : List Entry). begins_in xs n) (sym is) ∙ begins_in-append front rest n in
-            omega (arith, up n lt, begun-with found es n, begun-with found front n, more);
+            omega (arith, so n lt, begun-with found es n, begun-with found front n, more);
       }
 
 -- ---- what went out
 
-module _ (o : Opening) (h : History) (s : ℕ) (legal : is_legal o.rollout.problem o.rollout.plan h ≡ true) (up : BegunUpTo o.rollout.problem o.rollout.plan s h) where
-  command-up_to : (c : Command) → IsBegun o h c → IsUpTo o.rollout s c
-  command-up_to c is =
+module _ (o : Opening) (h : History) (s : ℕ) (legal : is_legal o.rollout.problem o.rollout.plan h ≡ true) (so : BegunSoFar o.rollout.problem o.rollout.plan o.found s h) where
+  command-so_far : (c : Command) → IsBegun o h c → LeadsSoFar o.rollout o.found s c
+  command-so_far c is =
       let within = begun_within o.rollout.problem o.rollout.plan h legal is.op is.begun in
       let inside : is.op.item < item_count o.rollout.problem = (is_counted o.rollout.problem o.rollout.plan h legal is.op.item).within (omega (arith, within.above, within.within)) in
-      subst (λ (d : Command). IsUpTo o.rollout s d) (sym is.is) (omega (arith, within.within, up is.op.item inside))
+      subst (λ (d : Command). LeadsSoFar o.rollout o.found s d) (sym is.is) (omega (arith, within.within, so is.op.item inside))
 
 module _ {P : Type 0} (tell : P → PortTrace) (o : Opening) (migration s : ℕ) (log : List Written) (now : FleetPorts P)
-    (legal : is_legal o.rollout.problem o.rollout.plan (history_of o log) ≡ true) (up : BegunUpTo o.rollout.problem o.rollout.plan s (history_of o log)) where
-  berths-send : (bs : List (Berth P)) → All (IsBack tell o migration (homes_of o.rollout.problem) log now.kept) (first_talks bs) → AllByRecursion (SendsUpTo tell o.rollout migration s now) bs
+    (legal : is_legal o.rollout.problem o.rollout.plan (history_of o log) ≡ true) (so : BegunSoFar o.rollout.problem o.rollout.plan o.found s (history_of o log)) where
+  berths-send : (bs : List (Berth P)) → All (IsBack tell o migration (homes_of o.rollout.problem) log now.kept) (first_talks bs) → AllByRecursion (SendsSoFar tell o.rollout migration o.found s now) bs
   berths-send [] all = tt
   berths-send (b ∷ bs) all =
       let back : IsBack tell o migration (homes_of o.rollout.problem) log now.kept (first_talk b.switch b.port) = All-head (IsBack tell o migration (homes_of o.rollout.problem) log now.kept) (first_talk b.switch b.port) (first_talks bs) all in (
@@ -128,7 +135,7 @@ module _ {P : Type 0} (tell : P → PortTrace) (o : Opening) (migration s : ℕ)
           back = back.now.port;
           kept = back.is_kept;
           sent = back.run.sent;
-          each = All-weaker (IsBegun o (history_of o log)) (IsUpTo o.rollout s) (command-up_to o (history_of o log) s legal up) back.run.sent back.run.begun;
+          each = All-weaker (IsBegun o (history_of o log)) (LeadsSoFar o.rollout o.found s) (command-so_far o (history_of o log) s legal so) back.run.sent back.run.begun;
           part = back.run.story.part;
         },
         berths-send bs (All-tail (IsBack tell o migration (homes_of o.rollout.problem) log now.kept) (first_talk b.switch b.port) (first_talks bs) all),
@@ -165,23 +172,6 @@ module _ (r : Rollout) (migration s : ℕ) (h : History) (legal : is_legal r.pro
       })
   at-stage (inr left) = inr (record { earlier = left.earlier; none_left = sym all-settled ∙ left.none })
 
--- what follows of what is held follows where it is told, and of whatever may be held
-module _ (P Q : Holdings → Type 0) (more : (holdings : Holdings) → P holdings → Q holdings) where
-  told-more : {A B : Type 0} (o : Option A) (p : Option B) (q : Option Holdings) → IfSome o (λ _. IfSome p (λ _. IfSome q P)) → IfSome o (λ _. IfSome p (λ _. IfSome q Q))
-  told-more None p q holds = tt
-  told-more (Some a) None q holds = tt
-  told-more (Some a) (Some b) None holds = tt
-  told-more (Some a) (Some b) (Some c) holds = more c holds
-
-  each-more : (r : Rollout) (migration : ℕ) (homes : List (Option ℕ)) (found : History) (first : PortView) (now : PortTrace) → EachMayHold r migration homes found first now P → EachMayHold r migration homes found first now Q
-  each-more r migration homes found first now each =
-      if_some now.offered (λ offered. IfSome now.heard (λ heard. (earlier : List ℕ) (before after : Holdings) → IsFoundWith r migration homes found first earlier before → MayHold (earlier ++ offered) heard before after → Q after))
-      (λ offered offered_is. if_some now.heard (λ heard. (earlier : List ℕ) (before after : Holdings) → IsFoundWith r migration homes found first earlier before → MayHold (earlier ++ offered) heard before after → Q after)
-      (λ heard heard_is earlier before after were may.
-      let here = some_at (λ heard. (earlier : List ℕ) (before after : Holdings) → IsFoundWith r migration homes found first earlier before → MayHold (earlier ++ offered) heard before after → P after) now.heard heard heard_is
-      (some_at (λ offered. IfSome now.heard (λ heard. (earlier : List ℕ) (before after : Holdings) → IsFoundWith r migration homes found first earlier before → MayHold (earlier ++ offered) heard before after → P after)) now.offered offered offered_is each) in
-      more after (here earlier before after were may)))
-
 module _ {P : Type 0} (tell : P → PortTrace) (r : Rollout) (migration s : ℕ) (found h : History) (begins : h.start ≡ found.start) (before now : FleetPorts P)
     (legal : is_legal r.problem r.plan h ≡ true) (most : s ≤ last_stage r.plan) (level : is_levelled r.problem r.plan h s ≡ true) where
   stage-of : (switch : ℕ) (holdings : Holdings) → AreHeldAt r migration (homes_of r.problem) switch h holdings → AreHeldAtStage r migration s (homes_of r.problem) switch found.start holdings
@@ -206,9 +196,9 @@ module _ {P : Type 0} (tell : P → PortTrace) (r : Rollout) (migration s : ℕ)
 
 -- ---- what a crash leaves
 
-module _ {D : Type 0} (trace : D → DiskTrace) (o : Opening) (log : List Written) (migration s from count : ℕ) (levelled : D) (images : HasImages trace o from count levelled log) where
+module _ {D : Type 0} (trace : D → DiskTrace) (o : Opening) (log : List Written) (migration : ℕ) (start : List ℕ) (from count : ℕ) (levelled : D) (images : HasImages trace o from count levelled log) where
   abbrev Right : List ℕ → Type 0
-  Right c = IsFoundOrPlaced o.rollout migration s o.found c
+  Right c = IsFoundOrPlaced o.rollout migration start o.found c
 
   list-from : (c : List ℕ) → HasLegalList o log c → HasListFrom o.rollout o.found c
   list-from c is = record { past = is.past; legal = is.legal; has = is.has }
@@ -228,21 +218,21 @@ module _ {D : Type 0} (trace : D → DiskTrace) (o : Opening) (log : List Writte
       pub here : HasListFrom o.rollout o.found image
       here = may-from image (some_at (λ (b : List ℕ). (trace levelled).may_leave b) (trace levelled).bytes image told seen.shows)
 
-      old-or-new : (c : List ℕ) → IsOldOrNew (journal_in image) (kept_back o.rollout migration s) c → Right c
+      old-or-new : (c : List ℕ) → IsOldOrNew (journal_in image) (kept_from o.rollout migration start) c → Right c
       old-or-new c (inl old) = inl (record { past = here.past; legal = here.legal; has = record { kept = here.has.kept; is = old ∙ here.has.is; starts = here.has.starts; rows = here.has.rows } })
       old-or-new c (inr new) = inr new
 
       never-blank : is_blank image ≡ true → ⊥
       never-blank blank = let no : ◌≡◌ {A = Option Kept} None (Some here.has.kept) = sym (blank_none image blank) ∙ here.has.is in cc
 
-      stood-right : (c : List ℕ) → IsStoodOrPlaced (kept_back o.rollout migration s) image c → Right c
+      stood-right : (c : List ℕ) → IsStoodOrPlaced (kept_from o.rollout migration start) image c → Right c
       stood-right c (inl same) = inl (subst (HasListFrom o.rollout o.found) (sym same) here)
       stood-right c (inr placed) = elim placed as (λ _. Right c) [
         | inl blank ↦ absurd (never-blank blank.0)
         | inr journal ↦ old-or-new c journal.1
       ]
 
-      placed-right : (disk_now : D) → LeavesOnly trace levelled disk_now (λ c. (trace levelled).may_leave c ⊎ IsStoodOrPlaced (kept_back o.rollout migration s) image c)
+      placed-right : (disk_now : D) → LeavesOnly trace levelled disk_now (λ c. (trace levelled).may_leave c ⊎ IsStoodOrPlaced (kept_from o.rollout migration start) image c)
           → (c : List ℕ) → (trace disk_now).left_since from c → Right c
       placed-right disk_now leaves c left = elim (leaves.before from c later left) as (λ _. Right c) [
         | inl past ↦ inl (since-from c past)
@@ -260,18 +250,18 @@ module _ {D : Type 0} (trace : D → DiskTrace) (o : Opening) (log : List Writte
   left-crash = if_some (trace levelled).bytes (λ _. (c : List ℕ) → (trace levelled).left_since from c → Right c) (λ image told c left. inl (since-from image told c left))
 
   -- and where that was tried
-  placed-crash : (disk_now : D) → IsSeen trace levelled → MayPlace trace (kept_back o.rollout migration s) levelled disk_now → CrashesRight disk_now
+  placed-crash : (disk_now : D) → IsSeen trace levelled → MayPlace trace (kept_from o.rollout migration start) levelled disk_now → CrashesRight disk_now
   placed-crash disk_now seen may =
       if_some (trace disk_now).bytes (λ _. (c : List ℕ) → (trace disk_now).left_since from c → Right c) (λ image_now told_now c left.
       let was = was_told (trace levelled).bytes (trace disk_now).bytes image_now may.told told_now in
       placed-right was.0 was.1 seen disk_now
-      (some_at (λ image. LeavesOnly trace levelled disk_now (λ c. (trace levelled).may_leave c ⊎ IsStoodOrPlaced (kept_back o.rollout migration s) image c)) (trace levelled).bytes was.0 was.1 may.any_moment) c left)
+      (some_at (λ image. LeavesOnly trace levelled disk_now (λ c. (trace levelled).may_leave c ⊎ IsStoodOrPlaced (kept_from o.rollout migration start) image c)) (trace levelled).bytes was.0 was.1 may.any_moment) c left)
 
 -- ---- a rollback that was begun
 
 -- the input is a rollout, and it was levelled from the image that its disk told
 record LevelsFrom {D P : Type 0} (trace : D → DiskTrace) (tell : P → PortTrace)
-    (Given : List ℕ → Type 0) (limits : Limits) (disk disk_now : D) (before now : FleetSeen P) (e : Ending) (out out_now : Option (List ℕ)) : Type 0 where
+    (Given : List ℕ → Type 0) (origin : BackFrom) (limits : Limits) (disk disk_now : D) (before now : FleetSeen P) (e : Ending) (out out_now : Option (List ℕ)) : Type 0 where
   pub input : List ℕ
   pub given : Given input
   pub r : Rollout
@@ -283,12 +273,12 @@ record LevelsFrom {D P : Type 0} (trace : D → DiskTrace) (tell : P → PortTra
   pub network : IsNetwork r.problem
   pub valid : is_valid_plan r.problem r.plan ≡ true
   pub small : limits.migration + 1 < 2 ^ 32
-  pub levels : Levels trace tell r limits opened disk_now before now e out out_now
+  pub levels : Levels trace tell r origin limits opened disk_now before now e out out_now
 
 module _ {D P : Type 0} (trace : D → DiskTrace) (tell : P → PortTrace)
-    (Given : List ℕ → Type 0) (limits : Limits) (disk disk_now : D) (before now : FleetSeen P) (e : Ending) (out out_now : Option (List ℕ)) where
-  levels-opened : (way : RollsBackOutOf trace tell Given limits disk disk_now before now e out out_now) (rolled : RollsBackOpened trace tell way.r limits disk disk_now before now e out out_now)
-      → Levels trace tell way.r limits rolled.opened disk_now before now e out out_now → LevelsFrom trace tell Given limits disk disk_now before now e out out_now
+    (Given : List ℕ → Type 0) (origin : BackFrom) (limits : Limits) (disk disk_now : D) (before now : FleetSeen P) (e : Ending) (out out_now : Option (List ℕ)) where
+  levels-opened : (way : RollsBackOutOf trace tell Given origin limits disk disk_now before now e out out_now) (rolled : RollsBackOpened trace tell way.r origin limits disk disk_now before now e out out_now)
+      → Levels trace tell way.r origin limits rolled.opened disk_now before now e out out_now → LevelsFrom trace tell Given origin limits disk disk_now before now e out out_now
   levels-opened way rolled levels = record {
     input = way.input;
     given = way.given;
@@ -305,41 +295,41 @@ module _ {D P : Type 0} (trace : D → DiskTrace) (tell : P → PortTrace)
   }
 
 module _ {D P : Type 0} (trace : D → DiskTrace) (tell : P → PortTrace)
-    (Given : List ℕ → Type 0) (limits : Limits) (disk disk_now : D) (before now : FleetSeen P) (e : Ending) (begun : is_of_begun e ≡ true) (out out_now : Option (List ℕ)) where
-  levels-from : Reverts trace tell Given limits disk disk_now before now e out out_now → LevelsFrom trace tell Given limits disk disk_now before now e out out_now
+    (Given : List ℕ → Type 0) (origin : BackFrom) (limits : Limits) (disk disk_now : D) (before now : FleetSeen P) (e : Ending) (begun : is_of_begun e ≡ true) (out out_now : Option (List ℕ)) where
+  levels-from : Reverts trace tell Given origin limits disk disk_now before now e out out_now → LevelsFrom trace tell Given origin limits disk disk_now before now e out out_now
   levels-from (inl none) = absurd (unbegun-refused Given e begun none.why)
-  levels-from (inr way) = elim way.rolls as (λ _. LevelsFrom trace tell Given limits disk disk_now before now e out out_now) [
+  levels-from (inr way) = elim way.rolls as (λ _. LevelsFrom trace tell Given origin limits disk disk_now before now e out out_now) [
     | inl fails ↦ absurd (not-begun e DiskFault begun fails.is refl)
-    | inr rolled ↦ elim rolled.rolls.ends as (λ _. LevelsFrom trace tell Given limits disk disk_now before now e out out_now) [
-      | inl levels ↦ levels-opened trace tell Given limits disk disk_now before now e out out_now way rolled levels
+    | inr rolled ↦ elim rolled.rolls.ends as (λ _. LevelsFrom trace tell Given origin limits disk disk_now before now e out out_now) [
+      | inl levels ↦ levels-opened trace tell Given origin limits disk disk_now before now e out out_now way rolled levels
       | inr none ↦ absurd (not-begun e (ending_of_journal none.cause) begun none.is (journal-begun none.cause))
     ]
   ]
 
   -- such an ending comes only behind a run that was begun
   closes-run : (migration : ℕ) (answer : LevelAnswer) (levelled : D) → Closes trace migration answer levelled disk_now e out out_now → is_run answer ≡ true
-  closes-run migration (ended.Level r s) levelled closes = refl
+  closes-run migration (ended.Level r start) levelled closes = refl
   closes-run migration (ended.Stopped r halt) levelled closes = refl
   closes-run migration (ended.NoPort r switch) levelled closes = absurd (not-begun e (NotFinished (PortFault r switch)) begun closes.is refl)
   closes-run migration ended.Memory levelled closes = absurd (not-begun e OutOfMemory begun closes.is refl)
 
 -- it was a level
-pub record IsLevelEnd (r : Rollout) (s : ℕ) (other : Rollout) (stage : ℕ) (end : RunEnd) : Type 0 where
+pub record IsLevelEnd (r : Rollout) (start : List ℕ) (other : Rollout) (there : List ℕ) (end : RunEnd) : Type 0 where
   pub end_is : (end ≡ run.Finished) ⊎ (end ≡ run.Held)
   pub rollout_is : other ≡ r
-  pub stage_is : stage ≡ s
+  pub start_is : there ≡ start
 
-pub level-end : (r : Rollout) (s : ℕ) (other : Rollout) (stage : ℕ) (end : RunEnd) → ended.Level other stage ≡ level_for r s end → IsLevelEnd r s other stage end
-level-end r s other stage run.Finished is = record { end_is = inl refl; rollout_is = cc; stage_is = cc }
-level-end r s other stage run.Held is = record { end_is = inr refl; rollout_is = cc; stage_is = cc }
-level-end r s other stage (run.Stopped halt) is = absurd cc
-level-end r s other stage (run.NoPort switch) is = absurd cc
-level-end r s other stage run.Memory is = absurd cc
+pub level-end : (r : Rollout) (start : List ℕ) (other : Rollout) (there : List ℕ) (end : RunEnd) → ended.Level other there ≡ level_for r start end → IsLevelEnd r start other there end
+level-end r start other there run.Finished is = record { end_is = inl refl; rollout_is = cc; start_is = cc }
+level-end r start other there run.Held is = record { end_is = inr refl; rollout_is = cc; start_is = cc }
+level-end r start other there (run.Stopped halt) is = absurd cc
+level-end r start other there (run.NoPort switch) is = absurd cc
+level-end r start other there run.Memory is = absurd cc
 
 module _ {D P : Type 0} (trace : D → DiskTrace) (tell : P → PortTrace)
-    (Given : List ℕ → Type 0) (limits : Limits) (disk disk_now : D) (before now : FleetSeen P) (e : Ending) (out out_now : Option (List ℕ))
-    (from : LevelsFrom trace tell Given limits disk disk_now before now e out out_now)
-    (levelled : D) (answer : LevelAnswer) (has : HasLevelled trace tell from.r (digest_for from.r limits.migration) limits.rounds from.opened before.ports now.ports levelled answer) where
+    (Given : List ℕ → Type 0) (origin : BackFrom) (limits : Limits) (disk disk_now : D) (before now : FleetSeen P) (e : Ending) (out out_now : Option (List ℕ))
+    (from : LevelsFrom trace tell Given origin limits disk disk_now before now e out out_now)
+    (levelled : D) (answer : LevelAnswer) (has : HasLevelled trace tell origin from.r (digest_for from.r limits.migration) limits.rounds from.opened before.ports now.ports levelled answer) where
   abbrev book : Chronicled D
   book = has.rolled.book
 
@@ -347,10 +337,13 @@ module _ {D P : Type 0} (trace : D → DiskTrace) (tell : P → PortTrace)
   o = opening_of has.rolled.book has.policy
 
   abbrev s : ℕ
-  s = ceiling_of has.rolled.book.rollout has.rolled.book.history
+  s = has.stage
+
+  abbrev start : List ℕ
+  start = start_of has.rolled.book.rollout has.rolled.book.history has.stage
 
   abbrev BegunRun : RunEnd → Type 0
-  BegunRun end = Begun trace tell from.r limits.migration limits.rounds from.opened levelled before.ports now.ports answer has end
+  BegunRun end = Begun trace tell origin from.r limits.migration limits.rounds from.opened levelled before.ports now.ports answer has end
 
   net : IsNetwork book.rollout.problem
   net = subst (λ (r : Rollout). IsNetwork r.problem) (sym has.rolled.opened.rollout) from.network
@@ -362,20 +355,20 @@ module _ {D P : Type 0} (trace : D → DiskTrace) (tell : P → PortTrace)
   small = omega (arith, from.small)
 
   most : s ≤ last_stage book.rollout.plan
-  most = ceiling-most book.rollout.problem book.rollout.plan book.history has.rolled.new.legal
+  most = turns-most book.rollout book.history has.rolled.new.legal origin s has.turns
 
   holds : HoldsFrom s has.policy
   holds = levels-holds s has.policy has.levels
 
-  found-up : BegunUpTo book.rollout.problem book.rollout.plan s book.history
-  found-up = begun-up_to_ceiling book.rollout.problem book.rollout.plan book.history has.rolled.new.legal
+  starts : BeginsBack book.rollout.problem book.rollout.plan book.history s
+  starts = begins-back book.rollout.problem book.rollout.plan book.history s has.rolled.new.legal most valid (turns-sound book.rollout book.history has.rolled.new.legal net valid origin s has.turns)
 
   module _ (end : RunEnd) (ran : BegunRun end) where
     legal-now : is_legal book.rollout.problem book.rollout.plan (history_of o ran.log) ≡ true
     legal-now = list-is_legal o ran.log ran.legal
 
-    up-now : BegunUpTo book.rollout.problem book.rollout.plan s (history_of o ran.log)
-    up-now = list-up_to o s most net valid holds found-up ran.log ran.legal
+    so-now : BegunSoFar book.rollout.problem book.rollout.plan book.history s (history_of o ran.log)
+    so-now = list-so_far o s most net valid holds ran.log ran.legal
 
     stays : StaysSafe trace tell limits Given disk before.ports now.ports
     stays = record {
@@ -401,118 +394,147 @@ module _ {D P : Type 0} (trace : D → DiskTrace) (tell : P → PortTrace)
     }
 
     abbrev CrashNow : Type 0
-    CrashNow = IfSome (trace disk_now).bytes (λ _. (c : List ℕ) → (trace disk_now).left_since (trace book.disk).moment c → IsFoundOrPlaced book.rollout limits.migration s book.history c)
+    CrashNow = IfSome (trace disk_now).bytes (λ _. (c : List ℕ) → (trace disk_now).left_since (trace book.disk).moment c → IsFoundOrPlaced book.rollout limits.migration start book.history c)
 
     images-now : HasImages trace o (trace book.disk).moment (trace book.disk).faults levelled ran.log
     images-now = subst (λ (d : D). HasImages trace o (trace book.disk).moment (trace book.disk).faults d ran.log) (sym has.rolled.run.back) ran.images
 
     unplaced-crash : disk_now ≡ levelled → CrashNow
     unplaced-crash same =
-        subst (λ (d : D). IfSome (trace d).bytes (λ _. (c : List ℕ) → (trace d).left_since (trace book.disk).moment c → IsFoundOrPlaced book.rollout limits.migration s book.history c)) (sym same)
-        (left-crash trace o ran.log limits.migration s (trace book.disk).moment (trace book.disk).faults levelled images-now)
+        subst (λ (d : D). IfSome (trace d).bytes (λ _. (c : List ℕ) → (trace d).left_since (trace book.disk).moment c → IsFoundOrPlaced book.rollout limits.migration start book.history c)) (sym same)
+        (left-crash trace o ran.log limits.migration start (trace book.disk).moment (trace book.disk).faults levelled images-now)
 
-    taken-crash : TakesBack trace book.rollout limits.migration s levelled disk_now e out out_now → CrashNow
-    taken-crash takes = placed-crash trace o ran.log limits.migration s (trace book.disk).moment (trace book.disk).faults levelled images-now disk_now takes.seen takes.may
+    taken-crash : TakesBack trace book.rollout limits.migration start levelled disk_now e out out_now → CrashNow
+    taken-crash takes = placed-crash trace o ran.log limits.migration start (trace book.disk).moment (trace book.disk).faults levelled images-now disk_now takes.seen takes.may
 
-    levels-safely : CrashNow → LevelsSafely trace tell limits Given disk disk_now before.ports now.ports
+    levels-safely : CrashNow → LevelsSafely trace tell origin limits Given disk disk_now before.ports now.ports
     unfolding stays
     levels-safely crash = record {
       stays = stays;
-      way = fronts-on_the_way book.rollout.problem book.rollout.plan s net valid book.history has.rolled.new.legal (added ran.log) legal-now up-now;
-      sends = berths-send tell o limits.migration s ran.log now.ports legal-now up-now ran.berths ran.ports;
+      stage = s;
+      turns = has.turns;
+      way = fronts-on_the_turn book.rollout.problem book.rollout.plan s net valid book.history has.rolled.new.legal (added ran.log) legal-now so-now;
+      sends = berths-send tell o limits.migration s ran.log now.ports legal-now so-now ran.berths ran.ports;
       journal = book.disk;
       opened = subst (λ (r : Rollout). IsOpenedOn trace r (digest_for r limits.migration) from.opened book.disk) (sym has.rolled.opened.rollout) has.rolled.opened.on;
       crash = crash;
     }
 
-    -- the same stage of the same rollout
-    level-takes : (other : Rollout) (stage : ℕ) → ended.Level other stage ≡ answer → TakesBack trace other limits.migration stage levelled disk_now e out out_now
-        → TakesBack trace book.rollout limits.migration s levelled disk_now e out out_now
-    level-takes other stage same takes =
-        let end = level-end book.rollout s other stage has.rolled.run.end (same ∙ has.tells) in
-        subst (λ (n : ℕ). TakesBack trace book.rollout limits.migration n levelled disk_now e out out_now) end.stage_is
-        (subst (λ (r : Rollout). TakesBack trace r limits.migration stage levelled disk_now e out out_now) end.rollout_is takes)
+    -- the same start of the same rollout
+    level-takes : (other : Rollout) (there : List ℕ) → ended.Level other there ≡ answer → TakesBack trace other limits.migration there levelled disk_now e out out_now
+        → TakesBack trace book.rollout limits.migration start levelled disk_now e out out_now
+    level-takes other there same takes =
+        let end = level-end book.rollout start other there has.rolled.run.end (same ∙ has.tells) in
+        subst (λ (xs : List ℕ). TakesBack trace book.rollout limits.migration xs levelled disk_now e out out_now) end.start_is
+        (subst (λ (r : Rollout). TakesBack trace r limits.migration there levelled disk_now e out out_now) end.rollout_is takes)
 
     crash-now : (a : LevelAnswer) → a ≡ answer → Closes trace limits.migration a levelled disk_now e out out_now → is_run a ≡ true → CrashNow
-    crash-now (ended.Level other stage) same closes is = taken-crash (level-takes other stage same closes)
+    crash-now (ended.Level other there) same closes is = taken-crash (level-takes other there same closes)
     crash-now (ended.Stopped other halt) same closes is = unplaced-crash closes.disk_is
     crash-now (ended.NoPort other switch) same closes is = absurd cc
     crash-now ended.Memory same closes is = absurd cc
 
-    taken-back : is_levelled book.rollout.problem book.rollout.plan (history_of o ran.log) s ≡ true → TakesBack trace book.rollout limits.migration s levelled disk_now e out out_now
-        → HasPlaced trace (kept_back book.rollout limits.migration s) disk_now → Appends out (back_text book.rollout) out_now
-        → IsTakenBack trace tell limits Given disk disk_now before.ports now.ports out out_now
-    unfolding levels-safely stays
-    taken-back level takes placed text = record {
-      levels = levels-safely (taken-crash takes);
-      level = level;
-      ports = berths-level tell book.rollout limits.migration s book.history (history_of o ran.log) refl before.ports now.ports legal-now most level ran.berths
-          (berths-within tell o limits.migration ran.log before.ports now.ports net valid ran.legal small ran.berths ran.given ran.ports);
-      placed = placed;
-      starts = record {
-        sound = back_start-is_sound book.rollout.problem book.rollout.plan s valid most net;
-        contents = λ n within. back_start-contents book.rollout.problem book.rollout.plan s valid most n within;
-      };
-      text = text;
-    }
+    berths-here : AllByRecursion (EndsWithin tell book.rollout limits.migration book.history (history_of o ran.log) before.ports now.ports) ran.berths
+    berths-here = berths-within tell o limits.migration ran.log before.ports now.ports net valid ran.legal small ran.berths ran.given ran.ports
 
-  run-safely : Closes trace limits.migration answer levelled disk_now e out out_now → is_run answer ≡ true → LevelsSafely trace tell limits Given disk disk_now before.ports now.ports
+    -- from a level it is level at the stage to which it had come
+    module _ (come : HasComeSoFar book.rollout.problem book.rollout.plan book.history s (history_of o ran.log)) where
+      still : NothingFlies book.rollout.problem (history_of o ran.log)
+      still n inside = ne_eqb (begun (history_of o ran.log) n) (settled (history_of o ran.log) n + 1) (λ fly. omega (arith, fly, come.still n inside))
+
+      level-there : s ≡ ceiling_of book.rollout book.history
+          → IsLevelThere tell book.rollout limits.migration book.history (added ran.log) start before.ports now.ports ran.berths
+      level-there at =
+          let there = ceiling_of book.rollout book.history in
+          let so = subst (λ (n : ℕ). HasComeSoFar book.rollout.problem book.rollout.plan book.history n (history_of o ran.log)) at come in
+          let level = so_far-levelled book.rollout.problem book.rollout.plan book.history has.rolled.new.legal (history_of o ran.log) so in
+          let high = ceiling-most book.rollout.problem book.rollout.plan book.history has.rolled.new.legal in
+          record {
+            level = level;
+            ports = berths-level tell book.rollout limits.migration there book.history (history_of o ran.log) refl before.ports now.ports legal-now high level ran.berths berths-here;
+            begins = ap (start_of book.rollout book.history) at ∙ start-at_ceiling book.rollout.problem book.rollout.plan book.history net valid has.rolled.new.legal;
+            starts = record {
+              sound = back_start-is_sound book.rollout.problem book.rollout.plan there valid high net;
+              contents = λ n within. back_start-contents book.rollout.problem book.rollout.plan there valid high n within;
+            };
+          }
+
+      on-level : (from_where : BackFrom) → TurnsFrom from_where book.rollout book.history s
+          → OnLevel from_where (IsLevelThere tell book.rollout limits.migration book.history (added ran.log) start before.ports now.ports ran.berths)
+      on-level whence.Level turns = level-there turns
+      on-level whence.Here turns = tt
+
+      taken-back : TakesBack trace book.rollout limits.migration start levelled disk_now e out out_now
+          → HasPlaced trace (kept_from book.rollout limits.migration start) disk_now → Appends out (back_text book.rollout) out_now
+          → IsTakenBack trace tell origin limits Given disk disk_now before.ports now.ports out out_now
+      unfolding levels-safely stays
+      taken-back takes placed text = record {
+        levels = levels-safely (taken-crash takes);
+        come = come;
+        ports = berths-settled tell book.rollout limits.migration book.history (history_of o ran.log) before.ports now.ports legal-now still ran.berths berths-here;
+        placed = placed;
+        starts = starts;
+        level = on-level origin has.turns;
+        text = text;
+      }
+
+  run-safely : Closes trace limits.migration answer levelled disk_now e out out_now → is_run answer ≡ true → LevelsSafely trace tell origin limits Given disk disk_now before.ports now.ports
   run-safely closes is =
-      let ran = run-begun trace tell from.r limits.migration limits.rounds from.opened levelled before.ports now.ports answer has is in
+      let ran = run-begun trace tell origin from.r limits.migration limits.rounds from.opened levelled before.ports now.ports answer has is in
       levels-safely has.rolled.run.end ran (crash-now has.rolled.run.end ran answer refl closes is)
 
-  -- where the run has finished, and where the policy holds back the rest, the rollout is level
-  finished-level : (ran : BegunRun run.Finished) → is_levelled book.rollout.problem book.rollout.plan (history_of o ran.log) s ≡ true
-  finished-level ran = finished-is_levelled o s most net valid holds found-up ran.log ran.legal ran.ends.1
+  -- where the run has finished, and where the policy holds back the rest, it has come so far
+  finished-so : (ran : BegunRun run.Finished) → HasComeSoFar book.rollout.problem book.rollout.plan book.history s (history_of o ran.log)
+  finished-so ran = ended-so_far o s most net valid holds ran.log ran.legal ran.ends.1
 
-  held-level : (ran : BegunRun run.Held) → is_levelled book.rollout.problem book.rollout.plan (history_of o ran.log) s ≡ true
-  held-level ran =
+  held-so : (ran : BegunRun run.Held) → HasComeSoFar book.rollout.problem book.rollout.plan book.history s (history_of o ran.log)
+  held-so ran =
       let homes = working_homes book.rollout.problem book.rollout.plan in
-      held-is_levelled o s most net valid holds found-up ran.log ran.legal
+      held-so_far o s most net valid holds ran.log ran.legal
       (still-flies book.rollout.problem (history_of o ran.log) (held-still trace tell o (trace book.disk).moment (trace book.disk).faults limits.migration limits.rounds homes before.ports has.rolled.run.closed now.ports ran))
       (held-rests trace tell o (trace book.disk).moment (trace book.disk).faults limits.migration limits.rounds homes before.ports has.rolled.run.closed now.ports ran)
 
-  level-taken : (other : Rollout) (stage : ℕ) → ended.Level other stage ≡ answer → TakesBack trace other limits.migration stage levelled disk_now e out out_now
-      → ((x : Rollout) (n : ℕ) → TakesBack trace x limits.migration n levelled disk_now e out out_now → HasPlaced trace (kept_back x limits.migration n) disk_now × Appends out (back_text x) out_now)
-      → IsTakenBack trace tell limits Given disk disk_now before.ports now.ports out out_now
-  level-taken other stage same takes done =
-      let end = level-end book.rollout s other stage has.rolled.run.end (same ∙ has.tells) in
-      let ran = run-begun trace tell from.r limits.migration limits.rounds from.opened levelled before.ports now.ports answer has (sym (ap is_run same)) in
-      elim end.end_is as (λ _. IsTakenBack trace tell limits Given disk disk_now before.ports now.ports out out_now) [
+  level-taken : (other : Rollout) (there : List ℕ) → ended.Level other there ≡ answer → TakesBack trace other limits.migration there levelled disk_now e out out_now
+      → ((x : Rollout) (xs : List ℕ) → TakesBack trace x limits.migration xs levelled disk_now e out out_now → HasPlaced trace (kept_from x limits.migration xs) disk_now × Appends out (back_text x) out_now)
+      → IsTakenBack trace tell origin limits Given disk disk_now before.ports now.ports out out_now
+  level-taken other there same takes done =
+      let end = level-end book.rollout start other there has.rolled.run.end (same ∙ has.tells) in
+      let ran = run-begun trace tell origin from.r limits.migration limits.rounds from.opened levelled before.ports now.ports answer has (sym (ap is_run same)) in
+      elim end.end_is as (λ _. IsTakenBack trace tell origin limits Given disk disk_now before.ports now.ports out out_now) [
         | inl finished ↦
             let so : BegunRun run.Finished = subst BegunRun finished ran in
-            let here = level-takes run.Finished so other stage same takes in
-            let wrote = done book.rollout s here in
-            taken-back run.Finished so (finished-level so) here wrote.0 wrote.1
+            let here = level-takes run.Finished so other there same takes in
+            let wrote = done book.rollout start here in
+            taken-back run.Finished so (finished-so so) here wrote.0 wrote.1
         | inr held ↦
             let so : BegunRun run.Held = subst BegunRun held ran in
-            let here = level-takes run.Held so other stage same takes in
-            let wrote = done book.rollout s here in
-            taken-back run.Held so (held-level so) here wrote.0 wrote.1
+            let here = level-takes run.Held so other there same takes in
+            let wrote = done book.rollout start here in
+            taken-back run.Held so (held-so so) here wrote.0 wrote.1
       ]
 
 -- ---- whatever the ending
 
 module _ {D P : Type 0} (trace : D → DiskTrace) (tell : P → PortTrace)
-    (Given : List ℕ → Type 0) (limits : Limits) (disk disk_now : D) (before now : FleetSeen P) (e : Ending) (out out_now : Option (List ℕ)) where
-  as-it-was : now ≡ before → EndsBackSafely trace tell limits Given disk disk_now before.ports now.ports
+    (Given : List ℕ → Type 0) (origin : BackFrom) (limits : Limits) (disk disk_now : D) (before now : FleetSeen P) (e : Ending) (out out_now : Option (List ℕ)) where
+  as-it-was : now ≡ before → EndsBackSafely trace tell origin limits Given disk disk_now before.ports now.ports
   as-it-was same = inl (inl (ap (λ (f : FleetSeen P). f.ports) same))
 
   -- whether it was begun or not
-  levels-ends : (from : LevelsFrom trace tell Given limits disk disk_now before now e out out_now) (is : Bool) → is_run from.levels.answer ≡ is
-      → EndsBackSafely trace tell limits Given disk disk_now before.ports now.ports
+  levels-ends : (from : LevelsFrom trace tell Given origin limits disk disk_now before now e out out_now) (is : Bool) → is_run from.levels.answer ≡ is
+      → EndsBackSafely trace tell origin limits Given disk disk_now before.ports now.ports
   levels-ends from true is =
-      inr (run-safely trace tell Given limits disk disk_now before now e out out_now from from.levels.levelled from.levels.answer from.levels.has from.levels.closes is)
+      inr (run-safely trace tell Given origin limits disk disk_now before now e out out_now from from.levels.levelled from.levels.answer from.levels.has from.levels.closes is)
   levels-ends from false isnt =
-      inl (run-unbegun trace tell from.r limits.migration limits.rounds from.opened from.levels.levelled before.ports now.ports from.levels.answer from.levels.has isnt)
+      inl (run-unbegun trace tell origin from.r limits.migration limits.rounds from.opened from.levels.levelled before.ports now.ports from.levels.answer from.levels.has isnt)
 
-  pub reverts-ends : Reverts trace tell Given limits disk disk_now before now e out out_now → EndsBackSafely trace tell limits Given disk disk_now before.ports now.ports
+  pub reverts-ends : Reverts trace tell Given origin limits disk disk_now before now e out out_now → EndsBackSafely trace tell origin limits Given disk disk_now before.ports now.ports
   reverts-ends (inl none) = as-it-was none.fleet_is
-  reverts-ends (inr way) = elim way.rolls as (λ _. EndsBackSafely trace tell limits Given disk disk_now before.ports now.ports) [
+  reverts-ends (inr way) = elim way.rolls as (λ _. EndsBackSafely trace tell origin limits Given disk disk_now before.ports now.ports) [
     | inl fails ↦ as-it-was fails.fleet_is
-    | inr rolled ↦ elim rolled.rolls.ends as (λ _. EndsBackSafely trace tell limits Given disk disk_now before.ports now.ports) [
+    | inr rolled ↦ elim rolled.rolls.ends as (λ _. EndsBackSafely trace tell origin limits Given disk disk_now before.ports now.ports) [
       | inl levels ↦
-          let from = levels-opened trace tell Given limits disk disk_now before now e out out_now way rolled levels in
+          let from = levels-opened trace tell Given origin limits disk disk_now before now e out out_now way rolled levels in
           levels-ends from (is_run from.levels.answer) refl
       | inr none ↦ as-it-was none.fleet_is
     ]
@@ -520,7 +542,7 @@ module _ {D P : Type 0} (trace : D → DiskTrace) (tell : P → PortTrace)
 
 -- ---- by the ending
 
-stop-not-done : (r : Rollout) (why : Cause) → Done ≡ ending_of_stop r why → ⊥
+pub stop-not-done : (r : Rollout) (why : Cause) → Done ≡ ending_of_stop r why → ⊥
 stop-not-done r (cause.Spent rounds item number) h = cc
 stop-not-done r (cause.Port switch) h = cc
 stop-not-done r (cause.Above item held begun) h = cc
@@ -530,9 +552,9 @@ stop-not-done r cause.Disk h = cc
 stop-not-done r cause.Memory h = cc
 
 -- where all was done the journal was placed and its document written
-done-wrote : {D : Type 0} (trace : D → DiskTrace) (migration : ℕ) (levelled disk_now : D) (out out_now : Option (List ℕ)) (x : Rollout) (n : ℕ) → TakesBack trace x migration n levelled disk_now Done out out_now
-    → HasPlaced trace (kept_back x migration n) disk_now × Appends out (back_text x) out_now
-done-wrote trace migration levelled disk_now out out_now x n takes = elim takes.ends as (λ _. HasPlaced trace (kept_back x migration n) disk_now × Appends out (back_text x) out_now) [
+done-wrote : {D : Type 0} (trace : D → DiskTrace) (migration : ℕ) (levelled disk_now : D) (out out_now : Option (List ℕ)) (x : Rollout) (xs : List ℕ) → TakesBack trace x migration xs levelled disk_now Done out out_now
+    → HasPlaced trace (kept_from x migration xs) disk_now × Appends out (back_text x) out_now
+done-wrote trace migration levelled disk_now out out_now x xs takes = elim takes.ends as (λ _. HasPlaced trace (kept_from x migration xs) disk_now × Appends out (back_text x) out_now) [
   | inl writes ↦ (
     writes.placed,
     elim writes.follows as (λ _. Appends out (back_text x) out_now) [
@@ -544,37 +566,37 @@ done-wrote trace migration levelled disk_now out out_now x n takes = elim takes.
 ]
 
 module _ {D P : Type 0} (trace : D → DiskTrace) (tell : P → PortTrace)
-    (Given : List ℕ → Type 0) (limits : Limits) (disk disk_now : D) (before now : FleetSeen P) (out out_now : Option (List ℕ)) where
-  begun-levels : (e : Ending) → is_of_begun e ≡ true → Reverts trace tell Given limits disk disk_now before now e out out_now → LevelsSafely trace tell limits Given disk disk_now before.ports now.ports
+    (Given : List ℕ → Type 0) (origin : BackFrom) (limits : Limits) (disk disk_now : D) (before now : FleetSeen P) (out out_now : Option (List ℕ)) where
+  begun-levels : (e : Ending) → is_of_begun e ≡ true → Reverts trace tell Given origin limits disk disk_now before now e out out_now → LevelsSafely trace tell origin limits Given disk disk_now before.ports now.ports
   begun-levels e begun reverts =
-      let from = levels-from trace tell Given limits disk disk_now before now e begun out out_now reverts in
-      run-safely trace tell Given limits disk disk_now before now e out out_now from from.levels.levelled from.levels.answer from.levels.has from.levels.closes
-      (closes-run trace tell Given limits disk disk_now before now e begun out out_now limits.migration from.levels.answer from.levels.levelled from.levels.closes)
+      let from = levels-from trace tell Given origin limits disk disk_now before now e begun out out_now reverts in
+      run-safely trace tell Given origin limits disk disk_now before now e out out_now from from.levels.levelled from.levels.answer from.levels.has from.levels.closes
+      (closes-run trace tell Given origin limits disk disk_now before now e begun out out_now limits.migration from.levels.answer from.levels.levelled from.levels.closes)
 
-  answer-taken : (from : LevelsFrom trace tell Given limits disk disk_now before now Done out out_now) (a : LevelAnswer) → a ≡ from.levels.answer
-      → Closes trace limits.migration a from.levels.levelled disk_now Done out out_now → IsTakenBack trace tell limits Given disk disk_now before.ports now.ports out out_now
-  answer-taken from (ended.Level other stage) same closes =
-      level-taken trace tell Given limits disk disk_now before now Done out out_now from from.levels.levelled from.levels.answer from.levels.has other stage same closes
+  answer-taken : (from : LevelsFrom trace tell Given origin limits disk disk_now before now Done out out_now) (a : LevelAnswer) → a ≡ from.levels.answer
+      → Closes trace limits.migration a from.levels.levelled disk_now Done out out_now → IsTakenBack trace tell origin limits Given disk disk_now before.ports now.ports out out_now
+  answer-taken from (ended.Level other there) same closes =
+      level-taken trace tell Given origin limits disk disk_now before now Done out out_now from from.levels.levelled from.levels.answer from.levels.has other there same closes
       (done-wrote trace limits.migration from.levels.levelled disk_now out out_now)
   answer-taken from (ended.Stopped other halt) same closes = absurd (stop-not-done other halt.cause closes.is)
   answer-taken from (ended.NoPort other switch) same closes = absurd (let no : Done ≡ NotFinished (PortFault other switch) = closes.is in cc)
   answer-taken from ended.Memory same closes = absurd (let no : Done ≡ OutOfMemory = closes.is in cc)
 
-  done-taken : Reverts trace tell Given limits disk disk_now before now Done out out_now → IsTakenBack trace tell limits Given disk disk_now before.ports now.ports out out_now
+  done-taken : Reverts trace tell Given origin limits disk disk_now before now Done out out_now → IsTakenBack trace tell origin limits Given disk disk_now before.ports now.ports out out_now
   done-taken reverts =
-      let from = levels-from trace tell Given limits disk disk_now before now Done refl out out_now reverts in
+      let from = levels-from trace tell Given origin limits disk disk_now before now Done refl out out_now reverts in
       answer-taken from from.levels.answer refl from.levels.closes
 
   -- ---- by the status
 
-  pub reverts-safe : (status : ℕ) → RevertsAs trace tell Given limits disk disk_now before now status out out_now → IsOfBegun status → LevelsSafely trace tell limits Given disk disk_now before.ports now.ports
+  pub reverts-safe : (status : ℕ) → RevertsAs trace tell Given origin limits disk disk_now before now status out out_now → IsOfBegun status → LevelsSafely trace tell origin limits Given disk disk_now before.ports now.ports
   reverts-safe status rolls of =
       let begun : is_of_begun rolls.told ≡ true = of-begun rolls.told (subst IsOfBegun rolls.is_status of) in
       let same : rolls.ending ≡ rolls.told = begun-told rolls.ending rolls.told rolls.told_as begun in
       begun-levels rolls.ending (ap is_of_begun same ∙ begun) rolls.rolls
 
-  pub reverts-back : (status : ℕ) → RevertsAs trace tell Given limits disk disk_now before now status out out_now → status ≡ 0 → IsTakenBack trace tell limits Given disk disk_now before.ports now.ports out out_now
+  pub reverts-back : (status : ℕ) → RevertsAs trace tell Given origin limits disk disk_now before now status out out_now → status ≡ 0 → IsTakenBack trace tell origin limits Given disk disk_now before.ports now.ports out out_now
   reverts-back status rolls zero =
       let told : rolls.told ≡ Done = is-done rolls.told (sym rolls.is_status ∙ zero) in
       let done : rolls.ending ≡ Done = begun-told rolls.ending rolls.told rolls.told_as (ap is_of_begun told) ∙ told in
-      done-taken (subst (λ (e : Ending). Reverts trace tell Given limits disk disk_now before now e out out_now) done rolls.rolls)
+      done-taken (subst (λ (e : Ending). Reverts trace tell Given origin limits disk disk_now before now e out out_now) done rolls.rolls)

@@ -15,6 +15,11 @@ pub mod Following
 pub mod Statuses
 pub mod Programs
 pub mod Agents
+pub mod KeptAgents
+pub mod FirstWords
+pub mod Seeing
+pub mod LookingOn
+pub mod OnceRight
 pub mod Complete
 pub mod Digits
 pub mod Pairs
@@ -25,11 +30,15 @@ pub mod Elsewhere
 pub mod Reaching
 pub mod Joining
 pub mod NextStarting
+pub mod DrainEnds
 pub mod Reverting
+pub mod SettledPorts
 pub mod Levelling
+pub mod Settling
 pub mod NextReverting
 pub mod Certain
 pub mod CertainBack
+pub mod CertainDrain
 pub mod ReadyFleets
 pub mod HeldAsking
 pub mod Promises

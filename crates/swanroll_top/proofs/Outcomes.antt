@@ -50,7 +50,7 @@ gives-follows answer (NotFinished u) out h = subst (λ r. EndsWith r (NotFinishe
 gives-follows answer OutOfMemory out h = refl
 
 -- the ending is the one that is given, but for want of memory
-given-or-memory : (answer : Result (List ℕ) Ending) (e : Ending) → Gives {A = List ℕ} (Err e) answer → (answer ≡ Err e) ⊎ (e ≡ OutOfMemory)
+pub given-or-memory : (answer : Result (List ℕ) Ending) (e : Ending) → Gives {A = List ℕ} (Err e) answer → (answer ≡ Err e) ⊎ (e ≡ OutOfMemory)
 given-or-memory answer Done h = inl h
 given-or-memory answer Usage h = inl h
 given-or-memory answer AboveLimit h = inl h
@@ -129,10 +129,10 @@ journal-disk fault.BadStart h = absurd cc
 journal-disk fault.Disk h = refl
 journal-disk fault.Memory h = absurd cc
 
-abbrev without_text : Ending → Result (List ℕ) Ending
+abbrev pub without_text : Ending → Result (List ℕ) Ending
 without_text e = Err e
 
-same-ending : (x e : Ending) → without_text x ≡ without_text e → x ≡ e
+pub same-ending : (x e : Ending) → without_text x ≡ without_text e → x ≡ e
 same-ending x e h = cc
 
 disk-answer : (a : RunAnswer) → line_or_ending a ≡ Err DiskFault → IsDiskFault a

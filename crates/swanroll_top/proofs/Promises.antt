@@ -4,10 +4,13 @@ use Rattle.std.specs.declared.alloc.Global.{Global}
 use Rattle.rollout_rules.specs.declared.op.OpView.{OpView}
 use Rattle.agent_service.specs.Services.{Guests}
 use Rattle.rollout_ports.specs.Berths.{FleetPorts, ports_of}
+use Rattle.rollback_service.specs.declared.origin.BackFrom.{BackFrom}
 use Rattle.rollout_run.specs.declared.running.Limits.{Limits}
 use Rattle.sim_run.specs.declared.shape.Shape.{Shape}
 use Rattle.swanroll_top.specs.AgentPromise.{BringsService, ServesAsOne}
 use Rattle.swanroll_top.specs.Agents.{service_answer}
+use Rattle.swanroll_top.specs.DrainPromise.{BringsDrain, DrainPromise}
+use Rattle.swanroll_top.specs.Drains.{DrainsAs}
 use Rattle.swanroll_top.specs.Endings.{status_of, tells_place}
 use Rattle.swanroll_top.specs.HeldPromise.{BringsHeld, HeldPromise}
 use Rattle.swanroll_top.specs.Program.{NotesLine, Streams}
@@ -23,12 +26,13 @@ use Rattle.swanroll_top.specs.TextPromise.{TextPromise}
 use Rattle.swanroll_top.specs.TrialPromise.{TrialPromise}
 use Rattle.swanroll_top.specs.Tries.{RunsTrial, tried}
 use Rattle.swanroll_top.specs.Views.{Objects, Outside, Views, outside, seen, source_at, streams, used, written_at}
-use Rattle.swanroll_top.specs.Words.{Asked, TextAsked, a_report, a_rollback, a_run, a_text, a_trial, an_agent, asked_by, what_is_held}
+use Rattle.swanroll_top.specs.Words.{Asked, TextAsked, a_drain, a_report, a_rollback, a_run, a_text, a_trial, an_agent, asked_by, what_is_held}
 use Rattle.swanroll_top.specs.declared.arguments.Unread.{Unread}
 use Rattle.swanroll_top.specs.declared.arguments.Unread.TheVariants as unread
 use Rattle.swanroll_top.specs.declared.ending.Ending.{Ending}
 use Rattle.swanroll_top.specs.declared.ending.Ending.TheVariants.{Usage, DiskFault, OutOfMemory}
 use Rattle.swanroll_top.proofs.Agents.{serves-as}
+use Rattle.swanroll_top.proofs.DrainEnds.{drains-behind}
 use Rattle.swanroll_top.proofs.HeldAsking.{asks-writes}
 use Rattle.swanroll_top.proofs.Leaving.{told-leaves, told-status}
 use Rattle.swanroll_top.proofs.Programs.{command-run, ended, follows-ends, follows-of, follows-unwritten, known-told, not-usage, report-unwritten, reports-of, rollout-unwritten, rollouts-of, text-unwritten, told-brings, usage-run}
@@ -38,6 +42,7 @@ use Rattle.swanroll_top.proofs.Reaching.{rolls-ends, rolls-safe, rolls-target}
 use Rattle.swanroll_top.proofs.Levelling.{reverts-back, reverts-ends, reverts-safe}
 use Rattle.swanroll_top.proofs.Reverting.{reverts-behind}
 use Rattle.swanroll_top.proofs.Rolling.{rolls-behind}
+use Rattle.swanroll_top.proofs.Settling.{drains-ends, drains-next, drains-safe, drains-still}
 use Rattle.swanroll_top.proofs.Statuses.{is-disk-fault, is-done}
 
 -- what is told alike is the same
@@ -170,10 +175,10 @@ module _ {S K D F P G : Type 0} (views : Views S K D F P G) where
         line = subst (λ (x : Ending). NotesLine x (streams views before) (streams views after)) same told.line;
       }
 
-  -- `rollback`
-  rollback-keeps : (limits : Limits) (before after : Outside S K D F) (e : Ending) (status : ℕ) → BringsRollback views limits (used before) e (used after)
-      → IsTold e status (views.sink before.notes).written (views.sink after.notes).written (views.sink before.notes).faults (views.sink after.notes).faults → RollbackPromise views limits before status after
-  rollback-keeps limits before after e status brings told =
+  -- `drain`
+  drain-keeps : (limits : Limits) (before after : Outside S K D F) (e : Ending) (status : ℕ) → BringsDrain views limits (used before) e (used after)
+      → IsTold e status (views.sink before.notes).written (views.sink after.notes).written (views.sink before.notes).faults (views.sink after.notes).faults → DrainPromise views limits before status after
+  drain-keeps limits before after e status brings told =
       let source = views.source before.source in
       let source_now = views.source after.source in
       let out = (views.sink before.sink).written in
@@ -181,7 +186,7 @@ module _ {S K D F P G : Type 0} (views : Views S K D F P G) where
       let fleet = seen (views.fleet before.fleet) in
       let fleet_now = seen (views.fleet after.fleet) in
       let told_runs = told-brings (λ x. RunsRollout source source_now x out out_now) out out_now e told.told told.is brings.runs (rollout-unwritten source source_now out out_now e brings.runs) (λ same. same) in
-      let rolls : RevertsAs views.disk views.port
+      let rolls : DrainsAs views.disk views.port
       (IsInput source source_now) limits before.disk after.disk fleet fleet_now status out out_now = record { ending = e; told = told.told; told_as = told.is; is_status = told.is_status; rolls = brings.rolls } in
       record {
         does = λ read memory. record {
@@ -194,16 +199,52 @@ module _ {S K D F P G : Type 0} (views : Views S K D F P G) where
         serves = brings.guests;
         rolls = rolls;
         failed = λ eight.
-            reverts-behind views.disk views.port
+            drains-behind views.disk views.port
             limits before.disk after.disk fleet fleet_now out out_now source source_now e (is-disk-fault e (told-status e status _ _ _ _ told 8 (λ n. omega (arith, n)) eight)) brings.rolls;
-        next = reverts-next views.disk views.port (IsInput source source_now) limits before.disk after.disk fleet fleet_now e out out_now brings.rolls;
-        ends = reverts-ends views.disk views.port (IsInput source source_now) limits before.disk after.disk fleet fleet_now e out out_now brings.rolls;
+        next = drains-next views.disk views.port (IsInput source source_now) limits before.disk after.disk fleet fleet_now e out out_now brings.rolls;
+        ends = drains-ends views.disk views.port (IsInput source source_now) limits before.disk after.disk fleet fleet_now e out out_now brings.rolls;
+        safe = λ of.
+            drains-safe views.disk views.port
+            (IsInput source source_now) limits before.disk after.disk fleet fleet_now out out_now status rolls of;
+        still = λ zero.
+            drains-still views.disk views.port
+            (IsInput source source_now) limits before.disk after.disk fleet fleet_now out out_now status rolls zero;
+      }
+
+  -- `rollback`
+  rollback-keeps : (origin : BackFrom) (limits : Limits) (before after : Outside S K D F) (e : Ending) (status : ℕ) → BringsRollback views origin limits (used before) e (used after)
+      → IsTold e status (views.sink before.notes).written (views.sink after.notes).written (views.sink before.notes).faults (views.sink after.notes).faults → RollbackPromise views origin limits before status after
+  rollback-keeps origin limits before after e status brings told =
+      let source = views.source before.source in
+      let source_now = views.source after.source in
+      let out = (views.sink before.sink).written in
+      let out_now = (views.sink after.sink).written in
+      let fleet = seen (views.fleet before.fleet) in
+      let fleet_now = seen (views.fleet after.fleet) in
+      let told_runs = told-brings (λ x. RunsRollout source source_now x out out_now) out out_now e told.told told.is brings.runs (rollout-unwritten source source_now out out_now e brings.runs) (λ same. same) in
+      let rolls : RevertsAs views.disk views.port
+      (IsInput source source_now) origin limits before.disk after.disk fleet fleet_now status out out_now = record { ending = e; told = told.told; told_as = told.is; is_status = told.is_status; rolls = brings.rolls } in
+      record {
+        does = λ read memory. record {
+          ending = told.told;
+          is_status = told.is_status;
+          follows = rollouts-of source source_now out out_now told.told told_runs (λ h. read (told.is_status ∙ h)) (λ h. memory (told.is_status ∙ h));
+          line = told.line;
+        };
+        one = record { ending = e; brings = brings; told = told.told; told_as = told.is; is_status = told.is_status; line = told.line };
+        serves = brings.guests;
+        rolls = rolls;
+        failed = λ eight.
+            reverts-behind views.disk views.port
+            origin limits before.disk after.disk fleet fleet_now out out_now source source_now e (is-disk-fault e (told-status e status _ _ _ _ told 8 (λ n. omega (arith, n)) eight)) brings.rolls;
+        next = reverts-next views.disk views.port (IsInput source source_now) origin limits before.disk after.disk fleet fleet_now e out out_now brings.rolls;
+        ends = reverts-ends views.disk views.port (IsInput source source_now) origin limits before.disk after.disk fleet fleet_now e out out_now brings.rolls;
         safe = λ of.
             reverts-safe views.disk views.port
-            (IsInput source source_now) limits before.disk after.disk fleet fleet_now out out_now status rolls of;
+            (IsInput source source_now) origin limits before.disk after.disk fleet fleet_now out out_now status rolls of;
         back = λ zero.
             reverts-back views.disk views.port
-            (IsInput source source_now) limits before.disk after.disk fleet fleet_now out out_now status rolls zero;
+            (IsInput source source_now) origin limits before.disk after.disk fleet fleet_now out out_now status rolls zero;
       }
 
   -- `held`
@@ -239,7 +280,8 @@ module _ {S K D F P G : Type 0} (views : Views S K D F P G) where
   command-keeps (an_agent guests) before after e status brings told = record { serves = serves-as views.guest guests _ _ e status _ _ _ _ _ _ brings told; one = agent-one guests before after e status brings told }
   command-keeps (a_trial shape policy) before after e status brings told = trial-keeps policy shape (streams views before) (streams views after) e status brings told
   command-keeps (a_run limits policy) before after e status brings told = run-keeps limits policy before after e status brings told
-  command-keeps (a_rollback limits) before after e status brings told = rollback-keeps limits before after e status brings told
+  command-keeps (a_drain limits) before after e status brings told = drain-keeps limits before after e status brings told
+  command-keeps (a_rollback limits origin) before after e status brings told = rollback-keeps origin limits before after e status brings told
   command-keeps (what_is_held rounds) before after e status brings told = held-keeps rounds before after e status brings told
 
   -- nothing was written but a text, or a part of it
@@ -249,7 +291,8 @@ module _ {S K D F P G : Type 0} (views : Views S K D F P G) where
   command-silent (an_agent guests) before after e brings done cut = follows-unwritten (service_answer brings.came) e (written_at views before) (written_at views after) brings.follows done cut
   command-silent (a_trial shape policy) before after e brings done cut = follows-unwritten (tried policy shape) e (written_at views before) (written_at views after) brings.follows done cut
   command-silent (a_run limits policy) before after e brings done cut = rollout-unwritten (source_at views before) (source_at views after) (written_at views before) (written_at views after) e brings.runs done cut
-  command-silent (a_rollback limits) before after e brings done cut = rollout-unwritten (source_at views before) (source_at views after) (written_at views before) (written_at views after) e brings.runs done cut
+  command-silent (a_drain limits) before after e brings done cut = rollout-unwritten (source_at views before) (source_at views after) (written_at views before) (written_at views after) e brings.runs done cut
+  command-silent (a_rollback limits origin) before after e brings done cut = rollout-unwritten (source_at views before) (source_at views after) (written_at views before) (written_at views after) e brings.runs done cut
   command-silent (what_is_held rounds) before after e brings done cut = rollout-unwritten (source_at views before) (source_at views after) (written_at views before) (written_at views after) e brings.runs done cut
 
   -- a command was done

@@ -118,7 +118,7 @@ begun-memory (Refused f) begun h = cc
 begun-memory (NotFinished u) begun h = not-status 12 refl u h
 begun-memory OutOfMemory begun h = cc
 
-begun-ends : (answer : Result (List ℕ) Ending) (e : Ending) (out now : Option (List ℕ)) → is_of_begun e ≡ true → Follows answer e out now → EndsWith answer e out now
+pub begun-ends : (answer : Result (List ℕ) Ending) (e : Ending) (out now : Option (List ℕ)) → is_of_begun e ≡ true → Follows answer e out now → EndsWith answer e out now
 begun-ends answer e out now begun h = follows-ends answer e out now h (begun-memory e begun)
 
 refused-begun : (long : Bool) (input : List ℕ) (e : Ending) → is_of_begun e ≡ true → (if long then Err AboveLimit else rollout_in input) ≡ Err e → ⊥
@@ -172,7 +172,7 @@ unbegun-refused Given OutOfMemory begun h = absurd cc
 
 -- ---- an answer behind a run that was begun
 
-abbrev is_ran : RunAnswer → Bool
+abbrev pub is_ran : RunAnswer → Bool
 is_ran (outcome.Finished operations found) = true
 is_ran (outcome.Held left) = true
 is_ran (outcome.Stopped r halt) = true
@@ -198,7 +198,7 @@ module _ {D P : Type 0} (tell : P → PortTrace) (homes : List ℕ) (opened clos
   ran-begun r found h Ran run.Memory is ran = absurd cc
 
   -- and one that wasn't has left the ports as they were
-  unbegun-nothing : (r : Rollout) (found : ℕ) (h : History) (ran : Type 0) (end : RunEnd) → is_ran (answer_for r found h end) ≡ false → EndsRun tell homes opened closed before now ran end → BeginsNothing tell before now
+  pub unbegun-nothing : (r : Rollout) (found : ℕ) (h : History) (ran : Type 0) (end : RunEnd) → is_ran (answer_for r found h end) ≡ false → EndsRun tell homes opened closed before now ran end → BeginsNothing tell before now
   unbegun-nothing r found h ran run.Finished isnt ends = absurd (cc isnt)
   unbegun-nothing r found h ran run.Held isnt ends = absurd (cc isnt)
   unbegun-nothing r found h ran (run.Stopped halt) isnt ends = absurd (cc isnt)
@@ -270,7 +270,7 @@ is-told None h = absurd (cc h)
 is-told (Some image) h = (image, refl)
 
 -- the input is a rollout, and it was run from the image that its disk told
-record RunsFrom {D P : Type 0} (trace : D → DiskTrace) (tell : P → PortTrace)
+pub record RunsFrom {D P : Type 0} (trace : D → DiskTrace) (tell : P → PortTrace)
     (Given : List ℕ → Type 0) (limits : Limits) (policy : OpView → ℕ) (disk disk_now : D) (before now : FleetSeen P) (e : Ending) (out out_now : Option (List ℕ)) : Type 0 where
   pub input : List ℕ
   pub given : Given input
@@ -320,7 +320,7 @@ module _ {D P : Type 0} (trace : D → DiskTrace) (tell : P → PortTrace)
     (Given : List ℕ → Type 0) (disk disk_now : D) (before now : FleetSeen P) (limits : Limits) (policy : OpView → ℕ) (e : Ending) (out out_now : Option (List ℕ))
     (rolled : RunsFrom trace tell Given limits policy disk disk_now before now e out out_now) (a : RunAnswer)
     (has : HasRolled trace tell rolled.r (digest_for rolled.r limits.migration) policy limits.rounds rolled.opened before.ports now.ports disk_now a) where
-  abbrev Begun : RunEnd → Type 0
+  abbrev pub Begun : RunEnd → Type 0
   Begun end = Ran trace tell (opening_of has.book policy) (trace has.book.disk).moment (trace has.book.disk).faults limits.migration limits.rounds
       (working_homes has.book.rollout.problem has.book.rollout.plan) before.ports end has.run.closed now.ports
 
@@ -330,7 +330,7 @@ module _ {D P : Type 0} (trace : D → DiskTrace) (tell : P → PortTrace)
   valid : is_valid_plan has.book.rollout.problem has.book.rollout.plan ≡ true
   valid = subst (λ (r : Rollout). is_valid_plan r.problem r.plan ≡ true) (sym has.opened.rollout) rolled.rolls.valid
 
-  has-run : is_ran a ≡ true → Begun has.run.end
+  pub has-run : is_ran a ≡ true → Begun has.run.end
   unfolding digest_for
   has-run is =
       ran-begun tell (working_homes has.book.rollout.problem has.book.rollout.plan) has.book has.run.closed before.ports now.ports

@@ -26,7 +26,8 @@ use Rattle.lp_proof.specs.Least.{least_of}
 use Rattle.lp_proof.specs.declared.least.Least.{Least}
 use Rattle.lp_proof.specs.declared.least.Least.TheVariants as least
 use Rattle.sim_run.specs.Script.{script_text}
-use Rattle.swanroll_top.specs.Answers.{◌>>=◌, or_ending, with_choice, where_few, with_least, with_proof, planned, proved, least_planned, checked, claimed_line, judged, loaded, turned_back, rehearsed, answer_in, chosen_by, explained}
+use Rattle.sim_run.specs.declared.script_shape.ScriptShape.{ScriptShape}
+use Rattle.swanroll_top.specs.Answers.{◌>>=◌, or_ending, with_choice, where_few, with_least, with_proof, planned, proved, least_planned, checked, claimed_line, judged, loaded, turned_back, rehearsed, drawn_up, rehearsal_text, answer_in, chosen_by, explained}
 use Rattle.swanroll_top.specs.Endings.{ending_of, status_of}
 use Rattle.swanroll_top.specs.Runs.{EndsWith}
 use Rattle.swanroll_top.specs.Safety.{IsValid}
@@ -35,7 +36,7 @@ use Rattle.swanroll_top.specs.declared.ending.Ending.{Ending}
 use Rattle.swanroll_top.specs.declared.ending.Ending.TheVariants.{OutOfMemory}
 use Rattle.swanroll_top.proofs.Claims.{claim-shown, claim-unshown}
 use Rattle.swanroll_top.proofs.Documents.{as_rollout, checked-by, back_text}
-use Rattle.swanroll_top.specs.Words.{TextAsked, a_plan, a_check, the_loads, the_way_back, a_rehearsal, the_explanation, the_least}
+use Rattle.swanroll_top.specs.Words.{TextAsked, a_plan, a_check, the_loads, the_way_back, a_rehearsal, a_script, the_explanation, the_least}
 use Rattle.swanroll_top.specs.declared.words.Planner.{Planner}
 use Rattle.swanroll_top.specs.declared.words.Planner.TheVariants.{Slack}
 use Rattle.swanroll_top.proofs.Steps.{fault-ends}
@@ -187,6 +188,17 @@ explain-judged input (Err e) is within = fault-judged (IsTaken the_explanation i
     elim_read : {d : DocumentRead} → document_in input ≡ Err e → document_in input ≡ Ok d → ⊥
     elim_read a b = cc
 
+drawn-judged : (shape : ScriptShape) (policy : OpView → ℕ) (input : List ℕ) (read : Result DocumentRead InputFault) → document_in input ≡ read → length input ≤ MOST_INPUT → IsJudged (IsTaken (a_script shape policy) input) (or_ending read >>= drawn_up shape policy)
+unfolding drawn_up
+drawn-judged shape policy input (Ok d) is within =
+    checked-judging (IsTaken (a_script shape policy) input) d (rehearsal_text shape policy) (first_broken d.problem d.plan) refl
+    (λ valid. record { within = within; document = d; read = is; valid = valid })
+    (same-document input d is)
+drawn-judged shape policy input (Err e) is within = fault-judged (IsTaken (a_script shape policy) input) e (λ t. elim_read is t.read)
+  where
+    elim_read : {d : DocumentRead} → document_in input ≡ Err e → document_in input ≡ Ok d → ⊥
+    elim_read a b = cc
+
 same-script : (input : List ℕ) (s : ScriptedRead) → scripted_in input ≡ Ok s → IsValidScript input → IsValid s.document.problem s.document.plan
 same-script input s is t =
     let same : t.scripted ≡ s = cc (is, t.read) in
@@ -212,6 +224,7 @@ answer-judged the_way_back input within = back-judged input (document_in input) 
 answer-judged the_explanation input within = explain-judged input (document_in input) refl within
 answer-judged the_least input within = least-judged input (problem_in input) refl within
 answer-judged (a_rehearsal policy) input within = sim-judged policy input (scripted_in input) refl within
+answer-judged (a_script shape policy) input within = drawn-judged shape policy input (document_in input) refl within
 
 -- ---- the status of a run
 

@@ -33,12 +33,17 @@ use Rattle.problem_json.specs.declared.fault.InputFault.{InputFault}
 use Rattle.problem_json.specs.declared.fault.InputFault.TheVariants.{BadProof}
 use Rattle.problem_json.specs.declared.place.Part.TheVariants as part
 use Rattle.rollback_plan.specs.Turning.{back_problem, back_plan}
+use Rattle.case_gen.specs.Draws.{seeded}
+use Rattle.problem_json.specs.WritingScripts.{scripted_text}
+use Rattle.rollout_rules.specs.declared.event.Act.{Act}
+use Rattle.sim_run.specs.Drafts.{drawn_script}
 use Rattle.sim_run.specs.Script.{script_text}
+use Rattle.sim_run.specs.declared.script_shape.ScriptShape.{ScriptShape}
 use Rattle.swanroll_top.specs.Endings.{ending_of, ending_without}
 use Rattle.swanroll_top.specs.declared.ending.Ending.{Ending}
 use Rattle.swanroll_top.specs.declared.ending.Ending.TheVariants.{AboveLimit, Input, NotValid, OutOfMemory, Unshown}
 use Rattle.swanroll_top.specs.declared.unshown.Unshown.TheVariants as why
-use Rattle.swanroll_top.specs.Words.{TextAsked, a_plan, a_check, the_loads, the_way_back, a_rehearsal, the_explanation, the_least}
+use Rattle.swanroll_top.specs.Words.{TextAsked, a_plan, a_check, the_loads, the_way_back, a_rehearsal, a_script, the_explanation, the_least}
 use Rattle.swanroll_top.specs.declared.words.Planner.{Planner}
 use Rattle.swanroll_top.specs.declared.words.Planner.TheVariants.{Slack, Fewest}
 
@@ -122,6 +127,18 @@ explained d = checked d >>= λ o. Ok (explain_text o.problem o.plan)
 unfoldable pub rehearsed : (OpView → ℕ) → ScriptedRead → Result (List ℕ) Ending
 rehearsed policy s = checked s.document >>= λ o. Ok (script_text o.problem o.plan policy s.script)
 
+-- the script of these numbers that is drawn for a rollout under a policy
+abbrev pub script_for : ScriptShape → (OpView → ℕ) → Rollout → List Act
+script_for shape policy o = drawn_script o.problem o.plan policy (seeded shape.seed) shape.events
+
+-- the document of a rollout with that script, and a line feed
+abbrev pub rehearsal_text : ScriptShape → (OpView → ℕ) → Rollout → List ℕ
+rehearsal_text shape policy o = scripted_text o.problem o.plan (script_for shape policy o) ++ 10 ∷ []
+
+-- the same of a document, where its plan is valid
+unfoldable pub drawn_up : ScriptShape → (OpView → ℕ) → DocumentRead → Result (List ℕ) Ending
+drawn_up shape policy d = checked d >>= λ o. Ok (rehearsal_text shape policy o)
+
 -- the document of a plan with what shows that fewer than so many rate steps are impossible, and a line feed
 abbrev pub shown_text : Problem → Plan → ℕ → Proof → List ℕ
 shown_text p plan q proof = claimed_text p plan (record { steps = q - 1; proof = proof }) ++ 10 ∷ []
@@ -161,6 +178,7 @@ answer_in the_way_back input = or_ending (document_in input) >>= turned_back
 answer_in the_explanation input = or_ending (document_in input) >>= explained
 answer_in the_least input = or_ending (problem_in input) >>= least_planned
 answer_in (a_rehearsal policy) input = or_ending (scripted_in input) >>= rehearsed policy
+answer_in (a_script shape policy) input = or_ending (document_in input) >>= drawn_up shape policy
 
 -- the answer to an input
 unfoldable pub answer_to : TextAsked → List ℕ → Result (List ℕ) Ending

@@ -1,6 +1,6 @@
--- What stands behind a rollback: the network is safe, nothing was begun past the stage to which the rollout had come, and behind status 0 it is level there
--- and the journal of the way back stands.
-use Rattle.std.specs.Prelude.{◌≡◌, ◌⊎◌, ℕ, ◌<◌, ◌≤◌, true, List, ◌++◌, All, Option, Some, IfSome, IsTrue, slice_index}
+-- What stands behind a rollback: the network is safe, nothing was begun past what the list found had begun but what leads up to a stage, and behind status 0
+-- exactly so much is settled and the journal of the way back stands, which begins there.
+use Rattle.std.specs.Prelude.{◌≡◌, ◌⊎◌, ⊤, ℕ, ◌<◌, ◌≤◌, true, List, ◌++◌, All, Option, Some, IfSome, IsTrue, slice_index}
 use Rattle.std.specs.List.{AllByRecursion}
 use Rattle.rollout_rules.specs.Wan.{Rollout}
 use Rattle.rollout_rules.specs.Items.{content, item_at, item_count}
@@ -27,17 +27,20 @@ use Rattle.rollout_ports.specs.Berths.{FleetPorts}
 use Rattle.rollout_ports.specs.Opening.{IsGiven}
 use Rattle.switch_laws.specs.Runs.{StartsAsFound}
 use Rattle.holding_laws.specs.Untold.{EachMayHold}
-use Rattle.rollback_plan.specs.Levelling.{IsOnTheWay}
-use Rattle.rollback_plan.specs.Levels.{is_levelled}
-use Rattle.rollback_service.specs.Levellings.{ceiling_of}
-use Rattle.rollback_service.specs.Placings.{HasPlaced, kept_back}
+use Rattle.rollback_plan.specs.Levels.{back_start, is_levelled}
+use Rattle.rollback_plan.specs.Turns.{BeginsBack, HasComeSoFar, IsOnTheTurn, comes_to}
+use Rattle.rollback_service.specs.Levellings.{TurnsFrom, ceiling_of, start_of}
+use Rattle.rollback_service.specs.Placings.{HasPlaced, kept_from}
+use Rattle.rollback_service.specs.declared.origin.BackFrom.{BackFrom}
+use Rattle.rollback_service.specs.declared.origin.BackFrom.TheVariants as whence
 use Rattle.rollout_report.specs.Journals.{digest_for}
 use Rattle.rollout_run.specs.declared.running.Limits.{Limits}
+use Rattle.swanroll_top.specs.DrainTargets.{EndsSettled}
 use Rattle.swanroll_top.specs.Rollbacks.{back_text}
 use Rattle.swanroll_top.specs.Safety.{MayBeginBack}
 use Rattle.swanroll_top.specs.Targets.{BeginsNothing, StaysSafe}
 
--- ---- what the switches hold
+-- ---- what the switches hold at a level
 
 -- how many operations of item n lead to a stage up to this one
 abbrev pub operations_to : Rollout → ℕ → ℕ → ℕ
@@ -73,16 +76,16 @@ pub record EndsAtStage {P : Type 0} (tell : P → PortTrace) (r : Rollout) (migr
 
 -- ---- what went out
 
--- the command is of an operation that leads to a stage up to this one
-abbrev pub IsUpTo : Rollout → ℕ → Command → Type 0
-IsUpTo r s c = c.number ≤ operations_to r s c.item
+-- the command is of an operation that the list found had begun, or that leads to a stage up to this one
+abbrev pub LeadsSoFar : Rollout → History → ℕ → Command → Type 0
+LeadsSoFar r found s c = c.number ≤ comes_to r.problem r.plan found s c.item
 
--- One port is back at the switch of this berth. Behind what had gone out there before, no more went out than a front of the frames of commands up to the stage.
-pub record SendsUpTo {P : Type 0} (tell : P → PortTrace) (r : Rollout) (migration s : ℕ) (now : FleetPorts P) (berth : Berth P) : Type 0 where
+-- One port is back at the switch of this berth. Behind what had gone out there before, no more went out than a front of the frames of such commands.
+pub record SendsSoFar {P : Type 0} (tell : P → PortTrace) (r : Rollout) (migration : ℕ) (found : History) (s : ℕ) (now : FleetPorts P) (berth : Berth P) : Type 0 where
   pub back : P
   pub kept : now.kept berth.switch ≡ Some back
   pub sent : List Command
-  pub each : All (IsUpTo r s) sent
+  pub each : All (LeadsSoFar r found s) sent
   pub part : AppendsFront (tell berth.port).offered (frames_of migration (own (homes_of r.problem) berth.switch sent)) (tell back).offered
 
 -- ---- what a crash leaves
@@ -93,35 +96,52 @@ pub record HasListFrom (r : Rollout) (found : History) (image : List ℕ) : Type
   pub legal : is_legal r.problem r.plan (with_entries found past) ≡ true
   pub has : HasList found.start (found.entries ++ past) image
 
--- that, or the journal of the way back
-abbrev pub IsFoundOrPlaced : Rollout → ℕ → ℕ → History → List ℕ → Type 0
-IsFoundOrPlaced r migration s found image = HasListFrom r found image ⊎ (journal_in image ≡ Some (kept_back r migration s))
+-- that, or the journal of the way back from this start
+abbrev pub IsFoundOrPlaced : Rollout → ℕ → List ℕ → History → List ℕ → Type 0
+IsFoundOrPlaced r migration start found image = HasListFrom r found image ⊎ (journal_in image ≡ Some (kept_from r migration start))
 
 -- ---- behind a rollback
 
--- The input is a rollout, and it was begun to level it at the stage to which the list found had come. It is safe, as each rollout is that was begun.
-pub record LevelsSafely {D P : Type 0} (trace : D → DiskTrace) (tell : P → PortTrace) (limits : Limits) (Given : List ℕ → Type 0) (disk disk_now : D) (before now : FleetPorts P) : Type 0 where
+-- The input is a rollout, and it was begun to level it: at the stage to which the list found had come, or at the first one at which it may turn. It is safe, as each rollout is that was begun.
+pub record LevelsSafely {D P : Type 0} (trace : D → DiskTrace) (tell : P → PortTrace) (origin : BackFrom) (limits : Limits) (Given : List ℕ → Type 0) (disk disk_now : D) (before now : FleetPorts P) : Type 0 where
   pub stays : StaysSafe trace tell limits Given disk before now
-  -- each list on the way is legal, so it is safe, and nothing is begun that leads past the stage
-  pub way : (front rest : List Entry) → front ++ rest ≡ stays.added
-      → IsOnTheWay stays.r.problem stays.r.plan (ceiling_of stays.r stays.found) (with_entries stays.found front)
-  -- what went out are commands of operations up to the stage
-  pub sends : AllByRecursion (SendsUpTo tell stays.r limits.migration (ceiling_of stays.r stays.found) now) stays.berths
+  pub stage : ℕ
+  pub turns : TurnsFrom origin stays.r stays.found stage
+  -- each list on the way is legal, so it is safe, and nothing is begun past what the list found had begun but what leads up to the stage
+  pub way : (front rest : List Entry) → front ++ rest ≡ stays.added → IsOnTheTurn stays.r.problem stays.r.plan stays.found stage (with_entries stays.found front)
+  -- what went out are commands of such operations
+  pub sends : AllByRecursion (SendsSoFar tell stays.r limits.migration stays.found stage now) stays.berths
   -- from the moment on at which the journal was opened, a crash leaves one with a list that begins with the one found, or that of the way back
   pub journal : D
   pub opened : IsOpenedOn trace stays.r (digest_for stays.r limits.migration) stays.opened journal
   pub crash : IfSome (trace disk_now).bytes
-      (λ _. (c : List ℕ) → (trace disk_now).left_since (trace journal).moment c → IsFoundOrPlaced stays.r limits.migration (ceiling_of stays.r stays.found) stays.found c)
+      (λ _. (c : List ℕ) → (trace disk_now).left_since (trace journal).moment c → IsFoundOrPlaced stays.r limits.migration (start_of stays.r stays.found stage) stays.found c)
 
 -- at every end: nothing was begun, or so it is
-abbrev pub EndsBackSafely : {D P : Type 0} → (D → DiskTrace) → (P → PortTrace) → Limits → (List ℕ → Type 0) → D → D → FleetPorts P → FleetPorts P → Type 0
-EndsBackSafely trace tell limits Given disk disk_now before now = BeginsNothing tell before now ⊎ LevelsSafely trace tell limits Given disk disk_now before now
+abbrev pub EndsBackSafely : {D P : Type 0} → (D → DiskTrace) → (P → PortTrace) → BackFrom → Limits → (List ℕ → Type 0) → D → D → FleetPorts P → FleetPorts P → Type 0
+EndsBackSafely trace tell origin limits Given disk disk_now before now = BeginsNothing tell before now ⊎ LevelsSafely trace tell origin limits Given disk disk_now before now
 
--- So it is, and the rollout is level: each item has its content of the stage. The journal of the way back stands, it begins there with those contents, and its document was written.
-pub record IsTakenBack {D P : Type 0} (trace : D → DiskTrace) (tell : P → PortTrace) (limits : Limits) (Given : List ℕ → Type 0) (disk disk_now : D) (before now : FleetPorts P) (out out_now : Option (List ℕ)) : Type 0 where
-  pub levels : LevelsSafely trace tell limits Given disk disk_now before now
-  pub level : IsTrue (is_levelled levels.stays.r.problem levels.stays.r.plan (with_entries levels.stays.found levels.stays.added) (ceiling_of levels.stays.r levels.stays.found))
-  pub ports : AllByRecursion (EndsAtStage tell levels.stays.r limits.migration (ceiling_of levels.stays.r levels.stays.found) levels.stays.found before now) levels.stays.berths
-  pub placed : HasPlaced trace (kept_back levels.stays.r limits.migration (ceiling_of levels.stays.r levels.stays.found)) disk_now
-  pub starts : MayBeginBack levels.stays.r.problem levels.stays.r.plan (ceiling_of levels.stays.r levels.stays.found)
+-- A rollout that was taken back from a level is level: all items have the content of the stage to which the list found had come, and so do the switches; and the way back begins where it has that content.
+pub record IsLevelThere {P : Type 0} (tell : P → PortTrace) (r : Rollout) (migration : ℕ) (found : History) (added : List Entry) (start : List ℕ) (before now : FleetPorts P) (berths : List (Berth P)) : Type 0 where
+  pub level : IsTrue (is_levelled r.problem r.plan (with_entries found added) (ceiling_of r found))
+  pub ports : AllByRecursion (EndsAtStage tell r migration (ceiling_of r found) found before now) berths
+  pub begins : start ≡ back_start r.problem r.plan (ceiling_of r found)
+  pub starts : MayBeginBack r.problem r.plan (ceiling_of r found)
+
+-- where a rollback from a level was asked for
+abbrev pub OnLevel : BackFrom → Type 0 → Type 0
+OnLevel whence.Level holds = holds
+OnLevel whence.Here holds = ⊤
+
+-- So it is, each item has come exactly so far, and nothing is in flight: each switch holds the contents of what is settled. The journal of the way back stands, it begins there with those
+-- contents, and its document was written.
+pub record IsTakenBack {D P : Type 0} (trace : D → DiskTrace) (tell : P → PortTrace) (origin : BackFrom) (limits : Limits) (Given : List ℕ → Type 0) (disk disk_now : D) (before now : FleetPorts P) (out out_now : Option (List ℕ)) : Type 0 where
+  pub levels : LevelsSafely trace tell origin limits Given disk disk_now before now
+  pub come : HasComeSoFar levels.stays.r.problem levels.stays.r.plan levels.stays.found levels.stage (with_entries levels.stays.found levels.stays.added)
+  pub ports : AllByRecursion (EndsSettled tell levels.stays.r limits.migration levels.stays.found (with_entries levels.stays.found levels.stays.added) before now) levels.stays.berths
+  pub placed : HasPlaced trace (kept_from levels.stays.r limits.migration (start_of levels.stays.r levels.stays.found levels.stage)) disk_now
+  pub starts : BeginsBack levels.stays.r.problem levels.stays.r.plan levels.stays.found levels.stage
+  -- from a level, the stage is the one to which the list found had come, and all are there
+  pub level : OnLevel origin
+      (IsLevelThere tell levels.stays.r limits.migration levels.stays.found levels.stays.added (start_of levels.stays.r levels.stays.found levels.stage) before now levels.stays.berths)
   pub text : Appends out (back_text levels.stays.r) out_now

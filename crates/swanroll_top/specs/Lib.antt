@@ -10,6 +10,10 @@ pub mod Taken
 pub mod Reading
 pub mod JournalLines
 pub mod Reports
+pub mod KeptAgents
+pub mod LiveWords
+pub mod Live
+pub mod Watches
 pub mod Leavings
 pub mod Runs
 pub mod Agents
@@ -21,6 +25,8 @@ pub mod NextStarts
 pub mod Targets
 pub mod Joined
 pub mod Ready
+pub mod Drains
+pub mod DrainTargets
 pub mod Rollbacks
 pub mod LevelTargets
 pub mod NextRollbacks
@@ -32,6 +38,7 @@ pub mod ReportPromise
 pub mod AgentPromise
 pub mod TrialPromise
 pub mod RunPromise
+pub mod DrainPromise
 pub mod RollbackPromise
 pub mod HeldAsked
 pub mod HeldPromise

@@ -10,39 +10,42 @@ use Rattle.intent_journal.specs.Openings.{found_by}
 use Rattle.intent_journal.specs.Verdicts.{verdict}
 use Rattle.rollout_report.specs.Journals.{digest_for}
 use Rattle.rollout_run.specs.declared.running.Limits.{Limits}
-use Rattle.rollback_service.specs.Levellings.{ceiling_of}
-use Rattle.rollback_service.specs.Placings.{kept_back}
+use Rattle.rollback_plan.specs.Turns.{BeginsBack}
+use Rattle.rollback_service.specs.Levellings.{TurnsFrom, start_of}
+use Rattle.rollback_service.specs.Placings.{kept_from}
+use Rattle.rollback_service.specs.declared.origin.BackFrom.{BackFrom}
 use Rattle.swanroll_top.specs.NextStarts.{MayBeFound}
 use Rattle.swanroll_top.specs.Reports.{rollout_to}
-use Rattle.swanroll_top.specs.Safety.{MayBeginBack}
 
--- The image is one that the next opening of the way back takes, as the next migration: it is the journal of the way back from the stage to which the history had
--- come that was found in the first image, and begins soundly, with the contents of that stage.
-pub record IsTakenAsWayBack (r : Rollout) (migration : ℕ) (first image : List ℕ) : Type 0 where
+-- The image is one that the next opening of the way back takes, as the next migration: it is the journal of the way back from where the history is levelled that was
+-- found in the first image, and begins soundly, with the contents that items have there.
+pub record IsTakenAsWayBack (origin : BackFrom) (r : Rollout) (migration : ℕ) (first image : List ℕ) : Type 0 where
   pub found : History
   pub begins : found_by r (verdict r (digest_for r migration) first) ≡ Some found
-  pub is : journal_in image ≡ Some (kept_back r migration (ceiling_of r found))
-  pub starts : MayBeginBack r.problem r.plan (ceiling_of r found)
+  pub stage : ℕ
+  pub turns : TurnsFrom origin r found stage
+  pub is : journal_in image ≡ Some (kept_from r migration (start_of r found stage))
+  pub starts : BeginsBack r.problem r.plan found stage
 
 -- the next opening of this rollout may find it, or that of its way back takes it
-abbrev pub MayBeFoundEither : Rollout → ℕ → List ℕ → (List ℕ → Type 0) → List ℕ → Type 0
-MayBeFoundEither r migration first left image = MayBeFound r (digest_for r migration) first left image ⊎ IsTakenAsWayBack r migration first image
+abbrev pub MayBeFoundEither : BackFrom → Rollout → ℕ → List ℕ → (List ℕ → Type 0) → List ℕ → Type 0
+MayBeFoundEither origin r migration first left image = MayBeFound r (digest_for r migration) first left image ⊎ IsTakenAsWayBack origin r migration first image
 
 -- Over a disk that tells its bytes a crash at any moment from one to another leaves no other image.
-abbrev pub StartsEither : {D : Type 0} → (D → DiskTrace) → Rollout → ℕ → D → D → Type 0
-StartsEither trace r migration disk now =
-    IfSome (trace disk).bytes (λ first. IfSome (trace now).bytes (λ _. LeavesOnly trace disk now (MayBeFoundEither r migration first (trace disk).may_leave)))
+abbrev pub StartsEither : {D : Type 0} → (D → DiskTrace) → BackFrom → Rollout → ℕ → D → D → Type 0
+StartsEither trace origin r migration disk now =
+    IfSome (trace disk).bytes (λ first. IfSome (trace now).bytes (λ _. LeavesOnly trace disk now (MayBeFoundEither origin r migration first (trace disk).may_leave)))
 
 -- The input, of which this test holds, is a rollout; its disk was opened, and so it is from there on.
-pub record LeavesToEither {D : Type 0} (trace : D → DiskTrace) (limits : Limits) (Given : List ℕ → Type 0) (disk disk_now : D) : Type 0 where
+pub record LeavesToEither {D : Type 0} (trace : D → DiskTrace) (origin : BackFrom) (limits : Limits) (Given : List ℕ → Type 0) (disk disk_now : D) : Type 0 where
   pub input : List ℕ
   pub given : Given input
   pub r : Rollout
   pub is : rollout_to input ≡ Ok r
   pub opened : D
   pub opens : Opens (trace disk) (trace opened)
-  pub again : StartsEither trace r limits.migration opened disk_now
+  pub again : StartsEither trace origin r limits.migration opened disk_now
 
 -- The disk is as it was, or it couldn't be opened; or it is left so.
-abbrev pub NextStartEither : {D : Type 0} → (D → DiskTrace) → Limits → (List ℕ → Type 0) → D → D → Type 0
-NextStartEither trace limits Given disk disk_now = (disk_now ≡ disk) ⊎ (Opens (trace disk) (trace disk_now) ⊎ LeavesToEither trace limits Given disk disk_now)
+abbrev pub NextStartEither : {D : Type 0} → (D → DiskTrace) → BackFrom → Limits → (List ℕ → Type 0) → D → D → Type 0
+NextStartEither trace origin limits Given disk disk_now = (disk_now ≡ disk) ⊎ (Opens (trace disk) (trace disk_now) ⊎ LeavesToEither trace origin limits Given disk disk_now)

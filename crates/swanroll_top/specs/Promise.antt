@@ -4,6 +4,7 @@ use Rattle.std.specs.declared.alloc.Global.{Global}
 use Rattle.rollout_rules.specs.declared.op.OpView.{OpView}
 use Rattle.wan_edge.specs.Streams.{Rose}
 use Rattle.swanroll_top.specs.AgentPromise.{AgentPromise, BringsService}
+use Rattle.swanroll_top.specs.DrainPromise.{BringsDrain, DrainPromise}
 use Rattle.swanroll_top.specs.HeldPromise.{BringsHeld, HeldPromise}
 use Rattle.swanroll_top.specs.Program.{IsEnded, IsRun}
 use Rattle.swanroll_top.specs.ReportPromise.{BringsReport, ReportPromise}
@@ -15,7 +16,7 @@ use Rattle.swanroll_top.specs.TrialPromise.{TrialPromise}
 use Rattle.swanroll_top.specs.Tries.{RunsTrial}
 use Rattle.swanroll_top.specs.Uses.{Uses, uses_of}
 use Rattle.swanroll_top.specs.Views.{Objects, Outside, Views, source_at, streams, used, written_at}
-use Rattle.swanroll_top.specs.Words.{Asked, a_report, a_rollback, a_run, a_text, a_trial, an_agent, asked_by, what_is_held}
+use Rattle.swanroll_top.specs.Words.{Asked, a_drain, a_report, a_rollback, a_run, a_text, a_trial, an_agent, asked_by, what_is_held}
 use Rattle.swanroll_top.specs.declared.arguments.Unread.{Unread}
 use Rattle.swanroll_top.specs.declared.arguments.Unread.TheVariants.{NotText, Memory}
 use Rattle.swanroll_top.specs.declared.ending.Ending.{Ending}
@@ -49,7 +50,8 @@ Brings views (a_report migration) before ending after = BringsReport views migra
 Brings views (an_agent guests) before ending after = BringsService views guests before ending after
 Brings views (a_trial shape policy) before ending after = RunsTrial policy shape (source_at views before) (source_at views after) ending (written_at views before) (written_at views after)
 Brings views (a_run limits policy) before ending after = BringsRollout views limits policy before ending after
-Brings views (a_rollback limits) before ending after = BringsRollback views limits before ending after
+Brings views (a_drain limits) before ending after = BringsDrain views limits before ending after
+Brings views (a_rollback limits origin) before ending after = BringsRollback views origin limits before ending after
 Brings views (what_is_held rounds) before ending after = BringsHeld views rounds before ending after
 
 -- What is so of every command that ended so.
@@ -80,7 +82,8 @@ Keeps views (Some (a_report migration)) before status after = ReportPromise view
 Keeps views (Some (an_agent guests)) before status after = AgentPromise views guests before status after
 Keeps views (Some (a_trial shape policy)) before status after = TrialPromise policy shape (streams views before) (streams views after) status
 Keeps views (Some (a_run limits policy)) before status after = RunPromise views limits policy before status after
-Keeps views (Some (a_rollback limits)) before status after = RollbackPromise views limits before status after
+Keeps views (Some (a_drain limits)) before status after = DrainPromise views limits before status after
+Keeps views (Some (a_rollback limits origin)) before status after = RollbackPromise views origin limits before status after
 Keeps views (Some (what_is_held rounds)) before status after = HeldPromise views rounds before status after
 
 -- The promise of the call.

@@ -20,9 +20,14 @@ use Rattle.problem_json.specs.GrammarLeast.{claimed_in}
 use Rattle.problem_json.specs.declared.claim.Claimed.{Claimed}
 use Rattle.rollback_plan.specs.Levels.{back_start}
 use Rattle.rollback_plan.specs.Turning.{back_problem, back_plan}
+use Rattle.case_gen.specs.Draws.{seeded}
+use Rattle.problem_json.specs.WithinLimits.{IsPlanWithin}
+use Rattle.problem_json.specs.WritingScripts.{scripted_text}
+use Rattle.sim_run.specs.Drafts.{IsDrawnScript}
 use Rattle.sim_run.specs.Rehearsed.{IsSafeRehearsal}
-use Rattle.swanroll_top.specs.Answers.{chosen_by}
-use Rattle.swanroll_top.specs.Words.{TextAsked, a_plan, a_check, the_loads, the_way_back, a_rehearsal, the_explanation, the_least}
+use Rattle.sim_run.specs.declared.script_shape.ScriptShape.{ScriptShape}
+use Rattle.swanroll_top.specs.Answers.{chosen_by, rehearsal_text, script_for}
+use Rattle.swanroll_top.specs.Words.{TextAsked, a_plan, a_check, the_loads, the_way_back, a_rehearsal, a_script, the_explanation, the_least}
 use Rattle.swanroll_top.specs.declared.words.Planner.{Planner}
 
 abbrev pub IsValid : Problem → Plan → Type 0
@@ -137,6 +142,34 @@ pub record RehearsesSafely (policy : OpView → ℕ) (input : List ℕ) : Type 0
   pub read : scripted_in input ≡ Ok scripted
   pub safe : IsSafeRehearsal scripted.document.problem scripted.document.plan policy scripted.script
 
+-- the document of a rollout with the script that is drawn for it, which is read again as both
+abbrev pub IsReadAgain : ScriptShape → (OpView → ℕ) → Rollout → Type 0
+IsReadAgain shape policy o =
+    scripted_in (scripted_text o.problem o.plan (script_for shape policy o))
+    ≡ Ok (record { document = record { problem = o.problem; plan = o.plan }; script = script_for shape policy o })
+
+-- each act of that script happens, the rehearsal is safe, and it ends finished where there is room
+abbrev pub IsDrawn : ScriptShape → (OpView → ℕ) → Rollout → Type 0
+IsDrawn shape policy o = IsDrawnScript o.problem o.plan policy (seeded shape.seed) shape.events (script_for shape policy o)
+
+-- the text of a rollout with that script
+pub record IsRehearsed (shape : ScriptShape) (policy : OpView → ℕ) (o : Rollout) (text : List ℕ) : Type 0 where
+  pub is : text ≡ rehearsal_text shape policy o
+  pub again : IsPlanWithin o.plan → IsReadAgain shape policy o
+  pub drawn : IsDrawn shape policy o
+
+-- a valid plan, for which a script is drawn
+pub record IsDrawnUp (shape : ScriptShape) (policy : OpView → ℕ) (d : DocumentRead) : Type 0 where
+  pub valid : IsValid d.problem d.plan
+  pub again : IsReadAgain shape policy (record { problem = d.problem; plan = d.plan })
+  pub drawn : IsDrawn shape policy (record { problem = d.problem; plan = d.plan })
+
+-- the document that the input is, and what is known of the script drawn for it
+pub record RehearsesTruly (shape : ScriptShape) (policy : OpView → ℕ) (input : List ℕ) : Type 0 where
+  pub document : DocumentRead
+  pub read : document_in input ≡ Ok document
+  pub drawn : IsDrawnUp shape policy document
+
 abbrev pub DoesSafely : TextAsked → List ℕ → Type 0
 DoesSafely (a_plan planner) input = PlansSafely planner input
 DoesSafely a_check input = ChecksValid input
@@ -145,3 +178,4 @@ DoesSafely the_way_back input = TurnsSafely input
 DoesSafely the_explanation input = ExplainsTruly input
 DoesSafely the_least input = PlansLeast input
 DoesSafely (a_rehearsal policy) input = RehearsesSafely policy input
+DoesSafely (a_script shape policy) input = RehearsesTruly shape policy input

@@ -9,7 +9,7 @@ use Rattle.problem_json.specs.declared.claim.Claim.{Claim}
 use Rattle.problem_json.specs.declared.claim.Claimed.{Claimed}
 use Rattle.swanroll_top.specs.Answers.{is_shown}
 use Rattle.swanroll_top.specs.Safety.{IsValid}
-use Rattle.swanroll_top.specs.Words.{TextAsked, a_plan, a_check, the_loads, the_way_back, a_rehearsal, the_explanation, the_least}
+use Rattle.swanroll_top.specs.Words.{TextAsked, a_plan, a_check, the_loads, the_way_back, a_rehearsal, a_script, the_explanation, the_least}
 
 pub record IsProblem (input : List ℕ) : Type 0 where
   pub within : length input ≤ MOST_INPUT
@@ -48,3 +48,4 @@ IsTaken the_way_back input = IsValidDocument input
 IsTaken the_explanation input = IsValidDocument input
 IsTaken the_least input = IsProblem input
 IsTaken (a_rehearsal policy) input = IsValidScript input
+IsTaken (a_script shape policy) input = IsValidDocument input

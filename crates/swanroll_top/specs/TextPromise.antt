@@ -1,4 +1,4 @@
--- The promise of `plan`, `check`, `loads`, `explain`, `back`, `least` and `sim`, which make a text of their input.
+-- The promise of `plan`, `check`, `loads`, `explain`, `back`, `least`, `sim` and `rehearse`, which make a text of their input.
 use Rattle.std.specs.Prelude.{◌≡◌, ◌≢◌, ℕ}
 use Rattle.swanroll_top.specs.Endings.{status_of}
 use Rattle.swanroll_top.specs.Program.{NotesLine, Streams}

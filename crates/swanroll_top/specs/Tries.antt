@@ -34,7 +34,7 @@ HasNext limits = limits.migration + 1 < 2 ^ 32
 -- a trial is asked for with such numbers, and a rollback within such limits
 abbrev pub IsAskedShape : Asked → Type 0
 IsAskedShape (a_trial shape policy) = IsShape shape
-IsAskedShape (a_rollback limits) = HasNext limits
+IsAskedShape (a_rollback limits origin) = HasNext limits
 IsAskedShape other = ⊤
 
 -- the case of these numbers, and what is left to draw behind it

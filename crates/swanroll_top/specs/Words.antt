@@ -9,10 +9,13 @@ use Rattle.rollout_rules.specs.declared.op.OpView.{OpView}
 use Rattle.rollout_rules.specs.declared.limits.TheConstants.{MOST_FLOWS, MOST_SWITCHES}
 use Rattle.order_policy.specs.Answers.{rank_by}
 use Rattle.order_policy.specs.Named.{policy_named}
+use Rattle.rollback_service.specs.declared.origin.BackFrom.{BackFrom}
+use Rattle.rollback_service.specs.declared.origin.BackFrom.TheVariants.{Here, Level}
 use Rattle.rollout_run.specs.declared.running.Limits.{Limits}
+use Rattle.sim_run.specs.declared.script_shape.ScriptShape.{ScriptShape}
 use Rattle.sim_run.specs.declared.shape.Shape.{Shape}
 use Rattle.swanroll_top.specs.declared.words.Kind.{Kind}
-use Rattle.swanroll_top.specs.declared.words.Kind.TheVariants.{Plan, Check, Loads, Back, Sim, Report, Agent, Trial, Run, Rollback, Explain, Held, Least}
+use Rattle.swanroll_top.specs.declared.words.Kind.TheVariants.{Plan, Check, Loads, Back, Sim, Rehearse, Report, Agent, Trial, Run, Drain, Rollback, Explain, Held, Least}
 use Rattle.swanroll_top.specs.declared.words.Planner.{Planner}
 use Rattle.swanroll_top.specs.declared.words.Planner.TheVariants.{Slack, Fewest}
 use Rattle.swanroll_top.specs.declared.words.Command.{Command}
@@ -29,6 +32,7 @@ pub data TextAsked : Type 0 where
   the_explanation : TextAsked
   the_least : TextAsked
   a_rehearsal : (policy : OpView → ℕ) → TextAsked
+  a_script : (shape : ScriptShape) (policy : OpView → ℕ) → TextAsked
 
 -- what a command line asks for: a command, and what its pairs say
 pub data Asked : Type 0 where
@@ -37,7 +41,8 @@ pub data Asked : Type 0 where
   an_agent : (guests : ℕ) → Asked
   a_trial : (shape : Shape) (policy : OpView → ℕ) → Asked
   a_run : (limits : Limits) (policy : OpView → ℕ) → Asked
-  a_rollback : (limits : Limits) → Asked
+  a_drain : (limits : Limits) → Asked
+  a_rollback : (limits : Limits) (origin : BackFrom) → Asked
   what_is_held : (rounds : ℕ) → Asked
 
 -- a command in code asks for this: a policy is what it answers
@@ -50,6 +55,7 @@ module _ {X : Type 0} {F : X → Type 0} {M : Mut ((x : X) × F x) (OpView × Un
   text_asked text_command.Explain = the_explanation
   text_asked text_command.Least = the_least
   text_asked (text_command.Sim policy) = a_rehearsal (rank_by policy.now.answers)
+  text_asked (text_command.Rehearse shape policy) = a_script shape (rank_by policy.now.answers)
 
   abbrev pub asked : Command X F M → Asked
   asked (command.Text what) = a_text (text_asked what)
@@ -57,7 +63,8 @@ module _ {X : Type 0} {F : X → Type 0} {M : Mut ((x : X) × F x) (OpView × Un
   asked (command.Agent guests) = an_agent guests
   asked (command.Trial shape policy) = a_trial shape (rank_by policy.now.answers)
   asked (command.Run limits policy) = a_run limits (rank_by policy.now.answers)
-  asked (command.Rollback limits) = a_rollback limits
+  asked (command.Drain limits) = a_drain limits
+  asked (command.Rollback limits origin) = a_rollback limits origin
   asked (command.Held rounds) = what_is_held rounds
 
 -- ---- each command's word, and the names that it takes
@@ -71,10 +78,12 @@ kind_named word =
     else if bytes_eq word (codes "explain") then Some Explain
     else if bytes_eq word (codes "least") then Some Least
     else if bytes_eq word (codes "sim") then Some Sim
+    else if bytes_eq word (codes "rehearse") then Some Rehearse
     else if bytes_eq word (codes "report") then Some Report
     else if bytes_eq word (codes "agent") then Some Agent
     else if bytes_eq word (codes "trial") then Some Trial
     else if bytes_eq word (codes "run") then Some Run
+    else if bytes_eq word (codes "drain") then Some Drain
     else if bytes_eq word (codes "rollback") then Some Rollback
     else if bytes_eq word (codes "held") then Some Held
     else None
@@ -90,11 +99,13 @@ names_of Back = []
 names_of Explain = []
 names_of Least = []
 names_of Sim = codes "--policy" ∷ []
+names_of Rehearse = codes "--seed" ∷ codes "--events" ∷ codes "--policy" ∷ []
 names_of Report = codes "--migration" ∷ []
 names_of Agent = codes "--guests" ∷ []
 names_of Trial = trial_numbers ++ codes "--policy" ∷ []
 names_of Run = codes "--workers" ∷ codes "--rounds" ∷ codes "--policy" ∷ codes "--migration" ∷ []
-names_of Rollback = codes "--workers" ∷ codes "--rounds" ∷ codes "--migration" ∷ []
+names_of Drain = codes "--workers" ∷ codes "--rounds" ∷ codes "--migration" ∷ []
+names_of Rollback = codes "--workers" ∷ codes "--rounds" ∷ codes "--migration" ∷ codes "--from" ∷ []
 names_of Held = codes "--rounds" ∷ []
 
 -- ---- pairs of a name and a value
@@ -183,6 +194,12 @@ shape_in pairs =
     (numbered (codes "--switches") (codes "24") 3 MOST_SWITCHES pairs))
     (numbered (codes "--k") (codes "4") 2 64 pairs)
 
+-- the numbers of a script that the pairs name
+abbrev pub script_shape_in : List (List ℕ) → Option ScriptShape
+script_shape_in pairs =
+    option_and_then (λ seed. option_map (λ events. record { seed = seed; events = events }) (numbered (codes "--events") (codes "1000") 0 100000 pairs))
+    (numbered (codes "--seed") (codes "1") 0 1000000000000000000 pairs)
+
 -- how many workers there may be
 abbrev pub workers_in : List (List ℕ) → Option ℕ
 workers_in pairs = numbered (codes "--workers") (codes "2") 1 16 pairs
@@ -202,6 +219,13 @@ before_last limits = if nat_lt limits.migration 4294967295 then Some limits else
 abbrev pub rollback_in : List (List ℕ) → Option Limits
 rollback_in pairs = option_and_then before_last (limits_in pairs)
 
+-- from where a rollback is asked for by this word, and the one that the pairs name
+abbrev pub origin_named : List ℕ → Option BackFrom
+origin_named word = if bytes_eq word (codes "level") then Some Level else if bytes_eq word (codes "here") then Some Here else None
+
+abbrev pub origin_in : List (List ℕ) → Option BackFrom
+origin_in pairs = option_and_then origin_named (value_or (codes "--from") (codes "level") pairs)
+
 -- in how many rounds a switch may be asked what it holds
 abbrev pub held_in : List (List ℕ) → Option ℕ
 held_in pairs = numbered (codes "--rounds") (codes "10") 1 200000 pairs
@@ -214,11 +238,13 @@ with_pairs policies pairs Back = Some (a_text the_way_back)
 with_pairs policies pairs Explain = Some (a_text the_explanation)
 with_pairs policies pairs Least = Some (a_text the_least)
 with_pairs policies pairs Sim = option_map (λ policy. a_text (a_rehearsal policy)) (policy_in policies pairs)
+with_pairs policies pairs Rehearse = option_and_then (λ shape. option_map (λ policy. a_text (a_script shape policy)) (policy_in policies pairs)) (script_shape_in pairs)
 with_pairs policies pairs Report = option_map a_report (migration_in pairs)
 with_pairs policies pairs Agent = option_map an_agent (guests_in pairs)
 with_pairs policies pairs Trial = option_and_then (λ shape. option_map (a_trial shape) (policy_in policies pairs)) (shape_in pairs)
 with_pairs policies pairs Run = option_and_then (λ limits. option_map (a_run limits) (policy_in policies pairs)) (limits_in pairs)
-with_pairs policies pairs Rollback = option_map a_rollback (rollback_in pairs)
+with_pairs policies pairs Drain = option_map a_drain (limits_in pairs)
+with_pairs policies pairs Rollback = option_and_then (λ limits. option_map (a_rollback limits) (origin_in pairs)) (rollback_in pairs)
 with_pairs policies pairs Held = option_map what_is_held (held_in pairs)
 
 abbrev pub with_kind : List (List ℕ × (OpView → ℕ)) → List (List ℕ) → Kind → Option Asked

@@ -40,7 +40,7 @@ pub fn agent<K: Sink, F: Fleet>(alloc: Global, guests: u32, fleet: &mut F, sink:
     }
 }
 
-fn write_service<K: Sink>(alloc: Global, service: &Service, sink: &mut K) -> Ending
+pub(crate) fn write_service<K: Sink>(alloc: Global, service: &Service, sink: &mut K) -> Ending
     ensures own { EndsOwn result }
     ensures follows { Follows (Ok (service_line service.now)) result (K.told sink.old).written
         (K.told sink.new).written }

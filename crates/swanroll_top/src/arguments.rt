@@ -84,7 +84,7 @@ where
 }
 
 /// The words behind the program's own name.
-fn words_of(arguments: &[String]) -> &[String]
+pub(crate) fn words_of(arguments: &[String]) -> &[String]
     ensures { result.now ≡ drop 1 arguments.now }
 {
     match arguments {

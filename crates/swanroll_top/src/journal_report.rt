@@ -100,7 +100,7 @@ fn report_plan<K: Sink, D: Openable>(
     }
 }
 
-fn report_opened<K: Sink, D: Disk>(
+pub(crate) fn report_opened<K: Sink, D: Disk>(
     alloc: Global,
     plan: CheckedPlan,
     migration: u32,

@@ -2,7 +2,7 @@
 
 ghost use Rattle.rollout_rules.specs.Network.{IsNetwork};
 ghost use Rattle.rollout_rules.specs.Wan.{Problem, Rollout, Plan};
-ghost use Rattle.std.specs.Prelude.{◌≡◌, ◌≢◌, ℕ, ◌+◌, ◌*◌, ◌≤◌, List, length, Option, Some, None, Ok, IsTrue, IsSome, IsOk, Err};
+ghost use Rattle.std.specs.Prelude.{◌≡◌, ◌≢◌, ℕ, ◌+◌, ◌*◌, ◌≤◌, List, length, Option, Some, None, Ok, IfSome, IsTrue, IsSome, IsOk, Err};
 ghost use Rattle.std.specs.List.{AllByRecursion};
 ghost use Rattle.rollout_rules.specs.History.{History};
 ghost use Rattle.rollout_rules.specs.Items.{item_count};
@@ -23,11 +23,15 @@ ghost use Rattle.fewest_plan.specs.declared.cause.Cause.TheVariants.{Stuck};
 ghost use Rattle.problem_json.specs.Grammar.{problem_in};
 ghost use Rattle.rollout_rules.specs.declared.op.OpView.{OpView};
 ghost use Rattle.agent_service.specs.Services.{Guests};
-ghost use Rattle.wan_edge.specs.Streams.{SourceTrace};
+ghost use Rattle.intent_journal.specs.States.{Home};
+ghost use Rattle.rollback_service.specs.declared.origin.BackFrom.{BackFrom};
+ghost use Rattle.wan_edge.specs.Streams.{SinkTrace, SourceTrace};
+ghost use Rattle.watch_laws.specs.Watching.{AreMoments, AreReadFrom, Moment};
 ghost use Rattle.rollout_run.specs.declared.running.Limits.{Limits};
 ghost use Rattle.swanroll_top.specs.Agents.{ServesAs};
 ghost use Rattle.swanroll_top.specs.Answers.{answer_to};
 ghost use Rattle.swanroll_top.specs.JournalRoom.{journal_room};
+ghost use Rattle.swanroll_top.specs.Live.{LivePromise, WroteOnce};
 ghost use Rattle.rollout_report.specs.Journals.{journal_report};
 ghost use Rattle.swanroll_top.specs.Reports.{rollout_to};
 ghost use Rattle.swanroll_top.specs.Program.{Streams};
@@ -35,20 +39,23 @@ ghost use Rattle.swanroll_top.specs.ReportPromise.{ReportsBy};
 ghost use Rattle.swanroll_top.specs.Runs.{IsInput, TellsInput};
 ghost use Rattle.swanroll_top.specs.TextPromise.{TextPromise};
 ghost use Rattle.swanroll_top.specs.TrialPromise.{TrialPromise};
+ghost use Rattle.swanroll_top.specs.Drains.{DrainsAs};
 ghost use Rattle.swanroll_top.specs.Ready.{CountsNoFault, GoesOnFrom, IsReadyFor, IsServedFor};
 ghost use Rattle.swanroll_top.specs.Rollbacks.{RevertsAs};
 ghost use Rattle.swanroll_top.specs.Rollouts.{FleetSeen, RollsAs};
 ghost use Rattle.swanroll_top.specs.Taken.{IsShownDocument, IsValidDocument, IsValidScript};
 ghost use Rattle.swanroll_top.specs.Joined.{MayHoldNow, TellsHeld, chosen};
 ghost use Rattle.swanroll_top.specs.Targets.{RestsHeld, StaysSafe};
-ghost use Rattle.swanroll_top.specs.Words.{TextAsked, a_plan, a_check, the_loads, the_way_back, a_rehearsal, the_explanation};
+ghost use Rattle.swanroll_top.specs.Words.{TextAsked, a_plan, a_check, the_loads, the_way_back, a_rehearsal, a_script, the_explanation};
 ghost use Rattle.swanroll_top.specs.declared.ending.Ending.TheVariants.{NoPlan};
 ghost use Rattle.swanroll_top.specs.declared.words.Planner.{Planner};
 ghost use Rattle.swanroll_top.specs.declared.words.Planner.TheVariants.{Slack};
+ghost use Rattle.sim_run.specs.declared.script_shape.ScriptShape.{ScriptShape};
 ghost use Rattle.sim_run.specs.declared.shape.Shape.{Shape};
 ghost use Rattle.swanroll_top.specs.Tries.{IsShape, tried};
 
 use disk_model::Disk;
+use file_sight::Sight;
 use wan_edge::Fleet;
 
 /// Where the input is a problem whose loads and entries fit, each of these is enough for `plan` to have an
@@ -106,9 +113,9 @@ pub fn where_none_exists_there_is_no_valid_plan()
         → ⊥ }
 {}
 
-/// Every document with a valid plan has an answer of `loads`, `explain` and `back`, and of `check` where what it
-/// says of fewer rate steps, if it does, is shown; and every script on one has an answer of `sim`, whatever
-/// the policy.
+/// Every document with a valid plan has an answer of `loads`, `explain` and `back`, of `rehearse` whatever its
+/// numbers and the policy, and of `check` where what it says of fewer rate steps, if it does, is shown; and
+/// every script on one has an answer of `sim`, whatever the policy.
 pub fn what_is_valid_is_answered()
     ensures check { (input : List ℕ) → IsShownDocument input → IsOk (answer_to a_check input) }
     ensures loads { (input : List ℕ) → IsValidDocument input → IsOk (answer_to the_loads input) }
@@ -119,6 +126,9 @@ pub fn what_is_valid_is_answered()
     ensures sim { (policy : OpView → ℕ) (input : List ℕ)
         → IsValidScript input
         → IsOk (answer_to (a_rehearsal policy) input) }
+    ensures rehearse { (shape : ScriptShape) (policy : OpView → ℕ) (input : List ℕ)
+        → IsValidDocument input
+        → IsOk (answer_to (a_script shape policy) input) }
 {}
 
 /// A run whose source tells its input, by what it had left or by what was taken of it, and whose command has
@@ -143,6 +153,38 @@ pub fn a_report_is_written()
         → ReportsBy migration before after status
         → TellsInput before.source after.source input
         → before.stored ≡ Some image
+        → rollout_to input ≡ Ok o
+        → IsOk (journal_report o migration image)
+        → status ≢ 6
+        → status ≢ 7
+        → status ≢ 8
+        → status ≢ 12
+        → status ≡ 0 }
+{}
+
+/// Where a controller appended to the journal while it was read, each byte at its moment, a live report that ends
+/// with status 0 has written the report, for the rollout of its input, of what stood there at one of these moments.
+pub fn a_live_report_was_right_once<W: Sight>()
+    ensures { (migration : ℕ) (source source_now : SourceTrace) (file file_now : W)
+        (sink sink_now notes notes_now : SinkTrace) (status : ℕ)
+        (promise : LivePromise W.told migration source source_now file file_now sink sink_now notes
+        notes_now status) (home : Home) (moments : List Moment)
+        → status ≡ 0
+        → AreMoments home moments
+        → IfSome promise.does.seen (AreReadFrom 0 moments)
+        → WroteOnce migration source source_now moments sink.written sink_now.written }
+{}
+
+/// A live report ends with status 0 unless the source, the sink or a reading of the file failed, the file was in
+/// use or memory ran out, where the source tells that its input is a document with a valid plan, and what was read
+/// of the file is no journal yet, or one of this rollout with a legal list.
+pub fn a_live_report_is_written<W: Sight>()
+    ensures { (migration : ℕ) (source source_now : SourceTrace) (file file_now : W)
+        (sink sink_now notes notes_now : SinkTrace) (status : ℕ)
+        (promise : LivePromise W.told migration source source_now file file_now sink sink_now notes
+        notes_now status) (input image : List ℕ) (o : Rollout)
+        → TellsInput source source_now input
+        → promise.does.seen ≡ Some image
         → rollout_to input ≡ Ok o
         → IsOk (journal_report o migration image)
         → status ≢ 6
@@ -212,19 +254,17 @@ pub fn a_run_over_ready_ports_ends_well<D: Disk, F: Fleet>()
         → status ≡ 0 }
 {}
 
-/// A rollback ends with status 0 unless the source, the sink, the disk, the fleet or a port failed or memory
-/// ran out, where it finds what a run must find to be sure that it finishes, but for a policy, which is its
-/// own; and where the disk tells its bytes at the end, too. Neither disk, fleet nor port failed where no count
-/// of theirs has risen.
-pub fn a_rollback_over_ready_ports_ends_well<D: Disk, F: Fleet>()
+/// A drain ends with status 0 unless the source, the sink, the disk, the fleet or a port failed or memory ran
+/// out, where it finds what a run must find to be sure that it finishes, but for a policy, which is its own.
+/// Neither disk, fleet nor port failed where no count of theirs has risen.
+pub fn a_drain_over_ready_ports_ends_well<D: Disk, F: Fleet>()
     ensures by_status { (limits : Limits) (source source_now : SourceTrace) (disk disk_now : D)
         (before now : FleetSeen F.Port) (status : ℕ) (out out_now : Option (List ℕ)) (r : Rollout)
         (found : History)
-        → RevertsAs D.told F.Port.told (IsInput source source_now) limits disk disk_now before now
+        → DrainsAs D.told F.Port.told (IsInput source source_now) limits disk disk_now before now
         status out out_now
         → GoesOnFrom limits.migration source source_now (D.told disk).bytes r found
         → IsServedFor F.Port.told limits before.ports.waiting r found
-        → IsSome (D.told disk_now).bytes
         → status ≢ 6
         → status ≢ 7
         → status ≢ 8
@@ -234,8 +274,41 @@ pub fn a_rollback_over_ready_ports_ends_well<D: Disk, F: Fleet>()
     ensures by_counts { (limits : Limits) (source source_now : SourceTrace) (disk disk_now : D)
         (before now : FleetSeen F.Port) (status : ℕ) (out out_now : Option (List ℕ)) (r : Rollout)
         (found : History)
-        → RevertsAs D.told F.Port.told (IsInput source source_now) limits disk disk_now before now
+        → DrainsAs D.told F.Port.told (IsInput source source_now) limits disk disk_now before now
         status out out_now
+        → GoesOnFrom limits.migration source source_now (D.told disk).bytes r found
+        → IsServedFor F.Port.told limits before.ports.waiting r found
+        → CountsNoFault F.Port.told (D.told disk).faults (D.told disk_now).faults before now
+        → status ≢ 6
+        → status ≢ 7
+        → status ≢ 12
+        → status ≡ 0 }
+{}
+
+/// A rollback, from wherever it is asked to, ends with status 0 unless the source, the sink, the disk, the fleet
+/// or a port failed or memory ran out, where it finds what a run must find to be sure that it finishes, but for
+/// a policy, which is its own; and where the disk tells its bytes at the end, too. Neither disk, fleet nor port
+/// failed where no count of theirs has risen.
+pub fn a_rollback_over_ready_ports_ends_well<D: Disk, F: Fleet>()
+    ensures by_status { (origin : BackFrom) (limits : Limits) (source source_now : SourceTrace)
+        (disk disk_now : D) (before now : FleetSeen F.Port) (status : ℕ)
+        (out out_now : Option (List ℕ)) (r : Rollout) (found : History)
+        → RevertsAs D.told F.Port.told (IsInput source source_now) origin limits disk disk_now
+        before now status out out_now
+        → GoesOnFrom limits.migration source source_now (D.told disk).bytes r found
+        → IsServedFor F.Port.told limits before.ports.waiting r found
+        → IsSome (D.told disk_now).bytes
+        → status ≢ 6
+        → status ≢ 7
+        → status ≢ 8
+        → status ≢ 9
+        → status ≢ 12
+        → status ≡ 0 }
+    ensures by_counts { (origin : BackFrom) (limits : Limits) (source source_now : SourceTrace)
+        (disk disk_now : D) (before now : FleetSeen F.Port) (status : ℕ)
+        (out out_now : Option (List ℕ)) (r : Rollout) (found : History)
+        → RevertsAs D.told F.Port.told (IsInput source source_now) origin limits disk disk_now
+        before now status out out_now
         → GoesOnFrom limits.migration source source_now (D.told disk).bytes r found
         → IsServedFor F.Port.told limits before.ports.waiting r found
         → IsSome (D.told disk_now).bytes
@@ -267,8 +340,8 @@ pub fn a_rollout_is_held_by_its_policy_alone<D: Disk, F: Fleet>()
         now.ports }
 {}
 
-/// What all switches hold together behind a rollout that was begun, or a rollback, is one of the choices for
-/// which the network is safe, with each item whose home has no port where the history found left it: as the
+/// What all switches hold together behind a rollout, a drain or a rollback that was begun is one of the choices
+/// for which the network is safe, with each item whose home has no port where the history found left it: as the
 /// ports tell it, and whatever honest switches may hold by what went over their ports.
 pub fn what_all_switches_hold_is_safe<D: Disk, F: Fleet>()
     ensures told { (limits : Limits) (source source_now : SourceTrace) (disk : D)

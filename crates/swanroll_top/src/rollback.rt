@@ -1,10 +1,10 @@
-//! The command `rollback`: a rollout is levelled at the stage to which it has come, and a journal of its way
-//! back takes the place of its own.
+//! The command `rollback`: a rollout is levelled, at the stage to which it has come or no further than it has to
+//! be, and a journal of its way back takes the place of its own.
 
-ghost use Rattle.std.specs.Prelude.{◌≡◌, ◌≢◌, ◌+◌, ◌<◌, ◌≤◌, ◌^◌, Ok};
-ghost use Rattle.rollout_rules.specs.Wan.{Rollout, last_stage};
+ghost use Rattle.std.specs.Prelude.{◌≡◌, ◌≢◌, ◌+◌, ◌<◌, ◌^◌, Ok};
+ghost use Rattle.rollout_rules.specs.Wan.{Rollout};
 ghost use Rattle.wan_edge.specs.Streams.{Rose};
-ghost use Rattle.rollback_service.specs.Levellings.{IsStage};
+ghost use Rattle.rollback_service.specs.Levellings.{IsStartBack, MayStart};
 ghost use Rattle.rollback_plan.specs.Turning as turning;
 ghost use Rattle.swanroll_top.specs.Reports.{rollout_in};
 ghost use Rattle.swanroll_top.specs.Rollbacks.{Closes, OpensAndRollsBack, Reverts, RevertsIn, RollsBack, TakesBack, back_text};
@@ -23,7 +23,8 @@ use dependency_graph::checked_plan_is_valid;
 use disk_mirror::Openable;
 use disk_model::Disk;
 use intent_journal::Unopened;
-use rollback_service::{LevelAnswer, Levelled, Placed, place_back, run_levelling};
+use lists::Ids;
+use rollback_service::{BackFrom, LevelAnswer, Levelled, Placed, place_back, run_levelling};
 use rollout_run::Limits;
 use std::alloc::Global;
 use std::sync::Wait;
@@ -32,11 +33,13 @@ use wan_edge::{Fleet, Nums8, Sink, Source};
 use wan_model::CheckedPlan;
 
 /// Reads all of the source, levels the rollout of its document within these limits, from what the journal on
-/// the disk has, and takes it back: a journal of the way back is placed, and then its document is written.
+/// the disk has and as far as it is asked, and takes it back: a journal of the way back is placed, and then its
+/// document is written.
 pub fn roll_back<R: Wait + Threads + Sync, S: Source, K: Sink, D: Openable + Drop + Send, F: Fleet>(
     rt: &R,
     alloc: Global,
     limits: Limits,
+    origin: BackFrom,
     source: &mut S,
     sink: &mut K,
     disk: D,
@@ -48,7 +51,7 @@ where
     ensures runs { RunsRollout (S.told source.old) (S.told source.new) result.ending
         (K.told sink.old).written (K.told sink.new).written }
     ensures rolls { Reverts D.told F.Port.told (IsInput (S.told source.old) (S.told source.new))
-        limits disk result.disk (fleet_of F.waiting F.kept F.lent F.named F.faults fleet.old)
+        origin limits disk result.disk (fleet_of F.waiting F.kept F.lent F.named F.faults fleet.old)
         (fleet_of F.waiting F.kept F.lent F.named F.faults fleet.new) result.ending
         (K.told sink.old).written (K.told sink.new).written }
     ensures guests { (F.coming fleet.new ≡ F.coming fleet.old)
@@ -63,7 +66,7 @@ where
     ensures others { (result.ending ≢ Ending.Usage) × (result.ending ≢ Ending.GuestFault) }
 {
     match read_input(alloc, source) {
-        Ok(input) => roll_back_input(rt, alloc, limits, input, sink, disk, fleet),
+        Ok(input) => roll_back_input(rt, alloc, limits, origin, input, sink, disk, fleet),
         Err(ending) => Closed { ending, disk },
     }
 }
@@ -72,6 +75,7 @@ fn roll_back_input<R: Wait + Threads + Sync, K: Sink, D: Openable + Drop + Send,
     rt: &R,
     alloc: Global,
     limits: Limits,
+    origin: BackFrom,
     input: Nums8,
     sink: &mut K,
     disk: D,
@@ -82,7 +86,8 @@ where
     requires { limits.migration + 1 < 2 ^ 32 }
     ensures follows { FollowsRolled (rollout_in input) result.ending (K.told sink.old).written
         (K.told sink.new).written }
-    ensures rolls { RevertsIn D.told F.Port.told (rollout_in input) limits disk result.disk
+    ensures rolls { RevertsIn D.told F.Port.told (rollout_in input) origin limits disk
+        result.disk
         (fleet_of F.waiting F.kept F.lent F.named F.faults fleet.old)
         (fleet_of F.waiting F.kept F.lent F.named F.faults fleet.new) result.ending
         (K.told sink.old).written (K.told sink.new).written }
@@ -95,7 +100,7 @@ where
         → Rose (D.told disk).faults (D.told result.disk).faults }
 {
     match rollout_of(alloc, input) {
-        Ok(plan) => roll_back_plan(rt, alloc, limits, plan, sink, disk, fleet),
+        Ok(plan) => roll_back_plan(rt, alloc, limits, origin, plan, sink, disk, fleet),
         Err(ending) => Closed { ending, disk },
     }
 }
@@ -105,6 +110,7 @@ fn roll_back_plan<R: Wait + Threads + Sync, K: Sink, D: Openable + Drop + Send, 
     rt: &R,
     alloc: Global,
     limits: Limits,
+    origin: BackFrom,
     plan: CheckedPlan,
     sink: &mut K,
     mut disk: D,
@@ -113,7 +119,7 @@ fn roll_back_plan<R: Wait + Threads + Sync, K: Sink, D: Openable + Drop + Send, 
 where
     F::Port: Drop + Send,
     requires { limits.migration + 1 < 2 ^ 32 }
-    ensures rolls { OpensAndRollsBack D.told F.Port.told plan limits disk result.disk
+    ensures rolls { OpensAndRollsBack D.told F.Port.told plan origin limits disk result.disk
         (fleet_of F.waiting F.kept F.lent F.named F.faults fleet.old)
         (fleet_of F.waiting F.kept F.lent F.named F.faults fleet.new) result.ending
         (K.told sink.old).written (K.told sink.new).written }
@@ -127,7 +133,7 @@ where
         → Rose (D.told disk).faults (D.told result.disk).faults }
 {
     match disk.open(journal_room(&plan)) {
-        Ok(()) => roll_back_opened(rt, alloc, limits, plan, sink, disk, fleet),
+        Ok(()) => roll_back_opened(rt, alloc, limits, origin, plan, sink, disk, fleet),
         Err(_) => {
             drop(plan);
             Closed {
@@ -142,6 +148,7 @@ fn roll_back_opened<R: Wait + Threads + Sync, K: Sink, D: Disk + Drop + Send, F:
     rt: &R,
     alloc: Global,
     limits: Limits,
+    origin: BackFrom,
     plan: CheckedPlan,
     sink: &mut K,
     disk: D,
@@ -150,7 +157,7 @@ fn roll_back_opened<R: Wait + Threads + Sync, K: Sink, D: Disk + Drop + Send, F:
 where
     F::Port: Drop + Send,
     requires { limits.migration + 1 < 2 ^ 32 }
-    ensures rolls { RollsBack D.told F.Port.told plan limits disk result.disk
+    ensures rolls { RollsBack D.told F.Port.told plan origin limits disk result.disk
         (fleet_of F.waiting F.kept F.lent F.named F.faults fleet.old)
         (fleet_of F.waiting F.kept F.lent F.named F.faults fleet.new) result.ending
         (K.told sink.old).written (K.told sink.new).written }
@@ -164,7 +171,7 @@ where
         → Rose (D.told disk).faults (D.told result.disk).faults }
 {
     checked_plan_is_valid(&plan);
-    match run_levelling(rt, alloc, plan, limits, disk, fleet) {
+    match run_levelling(rt, alloc, plan, origin, limits, disk, fleet) {
         Ok(levelled) => {
             let Levelled { disk, answer } = levelled;
             close(alloc, limits.migration, answer, sink, disk)
@@ -187,7 +194,7 @@ fn close<K: Sink, D: Disk>(
     sink: &mut K,
     disk: D,
 ) -> Closed<D>
-    requires stage { IsStage answer }
+    requires start { MayStart answer }
     requires migration { migration + 1 < 2 ^ 32 }
     ensures closes { Closes D.told migration answer disk result.disk result.ending
         (K.told sink.old).written (K.told sink.new).written }
@@ -196,7 +203,7 @@ fn close<K: Sink, D: Disk>(
         → Rose (K.told sink.old).faults (K.told sink.new).faults }
 {
     match answer {
-        LevelAnswer::Level(plan, stage) => take_back(alloc, migration, plan, stage, sink, disk),
+        LevelAnswer::Level(plan, start) => take_back(alloc, migration, plan, start, sink, disk),
         LevelAnswer::Stopped(plan, halt) => Closed {
             ending: ending_of_stop(plan, halt.cause),
             disk,
@@ -212,24 +219,24 @@ fn close<K: Sink, D: Disk>(
     }
 }
 
-/// Places a journal of the way back from a stage, and then writes the document of the way back.
+/// Places a journal of the way back from a start, and then writes the document of the way back.
 fn take_back<K: Sink, D: Disk>(
     alloc: Global,
     migration: u32,
     plan: CheckedPlan,
-    stage: u32,
+    start: Ids,
     sink: &mut K,
     disk: D,
 ) -> Closed<D>
-    requires stage { stage ≤ last_stage plan.plan }
+    requires start { IsStartBack plan start }
     requires migration { migration + 1 < 2 ^ 32 }
-    ensures takes { TakesBack D.told plan migration stage disk result.disk result.ending
+    ensures takes { TakesBack D.told plan migration start disk result.disk result.ending
         (K.told sink.old).written (K.told sink.new).written }
     ensures ends { EndsRollout result.ending (K.told sink.old).written (K.told sink.new).written }
     ensures write_fault { result.ending ≡ Ending.WriteFault
         → Rose (K.told sink.old).faults (K.told sink.new).faults }
 {
-    let Placed { disk, answer } = place_back(alloc, plan, migration, stage, disk);
+    let Placed { disk, answer } = place_back(alloc, plan, migration, start, disk);
     match answer {
         Ok(there) => Closed {
             ending: write_back(alloc, there, sink),

@@ -11,6 +11,7 @@ ghost use Rattle.swanroll_top.specs.Views.{objects};
 ghost use Rattle.swanroll_top.specs.Words.{asked, text_asked};
 
 use crate::agent::agent;
+use crate::drain::drain_out;
 use crate::ending::Ending;
 use crate::held::held;
 use crate::journal_report::report;
@@ -79,7 +80,10 @@ where
         Command::Run(limits, policy) => {
             roll_out(rt, alloc, limits, policy, source, sink, disk, fleet)
         }
-        Command::Rollback(limits) => roll_back(rt, alloc, limits, source, sink, disk, fleet),
+        Command::Rollback(limits, origin) => {
+            roll_back(rt, alloc, limits, origin, source, sink, disk, fleet)
+        }
+        Command::Drain(limits) => drain_out(rt, alloc, limits, source, sink, disk, fleet),
         Command::Held(rounds) => Closed {
             ending: held(alloc, rounds, source, sink, fleet),
             disk,

@@ -7,6 +7,7 @@ mod explain;
 mod least;
 mod loads;
 mod plan;
+mod rehearse;
 mod sim;
 
 ghost use Rattle.std.specs.Prelude.{IfOk};
@@ -37,5 +38,6 @@ pub fn text_of(alloc: Global, command: TextCommand<'_>, input: Nums8) -> Result<
         TextCommand::Explain => explain::explain(alloc, input),
         TextCommand::Least => least::least(alloc, input),
         TextCommand::Sim(policy) => sim::sim(alloc, policy, input),
+        TextCommand::Rehearse(shape, policy) => rehearse::rehearse(alloc, &shape, policy, input),
     }
 }

@@ -2,13 +2,14 @@ ghost use Rattle.std.specs.Prelude.{◌≡◌, ◌≤◌, map, string_bytes, byt
 ghost use Rattle.std.specs.List.{list_any};
 ghost use Rattle.order_policy.specs.Answers.{rank_by};
 ghost use Rattle.order_policy.specs.Named.{answers_in, policy_named};
-ghost use Rattle.swanroll_top.specs.Words.{asked, asked_by, kind_named, names_of, begins_with_dash, are_pairs, value_or, planner_in, planner_named, policy_in, migration_in, guests_in, in_millions, number_in, number_of, in_range, numbered, limits_in, shape_in, are_digits, trial_numbers, with_kind, before_last, rollback_in, held_in};
+ghost use Rattle.swanroll_top.specs.Words.{asked, asked_by, kind_named, names_of, begins_with_dash, are_pairs, value_or, planner_in, planner_named, policy_in, migration_in, guests_in, in_millions, number_in, number_of, in_range, numbered, limits_in, shape_in, script_shape_in, are_digits, trial_numbers, with_kind, before_last, rollback_in, held_in, origin_in, origin_named};
 ghost use Rattle.swanroll_top.specs.Tries.{HasNext, IsAskedShape, IsShape};
 
 use order_policy::{Policies, Policy};
+use rollback_service::BackFrom;
 use rollout_rules::{MOST_FLOWS, MOST_SWITCHES};
 use rollout_run::Limits;
-use sim_run::Shape;
+use sim_run::{ScriptShape, Shape};
 
 /// How many guests an agent may be asked to serve.
 const MOST_GUESTS: u32 = 1_000_000;
@@ -22,10 +23,10 @@ const MOST_ROUNDS: u64 = 200_000;
 /// The last number of a migration, which has no next one.
 const LAST_MIGRATION: u32 = 4_294_967_295;
 
-/// The largest seed of a trial.
+/// The largest seed of a trial, or of a script that is drawn.
 const LARGEST_SEED: u64 = 1_000_000_000_000_000_000;
 
-/// How many events a trial may be asked for.
+/// How many events a trial, or a script that is drawn, may be asked for.
 const MOST_EVENTS: u64 = 100_000;
 
 /// How many digits a number has at the most.
@@ -44,8 +45,10 @@ pub enum Command<'a> {
     Trial(Shape, &'a Policy),
     /// A rollout within these limits under a policy.
     Run(Limits, &'a Policy),
-    /// A rollback within these limits; its migration has a next one.
-    Rollback(Limits),
+    /// A drain of a rollout within these limits.
+    Drain(Limits),
+    /// A rollback within these limits, from where it says; its migration has a next one.
+    Rollback(Limits, BackFrom),
     /// The question what switches hold, in at most so many rounds.
     Held(u32),
 }
@@ -63,6 +66,8 @@ pub enum TextCommand<'a> {
     Least,
     /// A rehearsal under a policy.
     Sim(&'a Policy),
+    /// A script of these numbers, which is drawn under a policy.
+    Rehearse(ScriptShape, &'a Policy),
 }
 
 /// Who chooses a plan.
@@ -84,10 +89,12 @@ pub enum Kind {
     Explain,
     Least,
     Sim,
+    Rehearse,
     Report,
     Agent,
     Trial,
     Run,
+    Drain,
     Rollback,
     Held,
 }
@@ -117,10 +124,12 @@ fn kind_named(word: &str) -> Option<Kind>
         "explain" => Some(Kind::Explain),
         "least" => Some(Kind::Least),
         "sim" => Some(Kind::Sim),
+        "rehearse" => Some(Kind::Rehearse),
         "report" => Some(Kind::Report),
         "agent" => Some(Kind::Agent),
         "trial" => Some(Kind::Trial),
         "run" => Some(Kind::Run),
+        "drain" => Some(Kind::Drain),
         "rollback" => Some(Kind::Rollback),
         "held" => Some(Kind::Held),
         _ => None,
@@ -147,11 +156,16 @@ fn command_with<'a>(
         Kind::Explain => Some(Command::Text(TextCommand::Explain)),
         Kind::Least => Some(Command::Text(TextCommand::Least)),
         Kind::Sim => Some(Command::Text(TextCommand::Sim(policy_of(pairs, policies)?))),
+        Kind::Rehearse => Some(Command::Text(TextCommand::Rehearse(
+            script_shape_of(pairs)?,
+            policy_of(pairs, policies)?,
+        ))),
         Kind::Report => Some(Command::Report(migration_of(pairs)?)),
         Kind::Agent => Some(Command::Agent(guests_of(pairs)?)),
         Kind::Trial => Some(Command::Trial(shape_of(pairs)?, policy_of(pairs, policies)?)),
         Kind::Run => Some(Command::Run(limits_of(pairs)?, policy_of(pairs, policies)?)),
-        Kind::Rollback => Some(Command::Rollback(rollback_of(pairs)?)),
+        Kind::Drain => Some(Command::Drain(limits_of(pairs)?)),
+        Kind::Rollback => Some(Command::Rollback(rollback_of(pairs)?, origin_of(pairs)?)),
         Kind::Held => Some(Command::Held(held_of(pairs)?)),
     }
 }
@@ -164,11 +178,13 @@ fn takes(kind: Kind, name: &str) -> bool
         Kind::Plan => name == "--planner",
         Kind::Check | Kind::Loads | Kind::Explain | Kind::Back | Kind::Least => false,
         Kind::Sim => name == "--policy",
+        Kind::Rehearse => matches!(name, "--seed" | "--events" | "--policy"),
         Kind::Report => name == "--migration",
         Kind::Agent => name == "--guests",
         Kind::Trial => names_a_number(name) || name == "--policy",
         Kind::Run => matches!(name, "--workers" | "--rounds" | "--policy" | "--migration"),
-        Kind::Rollback => matches!(name, "--workers" | "--rounds" | "--migration"),
+        Kind::Drain => matches!(name, "--workers" | "--rounds" | "--migration"),
+        Kind::Rollback => matches!(name, "--workers" | "--rounds" | "--migration" | "--from"),
         Kind::Held => name == "--rounds",
     }
 }
@@ -197,7 +213,7 @@ fn are_pairs(kind: Kind, words: &[String]) -> bool
     rest.is_empty()
 }
 
-fn begins_with_dash(word: &str) -> bool
+pub(crate) fn begins_with_dash(word: &str) -> bool
     ensures { result ≡ begins_with_dash word.now }
 {
     matches!(word.as_bytes(), [b'-', ..])
@@ -229,7 +245,7 @@ fn policy_of<'a>(pairs: &[String], policies: &'a Policies<Policy>) -> Option<&'a
 }
 
 /// The number of the migration that the pairs name; 0 where they name none.
-fn migration_of(pairs: &[String]) -> Option<u32>
+pub(crate) fn migration_of(pairs: &[String]) -> Option<u32>
     ensures { result ≡ migration_in (map string_bytes pairs.now) }
 {
     number_in(value_or(pairs, "--migration", "0")?)
@@ -266,6 +282,23 @@ fn before_last(limits: Limits) -> Option<Limits>
         return Some(limits);
     }
     None
+}
+
+/// From where the pairs ask for a rollback; from a level where they don't say.
+fn origin_of(pairs: &[String]) -> Option<BackFrom>
+    ensures { result ≡ origin_in (map string_bytes pairs.now) }
+{
+    origin_named(value_or(pairs, "--from", "level")?)
+}
+
+fn origin_named(word: &str) -> Option<BackFrom>
+    ensures { result ≡ origin_named word.now }
+{
+    match word {
+        "level" => Some(BackFrom::Level),
+        "here" => Some(BackFrom::Here),
+        _ => None,
+    }
 }
 
 /// In how many rounds a switch may be asked what it holds, from 1 to 200,000; 10 where the pairs name none.
@@ -311,8 +344,26 @@ fn shape_of(pairs: &[String]) -> Option<Shape>
     })
 }
 
+/// The numbers of the script that the pairs name, each with the default of a trial.
+fn script_shape_of(pairs: &[String]) -> Option<ScriptShape>
+    ensures { result ≡ script_shape_in (map string_bytes pairs.now) }
+{
+    let seed = numbered(pairs, "--seed", "1", 0, LARGEST_SEED)?;
+    let events = numbered(pairs, "--events", "1000", 0, MOST_EVENTS)?;
+    Some(ScriptShape {
+        seed,
+        events: events as u32,
+    })
+}
+
 /// The number that the pairs name, within its range; a default where they name none.
-fn numbered(pairs: &[String], name: &str, default: &str, low: u64, high: u64) -> Option<u64>
+pub(crate) fn numbered(
+    pairs: &[String],
+    name: &str,
+    default: &str,
+    low: u64,
+    high: u64,
+) -> Option<u64>
     ensures value { result ≡ numbered name.now default.now low high (map string_bytes pairs.now) }
     ensures least { IfSome result (λ number. low ≤ number) }
     ensures most { IfSome result (λ number. number ≤ high) }

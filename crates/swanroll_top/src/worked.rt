@@ -4,8 +4,11 @@ ghost use Rattle.std.specs.Prelude.{◌≡◌, [], ◌∷◌, codes, Some, None}
 ghost use Rattle.rollout_rules.specs.Worked.{fresh};
 ghost use Rattle.switch_laws.specs.Worked.{two_flows};
 ghost use Rattle.completion_laws.specs.Worked.{begun_one};
+ghost use Rattle.rollback_service.specs.declared.origin.BackFrom.TheVariants.{Here, Level};
+ghost use Rattle.swanroll_top.specs.Drains.{line_with_left};
+ghost use Rattle.swanroll_top.specs.LiveWords.{live_in};
 ghost use Rattle.swanroll_top.specs.Ready.{CountsNoFault, IsReadyFor};
-ghost use Rattle.swanroll_top.specs.Words.{a_plan, a_check, the_loads, the_way_back, a_rehearsal, a_report, a_rollback, a_text, a_trial, an_agent, asked_in, the_explanation, the_least, what_is_held};
+ghost use Rattle.swanroll_top.specs.Words.{a_drain, a_plan, a_check, the_loads, the_way_back, a_rehearsal, a_report, a_rollback, a_script, a_text, a_trial, an_agent, asked_in, the_explanation, the_least, what_is_held};
 ghost use Rattle.swanroll_top.specs.declared.words.Planner.TheVariants.{Slack, Fewest};
 ghost use Rattle.swanroll_top.specs.Worked.{answered_once, by_item, chain_first, failed_once, fleet_with, in_rounds, itself, never_used, none_begins, two_policies, unanswered, waiting_at_first};
 
@@ -37,10 +40,94 @@ pub fn command_lines()
         ≡ Some (a_report 7) }
 {}
 
-/// A rollback takes what a run does but for a policy, and its migration must have a next one.
+/// The word `--live` stands behind that of a report, and before its pairs.
+pub fn lines_of_a_live_report()
+    ensures default { live_in (codes "report" ∷ codes "--live" ∷ [])
+        ≡ Some (record { migration = 0; seconds = 0 }) }
+    ensures named { live_in
+        (codes "report"
+        ∷ codes "--live"
+        ∷ codes "--migration"
+        ∷ codes "7"
+        ∷ codes "--follow"
+        ∷ codes "2"
+        ∷ [])
+        ≡ Some (record { migration = 7; seconds = 2 }) }
+    ensures above { live_in
+        (codes "report" ∷ codes "--live" ∷ codes "--follow" ∷ codes "86401" ∷ [])
+        ≡ None }
+    ensures without { live_in (codes "report" ∷ []) ≡ None }
+    ensures behind { live_in
+        (codes "report" ∷ codes "--migration" ∷ codes "7" ∷ codes "--live" ∷ [])
+        ≡ None }
+    ensures another { live_in (codes "run" ∷ codes "--live" ∷ []) ≡ None }
+{}
+
+/// A script is drawn of a seed and a number of events, under a policy; it takes no other number of a trial.
+pub fn lines_of_a_rehearsal()
+    ensures default { asked_in two_policies (codes "rehearse" ∷ [])
+        ≡ Some (a_text (a_script (record { seed = 1; events = 1000 }) chain_first)) }
+    ensures named { asked_in two_policies
+        (codes "rehearse"
+        ∷ codes "--events"
+        ∷ codes "0"
+        ∷ codes "--policy"
+        ∷ codes "order"
+        ∷ codes "--seed"
+        ∷ codes "7"
+        ∷ [])
+        ≡ Some (a_text (a_script (record { seed = 7; events = 0 }) by_item)) }
+    ensures above { asked_in two_policies
+        (codes "rehearse" ∷ codes "--events" ∷ codes "100001" ∷ [])
+        ≡ None }
+    ensures other { asked_in two_policies (codes "rehearse" ∷ codes "--k" ∷ codes "4" ∷ [])
+        ≡ None }
+{}
+
+/// A drain takes what a run does but for a policy; its migration may be the last one.
+pub fn drain_lines()
+    ensures default { asked_in two_policies (codes "drain" ∷ [])
+        ≡ Some (a_drain (record { workers = 2; rounds = 1000; migration = 0 })) }
+    ensures last { asked_in two_policies
+        (codes "drain"
+        ∷ codes "--migration"
+        ∷ codes "4294967295"
+        ∷ codes "--rounds"
+        ∷ codes "200000"
+        ∷ [])
+        ≡ Some (a_drain (record { workers = 2; rounds = 200000; migration = 4294967295 })) }
+    ensures workers { asked_in two_policies
+        (codes "drain" ∷ codes "--workers" ∷ codes "17" ∷ [])
+        ≡ None }
+    ensures policy { asked_in two_policies
+        (codes "drain" ∷ codes "--policy" ∷ codes "freeze" ∷ [])
+        ≡ None }
+{}
+
+/// Of 16 operations 4 are left, or none.
+pub fn the_line_of_a_drained_rollout()
+    ensures some { line_with_left 16 4 ≡ codes "drained: operations 16, settled 12\n" }
+    ensures all { line_with_left 16 0 ≡ codes "drained: operations 16, settled 16\n" }
+{}
+
+/// A rollback takes what a run does but for a policy, its migration must have a next one, and it says from where.
 pub fn rollback_lines()
     ensures default { asked_in two_policies (codes "rollback" ∷ [])
-        ≡ Some (a_rollback (record { workers = 2; rounds = 1000; migration = 0 })) }
+        ≡ Some (a_rollback (record { workers = 2; rounds = 1000; migration = 0 }) Level) }
+    ensures level { asked_in two_policies (codes "rollback" ∷ codes "--from" ∷ codes "level" ∷ [])
+        ≡ Some (a_rollback (record { workers = 2; rounds = 1000; migration = 0 }) Level) }
+    ensures here { asked_in two_policies
+        (codes "rollback"
+        ∷ codes "--from"
+        ∷ codes "here"
+        ∷ codes "--rounds"
+        ∷ codes "7"
+        ∷ [])
+        ≡ Some (a_rollback (record { workers = 2; rounds = 7; migration = 0 }) Here) }
+    ensures there { asked_in two_policies (codes "rollback" ∷ codes "--from" ∷ codes "there" ∷ [])
+        ≡ None }
+    ensures of_a_run { asked_in two_policies (codes "run" ∷ codes "--from" ∷ codes "here" ∷ [])
+        ≡ None }
     ensures last { asked_in two_policies
         (codes "rollback"
         ∷ codes "--migration"
@@ -48,7 +135,8 @@ pub fn rollback_lines()
         ∷ codes "--workers"
         ∷ codes "16"
         ∷ [])
-        ≡ Some (a_rollback (record { workers = 16; rounds = 1000; migration = 4294967294 })) }
+        ≡ Some (a_rollback (record { workers = 16; rounds = 1000; migration = 4294967294 })
+        Level) }
     ensures no_next { asked_in two_policies
         (codes "rollback" ∷ codes "--migration" ∷ codes "4294967295" ∷ [])
         ≡ None }

@@ -6,7 +6,7 @@ use Rattle.std.proofs.lemmas.Bool.{cases_eq, cond-true, cond-false, ne_eqb}
 use Rattle.rollout_rules.specs.Agent.{held_after, is_next_command}
 use Rattle.wan_edge.specs.Frames.{CommandFrame}
 use Rattle.wan_edge.specs.Switches.{after_command, pair_asked}
-use Rattle.switch_agent.specs.Items.{Items, held_by, holding, seen}
+use Rattle.switch_agent.specs.Items.{Items, held_by, holding, seen, with_stored}
 
 -- the agent rule, by the last command
 pub carried : (last : Option CommandFrame) (c : CommandFrame) → is_next_command (held_by last).held (pair_asked c) ≡ true → held_by (Some c) ≡ held_after (held_by last) (pair_asked c) c.1.content
@@ -48,3 +48,18 @@ module _ (items new : Items) (item : ℕ) (now : Option CommandFrame) (updated :
         | inl e ↦ ap is_some (at_item q e) ∙ ap (λ (b : Bool). b || seen items q) (sym (eq-eqb q item e))
         | inr other ↦ ap is_some (elsewhere q other) ∙ ap (λ (b : Bool). b || seen items q) (sym (ne_eqb q item other))
       ]
+
+  -- a command that is put in the place of what was held of its item
+  stored_at : (c : CommandFrame) → c.1.item ≡ item → now ≡ Some c → (q : ℕ) → holding new q ≡ with_stored (holding items) c q
+  stored_at c of_item is q =
+      elim (cases_eq q item) [
+        | inl e ↦
+            ap (λ (found : Option (Option CommandFrame)). held_by (unwrap_or found None)) (at_item q e) ∙ ap held_by is
+            ∙ sym (cond-true (q == c.1.item) (held_by (Some c)) (holding items q) (eq-eqb q c.1.item (e ∙ sym of_item)))
+        | inr other ↦
+            ap (λ (found : Option (Option CommandFrame)). held_by (unwrap_or found None)) (elsewhere q other)
+            ∙ sym (cond-false (q == c.1.item) (held_by (Some c)) (holding items q) (ne_eqb q c.1.item (λ e. other (e ∙ of_item))))
+      ]
+
+  pub stored_now : (c : CommandFrame) → c.1.item ≡ item → now ≡ Some c → holding new ≡ with_stored (holding items) c
+  stored_now c of_item is i q = stored_at c of_item is q i

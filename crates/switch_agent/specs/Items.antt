@@ -34,3 +34,7 @@ seen items item = is_some (lookup (λ key. item == key) items)
 -- the content of an item, where an operation of it is held
 abbrev pub content_of : Holding → Option (List ℕ)
 content_of holding = if holding.held.number == 0 then None else Some holding.content
+
+-- with a command that was carried out, whatever was held before: of its item its pair and content are held, of any other item the same
+abbrev pub with_stored : Holdings → CommandFrame → Holdings
+with_stored holdings c = λ item. if item == c.1.item then held_by (Some c) else holdings item

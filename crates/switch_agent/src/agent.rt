@@ -1,8 +1,8 @@
-ghost use Rattle.std.specs.Prelude.{◌≡◌, ◌≤◌, ◌||◌, ◌==◌, [], ℕ, false, length, nat_eq, nat_lt, option_map, IfOk, OnErr, OnOk};
+ghost use Rattle.std.specs.Prelude.{◌≡◌, ◌<◌, ◌≤◌, ◌||◌, ◌==◌, [], ℕ, false, length, nat_eq, nat_lt, option_map, slice_get, IfOk, IfSome, OnErr, OnOk};
 ghost use Rattle.std.specs.List.{IsDistinct};
 ghost use Rattle.std.specs.Map.{keys_of};
 ghost use Rattle.rollout_rules.specs.Agent.{is_next_command};
-ghost use Rattle.switch_agent.specs.Items.{content_of, held_by, holding, last_command, most_items, seen};
+ghost use Rattle.switch_agent.specs.Items.{content_of, held_by, holding, last_command, most_items, seen, with_stored};
 ghost use Rattle.wan_edge.specs.Switches.{after_command, answer_to, pair_asked};
 
 use indexmap::IndexMap;
@@ -73,6 +73,43 @@ impl Agent {
             held: held.number,
         };
         Ok((held.migration, answer))
+    }
+
+    /// Whether a command of this migration would be carried out now: whether it is the next of its item.
+    pub fn takes(&self, migration: u32, command: &Command) -> bool
+        ensures { result
+            ≡ is_next_command (holding self.now command.now.item).held
+            (pair_asked (migration, command.now)) }
+    {
+        is_next(held_by(&self.last(command.item)), pair(migration, command))
+    }
+
+    /// Holds what a command of this migration left that was carried out before, whatever is held of its
+    /// item. Memory is taken as by [`Agent::apply`], and want of it changes nothing.
+    pub fn restore(&mut self, migration: u32, command: &Command) -> Result<(), Memory>
+        ensures restored { OnOk result
+            (holding self.new ≡ with_stored (holding self.old) (migration, command.now)) }
+        ensures err { OnErr result (self.new ≡ self.old) }
+    {
+        let room = self.has_room(command.item);
+        if !room {
+            return Err(AllocError);
+        }
+        let stored = Some((migration, *command));
+        self.items.insert(command.item, stored)?;
+        Ok(())
+    }
+
+    /// The item at this place, in the order in which they came, and the command of it that was carried out
+    /// last; none past the last.
+    pub fn entry_at(&self, place: usize) -> Option<(u32, Option<(u32, Command)>)>
+        ensures entry { result ≡ slice_get self.now place }
+        ensures within { IfSome result (λ _. place < length self.now) }
+    {
+        match self.items.get_index(place) {
+            Some((item, last)) => Some((*item, *last)),
+            None => None,
+        }
     }
 
     /// The migration and the number that are held of an item, both 0 at first.

@@ -1,8 +1,9 @@
-ghost use Rattle.std.specs.Prelude.{◌≡◌, Ok, Some};
+ghost use Rattle.std.specs.Prelude.{◌≡◌, ℕ, List, Ok, Some};
 ghost use Rattle.rollout_rules.specs.Wan as wan;
 ghost use Rattle.rollout_rules.specs.Network.{IsNetwork};
 ghost use Rattle.problem_json.specs.Grammar.{problem_of};
 ghost use Rattle.problem_json.specs.declared.place.Place.{Place};
+ghost use Rattle.problem_json.specs.GrammarDocuments.{DocumentRead, document_in};
 ghost use Rattle.problem_json.specs.Writing.{problem_data};
 ghost use Rattle.problem_json.specs.GrammarLeast.{claimed_of};
 ghost use Rattle.problem_json.specs.WithinClaims.{IsClaimWithin};
@@ -23,4 +24,11 @@ pub fn written_claim_is_read()
         → IsClaimWithin claim
         → claimed_of (claimed_data p plan claim)
         ≡ Ok (record { document = record { problem = p; plan = plan }; claim = Some claim }) }
+{}
+
+/// The plan of a document that was read is within the limits, so that what is written of it can be read again.
+pub fn a_plan_that_is_read_is_within()
+    ensures { (bytes : List ℕ) (d : DocumentRead)
+        → document_in bytes ≡ Ok d
+        → IsPlanWithin d.plan }
 {}

@@ -24,10 +24,10 @@ returns-clause-run g c =
       };
       tells = c.outcome_of.ensures.answer
           ∙ level-behind g.F.Port.Port.told (working_homes opened.rollout.problem opened.rollout.plan) opened closed (ports_of g.F.Fleet.waiting g.F.Fleet.kept g.F.Fleet.lent g.F.Fleet.named c.args.fleet.now)
-          (ports_of g.F.Fleet.waiting g.F.Fleet.kept g.F.Fleet.lent g.F.Fleet.named c.run-book.new.fleet) _ c.args.stage c.run-book.result.1 (λ ran. ran.closed.rollout) c.run-book.ensures.ran;
+          (ports_of g.F.Fleet.waiting g.F.Fleet.kept g.F.Fleet.lent g.F.Fleet.named c.run-book.new.fleet) _ c.args.start c.run-book.result.1 (λ ran. ran.closed.rollout) c.run-book.ensures.ran;
     }
 
 pub returns-clause-no_port : goal.returns-clause-no_port
 returns-clause-no_port g c = λ r switch is.
     let closed = c.run-book.result.0.chronicle in
-    c.run-book.ensures.cause switch (level-no_port closed.rollout c.args.stage c.run-book.result.1 r switch (sym c.outcome_of.ensures.answer ∙ is))
+    c.run-book.ensures.cause switch (level-no_port closed.rollout c.args.start c.run-book.result.1 r switch (sym c.outcome_of.ensures.answer ∙ is))

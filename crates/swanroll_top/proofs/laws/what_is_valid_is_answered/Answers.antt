@@ -1,4 +1,4 @@
-use Rattle.swanroll_top.proofs.Complete.{shown-document-answers, valid-document-loads, valid-document-back, valid-script-answers, valid-document-explains}
+use Rattle.swanroll_top.proofs.Complete.{shown-document-answers, valid-document-loads, valid-document-back, valid-script-answers, valid-document-explains, valid-document-rehearses}
 use Rattle.swanroll_top.proofs.laws.what_is_valid_is_answered.Goals as goal
 
 pub returns-clause-check : goal.returns-clause-check
@@ -15,3 +15,6 @@ returns-clause-explain c = λ input taken. valid-document-explains input taken
 
 pub returns-clause-sim : goal.returns-clause-sim
 returns-clause-sim c = λ policy input taken. valid-script-answers policy input taken
+
+pub returns-clause-rehearse : goal.returns-clause-rehearse
+returns-clause-rehearse c = λ shape policy input taken. valid-document-rehearses shape policy input taken

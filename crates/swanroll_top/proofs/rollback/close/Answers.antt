@@ -1,5 +1,5 @@
 use Rattle.std.proofs.Common.{◌∙◌, refl, sym, ap, subst}
-use Rattle.rollback_service.specs.Levellings.{IsStage}
+use Rattle.rollback_service.specs.Levellings.{MayStart}
 use Rattle.rollback_service.specs.declared.answer.LevelAnswer.{LevelAnswer}
 use Rattle.swanroll_top.specs.Rollbacks.{Closes}
 use Rattle.swanroll_top.specs.Rollouts.{may_end}
@@ -9,8 +9,8 @@ use Rattle.swanroll_top.proofs.Outcomes.{stop-may}
 use Rattle.swanroll_top.proofs.Reverting.{stop-not-cut}
 use Rattle.swanroll_top.proofs.rollback.close.Goals as goal
 
-pub take_back-requires-clause-stage : goal.take_back-requires-clause-stage
-take_back-requires-clause-stage g c = subst IsStage c.in-Level.is c.requires.stage
+pub take_back-requires-clause-start : goal.take_back-requires-clause-start
+take_back-requires-clause-start g c = subst MayStart c.in-Level.is c.requires.start
 
 pub returns-in-Level-clause-closes : goal.returns-in-Level-clause-closes
 returns-in-Level-clause-closes g c =

@@ -4,8 +4,8 @@ use Rattle.swanroll_top.proofs.Outcomes.{journal-may}
 use Rattle.swanroll_top.proofs.Reverting.{journal-not-cut, levels-rose, none-rose}
 use Rattle.swanroll_top.proofs.rollback.roll_back_opened.Goals as goal
 
-pub close-requires-clause-stage : goal.close-requires-clause-stage
-close-requires-clause-stage g c = c.in-Ok.ensures.stage
+pub close-requires-clause-start : goal.close-requires-clause-start
+close-requires-clause-start g c = c.in-Ok.ensures.start
 
 pub returns-in-Ok-clause-rolls : goal.returns-in-Ok-clause-rolls
 returns-in-Ok-clause-rolls g c = record {
@@ -24,7 +24,7 @@ returns-in-Ok-clause-rolls g c = record {
 pub returns-in-Ok-clause-disk_fault : goal.returns-in-Ok-clause-disk_fault
 returns-in-Ok-clause-disk_fault g c = λ e.
     levels-rose g.D.Disk.told g.F.Port.Port.told
-    c.args.plan c.args.limits c.args.disk c.close.result.disk
+    c.args.plan c.args.origin c.args.limits c.args.disk c.close.result.disk
     (fleet_of g.F.Fleet.waiting g.F.Fleet.kept g.F.Fleet.lent g.F.Fleet.named g.F.Fleet.faults c.args.fleet.now) (fleet_of g.F.Fleet.waiting g.F.Fleet.kept g.F.Fleet.lent g.F.Fleet.named g.F.Fleet.faults c.run_levelling.new.fleet)
     c.close.result.ending _ _ e
     (record {
@@ -58,7 +58,7 @@ returns-in-Err-clause-write_fault g c = λ e. absurd (journal-not-cut c.in-Err.u
 pub returns-in-Err-clause-disk_fault : goal.returns-in-Err-clause-disk_fault
 returns-in-Err-clause-disk_fault g c = λ e.
     none-rose g.D.Disk.told g.F.Port.Port.told
-    c.args.plan c.args.limits c.args.disk c.in-Err.unopened.disk
+    c.args.plan c.args.origin c.args.limits c.args.disk c.in-Err.unopened.disk
     (fleet_of g.F.Fleet.waiting g.F.Fleet.kept g.F.Fleet.lent g.F.Fleet.named g.F.Fleet.faults c.args.fleet.now) (fleet_of g.F.Fleet.waiting g.F.Fleet.kept g.F.Fleet.lent g.F.Fleet.named g.F.Fleet.faults c.run_levelling.new.fleet)
     c.from.result (g.K.Sink.told c.args.sink.now).written (g.K.Sink.told c.args.sink.now).written e
     (record {

@@ -66,6 +66,23 @@ returns-in-Run g c = ran-as _ _ _ _ _ _ (ap asked c.in-Run.is) (record {
   visiting = c.roll_out.ensures.guests.2;
 })
 
+pub returns-in-Drain : goal.returns-in-Drain
+returns-in-Drain g c = ran-as _ _ _ _ _ _ (ap asked c.in-Drain.is) (record {
+  brings = record {
+    runs = c.drain_out.ensures.runs;
+    guests = same-guests _ _ c.drain_out.ensures.guests.0 c.drain_out.ensures.guests.1;
+    rolls = c.drain_out.ensures.rolls;
+  };
+  read_fault = c.drain_out.ensures.read_fault;
+  write_fault = c.drain_out.ensures.write_fault;
+  disk_fault = λ e. (refl, c.drain_out.ensures.disk_fault e);
+  guest_fault = λ e. absurd (c.drain_out.ensures.others.1 e);
+  unfinished = λ u e. refl;
+  ran = c.drain_out.ensures.others.0;
+  unnamed = record { unread = tt; disk = tt; fleet = tt; ports = tt };
+  visiting = c.drain_out.ensures.guests.2;
+})
+
 pub roll_back-requires-clause-migration : goal.roll_back-requires-clause-migration
 roll_back-requires-clause-migration g c κs within = subst IsAskedShape (ap asked c.in-Rollback.is) c.requires
 

@@ -1,0 +1,206 @@
+//! A guest that is served by an agent with a file: what a read of its commands changes is on the disk
+//! before its answers go out.
+ghost use Rattle.std.specs.Prelude.{◌≡◌, ◌≢◌, ◌<◌, ◌≤◌, ◌++◌, [], length, None, Some, IfErr, IfOk, IfSome, IsErr, IsTrue, OnErr, OnOk};
+ghost use Rattle.agent_service.specs.Keeping.{HasCome, IsOnDisk, StopsKeeping, Stores};
+ghost use Rattle.agent_state.specs.Stored.{IsBeforeOrAfter};
+ghost use Rattle.disk_model.specs.Moments.{LeavesOnly};
+ghost use Rattle.switch_agent.specs.Items.{holding};
+ghost use Rattle.switch_agent.specs.Serving.{CarriesOut, IsOwnFault, ServesGuest};
+ghost use Rattle.switch_agent.specs.declared.serve_fault.ServeFault.TheVariants as fault;
+ghost use Rattle.wan_edge.specs.Frames.{IsCutCommand};
+ghost use Rattle.wan_edge.specs.Streams.{Appends, AppendsPart, KeepsTelling, Rose, SinkSteps, SourceSteps};
+ghost use Rattle.wan_edge.specs.Switches.{Holdings};
+
+use crate::gathering::{Gathered, gather};
+use agent_state::{Place, StateFault, append};
+use disk_model::Disk;
+use std::alloc::Global;
+use switch_agent::{Agent, ServeFault, Served};
+use wan_edge::{Failed, Guest, write_all};
+use wire_frames::CommandReader;
+
+// How many bytes are read of one guest.
+const MOST: usize = 100_000_000;
+
+// How many bytes one call reads at most.
+const BUFFER: usize = 4_096;
+
+/// Reads the guest to its end. The commands that end in what one call gives are carried out in order;
+/// what they changed is on the disk as one batch before they are answered. A command that is cut off at
+/// the end is dropped. Where the disk fails, or memory runs out for what is kept, no answer of that call
+/// goes out.
+#[tactic(auto, using(agent_state::proofs::Quiet::causes_later))]
+pub(crate) fn serve_kept<D: Disk, G: Guest>(
+    alloc: Global,
+    disk: &mut D,
+    place: Place,
+    agent: &mut Agent,
+    guest: &mut G,
+) -> Result<(Place, Served), StateFault>
+    requires { IsOnDisk (D.told disk.old) place (holding agent.old) }
+    ensures kept { IfOk result
+        (λ kept. IsOnDisk (D.told disk.new) kept.0 (holding agent.new)) }
+    ensures served { IfOk result
+        (λ kept. ServesGuest agent.old agent.new (G.Source.told guest.old)
+        (G.Source.told guest.new) kept.1 (G.Sink.told guest.old).written
+        (G.Sink.told guest.new).written) }
+    ensures any_moment { IfSome (D.told disk.old).bytes
+        (λ _. LeavesOnly D.told disk.old disk.new (HasCome (holding agent.old))) }
+    ensures told { KeepsTelling (D.told disk.old).bytes (D.told disk.new).bytes }
+    ensures read_cause { IfOk result
+        (λ kept. kept.1.fault ≡ Some fault.Read
+        → Rose (G.Source.told guest.old).faults (G.Source.told guest.new).faults) }
+    ensures write_cause { IfOk result
+        (λ kept. kept.1.fault ≡ Some fault.Write
+        → Rose (G.Sink.told guest.old).faults (G.Sink.told guest.new).faults) }
+    ensures cause { IfErr result
+        (λ why. StopsKeeping why (D.told disk.old).faults (D.told disk.new).faults) }
+    ensures count { (D.told disk.old).faults ≤ (D.told disk.new).faults }
+{
+    let mut buffer = [0; BUFFER];
+    let mut reader = CommandReader::new();
+    let mut commands = 0;
+    let mut room = MOST;
+    let mut here = place;
+    while room > 0 {
+        let fits = room.min(BUFFER);
+        let n = match guest.read(&mut buffer[..fits]) {
+            Ok(0) => {
+                let fault = None;
+                return Ok((here, Served { commands, fault }));
+            }
+            Ok(n) => n,
+            Err(_) => {
+                let fault = Some(ServeFault::Read);
+                return Ok((here, Served { commands, fault }));
+            }
+        };
+        let next = keep_read(alloc, disk, here, agent, &mut reader, &buffer[..n], guest)?;
+        here = next.0;
+        commands += next.1.commands;
+        if let Some(fault) = next.1.fault {
+            let fault = Some(fault);
+            return Ok((here, Served { commands, fault }));
+        }
+        room -= n;
+    }
+    let fault = Some(ServeFault::Long);
+    Ok((here, Served { commands, fault }))
+}
+
+// Carries out the commands that end in the piece, keeps what they changed, and then answers them.
+#[tactic(auto, using(agent_state::proofs::Quiet::causes_later))]
+fn keep_read<D: Disk, G: Guest>(
+    alloc: Global,
+    disk: &mut D,
+    place: Place,
+    agent: &mut Agent,
+    reader: &mut CommandReader,
+    piece: &[u8],
+    guest: &mut G,
+) -> Result<(Place, Served), StateFault>
+    requires live { IsTrue reader.old.live }
+    requires cut { IsCutCommand reader.old.kept }
+    requires kept { IsOnDisk (D.told disk.old) place (holding agent.old) }
+    ensures kept { IfOk result
+        (λ kept. IsOnDisk (D.told disk.new) kept.0 (holding agent.new)) }
+    ensures carried { IfOk result
+        (λ kept. CarriesOut agent.old agent.new (reader.old.kept ++ piece.now) kept.1
+        (λ rest. rest ≡ reader.new.kept) (G.Sink.told guest.old).written
+        (G.Sink.told guest.new).written) }
+    ensures unanswered { OnErr result (guest.new ≡ guest.old) }
+    ensures any_moment { IfSome (D.told disk.old).bytes
+        (λ _. LeavesOnly D.told disk.old disk.new (HasCome (holding agent.old))) }
+    ensures few { IfOk result (λ kept. kept.1.commands ≤ length piece.now) }
+    ensures own { IfOk result (λ kept. IfSome kept.1.fault IsOwnFault) }
+    ensures live { IfOk result (λ kept. kept.1.fault ≡ None → IsTrue reader.new.live) }
+    ensures cut { IfOk result (λ kept. kept.1.fault ≡ None → IsCutCommand reader.new.kept) }
+    ensures told { KeepsTelling (D.told disk.old).bytes (D.told disk.new).bytes }
+    ensures write_cause { IfOk result
+        (λ kept. kept.1.fault ≡ Some fault.Write
+        → Rose (G.Sink.told guest.old).faults (G.Sink.told guest.new).faults) }
+    ensures writes { SinkSteps (G.Sink.told guest.old) (G.Sink.told guest.new) }
+    ensures unread { OnOk result (G.Source.told guest.new ≡ G.Source.told guest.old) }
+    ensures cause { IfErr result
+        (λ why. StopsKeeping why (D.told disk.old).faults (D.told disk.new).faults) }
+    ensures count { (D.told disk.old).faults ≤ (D.told disk.new).faults }
+{
+    let mut gathered = Gathered::new(alloc);
+    let served = gather(agent, reader, piece, &mut gathered)?;
+    let now = keep_batch(alloc, disk, place, gathered.batch.as_slice(), agent)?;
+    let answered = answer(disk, now, agent, guest, gathered.answers.as_slice());
+    Ok((now, with_answers(served, answered)))
+}
+
+// Puts what was changed on the disk; nothing where nothing was.
+fn keep_batch<D: Disk>(
+    alloc: Global,
+    disk: &mut D,
+    place: Place,
+    batch: &[u8],
+    agent: &Agent,
+) -> Result<Place, StateFault>
+    ensures any_moment { (before : Holdings)
+        → IsOnDisk (D.told disk.old) place before
+        → Stores before (holding agent.now) [] batch.now
+        → IfSome (D.told disk.old).bytes
+        (λ _. LeavesOnly D.told disk.old disk.new (IsBeforeOrAfter before (holding agent.now))) }
+    ensures done { IfOk result
+        (λ now. (before : Holdings)
+        → IsOnDisk (D.told disk.old) place before
+        → Stores before (holding agent.now) [] batch.now
+        → IsOnDisk (D.told disk.new) now (holding agent.now)) }
+    ensures told { KeepsTelling (D.told disk.old).bytes (D.told disk.new).bytes }
+    ensures cause { IfErr result
+        (λ why. StopsKeeping why (D.told disk.old).faults (D.told disk.new).faults) }
+    ensures count { (D.told disk.old).faults ≤ (D.told disk.new).faults }
+{
+    if batch.is_empty() {
+        return Ok(place);
+    }
+    let now = append(alloc, disk, place, batch, agent)?;
+    Ok(now)
+}
+
+// Answers a controller: what the agent holds is on the disk by then.
+fn answer<D: Disk, G: Guest>(
+    _disk: &D,
+    _place: Place,
+    _agent: &Agent,
+    guest: &mut G,
+    answers: &[u8],
+) -> Result<(), Failed>
+    requires { IsOnDisk (D.told _disk.now) _place (holding _agent.now) }
+    ensures all { OnOk result
+        (Appends (G.Sink.told guest.old).written answers.now (G.Sink.told guest.new).written) }
+    ensures part { OnErr result
+        (AppendsPart (G.Sink.told guest.old).written answers.now
+        (G.Sink.told guest.new).written) }
+    ensures cause { OnErr result
+        (Rose (G.Sink.told guest.old).faults (G.Sink.told guest.new).faults) }
+    ensures step { SinkSteps (G.Sink.told guest.old) (G.Sink.told guest.new) }
+    ensures unread { G.Source.told guest.new ≡ G.Source.told guest.old }
+{
+    write_all(guest, answers)
+}
+
+// What came of a read whose answers went out, or didn't.
+fn with_answers(served: Served, answered: Result<(), Failed>) -> Served
+    ensures all { OnOk answered (result ≡ served) }
+    ensures part { OnErr answered
+        (result ≡ record { commands = served.commands; fault = Some fault.Write }) }
+    ensures commands { result.commands ≡ served.commands }
+    ensures own { IfSome served.fault IsOwnFault → IfSome result.fault IsOwnFault }
+    ensures none { result.fault ≡ None → served.fault ≡ None }
+    ensures written { result.fault ≡ Some fault.Write
+        → served.fault ≢ Some fault.Write
+        → IsErr answered }
+{
+    match answered {
+        Ok(()) => served,
+        Err(_) => Served {
+            commands: served.commands,
+            fault: Some(ServeFault::Write),
+        },
+    }
+}

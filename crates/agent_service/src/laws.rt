@@ -1,0 +1,19 @@
+//! What is read of an agent's file, over crashes and restarts.
+ghost use Rattle.std.specs.Prelude.{◌≡◌, ℕ, List};
+ghost use Rattle.agent_service.specs.Keeping.{GoesOnBy, HasCome};
+ghost use Rattle.agent_state.specs.Stored.{IsReadAs};
+ghost use Rattle.wan_edge.specs.Switches.{Holdings};
+
+/// An image is read as one thing alone: so what the next start holds is determined by what a crash has left.
+pub fn an_image_is_read_as_one_thing()
+    ensures { (image : List ℕ) (a b : Holdings) → IsReadAs image a → IsReadAs image b → a ≡ b }
+{}
+
+/// Whatever a crash leaves of an agent that held this, the next start holds what the agent rule makes of it by
+/// some commands, and no less of any item: to its controllers it is a switch that keeps what it holds.
+pub fn a_restart_goes_on_by_the_agent_rule()
+    ensures { (before now : Holdings) (image : List ℕ)
+        → HasCome before image
+        → IsReadAs image now
+        → GoesOnBy before now }
+{}

@@ -1,0 +1,53 @@
+ghost use Rattle.std.specs.Prelude.{◌≡◌, ◌≤◌, ◌++◌, OnOk, codes, decimal, length, map};
+ghost use Rattle.serde_json.specs.Written.{compact_text};
+ghost use Rattle.problem_json.specs.GrammarScripts.{largest_number};
+ghost use Rattle.problem_json.specs.Writing.{list_data};
+ghost use Rattle.problem_json.specs.WritingScripts.{act_data, AreActsWithin, IsActWithin};
+
+use crate::writing::pieces::{push_comma, push_number};
+use lists::{Memory, Text};
+use rollout_rules::Act;
+
+/// Adds a script, event by event.
+pub fn push_script(text: &mut Text, script: &[Act]) -> Result<(), Memory>
+    ensures text { OnOk result
+        (text.new ≡ text.old ++ compact_text (list_data (map act_data script.now))) }
+    ensures within { OnOk result (AreActsWithin (length script.now) script.now) }
+{
+    text.push_str("[")?;
+    for (number, act) in script.iter().enumerate() {
+        push_comma(text, number)?;
+        push_act(text, *act)?;
+    }
+    text.push_str("]")
+}
+
+/// Adds an event: a list of its name and of what the name asks for.
+#[tactic(auto, using(crate::proofs::ReadScripts::act_told), unfolding(json::specs::Print::escape_byte))]
+fn push_act(text: &mut Text, act: Act) -> Result<(), Memory>
+    ensures text { OnOk result (text.new ≡ text.old ++ compact_text (act_data act)) }
+    ensures within { OnOk result (IsActWithin act) }
+{
+    match act {
+        Act::Round => text.push_str(r#"["round"]"#),
+        Act::Send(number) => push_numbered(text, r#"["send","#, number),
+        Act::Deliver(number) => push_numbered(text, r#"["deliver","#, number),
+        Act::Hand(number) => push_numbered(text, r#"["hand","#, number),
+        Act::All => text.push_str(r#"["all"]"#),
+        Act::CrashLost => text.push_str(r#"["crash","lost"]"#),
+        Act::CrashKept => text.push_str(r#"["crash","kept"]"#),
+        Act::Stop => text.push_str(r#"["stop"]"#),
+        Act::Start => text.push_str(r#"["start"]"#),
+    }
+}
+
+/// Adds the front of an event, its number and the end of the list.
+fn push_numbered(text: &mut Text, front: &str, number: u32) -> Result<(), Memory>
+    ensures text { OnOk result
+        (text.new ≡ text.old ++ (front.now ++ (decimal number ++ codes "]"))) }
+    ensures few { OnOk result (number ≤ largest_number) }
+{
+    text.push_str(front)?;
+    push_number(text, u64::from(number))?;
+    text.push_str("]")
+}

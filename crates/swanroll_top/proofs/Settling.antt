@@ -1,0 +1,433 @@
+-- Behind a drain that was begun the network is safe and nothing was begun behind the list found; behind status 0 nothing is in flight, and the switches hold what is settled.
+use Rattle.std.proofs.Common.{◌≡◌, ◌+◌, ◌-◌, ◌<◌, ◌≤◌, ◌==◌, ℕ, List, [], ◌∷◌, length, true, false, Option, Some, Ok, IfSome, refl, sym, ap, ◌∙◌, subst, inl, inr, arith, eqb-true, ne_eqb}
+use Rattle.std.specs.List.{All, AllByRecursion}
+use Rattle.std.proofs.lemmas.List.Elements.{All-head, All-tail, All-weaker}
+use Rattle.rollout_rules.specs.Sums.{sum_below}
+use Rattle.rollout_rules.specs.Wan.{Plan, Problem, Rollout}
+use Rattle.rollout_rules.specs.Items.{item_at, item_count}
+use Rattle.rollout_rules.specs.Operations.{operations}
+use Rattle.rollout_rules.specs.History.{History, begins_in, begun, settled}
+use Rattle.rollout_rules.specs.Legal.{is_finished, is_legal, unsettled}
+use Rattle.rollout_rules.specs.Network.{IsNetwork}
+use Rattle.rollout_rules.specs.Valid.{is_valid_plan}
+use Rattle.rollout_rules.specs.declared.op.OpView.{OpView}
+use Rattle.rollout_rules.proofs.Below.{all_below-at, sum_below-plus, sum_below-same}
+use Rattle.rollout_laws.specs.Waiting.{NothingFlies}
+use Rattle.rollout_laws.proofs.Histories.{begun-with, is_counted}
+use Rattle.rollout_laws.proofs.Within.{held-safe}
+use Rattle.disk_model.specs.Traces.{DiskTrace}
+use Rattle.disk_mirror.specs.Openings.{Opens}
+use Rattle.dependency_graph.specs.Graph.{count_of, op_total}
+use Rattle.wan_edge.specs.Frames.{Command}
+use Rattle.wan_edge.specs.Ports.{PortTrace}
+use Rattle.wan_edge.specs.Streams.{Appends}
+use Rattle.intent_journal.specs.Openings.{IsLeft, found_by}
+use Rattle.intent_journal.specs.Verdicts.{verdict}
+use Rattle.intent_journal.specs.declared.fault.JournalFault.{JournalFault}
+use Rattle.shared_history.specs.declared.note.Written.{Written}
+use Rattle.shared_history.specs.Histories.{Opening, added, history_of}
+use Rattle.shared_history.proofs.Lists.{list-is_legal}
+use Rattle.shared_book.specs.Homes.{homes_of}
+use Rattle.shared_book.specs.Opened.{opening_of}
+use Rattle.shared_book.proofs.Unstopped.{unstopped}
+use Rattle.rollout_book.specs.Chronicles.{Chronicled}
+use Rattle.port_session.specs.Sessions.{first_talk}
+use Rattle.worker_ports.specs.declared.ports.Berth.{Berth}
+use Rattle.rollout_ports.specs.Berths.{FleetPorts}
+use Rattle.rollout_ports.specs.Hands.{first_talks}
+use Rattle.rollout_ports.specs.Homes.{working_homes}
+use Rattle.switch_laws.proofs.Begun.{begun_within}
+use Rattle.rollout_report.specs.Journals.{digest_for}
+use Rattle.rollout_run.specs.Keeping.{IsBegun}
+use Rattle.rollout_run.specs.PortRuns.{IsBack}
+use Rattle.rollout_run.specs.Ran.{Ran}
+use Rattle.rollout_run.specs.declared.end.RunEnd.{RunEnd}
+use Rattle.rollout_run.specs.declared.end.RunEnd.TheVariants as run
+use Rattle.rollout_run.specs.declared.running.Limits.{Limits}
+use Rattle.rollout_service.specs.Outcomes.{HasRolled, IfRolled, OnUnopened, answer_for}
+use Rattle.rollout_service.specs.declared.answer.RunAnswer.{RunAnswer}
+use Rattle.rollout_service.specs.declared.answer.RunAnswer.TheVariants as outcome
+use Rattle.completion_laws.proofs.Excused.{held-still}
+use Rattle.completion_laws.proofs.InFlight.{still-flies}
+use Rattle.rollback_plan.specs.Levels.{HoldsFrom}
+use Rattle.rollback_service.specs.Drainings.{HoldsAll}
+use Rattle.levelling_laws.proofs.Drained.{list-begins_nothing}
+use Rattle.swanroll_top.specs.Drains.{Drains, DrainsAs, DrainsOpened, DrainsOut, DrainsOutOf, drained_line, drained_or_ending, line_with_left}
+use Rattle.swanroll_top.specs.DrainTargets.{DrainsSafely, EndsDrainSafely, IsBegunIn, IsDrained, SendsAgain, settled_in_all}
+use Rattle.swanroll_top.specs.Endings.{ending_of_journal}
+use Rattle.swanroll_top.specs.NextStarts.{NextStart}
+use Rattle.swanroll_top.specs.Reports.{rollout_to}
+use Rattle.swanroll_top.specs.Rollouts.{FleetSeen, RollsOut}
+use Rattle.swanroll_top.specs.Runs.{EndsWith, Follows}
+use Rattle.swanroll_top.specs.Targets.{IsOfBegun, StaysSafe}
+use Rattle.swanroll_top.specs.declared.ending.Ending.{Ending}
+use Rattle.swanroll_top.specs.declared.ending.Ending.TheVariants.{Done, DiskFault, NotFinished, OutOfMemory}
+use Rattle.swanroll_top.specs.declared.unfinished.Unfinished.TheVariants.{PortFault}
+use Rattle.swanroll_top.proofs.Elsewhere.{none-settled}
+use Rattle.swanroll_top.proofs.Levelling.{levels-holds, stop-not-done}
+use Rattle.swanroll_top.proofs.NextStarting.{rolls-next}
+use Rattle.swanroll_top.proofs.Reaching.{RunsFrom, begun-ends, begun-told, berths-within, has-run, is-told, is_of_begun, is_ran, journal-begun, not-begun, of-begun, unbegun-nothing, unbegun-refused}
+use Rattle.swanroll_top.proofs.SettledPorts.{berths-settled}
+use Rattle.swanroll_top.proofs.Statuses.{is-done}
+
+-- ---- what is settled
+
+-- where all is settled nothing is in flight
+no-flight : (p : Problem) (plan : Plan) (h : History) → is_legal p plan h ≡ true → is_finished p plan h ≡ true → NothingFlies p h
+no-flight p plan h legal finished n inside =
+    let all : settled h n ≡ operations p plan (item_at p n) = eqb-true _ _ (all_below-at (item_count p) (λ m. settled h m == operations p plan (item_at p m)) finished n inside) in
+    let most : begun h n ≤ operations p plan (item_at p n) = (is_counted p plan h legal n).exist inside in
+    ne_eqb (begun h n) (settled h n + 1) (λ e. omega (arith, e, all, most))
+
+-- what is left of each, and what is done, are all
+left-and-done : (k : ℕ) (all done : ℕ → ℕ) → ((n : ℕ) → n < k → done n ≤ all n) → sum_below k (λ n. all n - done n) + sum_below k done ≡ sum_below k all
+left-and-done k all done most = sym (sum_below-plus k (λ n. all n - done n) done) ∙ sum_below-same k (λ n. (all n - done n) + done n) all (λ n lt. omega (arith, most n lt))
+
+module _ (r : Rollout) (h : History) (legal : is_legal r.problem r.plan h ≡ true) where
+  settled-most : (n : ℕ) → n < item_count r.problem → settled h n ≤ count_of r n
+  settled-most n inside =
+      let counted = is_counted r.problem r.plan h legal n in
+      omega (arith, counted.settled_begun, counted.exist inside)
+
+  -- all but those that are left are settled
+  all-but_left : op_total r - unsettled r.problem r.plan h ≡ settled_in_all r h
+  all-but_left =
+      let whole : unsettled r.problem r.plan h + settled_in_all r h ≡ op_total r = left-and-done (item_count r.problem) (count_of r) (settled h) settled-most in
+      omega (arith, whole)
+
+  none-left : is_finished r.problem r.plan h ≡ true → op_total r - 0 ≡ settled_in_all r h
+  none-left finished =
+      let whole : settled_in_all r h ≡ op_total r = sum_below-same (item_count r.problem) (settled h) (count_of r)
+      (λ n inside. eqb-true _ _ (all_below-at (item_count r.problem) (λ m. settled h m == operations r.problem r.plan (item_at r.problem m)) finished n inside)) in
+      omega (arith, whole)
+
+-- ---- what went out
+
+module _ (o : Opening) (log : List Written) (legal : is_legal o.rollout.problem o.rollout.plan (history_of o log) ≡ true) (none : (n : ℕ) → begins_in (added log) n ≡ 0) where
+  command-begun : (c : Command) → IsBegun o (history_of o log) c → IsBegunIn o.found c
+  command-begun c is =
+      let within = begun_within o.rollout.problem o.rollout.plan (history_of o log) legal is.op is.begun in
+      let same : begun (history_of o log) is.op.item ≡ begun o.found is.op.item + begins_in (added log) is.op.item = begun-with o.found (added log) is.op.item in
+      subst (λ (d : Command). IsBegunIn o.found d) (sym is.is) (omega (arith, within.within, same, none is.op.item))
+
+module _ {P : Type 0} (tell : P → PortTrace) (o : Opening) (migration : ℕ) (log : List Written) (now : FleetPorts P)
+    (legal : is_legal o.rollout.problem o.rollout.plan (history_of o log) ≡ true) (none : (n : ℕ) → begins_in (added log) n ≡ 0) where
+  berths-again : (bs : List (Berth P)) → All (IsBack tell o migration (homes_of o.rollout.problem) log now.kept) (first_talks bs) → AllByRecursion (SendsAgain tell o.rollout migration o.found now) bs
+  berths-again [] all = tt
+  berths-again (b ∷ bs) all =
+      let back : IsBack tell o migration (homes_of o.rollout.problem) log now.kept (first_talk b.switch b.port) = All-head (IsBack tell o migration (homes_of o.rollout.problem) log now.kept) (first_talk b.switch b.port) (first_talks bs) all in (
+        record {
+          back = back.now.port;
+          kept = back.is_kept;
+          sent = back.run.sent;
+          each = All-weaker (IsBegun o (history_of o log)) (IsBegunIn o.found) (command-begun o log legal none) back.run.sent back.run.begun;
+          part = back.run.story.part;
+        },
+        berths-again bs (All-tail (IsBack tell o migration (homes_of o.rollout.problem) log now.kept) (first_talk b.switch b.port) (first_talks bs) all),
+      )
+
+-- ---- how it ended
+
+-- it was held, and so many operations are left
+record IsHeldEnd (r : Rollout) (h : History) (left : ℕ) (end : RunEnd) : Type 0 where
+  end_is : end ≡ run.Held
+  left_is : left ≡ unsettled r.problem r.plan h
+
+held-so : (r : Rollout) (found : ℕ) (h : History) (end : RunEnd) (left : ℕ) → outcome.Held left ≡ answer_for r found h end → IsHeldEnd r h left end
+held-so r found h run.Finished left is = absurd cc
+held-so r found h run.Held left is = record { end_is = refl; left_is = cc }
+held-so r found h (run.Stopped halt) left is = absurd cc
+held-so r found h (run.NoPort switch) left is = absurd cc
+held-so r found h run.Memory left is = absurd cc
+
+finished-so : (r : Rollout) (found : ℕ) (h : History) (end : RunEnd) (all count : ℕ) → outcome.Finished all count ≡ answer_for r found h end → end ≡ run.Finished
+finished-so r found h run.Finished all count is = refl
+finished-so r found h run.Held all count is = absurd cc
+finished-so r found h (run.Stopped halt) all count is = absurd cc
+finished-so r found h (run.NoPort switch) all count is = absurd cc
+finished-so r found h run.Memory all count is = absurd cc
+
+-- such an ending comes only behind a run that was begun
+drained-ran : (n : ℕ) (a : RunAnswer) (e : Ending) (out now : Option (List ℕ)) → is_of_begun e ≡ true → EndsWith (drained_or_ending n a) e out now → is_ran a ≡ true
+drained-ran n (outcome.Finished all found) e out now begun h = refl
+drained-ran n (outcome.Held left) e out now begun h = refl
+drained-ran n (outcome.Stopped r halt) e out now begun h = refl
+drained-ran n (outcome.NoPort r switch) e out now begun h = absurd (not-begun e (NotFinished (PortFault r switch)) begun h.0 refl)
+drained-ran n outcome.Memory e out now begun h = absurd (not-begun e OutOfMemory begun h.0 refl)
+drained-ran n (outcome.Unopened why) e out now begun h = absurd (not-begun e (ending_of_journal why) begun h.0 (journal-begun why))
+
+-- ---- a run under a policy that holds all back
+
+module _ {D P : Type 0} (trace : D → DiskTrace) (tell : P → PortTrace)
+    (Given : List ℕ → Type 0) (disk disk_now : D) (before now : FleetSeen P) (limits : Limits) (policy : OpView → ℕ) (holds : HoldsAll policy) (e : Ending) (w w_now : Option (List ℕ))
+    (from : RunsFrom trace tell Given limits policy disk disk_now before now e w w_now) (a : RunAnswer)
+    (has : HasRolled trace tell from.r (digest_for from.r limits.migration) policy limits.rounds from.opened before.ports now.ports disk_now a) where
+  abbrev book : Chronicled D
+  book = has.book
+
+  abbrev o : Opening
+  o = opening_of has.book policy
+
+  abbrev BegunRun : RunEnd → Type 0
+  BegunRun end = Ran trace tell (opening_of has.book policy) (trace has.book.disk).moment (trace has.book.disk).faults limits.migration limits.rounds
+      (working_homes has.book.rollout.problem has.book.rollout.plan) before.ports end has.run.closed now.ports
+
+  net : IsNetwork book.rollout.problem
+  net = subst (λ (r : Rollout). IsNetwork r.problem) (sym has.opened.rollout) from.rolls.network
+
+  valid : is_valid_plan book.rollout.problem book.rollout.plan ≡ true
+  valid = subst (λ (r : Rollout). is_valid_plan r.problem r.plan ≡ true) (sym has.opened.rollout) from.rolls.valid
+
+  holds-all : HoldsFrom 0 policy
+  holds-all = levels-holds 0 policy holds
+
+  drain-begun : is_ran a ≡ true → BegunRun has.run.end
+  drain-begun is = has-run trace tell Given disk disk_now before now limits policy e w w_now from a has is
+
+  drain-unbegun : is_ran a ≡ false → EndsDrainSafely trace tell limits Given disk before.ports now.ports
+  drain-unbegun isnt = inl
+      (unbegun-nothing tell (working_homes book.rollout.problem book.rollout.plan) book has.run.closed before.ports now.ports
+      book.rollout (length book.history.entries) has.run.closed.history _ has.run.end (sym (ap is_ran has.run.tells) ∙ isnt) has.run.ran)
+
+  drain-stays : (end : RunEnd) → BegunRun end → StaysSafe trace tell limits Given disk before.ports now.ports
+  drain-stays end ran = record {
+    input = from.input;
+    given = from.given;
+    r = book.rollout;
+    is = from.is ∙ ap Ok (sym has.opened.rollout);
+    opened = from.opened;
+    opens = from.opens;
+    image = from.image;
+    stored = from.stored;
+    found = book.history;
+    begins = subst (λ (r : Rollout). found_by r (verdict r (digest_for r limits.migration) from.image) ≡ Some book.history) (sym has.opened.rollout)
+        (subst (λ (told : Option (List ℕ)). IfSome told (λ image. found_by from.r (verdict from.r (digest_for from.r limits.migration) image) ≡ Some book.history)) from.stored has.opened.found);
+    added = added ran.log;
+    legal = list-is_legal o ran.log ran.legal;
+    safe = λ held within. held-safe book.rollout.problem book.rollout.plan (history_of o ran.log) held net valid (list-is_legal o ran.log ran.legal) within;
+    berths = ran.berths;
+    switches = ran.switches;
+    asked = ran.asked;
+    ports = berths-within tell o limits.migration ran.log before.ports now.ports net valid ran.legal from.rolls.small ran.berths ran.given ran.ports;
+    rest = λ n elsewhere. none-settled (homes_of book.rollout.problem) (working_homes book.rollout.problem book.rollout.plan) ran.log ran.at_home n elsewhere book.history;
+  }
+
+  drains-safely : (end : RunEnd) → BegunRun end → DrainsSafely trace tell limits Given disk before.ports now.ports
+  unfolding drain-stays
+  drains-safely end ran =
+      let none : (n : ℕ) → begins_in (added ran.log) n ≡ 0 = list-begins_nothing o net valid holds-all ran.log ran.legal in
+      record {
+        stays = drain-stays end ran;
+        dones = none;
+        sends = berths-again tell o limits.migration ran.log now.ports (list-is_legal o ran.log ran.legal) none ran.berths ran.ports;
+      }
+
+  -- nothing is in flight, and so many operations are left
+  is-drained : (end : RunEnd) (ran : BegunRun end) → NothingFlies book.rollout.problem (history_of o ran.log) → (left : ℕ) → op_total book.rollout - left ≡ settled_in_all book.rollout (history_of o ran.log)
+      → (out out_now : Option (List ℕ)) → Appends out (line_with_left (op_total book.rollout) left) out_now → IsDrained trace tell limits Given disk before.ports now.ports out out_now
+  unfolding drains-safely drain-stays
+  is-drained end ran idle left count out out_now text = record {
+    drains = drains-safely end ran;
+    still = idle;
+    ports = berths-settled tell book.rollout limits.migration book.history (history_of o ran.log) before.ports now.ports (list-is_legal o ran.log ran.legal) idle ran.berths
+        (berths-within tell o limits.migration ran.log before.ports now.ports net valid ran.legal from.rolls.small ran.berths ran.given ran.ports);
+    line = subst (λ (n : ℕ). Appends out (drained_line (op_total book.rollout) n) out_now) count text;
+  }
+
+  -- by its end
+  finished-drained : BegunRun run.Finished → (out out_now : Option (List ℕ)) → Appends out (line_with_left (op_total book.rollout) 0) out_now → IsDrained trace tell limits Given disk before.ports now.ports out out_now
+  finished-drained ran out out_now text =
+      let legal = list-is_legal o ran.log ran.legal in
+      is-drained run.Finished ran (no-flight book.rollout.problem book.rollout.plan (history_of o ran.log) legal ran.ends.1) 0 (none-left book.rollout (history_of o ran.log) legal ran.ends.1) out out_now text
+
+  held-drained : BegunRun run.Held → (left : ℕ) → left ≡ unsettled book.rollout.problem book.rollout.plan has.run.closed.history → (out out_now : Option (List ℕ)) → Appends out (line_with_left (op_total book.rollout) left) out_now
+      → IsDrained trace tell limits Given disk before.ports now.ports out out_now
+  held-drained ran left is out out_now text =
+      let homes = working_homes book.rollout.problem book.rollout.plan in
+      let legal = list-is_legal o ran.log ran.legal in
+      let closed : has.run.closed.history ≡ history_of o ran.log = ran.closed.history ∙ unstopped o ran.log ran.legal ran.ends.0 in
+      let left_now : left ≡ unsettled book.rollout.problem book.rollout.plan (history_of o ran.log) = is ∙ ap (λ (h : History). unsettled book.rollout.problem book.rollout.plan h) closed in
+      is-drained run.Held ran
+      (still-flies book.rollout.problem (history_of o ran.log) (held-still trace tell o (trace book.disk).moment (trace book.disk).faults limits.migration limits.rounds homes before.ports has.run.closed now.ports ran))
+      left (ap (λ (n : ℕ). op_total book.rollout - n) left_now ∙ all-but_left book.rollout (history_of o ran.log) legal) out out_now text
+
+  drain-finished : (all count : ℕ) → outcome.Finished all count ≡ a → (out out_now : Option (List ℕ)) → Appends out (line_with_left (op_total from.r) 0) out_now → IsDrained trace tell limits Given disk before.ports now.ports out out_now
+  drain-finished all count is out out_now text =
+      let end = finished-so book.rollout (length book.history.entries) has.run.closed.history has.run.end all count (is ∙ has.run.tells) in
+      finished-drained (subst BegunRun end (drain-begun (sym (ap is_ran is)))) out out_now
+      (subst (λ (x : Rollout). Appends out (line_with_left (op_total x) 0) out_now) (sym has.opened.rollout) text)
+
+  drain-held : (left : ℕ) → outcome.Held left ≡ a → (out out_now : Option (List ℕ)) → Appends out (line_with_left (op_total from.r) left) out_now → IsDrained trace tell limits Given disk before.ports now.ports out out_now
+  drain-held left is out out_now text =
+      let end = held-so book.rollout (length book.history.entries) has.run.closed.history has.run.end left (is ∙ has.run.tells) in
+      held-drained (subst BegunRun end.end_is (drain-begun (sym (ap is_ran is)))) left end.left_is out out_now
+      (subst (λ (x : Rollout). Appends out (line_with_left (op_total x) left) out_now) (sym has.opened.rollout) text)
+
+-- ---- a drain, from the image that its disk told
+
+record DrainsFrom {D P : Type 0} (trace : D → DiskTrace) (tell : P → PortTrace)
+    (Given : List ℕ → Type 0) (limits : Limits) (disk disk_now : D) (before now : FleetSeen P) (e : Ending) (out out_now : Option (List ℕ)) : Type 0 where
+  pub input : List ℕ
+  pub given : Given input
+  pub r : Rollout
+  pub is : rollout_to input ≡ Ok r
+  pub opened : D
+  pub opens : Opens (trace disk) (trace opened)
+  pub image : List ℕ
+  pub stored : (trace opened).bytes ≡ Some image
+  pub drains : DrainsOut trace tell r limits opened disk_now before now e out out_now
+
+module _ {D P : Type 0} (trace : D → DiskTrace) (tell : P → PortTrace)
+    (Given : List ℕ → Type 0) (limits : Limits) (disk disk_now : D) (before now : FleetSeen P) (e : Ending) (out out_now : Option (List ℕ)) where
+  drains-from : (way : DrainsOutOf trace tell Given limits disk disk_now before now e out out_now) → DrainsOpened trace tell way.r limits disk disk_now before now e out out_now
+      → DrainsFrom trace tell Given limits disk disk_now before now e out out_now
+  drains-from way begun = record {
+    input = way.input;
+    given = way.given;
+    r = way.r;
+    is = way.is;
+    opened = begun.opened;
+    opens = begun.opens;
+    image = (is-told (trace begun.opened).bytes begun.told).0;
+    stored = (is-told (trace begun.opened).bytes begun.told).1;
+    drains = begun.drains;
+  }
+
+  -- it is a run of which no line is written
+  abbrev rolls_of : (r : Rollout) (opened : D) (d : DrainsOut trace tell r limits opened disk_now before now e out out_now) → RollsOut trace tell r limits d.policy opened disk_now before now OutOfMemory out out
+  rolls_of r opened d = record {
+    network = d.network;
+    valid = d.valid;
+    small = d.small;
+    answer = d.answer;
+    rolled = d.rolled;
+    unopened = d.unopened;
+    no_port = d.no_port;
+    follows = refl;
+  }
+
+  abbrev run_of : (d : DrainsFrom trace tell Given limits disk disk_now before now e out out_now) → RunsFrom trace tell Given limits d.drains.policy disk disk_now before now OutOfMemory out out
+  run_of d = record {
+    input = d.input;
+    given = d.given;
+    r = d.r;
+    is = d.is;
+    opened = d.opened;
+    opens = d.opens;
+    image = d.image;
+    stored = d.stored;
+    rolls = rolls_of d.r d.opened d.drains;
+  }
+
+  abbrev RolledTo : DrainsFrom trace tell Given limits disk disk_now before now e out out_now → RunAnswer → Type 0
+  RolledTo d a = HasRolled trace tell d.r (digest_for d.r limits.migration) d.drains.policy limits.rounds d.opened before.ports now.ports disk_now a
+
+  -- whenever a crash comes
+  pub drains-next : Drains trace tell Given limits disk disk_now before now e out out_now → NextStart trace limits Given disk disk_now
+  drains-next (inl none) = inl none.disk_is
+  drains-next (inr way) = elim way.rolls as (λ _. NextStart trace limits Given disk disk_now) [
+    | inl fails ↦ inr (inl fails.opens)
+    | inr begun ↦
+        rolls-next trace tell Given disk disk_now before now limits begun.drains.policy OutOfMemory out out (inr (record {
+          input = way.input;
+          given = way.given;
+          r = way.r;
+          is = way.is;
+          rolls = inr (record { opened = begun.opened; opens = begun.opens; told = begun.told; within = begun.within; rolls = rolls_of way.r begun.opened begun.drains });
+        }))
+  ]
+
+  -- ---- whatever the ending
+
+  ran-safely : (d : DrainsFrom trace tell Given limits disk disk_now before now e out out_now) (a : RunAnswer) → RolledTo d a → is_ran a ≡ true → DrainsSafely trace tell limits Given disk before.ports now.ports
+  ran-safely d a has is =
+      drains-safely trace tell Given disk disk_now before now limits d.drains.policy d.drains.holds OutOfMemory out out (run_of d) a has has.run.end
+      (drain-begun trace tell Given disk disk_now before now limits d.drains.policy d.drains.holds OutOfMemory out out (run_of d) a has is)
+
+  never-ran : (d : DrainsFrom trace tell Given limits disk disk_now before now e out out_now) (a : RunAnswer) → RolledTo d a → is_ran a ≡ false → EndsDrainSafely trace tell limits Given disk before.ports now.ports
+  never-ran d a has isnt = drain-unbegun trace tell Given disk disk_now before now limits d.drains.policy d.drains.holds OutOfMemory out out (run_of d) a has isnt
+
+  as-it-was : now ≡ before → EndsDrainSafely trace tell limits Given disk before.ports now.ports
+  as-it-was same = inl (inl (ap (λ (f : FleetSeen P). f.ports) same))
+
+  answer-ends : (d : DrainsFrom trace tell Given limits disk disk_now before now e out out_now) (a : RunAnswer) (Q : JournalFault → Type 0) → IfRolled a (RolledTo d a) → OnUnopened a (λ why. Q why × (now ≡ before))
+      → EndsDrainSafely trace tell limits Given disk before.ports now.ports
+  answer-ends d (outcome.Finished all found) Q has left = inr (ran-safely d (outcome.Finished all found) has refl)
+  answer-ends d (outcome.Held count) Q has left = inr (ran-safely d (outcome.Held count) has refl)
+  answer-ends d (outcome.Stopped other halt) Q has left = inr (ran-safely d (outcome.Stopped other halt) has refl)
+  answer-ends d (outcome.NoPort other switch) Q has left = never-ran d (outcome.NoPort other switch) has refl
+  answer-ends d outcome.Memory Q has left = never-ran d outcome.Memory has refl
+  answer-ends d (outcome.Unopened why) Q has left = as-it-was left.1
+
+  pub drains-ends : Drains trace tell Given limits disk disk_now before now e out out_now → EndsDrainSafely trace tell limits Given disk before.ports now.ports
+  drains-ends (inl none) = as-it-was none.fleet_is
+  drains-ends (inr way) = elim way.rolls as (λ _. EndsDrainSafely trace tell limits Given disk before.ports now.ports) [
+    | inl fails ↦ as-it-was fails.fleet_is
+    | inr begun ↦
+        let d = drains-from way begun in
+        answer-ends d d.drains.answer (λ why. IsLeft trace d.r (digest_for d.r limits.migration) d.opened why disk_now) d.drains.rolled d.drains.unopened
+  ]
+
+  -- ---- by the ending
+
+  rolled-then : (d : DrainsFrom trace tell Given limits disk disk_now before now e out out_now) (a : RunAnswer) → is_ran a ≡ true → IfRolled a (RolledTo d a) → RolledTo d a
+  rolled-then d (outcome.Finished all found) is has = has
+  rolled-then d (outcome.Held left) is has = has
+  rolled-then d (outcome.Stopped other halt) is has = has
+  rolled-then d (outcome.NoPort other switch) is has = has
+  rolled-then d outcome.Memory is has = has
+  rolled-then d (outcome.Unopened why) is has = absurd cc
+
+  begun-safely : is_of_begun e ≡ true → Drains trace tell Given limits disk disk_now before now e out out_now → DrainsSafely trace tell limits Given disk before.ports now.ports
+  begun-safely begun (inl none) = absurd (unbegun-refused Given e begun none.why)
+  begun-safely begun (inr way) = elim way.rolls as (λ _. DrainsSafely trace tell limits Given disk before.ports now.ports) [
+    | inl fails ↦ absurd (not-begun e DiskFault begun fails.is refl)
+    | inr opened ↦
+        let d = drains-from way opened in
+        let a = d.drains.answer in
+        let is : is_ran a ≡ true = drained-ran (op_total d.r) a e out out_now begun (begun-ends (drained_or_ending (op_total d.r) a) e out out_now begun d.drains.follows) in
+        ran-safely d a (rolled-then d a is d.drains.rolled) is
+  ]
+
+module _ {D P : Type 0} (trace : D → DiskTrace) (tell : P → PortTrace)
+    (Given : List ℕ → Type 0) (limits : Limits) (disk disk_now : D) (before now : FleetSeen P) (out out_now : Option (List ℕ)) where
+  abbrev From : Type 0
+  From = DrainsFrom trace tell Given limits disk disk_now before now Done out out_now
+
+  answer-drained : (d : From) (a : RunAnswer) → IfRolled a (RolledTo trace tell Given limits disk disk_now before now Done out out_now d a) → Follows (drained_or_ending (op_total d.r) a) Done out out_now
+      → IsDrained trace tell limits Given disk before.ports now.ports out out_now
+  answer-drained d (outcome.Finished all count) has (inl done) =
+      drain-finished trace tell Given disk disk_now before now limits d.drains.policy d.drains.holds OutOfMemory out out (run_of trace tell Given limits disk disk_now before now Done out out_now d) (outcome.Finished all count) has
+      all count refl out out_now done.1
+  answer-drained d (outcome.Finished all count) has (inr cut) = absurd (cc (cut.0))
+  answer-drained d (outcome.Held left) has (inl done) =
+      drain-held trace tell Given disk disk_now before now limits d.drains.policy d.drains.holds OutOfMemory out out (run_of trace tell Given limits disk disk_now before now Done out out_now d) (outcome.Held left) has
+      left refl out out_now done.1
+  answer-drained d (outcome.Held left) has (inr cut) = absurd (cc (cut.0))
+  answer-drained d (outcome.Stopped r halt) has ends = absurd (stop-not-done r halt.cause ends.0)
+  answer-drained d (outcome.NoPort r switch) has ends = absurd (cc (ends.0))
+  answer-drained d outcome.Memory has ends = absurd (cc (ends.0))
+  answer-drained d (outcome.Unopened why) has ends = absurd (not-begun Done (ending_of_journal why) refl ends.0 (journal-begun why))
+
+  done-drained : Drains trace tell Given limits disk disk_now before now Done out out_now → IsDrained trace tell limits Given disk before.ports now.ports out out_now
+  done-drained (inl none) = absurd (unbegun-refused Given Done refl none.why)
+  done-drained (inr way) = elim way.rolls as (λ _. IsDrained trace tell limits Given disk before.ports now.ports out out_now) [
+    | inl fails ↦ absurd (not-begun Done DiskFault refl fails.is refl)
+    | inr begun ↦
+        let d = drains-from trace tell Given limits disk disk_now before now Done out out_now way begun in
+        answer-drained d d.drains.answer d.drains.rolled d.drains.follows
+  ]
+
+  -- ---- by the status
+
+  pub drains-safe : (status : ℕ) → DrainsAs trace tell Given limits disk disk_now before now status out out_now → IsOfBegun status → DrainsSafely trace tell limits Given disk before.ports now.ports
+  drains-safe status rolls of =
+      let begun : is_of_begun rolls.told ≡ true = of-begun rolls.told (subst IsOfBegun rolls.is_status of) in
+      let same : rolls.ending ≡ rolls.told = begun-told rolls.ending rolls.told rolls.told_as begun in
+      begun-safely trace tell Given limits disk disk_now before now rolls.ending out out_now (ap is_of_begun same ∙ begun) rolls.rolls
+
+  pub drains-still : (status : ℕ) → DrainsAs trace tell Given limits disk disk_now before now status out out_now → status ≡ 0 → IsDrained trace tell limits Given disk before.ports now.ports out out_now
+  drains-still status rolls zero =
+      let told : rolls.told ≡ Done = is-done rolls.told (sym rolls.is_status ∙ zero) in
+      let done : rolls.ending ≡ Done = begun-told rolls.ending rolls.told rolls.told_as (ap is_of_begun told) ∙ told in
+      done-drained (subst (λ (e : Ending). Drains trace tell Given limits disk disk_now before now e out out_now) done rolls.rolls)

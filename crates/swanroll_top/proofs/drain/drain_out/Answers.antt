@@ -1,0 +1,26 @@
+use Rattle.std.proofs.Common.{refl, inl}
+use Rattle.swanroll_top.specs.Rollouts.{fleet_of}
+use Rattle.swanroll_top.specs.declared.ending.Ending.TheVariants.{Usage, ReadFault, GuestFault}
+use Rattle.swanroll_top.proofs.DrainEnds.{input-drains}
+use Rattle.swanroll_top.proofs.Rolling.{cut-rollouts, cut-unbegun, never, short-rollouts}
+use Rattle.swanroll_top.proofs.drain.drain_out.Goals as goal
+
+pub returns-in-Ok-clause-runs : goal.returns-in-Ok-clause-runs
+returns-in-Ok-clause-runs g c = short-rollouts _ _ _ _ _ c.in-Ok.ensures.read _ c.drain_input.ensures.follows
+
+pub returns-in-Ok-clause-rolls : goal.returns-in-Ok-clause-rolls
+returns-in-Ok-clause-rolls g c =
+    input-drains g.D.Disk.told g.F.Port.Port.told
+    c.args.limits c.args.disk c.drain_input.result.disk (fleet_of g.F.Fleet.waiting g.F.Fleet.kept g.F.Fleet.lent g.F.Fleet.named g.F.Fleet.faults c.args.fleet.now) (fleet_of g.F.Fleet.waiting g.F.Fleet.kept g.F.Fleet.lent g.F.Fleet.named g.F.Fleet.faults c.drain_input.new.fleet) _ _ _ _ _ _ c.in-Ok.ensures.read c.drain_input.ensures.rolls
+
+pub returns-in-Ok-clause-read_fault : goal.returns-in-Ok-clause-read_fault
+returns-in-Ok-clause-read_fault g c = λ e. absurd (never _ ReadFault _ _ _ refl refl c.drain_input.ensures.follows e)
+
+pub returns-in-Ok-clause-others : goal.returns-in-Ok-clause-others
+returns-in-Ok-clause-others g c = (λ e. never _ Usage _ _ _ refl refl c.drain_input.ensures.follows e, λ e. never _ GuestFault _ _ _ refl refl c.drain_input.ensures.follows e)
+
+pub returns-in-Err-clause-runs : goal.returns-in-Err-clause-runs
+returns-in-Err-clause-runs g c = cut-rollouts _ _ _ _ c.in-Err.ensures.read
+
+pub returns-in-Err-clause-rolls : goal.returns-in-Err-clause-rolls
+returns-in-Err-clause-rolls g c = inl (record { why = cut-unbegun _ _ _ c.in-Err.ensures.read; disk_is = refl; fleet_is = refl })

@@ -1,0 +1,10 @@
+use Rattle.std.proofs.Common.{◌-◌, ℕ, List, length, map, string_bytes, take, drop, refl, sym, ap, ◌∙◌}
+use Rattle.swanroll_top.specs.LiveWords.{live_at, live_in}
+use Rattle.swanroll_top.proofs.FirstWords.{first-read}
+use Rattle.swanroll_top.proofs.live_words.live_of.Goals as goal
+
+pub returns-in-len1-up : goal.returns-in-len1-up
+returns-in-len1-up c =
+    c.live_at.ensures
+    ∙ ap (λ (word : List ℕ). live_at word (map string_bytes (take (length c.args.words.now - 1) (drop 1 c.args.words.now)))) c.as_str.ensures.value
+    ∙ sym (first-read live_in live_at (λ word rest. refl) c.args.words.now c.word-item.result _ c.in-len1-up.len_at_least c.word-item.is)

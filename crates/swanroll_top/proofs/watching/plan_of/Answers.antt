@@ -1,0 +1,7 @@
+use Rattle.std.proofs.Common.{List, ℕ, subst}
+use Rattle.swanroll_top.specs.Reports.{rollout_in}
+use Rattle.swanroll_top.specs.Runs.{Gives}
+use Rattle.swanroll_top.proofs.watching.plan_of.Goals as goal
+
+pub returns-in-Ok : goal.returns-in-Ok
+returns-in-Ok c = subst (λ (input : List ℕ). Gives c.rollout_of.result (rollout_in input)) c.in-Ok.ensures c.rollout_of.ensures

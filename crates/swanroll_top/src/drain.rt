@@ -1,0 +1,219 @@
+//! The command `drain`: what a rollout has in flight is awaited, and nothing begins.
+
+ghost use Rattle.std.specs.Prelude.{◌≡◌, ◌≢◌, ◌-◌, IfOk};
+ghost use Rattle.wan_edge.specs.Streams.{Rose};
+ghost use Rattle.swanroll_top.specs.Drains.{Drains, DrainsIn, DrainsOut, OpensAndDrains, drained_line, drained_or_ending, line_with_left};
+ghost use Rattle.swanroll_top.specs.Reports.{rollout_in};
+ghost use Rattle.swanroll_top.specs.Rollouts.{EndsRollout, FollowsRolled, IsDiskFault, RunsRollout, fleet_of};
+ghost use Rattle.swanroll_top.specs.Runs.{Follows, Gives, IsInput};
+
+use crate::ending::Ending;
+use crate::journal_room::journal_room;
+use crate::reading::read_input;
+use crate::rollout::ending_of_stop;
+use crate::run::Closed;
+use crate::texts::rollout_of;
+use crate::unfinished::Unfinished;
+use crate::writing::write_text;
+use dependency_graph::checked_plan_is_valid;
+use disk_mirror::Openable;
+use disk_model::Disk;
+use lists::{Memory, Text};
+use rollback_service::{Drained, run_draining};
+use rollout_run::Limits;
+use rollout_service::RunAnswer;
+use std::alloc::Global;
+use std::sync::Wait;
+use std::thread::Threads;
+use wan_edge::{Fleet, Nums8, Sink, Source};
+use wan_model::CheckedPlan;
+
+/// Reads all of the source, and drains the rollout of its document within these limits, from what the journal
+/// on the disk has. A line says how many operations there are, and how many of them are settled.
+pub fn drain_out<R: Wait + Threads + Sync, S: Source, K: Sink, D: Openable + Drop + Send, F: Fleet>(
+    rt: &R,
+    alloc: Global,
+    limits: Limits,
+    source: &mut S,
+    sink: &mut K,
+    disk: D,
+    fleet: &mut F,
+) -> Closed<D>
+where
+    F::Port: Drop + Send,
+    ensures runs { RunsRollout (S.told source.old) (S.told source.new) result.ending
+        (K.told sink.old).written (K.told sink.new).written }
+    ensures rolls { Drains D.told F.Port.told (IsInput (S.told source.old) (S.told source.new))
+        limits disk result.disk (fleet_of F.waiting F.kept F.lent F.named F.faults fleet.old)
+        (fleet_of F.waiting F.kept F.lent F.named F.faults fleet.new) result.ending
+        (K.told sink.old).written (K.told sink.new).written }
+    ensures guests { (F.coming fleet.new ≡ F.coming fleet.old)
+        × (F.served fleet.new ≡ F.served fleet.old)
+        × (F.visiting fleet.new ≡ F.visiting fleet.old) }
+    ensures read_fault { result.ending ≡ Ending.ReadFault
+        → Rose (S.told source.old).faults (S.told source.new).faults }
+    ensures write_fault { result.ending ≡ Ending.WriteFault
+        → Rose (K.told sink.old).faults (K.told sink.new).faults }
+    ensures disk_fault { result.ending ≡ Ending.DiskFault
+        → Rose (D.told disk).faults (D.told result.disk).faults }
+    ensures others { (result.ending ≢ Ending.Usage) × (result.ending ≢ Ending.GuestFault) }
+{
+    match read_input(alloc, source) {
+        Ok(input) => drain_input(rt, alloc, limits, input, sink, disk, fleet),
+        Err(ending) => Closed { ending, disk },
+    }
+}
+
+fn drain_input<R: Wait + Threads + Sync, K: Sink, D: Openable + Drop + Send, F: Fleet>(
+    rt: &R,
+    alloc: Global,
+    limits: Limits,
+    input: Nums8,
+    sink: &mut K,
+    disk: D,
+    fleet: &mut F,
+) -> Closed<D>
+where
+    F::Port: Drop + Send,
+    ensures follows { FollowsRolled (rollout_in input) result.ending (K.told sink.old).written
+        (K.told sink.new).written }
+    ensures rolls { DrainsIn D.told F.Port.told (rollout_in input) limits disk result.disk
+        (fleet_of F.waiting F.kept F.lent F.named F.faults fleet.old)
+        (fleet_of F.waiting F.kept F.lent F.named F.faults fleet.new) result.ending
+        (K.told sink.old).written (K.told sink.new).written }
+    ensures guests { (F.coming fleet.new ≡ F.coming fleet.old)
+        × (F.served fleet.new ≡ F.served fleet.old)
+        × (F.visiting fleet.new ≡ F.visiting fleet.old) }
+    ensures write_fault { result.ending ≡ Ending.WriteFault
+        → Rose (K.told sink.old).faults (K.told sink.new).faults }
+    ensures disk_fault { result.ending ≡ Ending.DiskFault
+        → Rose (D.told disk).faults (D.told result.disk).faults }
+{
+    match rollout_of(alloc, input) {
+        Ok(plan) => drain_plan(rt, alloc, limits, plan, sink, disk, fleet),
+        Err(ending) => Closed { ending, disk },
+    }
+}
+
+/// Opens the disk, and drains from what it tells then.
+fn drain_plan<R: Wait + Threads + Sync, K: Sink, D: Openable + Drop + Send, F: Fleet>(
+    rt: &R,
+    alloc: Global,
+    limits: Limits,
+    plan: CheckedPlan,
+    sink: &mut K,
+    mut disk: D,
+    fleet: &mut F,
+) -> Closed<D>
+where
+    F::Port: Drop + Send,
+    ensures rolls { OpensAndDrains D.told F.Port.told plan limits disk result.disk
+        (fleet_of F.waiting F.kept F.lent F.named F.faults fleet.old)
+        (fleet_of F.waiting F.kept F.lent F.named F.faults fleet.new) result.ending
+        (K.told sink.old).written (K.told sink.new).written }
+    ensures ends { EndsRollout result.ending (K.told sink.old).written (K.told sink.new).written }
+    ensures guests { (F.coming fleet.new ≡ F.coming fleet.old)
+        × (F.served fleet.new ≡ F.served fleet.old)
+        × (F.visiting fleet.new ≡ F.visiting fleet.old) }
+    ensures write_fault { result.ending ≡ Ending.WriteFault
+        → Rose (K.told sink.old).faults (K.told sink.new).faults }
+    ensures disk_fault { result.ending ≡ Ending.DiskFault
+        → Rose (D.told disk).faults (D.told result.disk).faults }
+{
+    match disk.open(journal_room(&plan)) {
+        Ok(()) => drain_opened(rt, alloc, limits, plan, sink, disk, fleet),
+        Err(_) => {
+            drop(plan);
+            Closed {
+                ending: Ending::DiskFault,
+                disk,
+            }
+        }
+    }
+}
+
+fn drain_opened<R: Wait + Threads + Sync, K: Sink, D: Disk + Drop + Send, F: Fleet>(
+    rt: &R,
+    alloc: Global,
+    limits: Limits,
+    plan: CheckedPlan,
+    sink: &mut K,
+    disk: D,
+    fleet: &mut F,
+) -> Closed<D>
+where
+    F::Port: Drop + Send,
+    ensures rolls { DrainsOut D.told F.Port.told plan limits disk result.disk
+        (fleet_of F.waiting F.kept F.lent F.named F.faults fleet.old)
+        (fleet_of F.waiting F.kept F.lent F.named F.faults fleet.new) result.ending
+        (K.told sink.old).written (K.told sink.new).written }
+    ensures ends { EndsRollout result.ending (K.told sink.old).written (K.told sink.new).written }
+    ensures guests { (F.coming fleet.new ≡ F.coming fleet.old)
+        × (F.served fleet.new ≡ F.served fleet.old)
+        × (F.visiting fleet.new ≡ F.visiting fleet.old) }
+    ensures write_fault { result.ending ≡ Ending.WriteFault
+        → Rose (K.told sink.old).faults (K.told sink.new).faults }
+    ensures disk_fault { result.ending ≡ Ending.DiskFault
+        → Rose (D.told disk).faults (D.told result.disk).faults }
+{
+    checked_plan_is_valid(&plan);
+    let Drained {
+        disk,
+        operations,
+        answer,
+    } = run_draining(rt, alloc, plan, limits, disk, fleet);
+    Closed {
+        ending: write_drained(alloc, operations, answer, sink),
+        disk,
+    }
+}
+
+/// Writes the line of a rollout that is drained, or says how the run ends without one.
+fn write_drained<K: Sink>(alloc: Global, operations: u32, answer: RunAnswer, sink: &mut K) -> Ending
+    ensures follows { Follows (drained_or_ending operations answer) result
+        (K.told sink.old).written (K.told sink.new).written }
+    ensures ends { EndsRollout result (K.told sink.old).written (K.told sink.new).written }
+    ensures disk { result ≡ Ending.DiskFault → IsDiskFault answer }
+    ensures write_fault { result ≡ Ending.WriteFault
+        → Rose (K.told sink.old).faults (K.told sink.new).faults }
+{
+    match line_of(alloc, operations, answer) {
+        Ok(line) => write_text(sink, line.as_str()),
+        Err(ending) => ending,
+    }
+}
+
+fn line_of(alloc: Global, operations: u32, answer: RunAnswer) -> Result<Text, Ending>
+    ensures { Gives result (drained_or_ending operations answer) }
+{
+    match answer {
+        RunAnswer::Finished { .. } => Ok(line_with_left(alloc, operations, 0)?),
+        RunAnswer::Held { left } => Ok(line_with_left(alloc, operations, left)?),
+        RunAnswer::Stopped(plan, halt) => Err(ending_of_stop(plan, halt.cause)),
+        RunAnswer::NoPort(plan, switch) => {
+            Err(Ending::NotFinished(Unfinished::PortFault(plan, switch)))
+        }
+        RunAnswer::Memory => Err(Ending::OutOfMemory),
+        RunAnswer::Unopened(cause) => Err(Ending::from(cause)),
+    }
+}
+
+/// The line of a rollout of so many operations, of which so many are left.
+fn line_with_left(alloc: Global, operations: u32, left: u64) -> Result<Text, Memory>
+    ensures { IfOk result (λ text. text ≡ line_with_left operations left) }
+{
+    drained_line(alloc, operations, less(operations, left))
+}
+
+fn less(operations: u32, left: u64) -> u64
+    ensures { result ≡ operations - left }
+{
+    u64::from(operations).saturating_sub(left)
+}
+
+fn drained_line(alloc: Global, operations: u32, settled: u64) -> Result<Text, Memory>
+    ensures { IfOk result (λ text. text ≡ drained_line operations settled) }
+{
+    let line = format!(in alloc; "drained: operations {operations}, settled {settled}\n")?;
+    Ok(Text::from(line))
+}

@@ -1,0 +1,67 @@
+ghost use Rattle.std.specs.Prelude.{◌≡◌, drop, IfSome};
+ghost use Rattle.order_policy.specs.Named.{answers_in};
+ghost use Rattle.rollout_log.specs.Logs.{IsLog};
+ghost use Rattle.rollout_ports.specs.Berths.{ports_of};
+ghost use Rattle.swanroll_top.specs.Promise.{StartPromise};
+ghost use Rattle.swanroll_top.specs.Views.{outside};
+
+use crate::arguments::{Unread, start};
+use crate::top::Ended;
+use disk_mirror::Shown;
+use order_policy::{Policies, Policy};
+use rollout_log::Logged;
+use std::alloc::Global;
+use std::sync::Wait;
+use std::thread::Threads;
+use std::time::Clock;
+use wan_edge::{Fleet, Sink, Source};
+
+/// The same as [`start`], over a disk with a log: what was written to the log is a front of the lines of a list
+/// that was durable on the disk, behind how many entries it had when the log began.
+pub fn start_logged<
+    R: Wait + Threads + Sync,
+    S: Source,
+    K: Sink,
+    D: Shown + Drop + Send,
+    L: Sink + Drop + Send,
+    C: Clock + Drop + Send,
+    F: Fleet,
+>(
+    rt: &R,
+    alloc: Global,
+    arguments: Result<Vec<String>, Unread>,
+    source: &mut S,
+    sink: &mut K,
+    notes: &mut K,
+    disk: Logged<D, L, C>,
+    fleet: &mut F,
+    policies: &Policies<Policy>,
+) -> Ended<Logged<D, L, C>>
+where
+    F::Port: Drop + Send,
+    ensures starts { StartPromise (record {
+      source = S.told;
+      sink = K.told;
+      disk = λ logged. D.told logged.disk;
+      fleet = λ fleet. record {
+        ports = ports_of F.waiting F.kept F.lent F.named fleet;
+        guests = record {
+          coming = F.coming fleet;
+          served = F.served fleet;
+          visiting = F.visiting fleet;
+        };
+        faults = F.faults fleet;
+      };
+      port = F.Port.told;
+      guest = record { source = F.Guest.Source.told; sink = F.Guest.Sink.told };
+    }) (answers_in policies.now) arguments (λ all. all.items)
+        (outside source.old sink.old notes.old disk fleet.old) result.status
+        (outside source.new sink.new notes.new result.disk fleet.new) }
+    ensures logs { IfSome (L.told result.disk.log).written (IsLog D.told) }
+{
+    let ended = start(
+        rt, alloc, arguments, source, sink, notes, disk, fleet, policies,
+    );
+    ended.disk.is_log();
+    ended
+}

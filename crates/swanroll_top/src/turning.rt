@@ -1,0 +1,10 @@
+use crate::live::LiveEnding;
+use lists::Text;
+
+/// What came of one look in a row of looks.
+#[derive(Debug, Drop)]
+pub(crate) enum Turn {
+    /// It goes on; this text was written last.
+    Goes(Text),
+    Ends(LiveEnding),
+}

@@ -1,0 +1,5 @@
+pub mod Marks
+pub mod Sharings
+pub mod Beginnings
+pub mod Steppings
+pub mod Schedules

@@ -1,0 +1,2 @@
+pub mod SafeTakeovers
+pub mod InHand
