@@ -64,7 +64,7 @@ def sizes():
         ("the largest problem, in front", front, f"largest problem inside the limits is then planned in {plan[3]} and {plan[4]}."),
         ("the largest problem", tested, f"largest problem inside the limits takes {plan[3]} and {plan[4]}."),
         ("a long script", tested, f"10,000 events on a plan of 20 flows takes {plain[4]} and {plain[5]}."),
-        ("its starts", tested, f"With some 185 starts it took {started[4]} and {started[5]} while each of them recovered the whole journal."),
+        ("its starts", tested, f"With some 185 starts it takes {started[4]} and {started[5]}, each of which reads what came since the last one."),
     ):
         yield name, None if words in page else f"it doesn't say: {words}"
 
