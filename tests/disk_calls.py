@@ -63,6 +63,38 @@ def rolled(one, turn, *command):
     return end if seen else None
 
 
+# The ways in which a call of the journal's file is the last one, or fails: what is left of the file then, and how the command ends by it.
+WAYS = (
+    ("fails", "kept", FAULT), ("stops", "kept", FAULT), ("stops", "lost", FAULT), ("killed before", "kept", (KILLED, "", "")), ("killed after", "kept", (KILLED, "", "")),
+)
+
+
+def as_it_is(one):
+    """A rollout that nobody has touched before the command is started."""
+
+
+def calls_of(program, value, image, command, prepared=as_it_is):
+    """How many calls of the journal's file a command makes; None where calls can't be seen here."""
+    with rollout(program, value, image) as one:
+        prepared(one)
+        whole = Turn(one.journal)
+        return None if rolled(one, whole, command) is None else whole.count
+
+
+def ways_of(program, value, image, command, count, prepared=as_it_is):
+    """A command, with each of so many calls in turn failing, or the last one: which way it is, the rollout behind it, how the command ended, and how it ends by that."""
+    for fate, left, fault in WAYS:
+        for number in range(count):
+            with rollout(program, value, image) as one:
+                prepared(one)
+                turn = Turn(one.journal, number, fate)
+                turn.synced = image
+                end = rolled(one, turn, command)
+                if left == "lost":
+                    one.put(turn.durable())
+                yield f"call {number} {fate}, {left}", one, end, fault
+
+
 def unbegun(one):
     """What a switch carried out that the journal doesn't have as begun, or None."""
     begun = {entry[1:] for entry in entries_in(one.image() or b"") if entry[0] == BEGIN}

@@ -8,12 +8,11 @@ turn fails, alone or with all behind it, or the controller is killed before it o
 import json
 import os
 import random
-import signal
 import subprocess
 import sys
 
 from carried import Items
-from disk_calls import MOST_CALLS, Turn
+from disk_calls import FAULT, MOST_CALLS, calls_of, ways_of
 from explained import drawn
 from journal_files import BEGIN, DONE, digest_of, entries_in, kept_in
 from named import EXCHANGE, FULL_TABLES, LATE, ONE, TWO, document
@@ -21,11 +20,8 @@ from outcomes import report
 from rollbacks import came_to, journal, taken_back
 from rolling import finished, planned, rollout, same, stopped
 from switches import plain, silent
-from syncs import NUMBERS, Calls
 
 USAGE = (2, "", "usage: swanroll COMMAND [--NAME VALUE]\n")
-FAULT = stopped(8, "journal device fault")
-KILLED = (-signal.SIGKILL, "", "")
 LAST = 2 ** 32 - 1
 AHEAD = document("ahead.json")
 DRAWN, SEED, MOST_OPERATIONS = 50, 71_000, 40
@@ -215,43 +211,21 @@ def unwritten(program):
 
 # Each call of the journal's file.
 
-def drained_over(one, turn):
-    """How a drain ended over which the turn was taken; None where calls can't be seen here."""
-    calls = Calls(one.journal, NUMBERS, turn)
-    started = one.start("drain --workers 1", preexec_fn=calls.in_child)
-    seen = calls.attach()
-    end = one.ended(started)
-    for switch in one.switches.values():
-        switch.settle()
-    calls.close()
-    return end if seen else None
-
-
 def calls(program, name, value, front):
     image = journal(value, front)
-    with rollout(program, value, image) as one:
+    def prepared(one):
         begun(one, front)
-        whole = Turn(one.journal)
-        if drained_over(one, whole) is None:
-            yield "calls can't be seen on this machine", None
-            return
-        yield f"{name}, its calls", None if whole.count > 2 else f"there are {whole.count}"
-    for fate, left, ends in (
-        ("fails", "kept", {FAULT}), ("stops", "kept", {FAULT}), ("stops", "lost", {FAULT}), ("killed before", "kept", {KILLED}), ("killed after", "kept", {KILLED}),
-    ):
-        for number in range(min(MOST_CALLS, whole.count)):
-            with rollout(program, value, image) as one:
-                begun(one, front)
-                case, turn = f"{name}, call {number} {fate}, {left}", Turn(one.journal, number, fate)
-                turn.synced = image
-                end = drained_over(one, turn)
-                if left == "lost":
-                    one.put(turn.durable())
-                now = entries_in(one.image())
-                yield case, None if end in ends | {drained(value, front)} else f"{end}"
-                yield f"{case}, what stands", same(now[:len(front)], front) or same([entry for entry in now[len(front):] if entry[0] == BEGIN], []) or begins(one, front)
-                yield f"{case}, again", same(one.run("drain"), drained(value, front)) or unlike(one, front) or carries(one, front)
-                yield f"{case}, gone on with", goes_on(one, front)
+    count = calls_of(program, value, image, "drain --workers 1", prepared)
+    if count is None:
+        yield "calls can't be seen on this machine", None
+        return
+    yield f"{name}, its calls", None if count > 2 else f"there are {count}"
+    for way, one, end, fault in ways_of(program, value, image, "drain --workers 1", min(MOST_CALLS, count), prepared):
+        case, now = f"{name}, {way}", entries_in(one.image())
+        yield case, None if end in (fault, drained(value, front)) else f"{end}"
+        yield f"{case}, what stands", same(now[:len(front)], front) or same([entry for entry in now[len(front):] if entry[0] == BEGIN], []) or begins(one, front)
+        yield f"{case}, again", same(one.run("drain"), drained(value, front)) or unlike(one, front) or carries(one, front)
+        yield f"{case}, gone on with", goes_on(one, front)
 
 
 def outcomes(program):

@@ -12,11 +12,10 @@ import functools
 import json
 import os
 import random
-import signal
 import sys
 
 from carried import Items, backwards
-from disk_calls import MOST_CALLS, Turn, rolled
+from disk_calls import MOST_CALLS, calls_of, ways_of
 from drains import canonical, counts, listed
 from explained import Explained, drawn
 from journal_files import BEGIN, DONE, digest_of, entries_in, kept_in
@@ -27,8 +26,6 @@ from rolling import planned, rollout, same, stopped
 from switches import plain, silent
 
 USAGE = (2, "", "usage: swanroll COMMAND [--NAME VALUE]\n")
-FAULT = stopped(8, "journal device fault")
-KILLED = (-signal.SIGKILL, "", "")
 AHEAD, PASSING = document("ahead.json"), document("passing.json")
 # Drawn plans, and how many operations they have at the most; some walks through each for the comparison of starts.
 DRAWN, SEED, MOST_OPERATIONS, COMPARED, WALKS = 50, 90_000, 40, 120, 3
@@ -291,26 +288,16 @@ def gone_on(one, front):
 
 def calls(program, name, value, front):
     image = journal(value, front)
-    with rollout(program, value, image) as one:
+    def prepared(one):
         begun(one, front)
-        whole = Turn(one.journal)
-        if rolled(one, whole, "rollback --from here") is None:
-            yield "calls can't be seen on this machine", None
-            return
-        yield f"{name}, its calls", None if whole.count > 8 else f"there are {whole.count}"
-    for fate, left, ends in (
-        ("fails", "kept", {FAULT}), ("stops", "kept", {FAULT}), ("stops", "lost", {FAULT}), ("killed before", "kept", {KILLED}), ("killed after", "kept", {KILLED}),
-    ):
-        for number in range(min(2 * MOST_CALLS, whole.count)):
-            with rollout(program, value, image) as one:
-                begun(one, front)
-                case, turn = f"{name}, call {number} {fate}, {left}", Turn(one.journal, number, fate)
-                turn.synced = image
-                end = rolled(one, turn, "rollback --from here")
-                if left == "lost":
-                    one.put(turn.durable())
-                yield case, None if end in ends | {taken_back(value)} else f"{end}"
-                yield f"{case}, gone on with", gone_on(one, front)
+    count = calls_of(program, value, image, "rollback --from here", prepared)
+    if count is None:
+        yield "calls can't be seen on this machine", None
+        return
+    yield f"{name}, its calls", None if count > 8 else f"there are {count}"
+    for case, one, end, fault in ways_of(program, value, image, "rollback --from here", min(2 * MOST_CALLS, count), prepared):
+        yield f"{name}, {case}", None if end in (fault, taken_back(value)) else f"{end}"
+        yield f"{name}, {case}, gone on with", gone_on(one, front)
 
 
 # Which starts are sound, beside the reference.

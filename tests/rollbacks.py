@@ -7,11 +7,10 @@ or the controller is killed before it or after it, and then the rollout is taken
 
 import json
 import os
-import signal
 import sys
 
 from carried import Items, backwards
-from disk_calls import MOST_CALLS, Turn, rolled
+from disk_calls import FAULT, MOST_CALLS, calls_of, ways_of
 from journal_files import BEGIN, DONE, PARTS, SLOT, digest_of, entries_in, kept_in, part, size_of, slot, text_of
 from named import EXCHANGE, FULL_TABLES, LATE, ONE, TWO, document
 from outcomes import report
@@ -19,8 +18,6 @@ from rolling import finished, planned, rollout, same, stopped
 from switches import plain, silent
 
 USAGE = (2, "", "usage: swanroll COMMAND [--NAME VALUE]\n")
-FAULT = stopped(8, "journal device fault")
-KILLED = (-signal.SIGKILL, "", "")
 LAST = 2 ** 32 - 1
 # Two flows change places over links of 9, and a third one moves beside them; each has two operations.
 AHEAD = document("ahead.json")
@@ -205,24 +202,14 @@ def past_there(one, stage):
 
 def calls(program, name, value, front):
     image, stage = journal(value, front), came_to(value, front)
-    with rollout(program, value, image) as one:
-        whole = Turn(one.journal)
-        if rolled(one, whole, "rollback") is None:
-            yield "calls can't be seen on this machine", None
-            return
-        yield f"{name}, its calls", None if whole.count > 8 else f"there are {whole.count}"
-    for fate, left, ends in (
-        ("fails", "kept", {FAULT}), ("stops", "kept", {FAULT}), ("stops", "lost", {FAULT}), ("killed before", "kept", {KILLED}), ("killed after", "kept", {KILLED}),
-    ):
-        for number in range(min(2 * MOST_CALLS, whole.count)):
-            with rollout(program, value, image) as one:
-                case, turn = f"{name}, call {number} {fate}, {left}", Turn(one.journal, number, fate)
-                turn.synced = image
-                end = rolled(one, turn, "rollback")
-                if left == "lost":
-                    one.put(turn.durable())
-                yield case, None if end in ends | {taken_back(value)} else f"{end}"
-                yield f"{case}, gone on with", gone_on(one, front, stage)
+    count = calls_of(program, value, image, "rollback")
+    if count is None:
+        yield "calls can't be seen on this machine", None
+        return
+    yield f"{name}, its calls", None if count > 8 else f"there are {count}"
+    for case, one, end, fault in ways_of(program, value, image, "rollback", min(2 * MOST_CALLS, count)):
+        yield f"{name}, {case}", None if end in (fault, taken_back(value)) else f"{end}"
+        yield f"{name}, {case}, gone on with", gone_on(one, front, stage)
 
 
 def outcomes(program):
