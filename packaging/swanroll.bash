@@ -11,6 +11,7 @@ _swanroll_options() {
         drain) echo --workers --rounds --migration ;;
         rollback) echo --workers --rounds --migration --from ;;
         report) echo --live --follow --migration ;;
+        left) echo --migration ;;
         held) echo --rounds ;;
         agent) echo --guests ;;
     esac
@@ -21,7 +22,7 @@ _swanroll() {
     if [[ $before == [\<\>]* ]]; then
         : # a file, by the default
     elif [ "$COMP_CWORD" -eq 1 ]; then
-        words="plan check loads explain back least sim rehearse trial run drain rollback report held agent"
+        words="plan check loads explain back least sim rehearse trial run drain rollback report left held agent"
     elif [ "$before" = --policy ]; then
         words="critical order freeze"
     elif [ "$before" = --planner ]; then

@@ -38,12 +38,19 @@ def held_port():
     return held
 
 
-def connected(held, agent):
+def connected(held, agent, room=None):
+    """A connection to the agent, with so much room for what is received, if any is said: a window that is made smaller later is one that the other side
+    has passed already, and then nothing comes through."""
     end = time.monotonic() + PATIENCE
     while time.monotonic() < end:
+        guest = socket.socket()
+        if room is not None:
+            guest.setsockopt(socket.SOL_SOCKET, socket.SO_RCVBUF, room)
         try:
-            return socket.create_connection(held.getsockname())
+            guest.connect(held.getsockname())
+            return guest
         except ConnectionRefusedError:
+            guest.close()
             if agent.poll() is not None:
                 raise
             time.sleep(PAUSE)

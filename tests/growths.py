@@ -2,7 +2,7 @@
 
     python3 tests/growths.py [PROGRAM]
 
-With the program: `plan`, `check`, `sim`, `rehearse`, `trial`, `report`, `report --live`, `run`, `drain`, `rollback`, `held` and `agent` over small inputs end as they would, or with status 12 and its line, and with nothing else; the
+With the program: `plan`, `check`, `sim`, `rehearse`, `trial`, `report`, `report --live`, `left`, `run`, `drain`, `rollback`, `held` and `agent` over small inputs end as they would, or with status 12 and its line, and with nothing else; the
 journal of a `run` has what its switches carried out, and the next start goes on to the end; a `drain` is given again, and a `rollback` is gone on with by the journal that is there; where a worker's thread can't be started, the others serve its ports. Without: the calls of a journal, made by `measure journal` (which has to be
 built, by `rt run -- linear < stdin` in its folder), and whether each image that is left is still a journal with the list before or after the batch, or with the journal
 that was placed. A few lines of C that refuse one allocation or thread stand before the C library's; where there is no C compiler nothing is tried, and it is said.
@@ -254,7 +254,7 @@ def threads(program, refusing):
 def reports(program, refusing):
     with rollout(program, TWO) as one:
         one.run()
-        for words in ("report", "report --live"):
+        for words in ("report", "report --live", "left"):
             yield from reports_of(one, refusing, words)
 
 
@@ -263,7 +263,7 @@ def reports_of(one, refusing, words):
     for refused in range(1, refusing.count() + 1):
         end = one.run(words, refusing.environment(refused, one.environment))
         yield f"allocation {refused} of {words}", None if end in (whole, (12, "", "out of memory\n"), (8, "", "journal device fault\n")) else f"{end}"
-    yield f"{words} after all of them", None if one.report() == whole else "another text"
+    yield f"{words} after all of them", None if one.run(words) == whole else "another text"
 
 
 def agents(program, refusing):

@@ -130,7 +130,7 @@ def completions(house):
         yield f"the options of {command}", same(completed(command, ""), names)
         if names:
             yield f"what is left after one of {command}", same(completed(command, names[0], "7", "--"), names[1:])
-    policies = re.findall(r'"([a-z]+)"', (TOP / "crates/swanroll/src/policies.rt").read_text(encoding="utf-8"))
+    policies = re.findall(r'"([a-z]+)"', (TOP / "crates/named_policies/src/policies.rt").read_text(encoding="utf-8"))
     yield "the policies", same(completed("run", "--workers", "3", "--policy", ""), sorted(set(policies)))
     yield "from where", same(completed("rollback", "--from", ""), ["here", "level"])
     yield "no number is guessed", same(completed("run", "--workers", ""), [])

@@ -22,9 +22,15 @@ def text(*path):
         return file.read()
 
 
+def codes_of_words():
+    """The code that reads words: of the commands that make a text of their input, and of all."""
+    return [text(f"crates/{crate}/src/words.rt") for crate in ("text_commands", "swanroll_top")]
+
+
 def commands():
     """The words of the commands, as the code has them."""
-    return re.findall(r'^\s*"([a-z]+)" => Some\(Kind::', text("crates/swanroll_top/src/words.rt"), re.M)
+    found = [name for code in codes_of_words() for name in re.findall(r'^\s*"([a-z]+)" => Some\((?:Text)?Kind::', code, re.M)]
+    return found + re.findall(r'word == "([a-z]+)"', text("crates/swanroll_top/src/left_words.rt"))
 
 
 def live_options():
@@ -33,17 +39,19 @@ def live_options():
 
 
 def options():
-    return sorted(set(re.findall(r'"(--[a-z]+)"', text("crates/swanroll_top/src/words.rt")) + live_options()))
+    return sorted(set(re.findall(r'"(--[a-z]+)"', "".join(codes_of_words())) + live_options()))
 
 
 def options_of():
     """The options that each command takes, by its word."""
-    code = text("crates/swanroll_top/src/words.rt")
-    body = re.search(r"^fn takes\(.*?^}", code, re.M | re.S).group()
+    texts, code = codes_of_words()
+    bodies = [re.search(rf"^(?:pub )?fn {name}\(.*?^}}", of, re.M | re.S).group() for name, of in (("text_takes", texts), ("takes", code))]
     numbers = re.findall(r'"(--[a-z]+)"', re.search(r"^fn names_a_number\(.*?^}", code, re.M | re.S).group())
-    arms = re.findall(r"((?:Kind::\w+(?: \| )?)+) => (.*?),\n", body)
+    arms = [arm for body in bodies for arm in re.findall(r"((?:Kind::\w+(?:\s*\| (?:Text)?)?)+)(?:\(\w+\))? =>\s+(.*?),\n", body)]
     taken = {kind.lower(): re.findall(r'"(--[a-z]+)"', arm) + ("names_a_number" in arm) * numbers for kinds, arm in arms for kind in re.findall(r"Kind::(\w+)", kinds)}
+    del taken["text"]
     taken["report"] = list({*taken["report"], *live_options()})
+    taken["left"] = re.findall(r'"(--[a-z]+)"', text("crates/swanroll_top/src/left_words.rt"))
     return {command: sorted(names) for command, names in taken.items()}
 
 
@@ -69,8 +77,9 @@ def crates():
 
 def statuses():
     """The exit statuses of the code."""
-    bodies = [re.search(r"pub fn status\(.*?\n    }\n", text(f"crates/swanroll_top/src/{name}.rt"), re.S).group() for name in ("ending", "unfinished")]
-    return sorted(set(map(int, re.findall(r"=> (\d+),", "".join(bodies)))))
+    bodies = [re.search(r"pub fn status\(.*?\n    }\n", text(f"crates/text_commands/src/{name}.rt"), re.S).group() for name in ("ending", "unfinished")]
+    left = re.findall(r"^            (\d+)$", text("crates/swanroll_top/src/left.rt"), re.M)
+    return sorted(set(map(int, re.findall(r"=> (\d+),", "".join(bodies)) + left)))
 
 
 def names_in(cell):

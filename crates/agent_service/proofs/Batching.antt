@@ -2,13 +2,12 @@
 use Rattle.std.proofs.Common.{◌≡◌, ◌==◌, Bool, true, false, if◌then◌else◌, inl, inr, ℕ, List, [], ◌∷◌, ◌++◌, Option, Some, refl, sym, ap, subst, ◌∙◌, append_assoc, eq-eqb}
 use Rattle.std.proofs.lemmas.Bool.{cases_eq, cond-false, cond-true, ne_eqb}
 use Rattle.std.proofs.lemmas.List.{append-nil}
-use Rattle.std.specs.List.{All}
 use Rattle.rollout_rules.specs.Agent.{Holding, held_after, is_next_command}
 use Rattle.wan_edge.specs.Frames.{CommandFrame, IsCommand, command_bytes}
-use Rattle.wan_edge.specs.Switches.{Holdings, after_command, after_commands, pair_asked}
+use Rattle.wan_edge.specs.Switches.{Holdings, after_command, pair_asked}
 use Rattle.wan_edge.specs.Streams.{Appends}
 use Rattle.switch_agent.specs.Items.{held_by, with_stored}
-use Rattle.agent_state.specs.Stored.{AreBytes, with_all}
+use Rattle.agent_state.specs.Stored.{with_all}
 use Rattle.agent_state.proofs.Walked.{AreBytes-append, AreBytes-none, AreBytes-one, with_all-append}
 use Rattle.agent_service.specs.Keeping.{Stores}
 

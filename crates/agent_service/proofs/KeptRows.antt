@@ -1,19 +1,21 @@
--- Reads of commands that were kept, one behind the other, and guests that were served in turn by an agent with a file.
-use Rattle.std.proofs.Common.{◌≡◌, ◌≢◌, ◌⊎◌, ◌∙◌, inl, inr, ⊎_elim, ℕ, ◌+◌, ◌<◌, ◌≤◌, List, [], ◌∷◌, ◌++◌, length, take, Option, Some, None, IfErr, IfOk, IfSome, IsErr, Result, Ok, Err, OnErr, OnOk, unwrap_or, refl, sym, ap, subst, arith, length-append}
+-- Reads of commands that were kept, one behind the other, and guests that were served turn by turn by an agent with a file.
+use Rattle.std.proofs.Common.{◌≡◌, ◌≢◌, ◌⊎◌, ◌∙◌, inl, inr, ⊎_elim, ℕ, ◌+◌, ◌≤◌, ◌<◌, List, [], ◌∷◌, ◌++◌, length, take, Option, Some, None, IfErr, IfOk, IfSome, IsErr, Result, Ok, Err, OnErr, OnOk, unwrap_or, refl, sym, ap, ap₂, subst, arith, length-append}
 use Rattle.std.specs.List.{All, flat_map}
 use Rattle.std.proofs.lemmas.List.Elements.{All-append, All-nil}
 use Rattle.wan_edge.specs.Frames.{CommandFrame, IsCommand, command_bytes}
-use Rattle.wan_edge.specs.Fleets.{GivesGuest}
-use Rattle.wan_edge.specs.Streams.{Appends, AppendsPart, KeepsTelling, Rose, SourceTrace}
+use Rattle.wan_edge.specs.Streams.{Appends, AppendsPart, KeepsTelling, Reads, Rose, SinkTrace, SourceTrace}
 use Rattle.wan_edge.specs.Switches.{Holdings, after_command, after_commands}
 use Rattle.disk_model.specs.Moments.{LeavesOnly}
 use Rattle.disk_model.specs.Traces.{DiskTrace}
 use Rattle.disk_model.proofs.Running.{LeavesOnly-chain, LeavesOnly-weaker}
-use Rattle.switch_agent.specs.Items.{Items, holding, most_items}
-use Rattle.switch_agent.specs.Serving.{CarriesOut, Ends, ServesGuest, answered}
+use Rattle.switch_agent.specs.Items.{Items, holding}
+use Rattle.switch_agent.specs.Serving.{CarriesOut, Ends, HearsBytes, HearsGuest, answered}
+use Rattle.switch_agent.specs.Talks.{Talking}
+use Rattle.switch_agent.specs.declared.heard.Heard.{Heard}
 use Rattle.switch_agent.specs.declared.serve_fault.ServeFault.{ServeFault}
 use Rattle.switch_agent.specs.declared.serve_fault.ServeFault.TheVariants.{Frame, Long, Memory, Read, Write}
 use Rattle.switch_agent.specs.declared.serve_fault.Served.{Served}
+use Rattle.switch_agent.proofs.Pieces.{guest_heard}
 use Rattle.agent_state.specs.Stored.{AreBytes, IsBeforeOrAfter, IsKept, IsReadAs, with_all}
 use Rattle.agent_state.specs.declared.place.Place.{Place}
 use Rattle.agent_state.proofs.KeptFiles.{kept_reads}
@@ -21,14 +23,13 @@ use Rattle.agent_state.proofs.Passages.{chained_run, still_run, weaker_run}
 use Rattle.agent_state.proofs.Quiet.{causes_later}
 use Rattle.agent_state.proofs.Refusals.{at_disk_later, causes_at_disk}
 use Rattle.agent_service.specs.Keeping.{HasCome, IsOnDisk, Stores}
-use Rattle.agent_service.specs.KeptServices.{EndsService, HasComeAlways, HasGoneOn, IsKeptBehind, KeepsNext, KeepsOne, MayBeLeft, ServesFrom, StopsService}
-use Rattle.agent_service.specs.Services.{Guests, InTurn, Tells, Visit, commands_of, most, refused_by, refused_of, service_of, with_guest}
+use Rattle.agent_service.specs.KeptServices.{EndsService, HasComeAlways, IsHeldOnDisk, IsKeptBehind, KeepsFrom, KeepsSeated, KeepsTurn, MayBeLeft, StopsService, at_place}
+use Rattle.agent_service.specs.Services.{Guests, MakesRoom, SeatsNext, SitsDown, Table, Tells, TurnByTurn, Turns, after_leaving, counted, first_table}
 use Rattle.agent_state.specs.Opened.{ReadsAlike}
-use Rattle.agent_state.specs.declared.fault.StateFault.{StateFault}
 use Rattle.agent_service.specs.declared.keep_fault.KeepFault.{KeepFault}
 use Rattle.agent_service.specs.declared.keep_fault.KeepFault.TheVariants.{Fleet, NoRoom, State}
 use Rattle.agent_service.specs.declared.service.Service.{Service}
-use Rattle.agent_service.proofs.Rows.{InTurn-more, commands_of-more, few, refused_of-more, some_bytes}
+use Rattle.agent_service.proofs.Rows.{TurnsSoFar, none_came, rose_until, some_bytes}
 
 -- ---- batches
 
@@ -145,105 +146,106 @@ went_out a b bytes served now P none answers out (Ok x) w w' empty is unwritten 
 went_out a b bytes served now P none answers out (Err e) w w' empty is unwritten same other carried all part =
     part_out a b bytes served now P none answers w w' empty unwritten other carried (subst (λ (l : List ℕ). AppendsPart w l w') is part)
 
--- ---- guests
+-- ---- one read
 
--- from these items, guests served so far
-pub record KeptSoFar {G : Type 0} (tells : Tells G) (items : Items) (before now : Guests G) (items_now : Items) (service : Service) : Type 0 where
-  pub visits : List (Visit G)
-  pub in_turn : InTurn tells items before.coming visits items_now now.coming
-  pub guests : service.guests ≡ length visits
-  pub commands : service.commands ≡ commands_of visits
-  pub refused : service.refused ≡ refused_of visits
+pub kept_heard : {E : Type 0} (result : Result (Place × Heard) E) (a b : Items) (talk : Talking) (kept : List ℕ) (room n : ℕ) (buffer : List ℕ) (source mid now : SourceTrace) (sink mid_sink : SinkTrace) (w' : Option (List ℕ))
+    → kept ≡ talk.kept → room ≡ talk.room → OnOk result (now ≡ mid) → mid_sink ≡ sink → Reads n buffer source mid → n ≤ room → n ≤ length buffer
+    → IfOk result (λ k. HearsBytes a b (record { kept = kept; room = room }) (take n buffer) k.1 mid.left mid_sink.written w') → IfOk result (λ k. HearsGuest a b talk source now k.1 sink.written w')
+kept_heard (Ok k) a b talk kept room n buffer source mid now sink mid_sink w' kept_is room_is unread unwritten reads few inside hears =
+    guest_heard a b talk kept room n buffer source mid now k.1 sink mid_sink w' kept_is room_is unread unwritten reads few inside hears
+kept_heard (Err why) a b talk kept room n buffer source mid now sink mid_sink w' kept_is room_is unread unwritten reads few inside hears = tt
 
-pub none_kept : {G : Type 0} (tells : Tells G) (items : Items) (before : Guests G) (service : Service) → service.guests ≡ 0 → service.commands ≡ 0 → service.refused ≡ 0 → KeptSoFar tells items before before items service
-none_kept tells items before service guests commands refused = record { visits = []; in_turn = (refl, refl); guests = guests; commands = commands; refused = refused }
+pub kept_read_cause : {E : Type 0} (result : Result (Place × Heard) E) (P : Type 0) → IfOk result (λ k. k.1.served.fault ≢ Some Read) → IfOk result (λ k. k.1.served.fault ≡ Some Read → P)
+kept_read_cause (Ok k) P unfailed = λ is. absurd (unfailed is)
+kept_read_cause (Err why) P unfailed = tt
 
-pub one_kept : {G : Type 0} (tells : Tells G) (items a b : Items) (before mid now : Guests G) (service service_now : Service) (served : Served) → KeptSoFar tells items before mid a service → KeepsOne tells a mid served b now
-    → service_now ≡ with_guest service served → KeptSoFar tells items before now b service_now
-one_kept tells items a b before mid now service service_now served so_far one is =
-    let visit : Visit _ = record { came = one.came; back = one.back; served = served; items = b; coming = now.coming } in
-    record {
-      visits = so_far.visits ++ visit ∷ [];
-      in_turn = InTurn-more tells items a before.coming mid.coming so_far.visits visit so_far.in_turn one.visit;
-      guests = omega (arith, ap (λ (s : Service). s.guests) is, so_far.guests, length-append so_far.visits (visit ∷ []));
-      commands = omega (arith, ap (λ (s : Service). s.commands) is, so_far.commands, commands_of-more so_far.visits visit);
-      refused = omega (arith, ap (λ (s : Service). s.refused) is, so_far.refused, refused_of-more so_far.visits visit);
-    }
-
-pub all_kept : {G : Type 0} (tells : Tells G) (items items_now : Items) (before now : Guests G) (service : Service) → KeptSoFar tells items before now items_now service → ServesFrom tells items before now items_now service
-all_kept tells items items_now before now service so_far = record {
-  visits = so_far.visits;
-  in_turn = so_far.in_turn;
-  counted = λ i. record { guests = so_far.guests i; commands = so_far.commands i; refused = so_far.refused i };
-}
+pub kept_write_cause : {E : Type 0} (result : Result (Place × Heard) E) (sink mid now : SinkTrace) → mid ≡ sink → IfOk result (λ k. k.1.served.fault ≡ Some Write → Rose mid.faults now.faults)
+    → IfOk result (λ k. k.1.served.fault ≡ Some Write → Rose sink.faults now.faults)
+kept_write_cause (Ok k) sink mid now same cause = λ is. subst (λ (s : SinkTrace). Rose s.faults now.faults) same (cause is)
+kept_write_cause (Err why) sink mid now same cause = tt
 
 -- what holds at an error holds where there was one
 pub at_err : {X E : Type 0} (result : Result X E) (P : Type 0) → IsErr result → OnErr result P → P
 at_err (Ok x) P is holds = absurd (cc is)
 at_err (Err e) P is holds = holds
 
--- ---- what came of one guest
+-- ---- one turn
 
-found_cases : (kept : Result (Place × Served) StateFault) (result : Result (Option (Place × Served)) KeepFault) → IfOk kept (λ found. result ≡ Ok (Some found)) → IfErr kept (λ why. result ≡ Err (State why))
-    → (P : Option (Place × Served) → Type 0) → IfOk kept (λ found. P (Some found)) → IfOk result P
-found_cases (Ok found) result ok err P holds = subst (λ (r : Result (Option (Place × Served)) KeepFault). IfOk r P) (sym ok) holds
-found_cases (Err why) result ok err P holds = subst (λ (r : Result (Option (Place × Served)) KeepFault). IfOk r P) (sym err) tt
+-- what follows from behind a wait follows from before it
+pub kept_waited : {G E : Type 0} (tells : Tells G) (before waited now : Table G) (result : Result (Option (Place × Service)) E) → waited ≡ before → IfOk result (λ found. KeepsTurn tells waited found now) → IfOk result (λ found. KeepsTurn tells before found now)
+kept_waited tells before waited now result is turn = subst (λ (t : Table _). IfOk result (λ found. KeepsTurn tells t found now)) is turn
 
--- a guest that was served by an agent with a file is a visit
-pub kept_visit : {G : Type 0} (tells : Tells G) (a b : Items) (before now : Guests G) (came back : G) (kept : Result (Place × Served) StateFault) → GivesGuest tells.source tells.sink before.coming came now.coming
-    → IfOk kept (λ k. ServesGuest a b (tells.source came) (tells.source back) k.1 (tells.sink came).written (tells.sink back).written)
-    → IfOk kept (λ k. k.1.fault ≡ Some Read → Rose (tells.source came).faults (tells.source back).faults)
-    → IfOk kept (λ k. k.1.fault ≡ Some Write → Rose (tells.sink came).faults (tells.sink back).faults)
-    → length b ≤ most_items → IfOk kept (λ k. KeepsOne tells a before k.1 b now)
-kept_visit tells a b before now came back (Ok k) given serves read write few_items =
-    record { came = came; back = back; visit = record { given = given; serves = serves; read_cause = read; write_cause = write; few = few_items } }
-kept_visit tells a b before now came back (Err why) given serves read write few_items = tt
+-- the next guest sat down, or none came
+next_kept : {G : Type 0} (tells : Tells G) (before now : Table G) (place : Place) (found : Option Service) → IfSome before.coming (λ gs. 0 < length gs) → SeatsNext tells before found now → KeepsTurn tells before (at_place place found) now
+next_kept tells before now place (Some count) some next = inl next
+next_kept tells before now place None some next = (next.0, none_came before.coming before.guests some next.1)
 
--- and no more commands were carried out than bytes are read
-pub kept_few : (a b : Items) (source source_now : SourceTrace) (w w' : Option (List ℕ)) (kept : Result (Place × Served) StateFault) → IfOk kept (λ k. ServesGuest a b source source_now k.1 w w') → IfOk kept (λ k. k.1.commands ≤ most)
-kept_few a b source source_now w w' (Ok k) serves = few a b source source_now k.1 w w' serves
-kept_few a b source source_now w w' (Err why) serves = tt
+pub seats_kept : {G : Type 0} (tells : Tells G) (before now : Table G) (place : Place) (found : Option Service) (kept : Option (Place × Service)) → kept ≡ at_place place found → IfSome before.coming (λ gs. 0 < length gs) → SeatsNext tells before found now → KeepsTurn tells before kept now
+seats_kept tells before now place found kept is some next = subst (λ (k : Option (Place × Service)). KeepsTurn tells before k now) (sym is) (next_kept tells before now place found some next)
 
-pub found_visit : {G : Type 0} (tells : Tells G) (a b : Items) (before now : Guests G) (kept : Result (Place × Served) StateFault) (result : Result (Option (Place × Served)) KeepFault)
-    → IfOk kept (λ found. result ≡ Ok (Some found)) → IfErr kept (λ why. result ≡ Err (State why)) → IfOk kept (λ k. KeepsOne tells a before k.1 b now) → IfOk result (λ found. KeepsNext tells a before found b now)
-found_visit tells a b before now kept result ok err visit = found_cases kept result ok err (λ found. KeepsNext tells a before found b now) visit
+place_kept : (disk : DiskTrace) (place : Place) (found : Option Service) (held : Holdings) → IsOnDisk disk place held → IsKeptBehind disk place (at_place place found) held
+place_kept disk place (Some count) held kept = kept
+place_kept disk place None held kept = kept
 
-pub found_behind : (disk : DiskTrace) (place : Place) (kept : Result (Place × Served) StateFault) (result : Result (Option (Place × Served)) KeepFault) (held : Holdings)
-    → IfOk kept (λ found. result ≡ Ok (Some found)) → IfErr kept (λ why. result ≡ Err (State why)) → IfOk kept (λ found. IsOnDisk disk found.0 held) → IfOk result (λ found. IsKeptBehind disk place found held)
-found_behind disk place kept result held ok err holds = found_cases kept result ok err (λ found. IsKeptBehind disk place found held) holds
+pub seats_durable : (disk : DiskTrace) (place : Place) (found : Option Service) (kept : Option (Place × Service)) (held : Holdings) → kept ≡ at_place place found → IsOnDisk disk place held → IsKeptBehind disk place kept held
+seats_durable disk place found kept held is durable = subst (λ (k : Option (Place × Service)). IsKeptBehind disk place k held) (sym is) (place_kept disk place found held durable)
 
-module _ (kept : Result (Place × Served) StateFault) (result : Result (Option (Place × Served)) KeepFault) (ok : IfOk kept (λ found. result ≡ Ok (Some found))) (err : IfErr kept (λ why. result ≡ Err (State why))) where
-  -- what holds of what was kept holds of what was found
-  pub found_by : (P : Option (Place × Served) → Type 0) → IfOk kept (λ found. P (Some found)) → IfOk result P
-  found_by P holds = found_cases kept result ok err P holds
+-- a guest was read, and where it sits is settled
+pub settled_kept : {E : Type 0} (result : Result (Option (Place × Service)) E) (place : Place) (count : Service) (Q : Type 0) (P : Option (Place × Service) → Type 0) → IfOk result (λ found. (found ≡ Some (place, count)) × Q) → (Q → P (Some (place, count))) → IfOk result P
+settled_kept (Ok found) place count Q P is holds = subst P (sym is.0) (holds is.1)
+settled_kept (Err why) place count Q P is holds = tt
 
-  pub found_few : IfOk kept (λ found. found.1.commands ≤ most) → IfOk result (λ found. IfSome found (λ one. one.1.commands ≤ most))
-  found_few few = found_by (λ found. IfSome found (λ one. one.1.commands ≤ most)) few
+-- a turn, where it is known that there was one
+pub turn_kept : {G : Type 0} (tells : Tells G) (before now : Table G) (found : Option (Place × Service)) (kept : Place × Service) → found ≡ Some kept → KeepsTurn tells before found now → Turns tells before (counted now kept.1)
+turn_kept tells before now found kept is turn = subst (λ (f : Option (Place × Service)). KeepsTurn tells before f now) is turn
 
--- the next guest was served: what is said of it where it is known that there was one
-pub next_one : {G : Type 0} (tells : Tells G) (items items_now : Items) (before now : Guests G) (found : Option (Place × Served)) (kept : Place × Served) → found ≡ Some kept → KeepsNext tells items before found items_now now → KeepsOne tells items before kept.1 items_now now
-next_one tells items items_now before now found kept is next = subst (λ (f : Option (Place × Served)). KeepsNext tells items before f items_now now) is next
+pub next_durable : (disk : DiskTrace) (place : Place) (found : Option (Place × Service)) (kept : Place × Service) (held : Holdings) → found ≡ Some kept → IsKeptBehind disk place found held → IsOnDisk disk kept.0 held
+next_durable disk place found kept held is behind = subst (λ (f : Option (Place × Service)). IsKeptBehind disk place f held) is behind
 
-pub next_kept : (disk : DiskTrace) (place : Place) (found : Option (Place × Served)) (kept : Place × Served) (held : Holdings) → found ≡ Some kept → IsKeptBehind disk place found held → IsOnDisk disk kept.0 held
-next_kept disk place found kept held is behind = subst (λ (f : Option (Place × Served)). IsKeptBehind disk place f held) is behind
+pub none_durable : (disk : DiskTrace) (place : Place) (found : Option (Place × Service)) (held : Holdings) → found ≡ None → IsKeptBehind disk place found held → IsOnDisk disk place held
+none_durable disk place found held is behind = subst (λ (f : Option (Place × Service)). IsKeptBehind disk place f held) is behind
 
-pub next_few : (found : Option (Place × Served)) (kept : Place × Served) → found ≡ Some kept → IfSome found (λ one. one.1.commands ≤ most) → kept.1.commands ≤ most
-next_few found kept is few = subst (λ (f : Option (Place × Served)). IfSome f (λ one. one.1.commands ≤ most)) is few
+-- all that were asked for were served
+pub all_kept : {G : Type 0} (tells : Tells G) (first now : Table G) (asked : ℕ) → TurnsSoFar tells first now → now.count.guests ≤ asked → asked ≤ now.count.guests
+    → KeepsSeated tells first asked now.guests now.items now.count (record { coming = now.coming; served = now.back })
+all_kept tells first now asked so_far within enough = record { course = so_far.course; end = now; goes = so_far.goes; ends = inl (omega (arith, within, enough)); holds = refl; counts = refl; sits = refl; coming = refl; back = refl }
 
--- no more came: what was served so far is all
-pub none_more : {G : Type 0} (tells : Tells G) (items a b : Items) (before mid now : Guests G) (service : Service) (found : Option (Place × Served)) → found ≡ None → KeptSoFar tells items before mid a service → KeepsNext tells a mid found b now
-    → ServesFrom tells items before now b service
-none_more tells items a b before mid now service found is so_far next =
-    let same : (b ≡ a) × (now.coming ≡ mid.coming) = subst (λ (f : Option (Place × Served)). KeepsNext tells a mid f b now) is next in
+-- no more come, and nobody sits: what was served so far is all
+pub none_kept : {G : Type 0} (tells : Tells G) (first before now : Table G) (asked : ℕ) (found : Option (Place × Service)) → TurnsSoFar tells first before → before.count.guests < asked → found ≡ None → KeepsTurn tells before found now
+    → KeepsSeated tells first asked now.guests now.items before.count (record { coming = now.coming; served = now.back })
+none_kept tells first before now asked found so_far more is turn =
+    let none : (now ≡ before) × IfSome before.coming (λ later. (length later ≡ 0) × (length before.guests ≡ 0)) = subst (λ (f : Option (Place × Service)). KeepsTurn tells before f now) is turn in
+    let same : now ≡ before = none.0 in
     record {
-      visits = so_far.visits;
-      in_turn = subst (λ (i : Items). InTurn tells items before.coming so_far.visits i now.coming) (sym same.0)
-          (subst (λ (coming : Option (List _)). InTurn tells items before.coming so_far.visits a coming) (sym same.1) so_far.in_turn);
-      counted = λ i. record { guests = so_far.guests i; commands = so_far.commands i; refused = so_far.refused i };
+      course = so_far.course;
+      end = before;
+      goes = so_far.goes;
+      ends = inr (more, none.1);
+      holds = ap (λ (t : Table _). t.items) same;
+      counts = refl;
+      sits = ap (λ (t : Table _). t.guests) (sym same);
+      coming = ap (λ (t : Table _). t.coming) (sym same);
+      back = ap (λ (t : Table _). t.back) (sym same);
     }
 
-pub none_kept_behind : (disk : DiskTrace) (place : Place) (found : Option (Place × Served)) (held : Holdings) → found ≡ None → IsKeptBehind disk place found held → IsOnDisk disk place held
-none_kept_behind disk place found held is behind = subst (λ (f : Option (Place × Served)). IsKeptBehind disk place f held) is behind
+-- those that sat were given back
+pub seats_left : {D G E : Type 0} (trace : D → DiskTrace) (tells : Tells G) (items items_now : Items) (new : D) (before mid now : Guests G) (asked : ℕ) (guests : List G) (result : Result Service E) → now.coming ≡ mid.coming → now.served ≡ after_leaving mid.served guests
+    → IfOk result (λ service. KeepsSeated tells (first_table items before) asked guests items_now service mid) → IfOk result (λ service. IsHeldOnDisk (trace new) (holding items_now)) → IfOk result (λ service. KeepsFrom trace tells items new before now asked service)
+seats_left trace tells items items_now new before mid now asked guests (Ok service) coming back keeps durable = record {
+  items_now = items_now;
+  serves = record {
+    course = keeps.course;
+    end = keeps.end;
+    goes = keeps.goes;
+    ends = keeps.ends;
+    holds = keeps.holds;
+    counts = keeps.counts;
+    coming = coming ∙ sym keeps.coming;
+    back = back ∙ ap₂ after_leaving (sym keeps.back) (sym keeps.sits);
+  };
+  durable = durable;
+}
+seats_left trace tells items items_now new before mid now asked guests (Err why) coming back keeps durable = tt
 
 -- ---- from the opening on
 
@@ -279,29 +281,68 @@ stops_ends Fleet fleet fleet_now before mid now stops no_less = stops
 stops_ends NoRoom fleet fleet_now before mid now stops no_less = tt
 stops_ends (State why) fleet fleet_now before mid now stops no_less = at_disk_later why before mid now (causes_at_disk why mid now stops) no_less
 
--- ---- guests, one behind the other
+-- a cause up to an earlier moment of the fleet is one up to a later
+pub stops_until : (why : KeepFault) (fleet fleet_mid fleet_now before now : ℕ) → StopsService why fleet fleet_mid before now → fleet_mid ≤ fleet_now → StopsService why fleet fleet_now before now
+stops_until Fleet fleet fleet_mid fleet_now before now stops no_less = rose_until fleet fleet_mid fleet_now stops no_less
+stops_until NoRoom fleet fleet_mid fleet_now before now stops no_less = tt
+stops_until (State why) fleet fleet_mid fleet_now before now stops no_less = stops
 
--- guests that were served in turn bring what was held on by commands alone
+-- the same of a result
+pub kept_cause_since : {X : Type 0} (result : Result X KeepFault) (a b c x y : ℕ) → a ≤ b → IfErr result (λ why. StopsService why b c x y) → IfErr result (λ why. StopsService why a c x y)
+kept_cause_since (Ok found) a b c x y no_less cause = tt
+kept_cause_since (Err why) a b c x y no_less cause = stops_later why a b c x x y cause no_less (omega arith)
+
+pub kept_cause_until : {X : Type 0} (result : Result X KeepFault) (a b c x y : ℕ) → b ≤ c → IfErr result (λ why. StopsService why a b x y) → IfErr result (λ why. StopsService why a c x y)
+kept_cause_until (Ok found) a b c x y no_less cause = tt
+kept_cause_until (Err why) a b c x y no_less cause = stops_until why a b c x y cause no_less
+
+pub no_room_stops : {X : Type 0} (result : Result X KeepFault) (a b x y : ℕ) → IfErr result (λ why. why ≡ NoRoom) → IfErr result (λ why. StopsService why a b x y)
+no_room_stops (Ok found) a b x y is = tt
+no_room_stops (Err why) a b x y is = subst (λ (w : KeepFault). StopsService w a b x y) (sym is) tt
+
+-- who sits down changes nothing that is held
+room_items : {G : Type 0} (a b : Table G) → MakesRoom a b → b.items ≡ a.items
+room_items a b (inl free) = ap (λ (t : Table _). t.items) free.1
+room_items a b (inr loses) = ap (λ (t : Table _). t.items) loses.left
+
+sat_items : {G : Type 0} (tells : Tells G) (a b : Table G) → SitsDown tells a b → b.items ≡ a.items
+sat_items tells a b sits =
+    let sat = sits.sits in
+    ap (λ (t : Table _). t.items) sat.sits ∙ room_items (record a { coming = sits.coming }) sat.between sat.room
+
+-- ---- turns, one behind the other
+
+-- turns bring what was held on by commands alone
 pub record Reached (before now : Holdings) : Type 0 where
   pub commands : List CommandFrame
   pub fit : All IsCommand commands
   pub are : now ≡ after_commands before commands
 
-turn_reached : {G : Type 0} (tells : Tells G) (items : Items) (coming : Option (List G)) (visits : List (Visit G)) (items_now : Items) (coming_now : Option (List G)) → InTurn tells items coming visits items_now coming_now → Reached (holding items) (holding items_now)
-turn_reached tells items coming [] items_now coming_now row = record { commands = []; fit = All-nil IsCommand; are = ap holding row.0 }
-turn_reached tells items coming (visit ∷ visits) items_now coming_now row =
-    let first = row.0.serves.carried in
-    let rest = turn_reached tells visit.items visit.coming visits items_now coming_now row.1 in
+one_reached : {G : Type 0} (tells : Tells G) (a b : Table G) → Turns tells a b → Reached (holding a.items) (holding b.items)
+one_reached tells a b (inl sits) = record { commands = []; fit = All-nil IsCommand; are = ap holding (sat_items tells a b sits) }
+one_reached tells a b (inr hears) =
+    let carried = hears.hears.hears.hears.carried in
     record {
-      commands = first.commands ++ rest.commands;
-      fit = All-append IsCommand first.commands rest.commands first.whole.fit rest.fit;
-      are = rest.are ∙ ap (λ (h : Holdings). after_commands h rest.commands) first.holds ∙ sym (after-append (holding items) first.commands rest.commands);
+      commands = carried.commands;
+      fit = carried.whole.fit;
+      are = ap (λ (t : Table _). holding t.items) hears.hears.behind ∙ carried.holds;
     }
 
--- the run of one guest more
-pub come_on : {D G : Type 0} (trace : D → DiskTrace) (old mid new : D) (tells : Tells G) (items a : Items) (before now : Guests G) (service : Service) → KeptSoFar tells items before now a service → KeepsTelling (trace old).bytes (trace mid).bytes
+turns_reached : {G : Type 0} (tells : Tells G) (before : Table G) (course : List (Table G)) (now : Table G) → TurnByTurn tells before course now → Reached (holding before.items) (holding now.items)
+turns_reached tells before [] now row = record { commands = []; fit = All-nil IsCommand; are = ap (λ (t : Table _). holding t.items) row }
+turns_reached tells before (table ∷ later) now row =
+    let first = one_reached tells before table row.0 in
+    let rest = turns_reached tells table later now row.1 in
+    record {
+      commands = first.commands ++ rest.commands;
+      fit = All-append IsCommand first.commands rest.commands first.fit rest.fit;
+      are = rest.are ∙ ap (λ (h : Holdings). after_commands h rest.commands) first.are ∙ sym (after-append (holding before.items) first.commands rest.commands);
+    }
+
+-- the run of one turn more
+pub come_on : {D G : Type 0} (trace : D → DiskTrace) (old mid new : D) (tells : Tells G) (first before : Table G) → TurnsSoFar tells first before → KeepsTelling (trace old).bytes (trace mid).bytes
     → IfSome (trace mid).bytes (trace mid).may_leave → ((t : ℕ) (c : List ℕ) → t ≤ (trace mid).moment → (trace mid).may_leave c → (trace mid).left_since t c)
-    → HasComeAlways trace old mid (holding items) → HasComeAlways trace mid new (holding a) → HasComeAlways trace old new (holding items)
-come_on trace old mid new tells items a before now service so_far told shows counts first second =
-    let reached = turn_reached tells items before.coming so_far.visits a now.coming so_far.in_turn in
-    come_then trace old mid new (holding items) (holding a) reached.commands reached.fit reached.are told shows counts first second
+    → HasComeAlways trace old mid (holding first.items) → HasComeAlways trace mid new (holding before.items) → HasComeAlways trace old new (holding first.items)
+come_on trace old mid new tells first before so_far told shows counts first_run second =
+    let reached = turns_reached tells first so_far.course before so_far.goes in
+    come_then trace old mid new (holding first.items) (holding before.items) reached.commands reached.fit reached.are told shows counts first_run second

@@ -1,5 +1,5 @@
 -- What an image is read as, and what a restart goes on from.
-use Rattle.std.proofs.Common.{◌≡◌, ◌==◌, ◌∙◌, if◌then◌else◌, Bool, true, false, inl, inr, ℕ, zero, suc, ◌+◌, ◌<◌, ◌≤◌, List, [], ◌∷◌, ◌++◌, length, Option, Some, unwrap_or, refl, sym, ap, subst, arith, length-append}
+use Rattle.std.proofs.Common.{◌≡◌, ◌==◌, ◌∙◌, true, inl, inr, ℕ, zero, suc, List, [], ◌∷◌, length, Option, Some, unwrap_or, refl, sym, ap, subst, arith, length-append}
 use Rattle.std.specs.List.{All, flat_map}
 use Rattle.std.proofs.lemmas.Bool.{cases_Bool, cond-false, cond-true}
 use Rattle.rollout_rules.specs.Agent.{Holding, held_after, is_at_most}
@@ -7,7 +7,7 @@ use Rattle.rollout_laws.proofs.Pairs.{after-more, at_most-refl, at_most-trans}
 use Rattle.wan_edge.specs.Frames.{CommandFrame, IsCommand, command_bytes}
 use Rattle.wan_edge.specs.Switches.{Holdings, after_command, after_commands, holding_nothing, pair_asked}
 use Rattle.wire_frames.proofs.OneSpelling.{one_command}
-use Rattle.agent_state.specs.Stored.{AreBytes, IsReadAs, Leaves, with_all}
+use Rattle.agent_state.specs.Stored.{IsReadAs, Leaves, with_all}
 use Rattle.agent_service.specs.Keeping.{GoesOnBy, HasCome}
 use Rattle.agent_service.proofs.Rows.{some_bytes}
 

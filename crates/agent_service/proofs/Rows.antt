@@ -1,119 +1,399 @@
--- Guests that were served in turn, and one more.
-use Rattle.std.proofs.Common.{◌≡◌, ◌≢◌, ◌∙◌, ℕ, ◌+◌, ◌<◌, ◌≤◌, List, [], ◌∷◌, ◌++◌, length, map, Option, Some, None, Ok, Err, refl, sym, ap, subst, append_assoc, arith, length-append}
-use Rattle.std.specs.Prelude.{IfSome}
-use Rattle.std.specs.List.{All, flat_map}
-use Rattle.std.proofs.lemmas.List.{append-nil}
-use Rattle.std.proofs.lemmas.List.Elements.{All-nil, All-cons, All-append}
+-- Guests that were served turn by turn, and one turn more.
+use Rattle.std.proofs.Common.{◌≡◌, ◌≢◌, inl, inr, ◌∙◌, ℕ, zero, suc, ◌+◌, ◌-◌, ◌*◌, ◌<◌, ◌≤◌, ◌^◌, List, [], ◌∷◌, ◌++◌, length, slice_index_or, Option, Some, None, Result, Ok, Err, refl, sym, ap, subst, arith}
+use Rattle.std.specs.Prelude.{IfErr, IfOk, IfSome, IsErrOf}
+use Rattle.std.specs.List.{remove}
+use Rattle.std.proofs.lemmas.List.{length_push}
+use Rattle.wan_edge.specs.Fleets.{WaitsFor}
 use Rattle.wan_edge.specs.Frames.{CommandFrame, command_bytes, command_head}
-use Rattle.wan_edge.specs.Streams.{SourceTrace}
+use Rattle.wan_edge.specs.Streams.{Rose}
+use Rattle.wan_edge.specs.declared.waited.Waited.{Waited}
+use Rattle.wan_edge.specs.declared.waited.Waited.TheVariants.{Came, NoMore, Seat}
 use Rattle.switch_agent.specs.Items.{Items}
-use Rattle.switch_agent.specs.Serving.{ReadsSo, ServesGuest}
+use Rattle.switch_agent.specs.Serving.{GoesFurther}
+use Rattle.switch_agent.specs.Talks.{Talking, most, new_talk, room_of}
+use Rattle.switch_agent.specs.declared.heard.Heard.{Heard}
 use Rattle.switch_agent.specs.declared.serve_fault.ServeFault.{ServeFault}
 use Rattle.switch_agent.specs.declared.serve_fault.ServeFault.TheVariants.{Frame, Long, Memory, Read, Write}
 use Rattle.switch_agent.specs.declared.serve_fault.Served.{Served}
+use Rattle.agent_service.specs.Seats.{HasSeats}
+use Rattle.agent_service.specs.Services.{Guests, HearsOne, MakesRoom, SeatsNext, ServesSeated, StopsTurn, Table, TakesTurn, Tells, TurnByTurn, Turns, after_leaving, back_behind, count_behind, counted, first_table, guests_behind, most_seats, nothing_counted, refused_by, rooms_of, settled, table_of, talks_behind, with_seat}
 use Rattle.agent_service.specs.declared.service.Service.{Service}
-use Rattle.agent_service.specs.declared.service.ServiceFault.TheVariants.{Memory as NoMemory}
-use Rattle.agent_service.specs.Services.{EndsWithoutRoom, FoundRoom, Guests, InTurn, IsVisit, Serves, ServesNext, ServesOne, Tells, Visit, commands_of, most, refused_by, refused_of, service_of, with_guest}
+use Rattle.agent_service.specs.declared.service.ServiceFault.{ServiceFault}
+use Rattle.agent_service.specs.declared.service.ServiceFault.TheVariants.{Fleet, Memory as NoMemory}
 
 -- each command has a byte
 pub some_bytes : (c : CommandFrame) → 0 < length (command_bytes c)
 unfolding command_bytes command_head
 some_bytes c = omega arith
 
-few_commands : (commands : List CommandFrame) → length commands ≤ length (flat_map command_bytes commands)
-few_commands [] = omega arith
-few_commands (c ∷ cs) = omega (arith, few_commands cs, length-append (command_bytes c) (flat_map command_bytes cs), some_bytes c)
+-- ---- lists
 
-few_bytes : (fault : Option ServeFault) (count : ℕ) (left : Option (List ℕ)) → ReadsSo fault count left → count ≤ most
-few_bytes None count left so_many = omega (arith, so_many.0)
-few_bytes (Some (Frame fault)) count left so_many = so_many
-few_bytes (Some Read) count left so_many = omega (arith, so_many)
-few_bytes (Some Write) count left so_many = so_many
-few_bytes (Some Long) count left so_many = omega (arith, so_many)
-few_bytes (Some Memory) count left so_many = so_many
+pub length_removed : {X : Type 0} (xs : List X) (n : ℕ) → n < length xs → length (remove xs n) + 1 ≡ length xs
+length_removed [] n lt = absurd (omega (arith, lt))
+length_removed (x ∷ xs) zero lt = omega arith
+length_removed (x ∷ xs) (suc n) lt = omega (arith, length_removed xs n (omega (arith, lt)))
 
-pub few : (items now : Items) (source source_now : SourceTrace) (served : Served) (written written_now : Option (List ℕ)) → ServesGuest items now source source_now served written written_now → served.commands ≤ most
-few items now source source_now served written written_now is =
-    let commands = is.carried.commands in
-    omega (arith, is.carried.counted, few_commands commands, ap length is.carried.whole.parts, length-append (flat_map command_bytes commands) is.carried.rest, few_bytes served.fault (length is.bytes) source_now.left is.so_many)
+rooms_push : (talks : List Talking) (talk : Talking) → rooms_of (talks ++ talk ∷ []) ≡ rooms_of talks + talk.room
+rooms_push [] talk = omega arith
+rooms_push (t ∷ ts) talk = omega (arith, rooms_push ts talk)
 
-pub InTurn-more : {G : Type 0} (tells : Tells G) (items a : Items) (coming b : Option (List G)) (visits : List (Visit G)) (visit : Visit G) → InTurn tells items coming visits a b → IsVisit tells a b visit → InTurn tells items coming (visits ++ visit ∷ []) visit.items visit.coming
-InTurn-more tells items a coming b [] visit row next = (subst (λ (i : Items). IsVisit tells i coming visit) row.0 (subst (λ (c : Option (List _)). IsVisit tells a c visit) row.1 next), (refl, refl))
-InTurn-more tells items a coming b (v ∷ vs) visit row next = (row.0, InTurn-more tells v.items a v.coming b vs visit row.1 next)
+pub rooms_removed : (talks : List Talking) (n : ℕ) (talk : Talking) → n < length talks → talk ≡ slice_index_or talks n talk → rooms_of (remove talks n) + talk.room ≡ rooms_of talks
+rooms_removed [] n talk lt is = absurd (omega (arith, lt))
+rooms_removed (t ∷ ts) zero talk lt is = omega (arith, ap (λ (one : Talking). one.room) is)
+rooms_removed (t ∷ ts) (suc n) talk lt is = omega (arith, rooms_removed ts n talk (omega (arith, lt)) is)
 
-pub commands_of-more : {G : Type 0} (visits : List (Visit G)) (visit : Visit G) → commands_of (visits ++ visit ∷ []) ≡ commands_of visits + visit.served.commands
-commands_of-more [] visit = omega arith
-commands_of-more (v ∷ vs) visit = omega (arith, commands_of-more vs visit)
+rooms_less : (talks : List Talking) (n : ℕ) → rooms_of (remove talks n) ≤ rooms_of talks
+rooms_less [] zero = omega arith
+rooms_less [] (suc n) = omega arith
+rooms_less (t ∷ ts) zero = omega arith
+rooms_less (t ∷ ts) (suc n) = omega (arith, rooms_less ts n)
 
-pub refused_of-more : {G : Type 0} (visits : List (Visit G)) (visit : Visit G) → refused_of (visits ++ visit ∷ []) ≡ refused_of visits + refused_by visit.served.fault
-refused_of-more [] visit = omega arith
-refused_of-more (v ∷ vs) visit = omega (arith, refused_of-more vs visit)
+-- one that leaves as the last of those that sit is the first of those that leave
+pub leaving_push : {G : Type 0} (back guests : List G) (guest : G) → after_leaving back (guests ++ guest ∷ []) ≡ after_leaving (back ++ guest ∷ []) guests
+leaving_push back [] guest = refl
+leaving_push back (g ∷ gs) guest = ap (λ (xs : List _). xs ++ g ∷ []) (leaving_push back gs guest)
 
-map-more : {G H : Type 0} (f : G → H) (xs : List G) (x : G) → map f (xs ++ x ∷ []) ≡ map f xs ++ f x ∷ []
-map-more f [] x = refl
-map-more f (y ∷ ys) x = ap (λ (zs : List _). f y ∷ zs) (map-more f ys x)
+-- ---- turns
 
--- from no item held, guests served so far
-pub record ServedSoFar {G : Type 0} (tells : Tells G) (before now : Guests G) (items : Items) (service : Service) : Type 0 where
-  pub visits : List (Visit G)
-  pub in_turn : InTurn tells [] before.coming visits items now.coming
-  pub back : now.served ≡ before.served ++ map (λ visit. visit.back) visits
-  pub found : All FoundRoom visits
-  pub guests : service.guests ≡ length visits
-  pub commands : service.commands ≡ commands_of visits
-  pub refused : service.refused ≡ refused_of visits
+pub TurnByTurn-more : {G : Type 0} (tells : Tells G) (a b c : Table G) (course : List (Table G)) → TurnByTurn tells a course b → Turns tells b c → TurnByTurn tells a (course ++ c ∷ []) c
+TurnByTurn-more tells a b c [] row next = (subst (λ (t : Table _). Turns tells t c) row next, refl)
+TurnByTurn-more tells a b c (t ∷ ts) row next = (row.0, TurnByTurn-more tells t b c ts row.1 next)
 
-pub none_served : {G : Type 0} (tells : Tells G) (before : Guests G) (items : Items) (service : Service) → items ≡ [] → service.guests ≡ 0 → service.commands ≡ 0 → service.refused ≡ 0 → ServedSoFar tells before before items service
-none_served tells before items service nothing guests commands refused = record {
-  visits = [];
-  in_turn = (nothing, refl);
-  back = sym (append-nil before.served);
-  found = All-nil FoundRoom;
-  guests = guests;
-  commands = commands;
-  refused = refused;
+-- from a first moment to this one
+pub record TurnsSoFar {G : Type 0} (tells : Tells G) (first now : Table G) : Type 0 where
+  pub course : List (Table G)
+  pub goes : TurnByTurn tells first course now
+
+pub no_turn : {G : Type 0} (tells : Tells G) (first now : Table G) → now ≡ first → TurnsSoFar tells first now
+no_turn tells first now is = record { course = []; goes = is }
+
+pub turn_more : {G : Type 0} (tells : Tells G) (first a b : Table G) → TurnsSoFar tells first a → Turns tells a b → TurnsSoFar tells first b
+turn_more tells first a b so_far next = record { course = so_far.course ++ b ∷ []; goes = TurnByTurn-more tells first a b so_far.course so_far.goes next }
+
+-- nobody sits at first
+pub nobody_seated : {G : Type 0} (items : Items) (guests : List G) (talks : List Talking) (fleet : Guests G) → guests ≡ [] → talks ≡ [] → table_of items guests talks fleet nothing_counted ≡ first_table items fleet
+nobody_seated items guests talks fleet none no_talks = λ i. table_of items (none i) (no_talks i) fleet nothing_counted
+
+-- ---- what stays within its bounds
+
+-- Those that sit and what is kept of them are as many, no more than there are seats. Each command counted has a byte of a guest, and each guest refused is one counted.
+pub record IsEven {G : Type 0} (table : Table G) : Type 0 where
+  pub even : length table.talks ≡ length table.guests
+  pub few : length table.guests ≤ most_seats
+  pub bound : table.count.commands + rooms_of table.talks ≤ most * (table.count.guests + length table.guests)
+  pub refused : table.count.refused ≤ table.count.guests
+
+-- how far a service still is from its end at most: so many more may sit down, and so many bytes may still be read
+abbrev pub weight : {G : Type 0} → ℕ → Table G → ℕ
+weight asked table = 100_000_001 * (asked + most_seats - (table.count.guests + length table.guests)) + rooms_of table.talks
+
+-- a turn keeps to the bounds, counts one guest at most, and brings the end nearer
+pub record Lightens {G : Type 0} (a b : Table G) : Type 0 where
+  pub keeps : IsEven b
+  pub no_less : a.count.guests ≤ b.count.guests
+  pub one : b.count.guests ≤ a.count.guests + 1
+  pub lighter : (asked : ℕ) → a.count.guests < asked → weight asked b < weight asked a
+
+pub nobody_even : {G : Type 0} (items : Items) (guests : List G) (talks : List Talking) (fleet : Guests G) → guests ≡ [] → talks ≡ [] → IsEven (table_of items guests talks fleet nothing_counted)
+nobody_even items guests talks fleet none no_talks = record {
+  even = omega (arith, ap length none, ap length no_talks);
+  few = omega (arith, ap length none);
+  bound = omega (arith, ap length none, ap rooms_of no_talks);
+  refused = omega arith;
 }
 
-pub given_one : {G : Type 0} (tells : Tells G) (items items_now : Items) (a b : Guests G) (found : Option Served) (served : Served) → found ≡ Some served → ServesNext tells items a (Ok found) items_now b → ServesOne tells items a served items_now b
-given_one tells items items_now a b found served is next = subst (λ (f : Option Served). ServesNext tells items a (Ok f) items_now b) is next
+-- room was made
+record Frees {G : Type 0} (a b : Table G) : Type 0 where
+  keeps : IsEven b
+  free : length b.guests < most_seats
+  no_less : a.count.guests ≤ b.count.guests
+  one : b.count.guests ≤ a.count.guests + 1
+  together : b.count.guests + length b.guests ≡ a.count.guests + length a.guests
+  rooms : rooms_of b.talks ≤ rooms_of a.talks
 
-pub few_of : (found : Option Served) (served : Served) → found ≡ Some served → IfSome found (λ s. s.commands ≤ most) → served.commands ≤ most
-few_of found served is small = subst (λ (f : Option Served). IfSome f (λ s. s.commands ≤ most)) is small
+frees : {G : Type 0} (a b : Table G) → IsEven a → MakesRoom a b → Frees a b
+frees a b even (inl free) = subst (λ (t : Table _). Frees a t) (sym free.1) (record {
+  keeps = even;
+  free = free.0;
+  no_less = omega arith;
+  one = omega arith;
+  together = refl;
+  rooms = omega arith;
+})
+frees a b even (inr loses) =
+    let some : 0 < length a.guests = omega (arith, loses.full) in
+    let fewer = length_removed a.guests 0 some in
+    let fewer_talks = length_removed a.talks 0 (omega (arith, even.even, some)) in
+    subst (λ (t : Table _). Frees a t) (sym loses.left) (record {
+      keeps = record {
+        even = omega (arith, even.even, fewer, fewer_talks);
+        few = omega (arith, even.few, fewer);
+        bound = omega (arith, even.bound, fewer, rooms_less a.talks 0);
+        refused = omega (arith, even.refused);
+      };
+      free = omega (arith, loses.full, fewer);
+      no_less = omega arith;
+      one = omega arith;
+      together = omega (arith, fewer);
+      rooms = rooms_less a.talks 0;
+    })
 
-pub one_at_most : (fault : Option ServeFault) → refused_by fault ≤ 1
+sits_lighter : {G : Type 0} (a b c : Table G) (guest : G) → length a.guests ≤ most_seats → Frees a b → c ≡ with_seat b guest → Lightens a c
+sits_lighter a b c guest few freed is =
+    let more = length_push b.guests guest in
+    let more_talks = length_push b.talks new_talk in
+    let rooms = rooms_push b.talks new_talk in
+    subst (λ (t : Table _). Lightens a t) (sym is) (record {
+      keeps = record {
+        even = omega (arith, freed.keeps.even, more, more_talks);
+        few = omega (arith, freed.free, more);
+        bound = omega (arith, freed.keeps.bound, more, rooms);
+        refused = freed.keeps.refused;
+      };
+      no_less = freed.no_less;
+      one = freed.one;
+      lighter = λ asked less. omega (arith, less, few, more, rooms, freed.together, freed.rooms);
+    })
+
+one_at_most : (fault : Option ServeFault) → refused_by fault ≤ 1
 one_at_most None = omega arith
 one_at_most (Some fault) = omega arith
 
-module _ {G : Type 0} (tells : Tells G) (before a b : Guests G) (items items_now : Items) (service : Service) (served : Served) (so_far : ServedSoFar tells before a items service) (one : ServesOne tells items a served items_now b) where
-  abbrev visit : Visit G
-  visit = record { came = one.came; back = one.back; served = served; items = items_now; coming = b.coming }
+-- what a read leaves of what may be read, besides its commands
+spent_by : (fault : Option ServeFault) (talk : Option Talking) (bytes rest : List ℕ) (room commands : ℕ) (left : Option (List ℕ)) → GoesFurther fault talk bytes rest (room - length bytes) left → length bytes ≤ room → 0 < room
+    → commands ≤ length bytes → (commands + room_of talk ≤ room) × (room_of talk < room)
+spent_by None None bytes rest room commands left further within some few = (omega (arith, within, few), some)
+spent_by None (Some talk) bytes rest room commands left further within some few =
+    let is : talk.room ≡ room - length bytes = ap (λ (t : Talking). t.room) further.2 in
+    (omega (arith, is, within, few), omega (arith, is, within, further.0))
+spent_by (Some (Frame fault)) talk bytes rest room commands left further within some few = (omega (arith, ap room_of further, within, few), omega (arith, ap room_of further, some))
+spent_by (Some Read) talk bytes rest room commands left further within some few = (omega (arith, ap room_of further.0, within, few), omega (arith, ap room_of further.0, some))
+spent_by (Some Write) talk bytes rest room commands left further within some few = (omega (arith, ap room_of further, within, few), omega (arith, ap room_of further, some))
+spent_by (Some Long) talk bytes rest room commands left further within some few = (omega (arith, ap room_of further.0, within, few), omega (arith, ap room_of further.0, some))
+spent_by (Some Memory) talk bytes rest room commands left further within some few = (omega (arith, ap room_of further, within, few), omega (arith, ap room_of further, some))
 
-  in_turn_now : InTurn tells [] before.coming (so_far.visits ++ visit ∷ []) items_now b.coming
-  in_turn_now = InTurn-more tells [] items before.coming a.coming so_far.visits visit so_far.in_turn one.visit
+settled_lighter : {G : Type 0} (a : Table G) (place : ℕ) (items : Items) (guest : G) (talk : Talking) (served : Served) (kept : Option Talking) → IsEven a → place < length a.guests → talk ≡ slice_index_or a.talks place talk
+    → served.commands + room_of kept ≤ talk.room → room_of kept < talk.room → Lightens a (settled a place items guest (record { served = served; talk = kept }))
+settled_lighter a place items guest talk served None even inside is spent less =
+    let fewer = length_removed a.guests place inside in
+    let inside_talks : place < length a.talks = omega (arith, even.even, inside) in
+    let fewer_talks = length_removed a.talks place inside_talks in
+    let rooms = rooms_removed a.talks place talk inside_talks is in
+    record {
+      keeps = record {
+        even = omega (arith, even.even, fewer, fewer_talks);
+        few = omega (arith, even.few, fewer);
+        bound = omega (arith, even.bound, fewer, rooms, spent);
+        refused = omega (arith, even.refused, one_at_most served.fault);
+      };
+      no_less = omega arith;
+      one = omega arith;
+      lighter = λ asked more. omega (arith, more, fewer, rooms, less);
+    }
+settled_lighter a place items guest talk served (Some now) even inside is spent less =
+    let fewer = length_removed a.guests place inside in
+    let inside_talks : place < length a.talks = omega (arith, even.even, inside) in
+    let fewer_talks = length_removed a.talks place inside_talks in
+    let rooms = rooms_removed a.talks place talk inside_talks is in
+    let more = length_push (remove a.guests place) guest in
+    let more_talks = length_push (remove a.talks place) now in
+    let rooms_now = rooms_push (remove a.talks place) now in
+    record {
+      keeps = record {
+        even = omega (arith, even.even, fewer, fewer_talks, more, more_talks);
+        few = omega (arith, even.few, fewer, more);
+        bound = omega (arith, even.bound, fewer, more, rooms, rooms_now, spent);
+        refused = even.refused;
+      };
+      no_less = omega arith;
+      one = omega arith;
+      lighter = λ asked most_more. omega (arith, most_more, fewer, more, rooms, rooms_now, less);
+    }
 
-  back_now : b.served ≡ before.served ++ map (λ (v : Visit G). v.back) (so_far.visits ++ visit ∷ [])
-  back_now =
-      one.given_back ∙ ap (λ (gs : List G). gs ++ one.back ∷ []) so_far.back ∙ append_assoc before.served (map (λ (v : Visit G). v.back) so_far.visits) (one.back ∷ [])
-      ∙ ap (λ (gs : List G). before.served ++ gs) (sym (map-more (λ (v : Visit G). v.back) so_far.visits visit))
+pub hears_lighter : {G : Type 0} (tells : Tells G) (a b : Table G) (heard : Heard) → IsEven a → HearsOne tells a heard b → Lightens a b
+hears_lighter tells a b heard even one =
+    let hears = one.hears.hears in
+    let spent = spent_by heard.served.fault heard.talk one.hears.bytes hears.carried.rest one.talk.room heard.served.commands (tells.source one.guest_now).left hears.further one.hears.within one.some hears.few in
+    subst (λ (t : Table _). Lightens a t) (sym one.behind) (settled_lighter a one.place one.items one.guest_now one.talk heard.served heard.talk even one.sits.0 one.kept.1 spent.0 spent.1)
 
-  -- one guest more, for whose items memory was found
-  pub served_one : (service_now : Service) → service_now ≡ with_guest service served → served.fault ≢ Some Memory → ServedSoFar tells before b items_now service_now
-  served_one service_now is found = record {
-    visits = so_far.visits ++ visit ∷ [];
-    in_turn = in_turn_now;
-    back = back_now;
-    found = All-append FoundRoom so_far.visits (visit ∷ []) so_far.found (All-cons FoundRoom visit [] found (All-nil FoundRoom));
-    guests = omega (arith, ap (λ (s : Service). s.guests) is, so_far.guests, length-append so_far.visits (visit ∷ []));
-    commands = omega (arith, ap (λ (s : Service). s.commands) is, so_far.commands, commands_of-more so_far.visits visit);
-    refused = omega (arith, ap (λ (s : Service). s.refused) is, so_far.refused, refused_of-more so_far.visits visit);
+pub turn_lighter : {G : Type 0} (tells : Tells G) (a b : Table G) → IsEven a → Turns tells a b → Lightens a b
+turn_lighter tells a b even (inl sits) =
+    let before : Table _ = record a { coming = sits.coming } in
+    let same : IsEven before = record { even = even.even; few = even.few; bound = even.bound; refused = even.refused } in
+    let freed = frees before sits.sits.between same sits.sits.room in
+    let lightens = sits_lighter before sits.sits.between b sits.guest even.few freed sits.sits.sits in
+    record { keeps = lightens.keeps; no_less = lightens.no_less; one = lightens.one; lighter = lightens.lighter }
+turn_lighter tells a b even (inr hears) = hears_lighter tells a b hears.heard even hears.hears
+
+-- however many turns there were
+turns_even : {G : Type 0} (tells : Tells G) (a : Table G) (course : List (Table G)) (b : Table G) → IsEven a → TurnByTurn tells a course b → IsEven b
+turns_even tells a [] b even row = subst (λ (t : Table _). IsEven t) (sym row) even
+turns_even tells a (table ∷ later) b even row = turns_even tells table later b (turn_lighter tells a table even row.0).keeps row.1
+
+pub few_from_first : {G : Type 0} (tells : Tells G) (items : Items) (before : Guests G) (course : List (Table G)) (now : Table G) → TurnByTurn tells (first_table items before) course now → length now.guests ≤ most_seats
+few_from_first tells items before course now goes = (turns_even tells (first_table items before) course now (nobody_even items [] [] before refl refl) goes).few
+
+-- what a turn asks for is there
+pub seats_of : {G : Type 0} (table : Table G) (guest_places talk_places visiting asked : ℕ) → IsEven table → most_seats ≤ guest_places → most_seats ≤ talk_places → length table.guests ≤ visiting
+    → table.count.guests < asked → asked < 2 ^ 32 → HasSeats table.guests table.talks table.count guest_places talk_places visiting
+seats_of table guest_places talk_places visiting asked even guests talks known more small = record {
+  even = even.even;
+  few = even.few;
+  guest_room = guests;
+  talk_room = talks;
+  known = known;
+  guest_more = omega (arith, more, small);
+  refused_more = omega (arith, more, small, even.refused);
+  commands_more = omega (arith, even.bound, even.few, more, small);
+}
+
+pub seats_known : {G : Type 0} (guests : List G) (talks : List Talking) (count : Service) (guest_places talk_places visiting now : ℕ) → now ≡ visiting → HasSeats guests talks count guest_places talk_places visiting → HasSeats guests talks count guest_places talk_places now
+seats_known guests talks count guest_places talk_places visiting now is seats = subst (λ (v : ℕ). HasSeats guests talks count guest_places talk_places v) (sym is) seats
+
+-- ---- the tables of a turn
+
+-- where a guest is that was read
+pub settled_is : {G : Type 0} (before : Table G) (place : ℕ) (items : Items) (guest : G) (heard : Heard) (left guests : List G) (left_talks talks : List Talking) (coming : Option (List G)) (back : List G) (count : Service)
+    → left ≡ remove before.guests place → left_talks ≡ remove before.talks place → guests ≡ guests_behind left guest heard.talk → talks ≡ talks_behind left_talks heard.talk → coming ≡ before.coming
+    → back ≡ back_behind before.back guest heard.talk → count ≡ count_behind before.count heard.served heard.talk → table_of items guests talks (record { coming = coming; served = back }) count ≡ settled before place items guest heard
+settled_is before place items guest heard left guests left_talks talks coming back count out out_talks guests_are talks_are coming_is back_is count_is =
+    let all_guests = guests_are ∙ ap (λ (xs : List _). guests_behind xs guest heard.talk) out in
+    let all_talks = talks_are ∙ ap (λ (xs : List Talking). talks_behind xs heard.talk) out_talks in
+    λ i. record { items = items; guests = all_guests i; talks = all_talks i; coming = coming_is i; back = back_is i; count = count_is i }
+
+-- a guest that sat down
+pub seated_is : {G : Type 0} (between : Table G) (guest : G) (items : Items) (guests : List G) (talks : List Talking) (coming : Option (List G)) (back : List G) (count : Service)
+    → items ≡ between.items → guests ≡ between.guests ++ guest ∷ [] → talks ≡ between.talks ++ new_talk ∷ [] → coming ≡ between.coming → back ≡ between.back → count ≡ between.count
+    → table_of items guests talks (record { coming = coming; served = back }) count ≡ with_seat between guest
+seated_is between guest items guests talks coming back count items_are guests_are talks_are coming_is back_is count_is =
+    λ i. record { items = items_are i; guests = guests_are i; talks = talks_are i; coming = coming_is i; back = back_is i; count = count_is i }
+
+-- a table in which nothing has changed but in name
+pub same_table : {G : Type 0} (items : Items) (guests guests' : List G) (talks talks' : List Talking) (coming coming' : Option (List G)) (back back' : List G) (count : Service)
+    → guests' ≡ guests → talks' ≡ talks → coming' ≡ coming → back' ≡ back
+    → table_of items guests' talks' (record { coming = coming'; served = back' }) count ≡ table_of items guests talks (record { coming = coming; served = back }) count
+same_table items guests guests' talks talks' coming coming' back back' count guests_are talks_are coming_is back_is =
+    λ i. record { items = items; guests = guests_are i; talks = talks_are i; coming = coming_is i; back = back_is i; count = count }
+
+-- what follows from behind a wait follows from before it
+pub turn_waited : {G : Type 0} (tells : Tells G) (before waited now : Table G) (found : Option Service) → waited ≡ before → TakesTurn tells waited found now → TakesTurn tells before found now
+turn_waited tells before waited now found is turn = subst (λ (t : Table _). TakesTurn tells t found now) is turn
+
+pub stop_waited : {G : Type 0} (tells : Tells G) (before waited now : Table G) (why : ServiceFault) → waited ≡ before → StopsTurn tells waited why now → StopsTurn tells before why now
+stop_waited tells before waited now why is stop = subst (λ (t : Table _). StopsTurn tells t why now) is stop
+
+pub turn_found : {G E : Type 0} (tells : Tells G) (before waited now : Table G) (result : Result (Option Service) E) → waited ≡ before → IfOk result (λ found. TakesTurn tells waited found now) → IfOk result (λ found. TakesTurn tells before found now)
+turn_found tells before waited now (Ok found) is turn = turn_waited tells before waited now found is turn
+turn_found tells before waited now (Err why) is turn = tt
+
+pub stop_found : {G : Type 0} (tells : Tells G) (before waited now : Table G) (result : Result (Option Service) ServiceFault) → waited ≡ before → IfErr result (λ why. StopsTurn tells waited why now) → IfErr result (λ why. StopsTurn tells before why now)
+stop_found tells before waited now (Ok found) is stop = tt
+stop_found tells before waited now (Err why) is stop = stop_waited tells before waited now why is stop
+
+-- no guest came though a wait has said that one would: only where it isn't told who comes
+pub none_came : {G : Type 0} (coming : Option (List G)) (guests : List G) → IfSome coming (λ gs. 0 < length gs) → IfSome coming (λ gs. length gs ≡ 0) → IfSome coming (λ gs. (length gs ≡ 0) × (length guests ≡ 0))
+none_came None guests some none = tt
+none_came (Some gs) guests some none = absurd (omega (arith, some, none))
+
+pub none_of : {G : Type 0} (coming : Option (List G)) → IfSome coming (λ gs. gs ≡ []) → IfSome coming (λ gs. length gs ≡ 0)
+none_of None none = tt
+none_of (Some gs) none = ap length none
+
+both_none : {G : Type 0} (coming : Option (List G)) (guests : List G) → length guests ≡ 0 → IfSome coming (λ gs. length gs ≡ 0) → IfSome coming (λ gs. (length gs ≡ 0) × (length guests ≡ 0))
+both_none None guests nobody none = tt
+both_none (Some gs) guests nobody none = (none, nobody)
+
+pub none_waited : {G : Type 0} (coming : Option (List G)) (guests : List G) (woken : Waited) → woken ≡ NoMore → WaitsFor coming guests woken → IfSome coming (λ gs. (length gs ≡ 0) × (length guests ≡ 0))
+none_waited coming guests woken is waits =
+    let none : (length guests ≡ 0) × IfSome coming (λ gs. length gs ≡ 0) = subst (λ (w : Waited). WaitsFor coming guests w) is waits in
+    both_none coming guests none.0 none.1
+
+pub woken_behind : {G : Type 0} (coming coming' : Option (List G)) (guests guests' : List G) (woken : Waited) → coming' ≡ coming → guests ≡ guests' → WaitsFor coming guests woken → WaitsFor coming' guests' woken
+woken_behind coming coming' guests guests' woken coming_is guests_are waits =
+    subst (λ (c : Option (List _)). WaitsFor c guests' woken) (sym coming_is) (subst (λ (gs : List _). WaitsFor coming gs woken) guests_are waits)
+
+pub came_waited : {G : Type 0} (coming : Option (List G)) (guests : List G) (woken : Waited) → woken ≡ Came → WaitsFor coming guests woken → IfSome coming (λ gs. 0 < length gs)
+came_waited coming guests woken is waits = subst (λ (w : Waited). WaitsFor coming guests w) is waits
+
+pub seat_waited : {G : Type 0} (coming : Option (List G)) (guests : List G) (woken : Waited) (place : ℕ) → woken ≡ Seat place → WaitsFor coming guests woken → place < length guests
+seat_waited coming guests woken place is waits = subst (λ (w : Waited). WaitsFor coming guests w) is waits
+
+-- the next guest sat down, or none came
+pub seats_taken : {G : Type 0} (tells : Tells G) (before now : Table G) (found : Option Service) → IfSome before.coming (λ gs. 0 < length gs) → SeatsNext tells before found now → TakesTurn tells before found now
+seats_taken tells before now (Some count) some next = inl next
+seats_taken tells before now None some next = (next.0, none_came before.coming before.guests some next.1)
+
+-- ---- the end of a service
+
+pub found_turn : {G : Type 0} (tells : Tells G) (before now : Table G) (found : Option Service) (count : Service) → found ≡ Some count → TakesTurn tells before found now → Turns tells before (counted now count)
+found_turn tells before now found count is turn = subst (λ (f : Option Service). TakesTurn tells before f now) is turn
+
+module _ {G : Type 0} (tells : Tells G) (first before now : Table G) (asked : ℕ) (so_far : TurnsSoFar tells first before) (more : before.count.guests < asked) where
+  -- no more come, and nobody sits
+  pub no_more : (found : Option Service) → found ≡ None → TakesTurn tells before found now → ServesSeated tells first asked (Ok before.count) now.guests (record { coming = now.coming; served = now.back })
+  no_more found is turn =
+      let none : (now ≡ before) × IfSome before.coming (λ later. (length later ≡ 0) × (length before.guests ≡ 0)) = subst (λ (f : Option Service). TakesTurn tells before f now) is turn in
+      record { course = so_far.course; end = before; last = now; goes = so_far.goes; ends = (none.0, refl, inr (more, none.1)); sits = refl; coming = refl; back = refl }
+
+  -- or there was a fault
+  pub stopped : (why : ServiceFault) → StopsTurn tells before why now → ServesSeated tells first asked (Err why) now.guests (record { coming = now.coming; served = now.back })
+  stopped Fleet stop = record { course = so_far.course; end = before; last = now; goes = so_far.goes; ends = (stop, more); sits = refl; coming = refl; back = refl }
+  stopped NoMemory stop = record {
+    course = so_far.course;
+    end = before;
+    last = counted now stop.1;
+    goes = so_far.goes;
+    ends = inr (record { heard = stop.0; no_room = stop.2; hears = stop.3; more = more });
+    sits = refl;
+    coming = refl;
+    back = refl;
   }
 
-  -- one guest more, for one of whose items memory wasn't found
-  pub served_last : (asked : ℕ) → served.fault ≡ Some Memory → service.guests < asked → Serves tells before b asked (Err NoMemory)
-  served_last asked no_room more = record {
-    visits = so_far.visits ++ visit ∷ [];
-    items = items_now;
-    in_turn = in_turn_now;
-    back = back_now;
-    ends = (record { earlier = so_far.visits; last = visit; parts = refl; found = so_far.found; no_room = no_room }, omega (arith, more, so_far.guests, length-append so_far.visits (visit ∷ [])));
-  }
+-- all that were asked for were served
+pub all_served : {G : Type 0} (tells : Tells G) (first now : Table G) (asked : ℕ) → TurnsSoFar tells first now → now.count.guests ≤ asked → asked ≤ now.count.guests
+    → ServesSeated tells first asked (Ok now.count) now.guests (record { coming = now.coming; served = now.back })
+all_served tells first now asked so_far within enough = record {
+  course = so_far.course;
+  end = now;
+  last = now;
+  goes = so_far.goes;
+  ends = (refl, refl, inl (omega (arith, within, enough)));
+  sits = refl;
+  coming = refl;
+  back = refl;
+}
+
+-- ---- causes
+
+pub rose_since : (a b c : ℕ) → a ≤ b → Rose b c → Rose a c
+rose_since a b c no_less (inl more) = inl (omega (arith, no_less, more))
+rose_since a b c no_less (inr most_faults) = inr most_faults
+
+pub cause_since : {X : Type 0} (result : Result X ServiceFault) (a b c : ℕ) → a ≤ b → IfErr result (λ why. why ≡ Fleet → Rose b c) → IfErr result (λ why. why ≡ Fleet → Rose a c)
+cause_since (Ok x) a b c no_less cause = tt
+cause_since (Err why) a b c no_less cause = λ is. rose_since a b c no_less (cause is)
+
+pub never_fleet : {X : Type 0} (result : Result X ServiceFault) (P : Type 0) → IfErr result (λ why. why ≢ Fleet) → IfErr result (λ why. why ≡ Fleet → P)
+never_fleet (Ok x) P never = tt
+never_fleet (Err why) P never = λ is. absurd (never is)
+
+memory_no_fleet : NoMemory ≡ Fleet → ⊥
+memory_no_fleet is = cc
+
+pub not_fleet : (why : ServiceFault) → why ≡ NoMemory → why ≡ Fleet → ⊥
+not_fleet why memory fleet = memory_no_fleet (sym memory ∙ fleet)
+
+pub rose_until : (a b c : ℕ) → Rose a b → b ≤ c → Rose a c
+rose_until a b c (inl more) no_less = inl (omega (arith, no_less, more))
+rose_until a b c (inr most_faults) no_less = inr (omega (arith, no_less, most_faults))
+
+pub cause_until : {X : Type 0} (result : Result X ServiceFault) (a b c : ℕ) → b ≤ c → IfErr result (λ why. why ≡ Fleet → Rose a b) → IfErr result (λ why. why ≡ Fleet → Rose a c)
+cause_until (Ok x) a b c no_less cause = tt
+cause_until (Err why) a b c no_less cause = λ is. rose_until a b c (cause is) no_less
+
+-- what holds where something was found
+pub found_holds : {X : Type 0} (P : X → Type 0) (found : Option X) (x : X) → found ≡ Some x → IfSome found P → P x
+found_holds P found x is holds = subst (λ (f : Option _). IfSome f P) is holds
+
+pub fleet_cause : (result : Result Service ServiceFault) (P : Type 0) → IfErr result (λ why. why ≡ Fleet → P) → IsErrOf result Fleet → P
+fleet_cause result P cause is = subst (λ (r : Result Service ServiceFault). IfErr r (λ why. why ≡ Fleet → P)) is cause refl

@@ -1,42 +1,58 @@
 -- What the serving of guests by an agent with a file comes to.
-use Rattle.std.specs.Prelude.{◌≡◌, ◌⊎◌, ⊤, ℕ, ◌≤◌, List, length, map, Option, Some, None, IfSome, Result, Ok, Err}
+use Rattle.std.specs.Prelude.{◌≡◌, ◌⊎◌, ⊤, ℕ, List, length, Option, Some, None, IfSome}
 use Rattle.wan_edge.specs.Streams.{Rose}
-use Rattle.wan_edge.specs.Switches.{Holdings, holding_nothing}
+use Rattle.wan_edge.specs.Switches.{Holdings}
 use Rattle.disk_model.specs.Moments.{LeavesOnly}
 use Rattle.disk_model.specs.Traces.{DiskTrace}
 use Rattle.switch_agent.specs.Items.{Items, holding}
-use Rattle.switch_agent.specs.declared.serve_fault.Served.{Served}
 use Rattle.agent_state.specs.Disks.{RoseAtDisk}
 use Rattle.agent_state.specs.Opened.{ReadsAlike}
 use Rattle.agent_state.specs.Stored.{IsReadAs}
 use Rattle.agent_state.specs.declared.place.Place.{Place}
 use Rattle.agent_service.specs.Keeping.{HasCome, IsOnDisk, StopsKeeping}
-use Rattle.agent_service.specs.Services.{Guests, InTurn, IsVisit, Tells, Visit, service_of}
+use Rattle.agent_service.specs.Services.{Guests, HasServed, Table, Tells, TurnByTurn, Turns, after_leaving, counted, first_table}
 use Rattle.agent_service.specs.declared.keep_fault.KeepFault.{KeepFault}
 use Rattle.agent_service.specs.declared.keep_fault.KeepFault.TheVariants.{Fleet, NoRoom, State}
 use Rattle.agent_service.specs.declared.service.Service.{Service}
 
--- From these items guests were served in turn and given back, and so much was counted of them.
-pub record ServesFrom {G : Type 0} (tells : Tells G) (items : Items) (before now : Guests G) (items_now : Items) (service : Service) : Type 0 where
-  pub visits : List (Visit G)
-  pub in_turn : InTurn tells items before.coming visits items_now now.coming
-  pub counted : service ≡ service_of visits
+-- From these items guests were served turn by turn, as many as were asked for, or fewer since no more come and nobody sits, and so much was counted. Whoever
+-- sat at the end was given back, and counts no further.
+pub record ServesFrom {G : Type 0} (tells : Tells G) (items : Items) (before now : Guests G) (asked : ℕ) (items_now : Items) (service : Service) : Type 0 where
+  pub course : List (Table G)
+  pub end : Table G
+  pub goes : TurnByTurn tells (first_table items before) course end
+  pub ends : HasServed asked end
+  pub holds : items_now ≡ end.items
+  pub counts : service ≡ end.count
+  pub coming : now.coming ≡ end.coming
+  pub back : now.served ≡ after_leaving end.back end.guests
 
--- The next guest was served, by what was held before, and what is held behind it is on the disk.
-pub record KeepsOne {G : Type 0} (tells : Tells G) (items : Items) (before : Guests G) (served : Served) (items_now : Items) (now : Guests G) : Type 0 where
-  pub came : G
-  pub back : G
-  pub visit : IsVisit tells items before.coming (record { came = came; back = back; served = served; items = items_now; coming = now.coming })
+-- The same while the guests still sit.
+pub record KeepsSeated {G : Type 0} (tells : Tells G) (first : Table G) (asked : ℕ) (guests : List G) (items_now : Items) (service : Service) (now : Guests G) : Type 0 where
+  pub course : List (Table G)
+  pub end : Table G
+  pub goes : TurnByTurn tells first course end
+  pub ends : HasServed asked end
+  pub holds : items_now ≡ end.items
+  pub counts : service ≡ end.count
+  pub sits : end.guests ≡ guests
+  pub coming : end.coming ≡ now.coming
+  pub back : end.back ≡ now.served
 
--- the next guest was served, or all is as it was, since no more come
-abbrev pub KeepsNext : {G : Type 0} → Tells G → Items → Guests G → Option (Place × Served) → Items → Guests G → Type 0
-KeepsNext tells items before (Some kept) items_now now = KeepsOne tells items before kept.1 items_now now
-KeepsNext tells items before None items_now now = (items_now ≡ items) × (now.coming ≡ before.coming)
+-- a turn, or nothing happened, since no more come and nobody sits
+abbrev pub KeepsTurn : {G : Type 0} → Tells G → Table G → Option (Place × Service) → Table G → Type 0
+KeepsTurn tells before (Some kept) now = Turns tells before (counted now kept.1)
+KeepsTurn tells before None now = (now ≡ before) × IfSome before.coming (λ later. (length later ≡ 0) × (length before.guests ≡ 0))
 
--- what is held behind the next guest is on the disk, or nothing has changed there
-abbrev pub IsKeptBehind : DiskTrace → Place → Option (Place × Served) → Holdings → Type 0
+-- what is held behind a turn is on the disk, or nothing has changed there
+abbrev pub IsKeptBehind : DiskTrace → Place → Option (Place × Service) → Holdings → Type 0
 IsKeptBehind disk place (Some kept) held = IsOnDisk disk kept.0 held
 IsKeptBehind disk place None held = IsOnDisk disk place held
+
+-- a guest sat down, and all that is held is on the disk as it was
+abbrev pub at_place : Place → Option Service → Option (Place × Service)
+at_place place (Some count) = Some (place, count)
+at_place place None = None
 
 -- a crash at any moment leaves what the agent rule makes of this by some commands
 abbrev pub HasComeAlways : {D : Type 0} → (D → DiskTrace) → D → D → Holdings → Type 0
@@ -58,10 +74,10 @@ EndsService Fleet fleet fleet_now disk disk_now = Rose fleet fleet_now
 EndsService NoRoom fleet fleet_now disk disk_now = ⊤
 EndsService (State why) fleet fleet_now disk disk_now = RoseAtDisk why disk disk_now
 
--- From this on guests were served in turn, and behind them all that the agent holds is on the disk.
-pub record KeepsFrom {D G : Type 0} (trace : D → DiskTrace) (tells : Tells G) (items : Items) (new : D) (before now : Guests G) (service : Service) : Type 0 where
+-- From this on guests were served turn by turn, and behind that all that the agent holds is on the disk.
+pub record KeepsFrom {D G : Type 0} (trace : D → DiskTrace) (tells : Tells G) (items : Items) (new : D) (before now : Guests G) (asked : ℕ) (service : Service) : Type 0 where
   pub items_now : Items
-  pub serves : ServesFrom tells items before now items_now service
+  pub serves : ServesFrom tells items before now asked items_now service
   pub durable : IsHeldOnDisk (trace new) (holding items_now)
 
 -- The image is read as what the agent rule makes of what the other was read as, by some commands.
@@ -76,8 +92,8 @@ abbrev pub MayBeLeft : (List ℕ → Type 0) → List ℕ → List ℕ → Type 
 MayBeLeft left image c = left c ⊎ (ReadsAlike image c ⊎ HasGoneOn image c)
 
 -- The whole of an agent with a file that ended by itself. What its disk told when it was opened was read as what the agent held from the start, and guests
--- were served in turn from there.
-pub record KeepsGuests {D G : Type 0} (trace : D → DiskTrace) (tells : Tells G) (old new : D) (before now : Guests G) (service : Service) : Type 0 where
+-- were served turn by turn from there.
+pub record KeepsGuests {D G : Type 0} (trace : D → DiskTrace) (tells : Tells G) (old new : D) (before now : Guests G) (asked : ℕ) (service : Service) : Type 0 where
   pub items : Items
   pub found : IfSome (trace old).bytes (λ image. IsReadAs image (holding items))
-  pub keeps : KeepsFrom trace tells items new before now service
+  pub keeps : KeepsFrom trace tells items new before now asked service

@@ -1,3 +1,4 @@
 pub mod Keeping
 pub mod KeptServices
+pub mod Seats
 pub mod Services

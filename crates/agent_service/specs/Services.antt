@@ -1,19 +1,21 @@
--- What the serving of guests by one agent comes to.
-use Rattle.std.specs.Prelude.{◌≡◌, ◌≢◌, ◌⊎◌, ℕ, ◌+◌, ◌<◌, ◌≤◌, List, [], ◌∷◌, ◌++◌, length, map, All, Option, Some, None, IfSome, Result, Ok, Err}
+-- What the serving of guests by one agent comes to, several of them at once.
+use Rattle.std.specs.Prelude.{◌≡◌, ◌≢◌, ◌⊎◌, ℕ, ◌+◌, ◌<◌, ◌≤◌, List, [], ◌∷◌, ◌++◌, length, slice_index_or, Option, Some, None, IfSome, Result, Ok, Err}
+use Rattle.std.specs.List.{remove}
 use Rattle.wan_edge.specs.Fleets.{GivesGuest}
 use Rattle.wan_edge.specs.Streams.{Rose, SinkTrace, SourceTrace}
-use Rattle.wan_edge.specs.declared.stream.Failed.{Failed}
 use Rattle.switch_agent.specs.Items.{Items, most_items}
-use Rattle.switch_agent.specs.Serving.{ServesGuest, most as most_bytes}
+use Rattle.switch_agent.specs.Serving.{HearsGuest}
+use Rattle.switch_agent.specs.Talks.{Talking, new_talk}
+use Rattle.switch_agent.specs.declared.heard.Heard.{Heard}
 use Rattle.switch_agent.specs.declared.serve_fault.ServeFault.TheVariants.{Memory as NoRoom, Read, Write}
 use Rattle.switch_agent.specs.declared.serve_fault.Served.{Served}
 use Rattle.agent_service.specs.declared.service.Service.{Service}
 use Rattle.agent_service.specs.declared.service.ServiceFault.{ServiceFault}
 use Rattle.agent_service.specs.declared.service.ServiceFault.TheVariants.{Fleet, Memory}
 
--- how many commands of one guest are carried out at most: each has a byte
-abbrev pub most : ℕ
-most = most_bytes
+-- how many guests sit at once at most
+abbrev pub most_seats : ℕ
+most_seats = 64
 
 -- what guests tell, as sources and as sinks
 pub record Tells (G : Type 0) : Type 0 where
@@ -25,87 +27,217 @@ pub record Guests (G : Type 0) : Type 0 where
   pub coming : Option (List G)
   pub served : List G
 
--- a guest as it was given and as it was given back, what came of it, and what the agent held and which guests were to come then
-pub record Visit (G : Type 0) : Type 0 where
-  pub came : G
-  pub back : G
-  pub served : Served
+-- One moment of a service: what the agent holds; the guests that sit, from the one that has said nothing for longest to the one that spoke last, and what is
+-- kept of each of them; who is to come, where that is told; who was given back; and what was counted.
+pub record Table (G : Type 0) : Type 0 where
   pub items : Items
+  pub guests : List G
+  pub talks : List Talking
   pub coming : Option (List G)
+  pub back : List G
+  pub count : Service
 
--- The guest was the first to come. Its bytes were read, and the commands in them carried out and answered by what was held before it. Its serving
--- ended in a fault of reading or of writing only where the count of these rose. Behind it the agent keeps no more items than a document within the
--- limits has, whatever came.
-pub record IsVisit {G : Type 0} (tells : Tells G) (items : Items) (coming : Option (List G)) (visit : Visit G) : Type 0 where
-  pub given : GivesGuest tells.source tells.sink coming visit.came visit.coming
-  pub serves : ServesGuest items visit.items (tells.source visit.came) (tells.source visit.back) visit.served (tells.sink visit.came).written (tells.sink visit.back).written
-  pub read_cause : visit.served.fault ≡ Some Read → Rose (tells.source visit.came).faults (tells.source visit.back).faults
-  pub write_cause : visit.served.fault ≡ Some Write → Rose (tells.sink visit.came).faults (tells.sink visit.back).faults
-  pub few : length visit.items ≤ most_items
+abbrev pub table_of : {G : Type 0} → Items → List G → List Talking → Guests G → Service → Table G
+table_of items guests talks fleet count = record { items = items; guests = guests; talks = talks; coming = fleet.coming; back = fleet.served; count = count }
 
--- each guest behind the one before it: what is held and who is to come goes on from there
-abbrev pub InTurn : {G : Type 0} → Tells G → Items → Option (List G) → List (Visit G) → Items → Option (List G) → Type 0
-InTurn tells items coming [] items_now coming_now = (items_now ≡ items) × (coming_now ≡ coming)
-InTurn tells items coming (visit ∷ visits) items_now coming_now = IsVisit tells items coming visit × InTurn tells visit.items visit.coming visits items_now coming_now
+-- the same with another count
+abbrev pub counted : {G : Type 0} → Table G → Service → Table G
+counted table count = record table { count = count }
 
--- how many commands were carried out, those that changed nothing among them
-abbrev pub commands_of : {G : Type 0} → List (Visit G) → ℕ
-commands_of [] = 0
-commands_of (visit ∷ visits) = visit.served.commands + commands_of visits
+-- ---- what is counted
+
+abbrev pub nothing_counted : Service
+nothing_counted = record { guests = 0; commands = 0; refused = 0 }
 
 -- a guest that wasn't served to its end counts as one refused
 abbrev pub refused_by : {F : Type 0} → Option F → ℕ
 refused_by None = 0
 refused_by (Some fault) = 1
 
--- how many guests were refused
-abbrev pub refused_of : {G : Type 0} → List (Visit G) → ℕ
-refused_of [] = 0
-refused_of (visit ∷ visits) = refused_by visit.served.fault + refused_of visits
+-- with commands that were carried out, those that changed nothing among them
+abbrev pub with_commands : Service → ℕ → Service
+with_commands service commands = record { guests = service.guests; commands = service.commands + commands; refused = service.refused }
 
--- what is counted of these guests
-abbrev pub service_of : {G : Type 0} → List (Visit G) → Service
-service_of visits = record { guests = length visits; commands = commands_of visits; refused = refused_of visits }
-
--- with one more guest, of which so much came
+-- with one more guest, by whose last read this was carried out
 abbrev pub with_guest : Service → Served → Service
 with_guest service served = record { guests = service.guests + 1; commands = service.commands + served.commands; refused = service.refused + refused_by served.fault }
 
--- memory was found for each item that the guest named
-abbrev pub FoundRoom : {G : Type 0} → Visit G → Type 0
-FoundRoom visit = visit.served.fault ≢ Some NoRoom
+-- with one more guest, that was sent away
+abbrev pub with_refused : Service → Service
+with_refused service = record { guests = service.guests + 1; commands = service.commands; refused = service.refused + 1 }
 
--- the last of these guests named an item for which no memory was found
-pub record EndsWithoutRoom {G : Type 0} (visits : List (Visit G)) : Type 0 where
-  pub earlier : List (Visit G)
-  pub last : Visit G
-  pub parts : visits ≡ earlier ++ last ∷ []
-  pub found : All FoundRoom earlier
-  pub no_room : last.served.fault ≡ Some NoRoom
+-- ---- what happens
 
--- Who was served: all that were asked for, or fewer where no more come; fewer where the fleet failed or memory wasn't found.
-abbrev pub EndsSo : {G : Type 0} → ℕ → List (Visit G) → Option (List G) → Result Service ServiceFault → Type 0
-EndsSo asked visits coming (Ok service) = (service ≡ service_of visits) × All FoundRoom visits × ((length visits ≡ asked) ⊎ ((length visits < asked) × IfSome coming (λ later. later ≡ [])))
-EndsSo asked visits coming (Err Fleet) = All FoundRoom visits × (length visits < asked)
-EndsSo asked visits coming (Err Memory) = EndsWithoutRoom visits × (length visits < asked + 1)
+-- at a place of a row stands this
+abbrev pub IsAt : {X : Type 0} → List X → ℕ → X → Type 0
+IsAt row place x = (place < length row) × (x ≡ slice_index_or row place x)
 
--- From no item held these guests were served in turn and given back, and the service ended so.
-pub record Serves {G : Type 0} (tells : Tells G) (before now : Guests G) (asked : ℕ) (result : Result Service ServiceFault) : Type 0 where
-  pub visits : List (Visit G)
+-- The guest that has said nothing for longest left: it was given back, and counts as one refused.
+pub record LosesFirst {G : Type 0} (before now : Table G) : Type 0 where
+  pub first : G
+  pub full : length before.guests ≡ most_seats
+  pub is_first : IsAt before.guests 0 first
+  pub left : now ≡ record before { guests = remove before.guests 0; talks = remove before.talks 0; back = before.back ++ first ∷ []; count = with_refused before.count }
+
+-- a seat is free; where all were taken, the guest that had said nothing for longest has left its own
+abbrev pub MakesRoom : {G : Type 0} → Table G → Table G → Type 0
+MakesRoom before now = ((length before.guests < most_seats) × (now ≡ before)) ⊎ LosesFirst before now
+
+-- this guest sits behind all others, and nothing of it was read
+abbrev pub with_seat : {G : Type 0} → Table G → G → Table G
+with_seat table guest = record table { guests = table.guests ++ guest ∷ []; talks = table.talks ++ new_talk ∷ [] }
+
+-- A guest sat down where there was room, or room was made: only then does one leave that is silent.
+pub record SitsFrom {G : Type 0} (before : Table G) (guest : G) (now : Table G) : Type 0 where
+  pub between : Table G
+  pub room : MakesRoom before between
+  pub sits : now ≡ with_seat between guest
+
+-- The next guest came, and sat down.
+pub record SitsDown {G : Type 0} (tells : Tells G) (before now : Table G) : Type 0 where
+  pub guest : G
+  pub coming : Option (List G)
+  pub given : GivesGuest tells.source tells.sink before.coming guest coming
+  pub sits : SitsFrom (record before { coming = coming }) guest now
+
+-- a guest that is read further sits behind all others then: it spoke last
+abbrev pub guests_behind : {G : Type 0} → List G → G → Option Talking → List G
+guests_behind guests guest None = guests
+guests_behind guests guest (Some talk) = guests ++ guest ∷ []
+
+abbrev pub talks_behind : List Talking → Option Talking → List Talking
+talks_behind talks None = talks
+talks_behind talks (Some talk) = talks ++ talk ∷ []
+
+-- one that isn't was given back
+abbrev pub back_behind : {G : Type 0} → List G → G → Option Talking → List G
+back_behind back guest None = back ++ guest ∷ []
+back_behind back guest (Some talk) = back
+
+-- and counts then, while its commands count as they are carried out
+abbrev pub count_behind : Service → Served → Option Talking → Service
+count_behind count served None = with_guest count served
+count_behind count served (Some talk) = with_commands count served.commands
+
+-- where a guest that sat at a place is then, what is kept of it, and what is counted
+abbrev pub settled : {G : Type 0} → Table G → ℕ → Items → G → Heard → Table G
+settled table place items guest heard = record {
+  items = items;
+  guests = guests_behind (remove table.guests place) guest heard.talk;
+  talks = talks_behind (remove table.talks place) heard.talk;
+  coming = table.coming;
+  back = back_behind table.back guest heard.talk;
+  count = count_behind table.count heard.served heard.talk;
+}
+
+-- One of the guests that sit was read once, by what was kept of it alone; its commands were carried out and answered by what was held then, whoever brought it
+-- about. A fault of reading or of writing came only where the count of these rose. The agent keeps no more items than a document within the limits has,
+-- whatever came.
+pub record HearsOne {G : Type 0} (tells : Tells G) (before : Table G) (heard : Heard) (now : Table G) : Type 0 where
+  pub place : ℕ
+  pub guest : G
+  pub talk : Talking
+  pub sits : IsAt before.guests place guest
+  pub kept : IsAt before.talks place talk
+  pub some : 0 < talk.room
+  pub guest_now : G
   pub items : Items
-  pub in_turn : InTurn tells [] before.coming visits items now.coming
-  pub back : now.served ≡ before.served ++ map (λ visit. visit.back) visits
-  pub ends : EndsSo asked visits now.coming result
+  pub hears : HearsGuest before.items items talk (tells.source guest) (tells.source guest_now) heard (tells.sink guest).written (tells.sink guest_now).written
+  pub read_cause : heard.served.fault ≡ Some Read → Rose (tells.source guest).faults (tells.source guest_now).faults
+  pub write_cause : heard.served.fault ≡ Some Write → Rose (tells.sink guest).faults (tells.sink guest_now).faults
+  pub few : length items ≤ most_items
+  pub behind : now ≡ settled before place items guest_now heard
 
--- the next guest was served and given back, and so much came of it
-pub record ServesOne {G : Type 0} (tells : Tells G) (items : Items) (before : Guests G) (served : Served) (items_now : Items) (now : Guests G) : Type 0 where
-  pub came : G
-  pub back : G
-  pub visit : IsVisit tells items before.coming (record { came = came; back = back; served = served; items = items_now; coming = now.coming })
-  pub given_back : now.served ≡ before.served ++ back ∷ []
+-- the same, and memory was found for each item that was named
+pub record HearsWell {G : Type 0} (tells : Tells G) (before now : Table G) : Type 0 where
+  pub heard : Heard
+  pub found : heard.served.fault ≢ Some NoRoom
+  pub hears : HearsOne tells before heard now
 
--- the next guest was served, or all is as it was: where no more come, and where the fleet failed
-abbrev pub ServesNext : {G : Type 0} → Tells G → Items → Guests G → Result (Option Served) Failed → Items → Guests G → Type 0
-ServesNext tells items before (Ok (Some served)) items_now now = ServesOne tells items before served items_now now
-ServesNext tells items before (Ok None) items_now now = (items_now ≡ items) × (now ≡ before) × IfSome now.coming (λ later. later ≡ [])
-ServesNext tells items before (Err fault) items_now now = (items_now ≡ items) × (now ≡ before)
+-- what happens at once: a guest sits down, or one is read
+abbrev pub Turns : {G : Type 0} → Tells G → Table G → Table G → Type 0
+Turns tells before now = SitsDown tells before now ⊎ HearsWell tells before now
+
+-- one turn behind the other, each with what stands behind it
+abbrev pub TurnByTurn : {G : Type 0} → Tells G → Table G → List (Table G) → Table G → Type 0
+TurnByTurn tells before [] now = now ≡ before
+TurnByTurn tells before (table ∷ later) now = Turns tells before table × TurnByTurn tells table later now
+
+-- ---- how a service ends
+
+-- a guest named an item for which no memory was found
+pub record WantsMemory {G : Type 0} (tells : Tells G) (asked : ℕ) (end last : Table G) : Type 0 where
+  pub heard : Heard
+  pub no_room : heard.served.fault ≡ Some NoRoom
+  pub hears : HearsOne tells end heard last
+  pub more : end.count.guests < asked
+
+-- So many guests were served as were asked for; or fewer, since no more come and nobody sits.
+abbrev pub HasServed : {G : Type 0} → ℕ → Table G → Type 0
+HasServed asked end = (end.count.guests ≡ asked) ⊎ ((end.count.guests < asked) × IfSome end.coming (λ later. (length later ≡ 0) × (length end.guests ≡ 0)))
+
+-- Why a service ended: so many guests were served as were asked for; fewer, since no more come and nobody sits; the fleet failed; or memory wasn't found, for
+-- an item that the last read named, or for the seats before anybody came.
+abbrev pub EndsSo : {G : Type 0} → Tells G → ℕ → List (Table G) → Table G → Result Service ServiceFault → Table G → Type 0
+EndsSo tells asked course end (Ok service) last =
+    (last ≡ end) × (service ≡ end.count) × HasServed asked end
+EndsSo tells asked course end (Err Fleet) last = (last ≡ end) × (end.count.guests < asked)
+EndsSo tells asked course end (Err Memory) last = ((length course ≡ 0) × (last ≡ end)) ⊎ WantsMemory tells asked end last
+
+-- those given back, and these behind them, from the last on: a service that ends gives all back that sit
+abbrev pub after_leaving : {G : Type 0} → List G → List G → List G
+after_leaving back [] = back
+after_leaving back (guest ∷ guests) = after_leaving back guests ++ guest ∷ []
+
+-- before anybody came
+abbrev pub first_table : {G : Type 0} → Items → Guests G → Table G
+first_table items guests = table_of items [] [] guests nothing_counted
+
+-- From these items guests were served turn by turn, and the service ended so. Whoever sat then was given back, and counts no further.
+pub record ServesBy {G : Type 0} (tells : Tells G) (items : Items) (before now : Guests G) (asked : ℕ) (result : Result Service ServiceFault) : Type 0 where
+  pub course : List (Table G)
+  pub end : Table G
+  pub last : Table G
+  pub goes : TurnByTurn tells (first_table items before) course end
+  pub ends : EndsSo tells asked course end result last
+  pub coming : now.coming ≡ last.coming
+  pub back : now.served ≡ after_leaving last.back last.guests
+
+-- from no item held
+abbrev pub Serves : {G : Type 0} → Tells G → Guests G → Guests G → ℕ → Result Service ServiceFault → Type 0
+Serves tells before now asked result = ServesBy tells [] before now asked result
+
+-- The same while the guests still sit, from this moment to that.
+pub record ServesSeated {G : Type 0} (tells : Tells G) (first : Table G) (asked : ℕ) (result : Result Service ServiceFault) (guests : List G) (now : Guests G) : Type 0 where
+  pub course : List (Table G)
+  pub end : Table G
+  pub last : Table G
+  pub goes : TurnByTurn tells first course end
+  pub ends : EndsSo tells asked course end result last
+  pub sits : last.guests ≡ guests
+  pub coming : last.coming ≡ now.coming
+  pub back : last.back ≡ now.served
+
+-- ---- one turn
+
+-- a turn, or nothing happened, since no more come and nobody sits
+abbrev pub TakesTurn : {G : Type 0} → Tells G → Table G → Option Service → Table G → Type 0
+TakesTurn tells before (Some count) now = Turns tells before (counted now count)
+TakesTurn tells before None now = (now ≡ before) × IfSome before.coming (λ later. (length later ≡ 0) × (length before.guests ≡ 0))
+
+-- nothing happened, since the fleet failed; or a guest was read that named an item for which no memory was found
+abbrev pub StopsTurn : {G : Type 0} → Tells G → Table G → ServiceFault → Table G → Type 0
+StopsTurn tells before Fleet now = now ≡ before
+StopsTurn tells before Memory now = (heard : Heard) × (count : Service) × (heard.served.fault ≡ Some NoRoom) × HearsOne tells before heard (counted now count)
+
+-- a guest sat down, or nothing happened, since no more come
+abbrev pub SeatsNext : {G : Type 0} → Tells G → Table G → Option Service → Table G → Type 0
+SeatsNext tells before (Some count) now = SitsDown tells before (counted now count)
+SeatsNext tells before None now = (now ≡ before) × IfSome before.coming (λ later. length later ≡ 0)
+
+-- ---- what a service keeps to
+
+-- how many bytes may still be read of all of these
+abbrev pub rooms_of : List Talking → ℕ
+rooms_of [] = 0
+rooms_of (talk ∷ talks) = talk.room + rooms_of talks

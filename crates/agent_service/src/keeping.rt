@@ -1,91 +1,146 @@
-//! A guest that is served by an agent with a file: what a read of its commands changes is on the disk
-//! before its answers go out.
+//! One read of a guest by an agent with a file: what its commands change is on the disk before their answers
+//! go out.
 ghost use Rattle.std.specs.Prelude.{◌≡◌, ◌≢◌, ◌<◌, ◌≤◌, ◌++◌, [], length, None, Some, IfErr, IfOk, IfSome, IsErr, IsTrue, OnErr, OnOk};
 ghost use Rattle.agent_service.specs.Keeping.{HasCome, IsOnDisk, StopsKeeping, Stores};
 ghost use Rattle.agent_state.specs.Stored.{IsBeforeOrAfter};
 ghost use Rattle.disk_model.specs.Moments.{LeavesOnly};
 ghost use Rattle.switch_agent.specs.Items.{holding};
-ghost use Rattle.switch_agent.specs.Serving.{CarriesOut, IsOwnFault, ServesGuest};
+ghost use Rattle.switch_agent.specs.Serving.{CarriesOut, HearsBytes, HearsGuest, IsOwnFault};
+ghost use Rattle.switch_agent.specs.Talks.{most};
 ghost use Rattle.switch_agent.specs.declared.serve_fault.ServeFault.TheVariants as fault;
 ghost use Rattle.wan_edge.specs.Frames.{IsCutCommand};
-ghost use Rattle.wan_edge.specs.Streams.{Appends, AppendsPart, KeepsTelling, Rose, SinkSteps, SourceSteps};
+ghost use Rattle.wan_edge.specs.Streams.{Appends, AppendsPart, IsAtEnd, KeepsTelling, Rose, SinkSteps};
 ghost use Rattle.wan_edge.specs.Switches.{Holdings};
 
 use crate::gathering::{Gathered, gather};
 use agent_state::{Place, StateFault, append};
 use disk_model::Disk;
 use std::alloc::Global;
-use switch_agent::{Agent, ServeFault, Served};
+use switch_agent::{Agent, Heard, ServeFault, Served, Talk, read_some};
 use wan_edge::{Failed, Guest, write_all};
 use wire_frames::CommandReader;
-
-// How many bytes are read of one guest.
-const MOST: usize = 100_000_000;
 
 // How many bytes one call reads at most.
 const BUFFER: usize = 4_096;
 
-/// Reads the guest to its end. The commands that end in what one call gives are carried out in order;
-/// what they changed is on the disk as one batch before they are answered. A command that is cut off at
-/// the end is dropped. Where the disk fails, or memory runs out for what is kept, no answer of that call
-/// goes out.
-#[tactic(auto, using(agent_state::proofs::Quiet::causes_later))]
+/// Reads the guest once. The commands that end in what came are carried out in order; what they changed is
+/// on the disk as one batch before they are answered. A command that is cut off where the guest has ended
+/// is dropped. Where the disk fails, or memory runs out for what is kept, no answer of that read goes out.
 pub(crate) fn serve_kept<D: Disk, G: Guest>(
     alloc: Global,
     disk: &mut D,
     place: Place,
     agent: &mut Agent,
     guest: &mut G,
-) -> Result<(Place, Served), StateFault>
+    talk: Talk,
+) -> Result<(Place, Heard), StateFault>
     requires { IsOnDisk (D.told disk.old) place (holding agent.old) }
     ensures kept { IfOk result
         (λ kept. IsOnDisk (D.told disk.new) kept.0 (holding agent.new)) }
-    ensures served { IfOk result
-        (λ kept. ServesGuest agent.old agent.new (G.Source.told guest.old)
+    ensures heard { IfOk result
+        (λ kept. HearsGuest agent.old agent.new talk (G.Source.told guest.old)
         (G.Source.told guest.new) kept.1 (G.Sink.told guest.old).written
         (G.Sink.told guest.new).written) }
+    ensures some { 0 < talk.room }
     ensures any_moment { IfSome (D.told disk.old).bytes
         (λ _. LeavesOnly D.told disk.old disk.new (HasCome (holding agent.old))) }
     ensures told { KeepsTelling (D.told disk.old).bytes (D.told disk.new).bytes }
     ensures read_cause { IfOk result
-        (λ kept. kept.1.fault ≡ Some fault.Read
+        (λ kept. kept.1.served.fault ≡ Some fault.Read
         → Rose (G.Source.told guest.old).faults (G.Source.told guest.new).faults) }
     ensures write_cause { IfOk result
-        (λ kept. kept.1.fault ≡ Some fault.Write
+        (λ kept. kept.1.served.fault ≡ Some fault.Write
         → Rose (G.Sink.told guest.old).faults (G.Sink.told guest.new).faults) }
     ensures cause { IfErr result
         (λ why. StopsKeeping why (D.told disk.old).faults (D.told disk.new).faults) }
     ensures count { (D.told disk.old).faults ≤ (D.told disk.new).faults }
 {
     let mut buffer = [0; BUFFER];
-    let mut reader = CommandReader::new();
-    let mut commands = 0;
-    let mut room = MOST;
-    let mut here = place;
-    while room > 0 {
-        let fits = room.min(BUFFER);
-        let n = match guest.read(&mut buffer[..fits]) {
-            Ok(0) => {
-                let fault = None;
-                return Ok((here, Served { commands, fault }));
-            }
-            Ok(n) => n,
-            Err(_) => {
-                let fault = Some(ServeFault::Read);
-                return Ok((here, Served { commands, fault }));
-            }
-        };
-        let next = keep_read(alloc, disk, here, agent, &mut reader, &buffer[..n], guest)?;
-        here = next.0;
-        commands += next.1.commands;
-        if let Some(fault) = next.1.fault {
-            let fault = Some(fault);
-            return Ok((here, Served { commands, fault }));
-        }
-        room -= n;
+    keep_into(alloc, disk, place, agent, guest, talk, &mut buffer)
+}
+
+// The same, by what comes into a buffer.
+fn keep_into<D: Disk, G: Guest>(
+    alloc: Global,
+    disk: &mut D,
+    place: Place,
+    agent: &mut Agent,
+    guest: &mut G,
+    talk: Talk,
+    buffer: &mut [u8],
+) -> Result<(Place, Heard), StateFault>
+    requires buffer { 0 < length buffer.old }
+    requires kept { IsOnDisk (D.told disk.old) place (holding agent.old) }
+    ensures kept { IfOk result
+        (λ kept. IsOnDisk (D.told disk.new) kept.0 (holding agent.new)) }
+    ensures heard { IfOk result
+        (λ kept. HearsGuest agent.old agent.new talk (G.Source.told guest.old)
+        (G.Source.told guest.new) kept.1 (G.Sink.told guest.old).written
+        (G.Sink.told guest.new).written) }
+    ensures some { 0 < talk.room }
+    ensures any_moment { IfSome (D.told disk.old).bytes
+        (λ _. LeavesOnly D.told disk.old disk.new (HasCome (holding agent.old))) }
+    ensures told { KeepsTelling (D.told disk.old).bytes (D.told disk.new).bytes }
+    ensures read_cause { IfOk result
+        (λ kept. kept.1.served.fault ≡ Some fault.Read
+        → Rose (G.Source.told guest.old).faults (G.Source.told guest.new).faults) }
+    ensures write_cause { IfOk result
+        (λ kept. kept.1.served.fault ≡ Some fault.Write
+        → Rose (G.Sink.told guest.old).faults (G.Sink.told guest.new).faults) }
+    ensures cause { IfErr result
+        (λ why. StopsKeeping why (D.told disk.old).faults (D.told disk.new).faults) }
+    ensures count { (D.told disk.old).faults ≤ (D.told disk.new).faults }
+{
+    let (reader, room) = talk.into_parts();
+    match read_some(guest, room, buffer) {
+        Ok(n) => keep_some(alloc, disk, place, agent, guest, reader, room, &buffer[..n]),
+        Err(_) => Ok((place, Heard::last(Some(ServeFault::Read)))),
     }
-    let fault = Some(ServeFault::Long);
-    Ok((here, Served { commands, fault }))
+}
+
+// Carries out and answers the commands that end in these bytes, which were read; none of them is the end.
+#[tactic(auto, using(agent_state::proofs::Quiet::causes_later))]
+fn keep_some<D: Disk, G: Guest>(
+    alloc: Global,
+    disk: &mut D,
+    place: Place,
+    agent: &mut Agent,
+    guest: &mut G,
+    reader: CommandReader,
+    room: usize,
+    piece: &[u8],
+) -> Result<(Place, Heard), StateFault>
+    requires live { IsTrue reader.live }
+    requires cut { IsCutCommand reader.kept }
+    requires within { length piece.now ≤ room }
+    requires few { room ≤ most }
+    requires end { length piece.now ≡ 0 → IsAtEnd (G.Source.told guest.old).left }
+    requires kept { IsOnDisk (D.told disk.old) place (holding agent.old) }
+    ensures kept { IfOk result
+        (λ kept. IsOnDisk (D.told disk.new) kept.0 (holding agent.new)) }
+    ensures hears { IfOk result
+        (λ kept. HearsBytes agent.old agent.new (record { kept = reader.kept; room = room })
+        piece.now kept.1 (G.Source.told guest.old).left (G.Sink.told guest.old).written
+        (G.Sink.told guest.new).written) }
+    ensures any_moment { IfSome (D.told disk.old).bytes
+        (λ _. LeavesOnly D.told disk.old disk.new (HasCome (holding agent.old))) }
+    ensures told { KeepsTelling (D.told disk.old).bytes (D.told disk.new).bytes }
+    ensures unfailed { IfOk result (λ kept. kept.1.served.fault ≢ Some fault.Read) }
+    ensures write_cause { IfOk result
+        (λ kept. kept.1.served.fault ≡ Some fault.Write
+        → Rose (G.Sink.told guest.old).faults (G.Sink.told guest.new).faults) }
+    ensures unread { OnOk result (G.Source.told guest.new ≡ G.Source.told guest.old) }
+    ensures cause { IfErr result
+        (λ why. StopsKeeping why (D.told disk.old).faults (D.told disk.new).faults) }
+    ensures count { (D.told disk.old).faults ≤ (D.told disk.new).faults }
+{
+    let mut reader = reader;
+    if piece.is_empty() {
+        return Ok((place, Heard::last(None)));
+    }
+    let next = keep_read(alloc, disk, place, agent, &mut reader, piece, guest)?;
+    let heard = Heard::behind(next.1, reader, room - piece.len());
+    Ok((next.0, heard))
 }
 
 // Carries out the commands that end in the piece, keeps what they changed, and then answers them.

@@ -1,24 +1,29 @@
 //! The guests of an agent with a file.
-ghost use Rattle.std.specs.Prelude.{◌≡◌, ◌≤◌, Err, Ok, Some, IfErr, IfOk, IfSome};
+ghost use Rattle.std.specs.Prelude.{◌≡◌, ◌≢◌, ◌+◌, ◌<◌, ◌≤◌, ◌^◌, [], Some, length, vec_capacity, IfErr, IfOk, IfSome};
 ghost use Rattle.agent_service.specs.Keeping.{IsOnDisk};
-ghost use Rattle.agent_service.specs.KeptServices.{EndsService, HasComeAlways, IsKeptBehind, KeepsFrom, KeepsGuests, KeepsNext, MayBeLeft, StopsService};
-ghost use Rattle.agent_service.specs.Services.{most};
+ghost use Rattle.agent_service.specs.KeptServices.{EndsService, HasComeAlways, IsKeptBehind, IsHeldOnDisk, KeepsFrom, KeepsGuests, KeepsSeated, KeepsTurn, MayBeLeft, StopsService, at_place};
+ghost use Rattle.agent_service.specs.Seats.{HasSeats};
+ghost use Rattle.agent_service.specs.Services.{back_behind, count_behind, guests_behind, most_seats, nothing_counted, table_of, talks_behind};
+ghost use Rattle.agent_service.specs.declared.keep_fault.KeepFault.TheVariants as stop;
 ghost use Rattle.disk_model.specs.Moments.{LeavesOnly};
 ghost use Rattle.switch_agent.specs.Items.{holding};
+ghost use Rattle.switch_agent.specs.declared.serve_fault.ServeFault.TheVariants as fault;
+ghost use Rattle.wan_edge.specs.Fleets.{WaitsFor};
 ghost use Rattle.wan_edge.specs.Streams.{KeepsTelling};
 
 use crate::guests::wants_room;
 use crate::keeping::serve_kept;
+use crate::seats::{MOST_SEATS, keep_seated, settle, sit_down};
 use crate::{KeepFault, Service};
-use agent_state::{Place, StateFault, open_state};
+use agent_state::{Place, open_state};
 use disk_model::Disk;
 use std::alloc::Global;
-use switch_agent::{Agent, Served};
-use wan_edge::Fleet;
+use switch_agent::{Agent, Heard, Talk};
+use wan_edge::{Fleet, Waited};
 
-/// Serves this many guests, or fewer where no more come, as [`crate::serve_guests`] does, by an agent that
-/// holds what its file says. What a read of commands changes is on the disk as one batch before its answers
-/// go out; a crash at any moment leaves what was held before it or behind all of it.
+/// Serves this many guests, or fewer where no more come, several at once as [`crate::serve_guests`] does, by
+/// an agent that holds what its file says. What a read of commands changes is on the disk as one batch before
+/// its answers go out; a crash at any moment leaves what was held before it or behind all of it.
 #[tactic(auto, using(crate::proofs::KeptRows::stops_ends))]
 pub fn keep_guests<F: Fleet, D: Disk>(
     alloc: Global,
@@ -32,7 +37,7 @@ pub fn keep_guests<F: Fleet, D: Disk>(
           sink = F.Guest.Sink.told;
         }) disk.old disk.new
         (record { coming = F.coming fleet.old; served = F.served fleet.old })
-        (record { coming = F.coming fleet.new; served = F.served fleet.new }) service) }
+        (record { coming = F.coming fleet.new; served = F.served fleet.new }) guests service) }
     ensures any_moment { IfSome (D.told disk.old).bytes
         (λ image. LeavesOnly D.told disk.old disk.new
         (MayBeLeft (D.told disk.old).may_leave image)) }
@@ -52,7 +57,6 @@ pub fn keep_guests<F: Fleet, D: Disk>(
 }
 
 // Serves guests by an agent whose file is at rest at this place, with what it holds.
-#[tactic(auto, using(crate::proofs::KeptRows::stops_later))]
 fn keep_all<F: Fleet, D: Disk>(
     alloc: Global,
     fleet: &mut F,
@@ -68,10 +72,99 @@ fn keep_all<F: Fleet, D: Disk>(
           sink = F.Guest.Sink.told;
         }) agent.old disk.new
         (record { coming = F.coming fleet.old; served = F.served fleet.old })
-        (record { coming = F.coming fleet.new; served = F.served fleet.new }) service) }
+        (record { coming = F.coming fleet.new; served = F.served fleet.new }) guests service) }
     ensures any_moment { HasComeAlways D.told disk.old disk.new (holding agent.old) }
     ensures told { KeepsTelling (D.told disk.old).bytes (D.told disk.new).bytes }
     ensures visiting { F.visiting fleet.new ≡ F.visiting fleet.old }
+    ensures ports { (F.waiting fleet.new ≡ F.waiting fleet.old)
+        × (F.kept fleet.new ≡ F.kept fleet.old)
+        × (F.lent fleet.new ≡ F.lent fleet.old)
+        × (F.named fleet.new ≡ F.named fleet.old) }
+    ensures cause { IfErr result
+        (λ why. StopsService why (F.faults fleet.old) (F.faults fleet.new)
+        (D.told disk.old).faults (D.told disk.new).faults) }
+    ensures count { F.faults fleet.old ≤ F.faults fleet.new }
+    ensures disk_count { (D.told disk.old).faults ≤ (D.told disk.new).faults }
+{
+    match Vec::with_capacity(alloc, MOST_SEATS) {
+        Ok(mut talks) => keep_with(alloc, fleet, disk, place, agent, &mut talks, guests),
+        Err(_) => Err(KeepFault::NoRoom),
+    }
+}
+
+// The same with room for what is kept of those that sit.
+fn keep_with<F: Fleet, D: Disk>(
+    alloc: Global,
+    fleet: &mut F,
+    disk: &mut D,
+    place: Place,
+    agent: &mut Agent,
+    talks: &mut Vec<Talk>,
+    guests: u32,
+) -> Result<Service, KeepFault>
+    requires nobody { talks.old.items ≡ [] }
+    requires places { most_seats ≤ vec_capacity talks.old }
+    requires kept { IsOnDisk (D.told disk.old) place (holding agent.old) }
+    ensures keeps { IfOk result
+        (λ service. KeepsFrom D.told (record {
+          source = F.Guest.Source.told;
+          sink = F.Guest.Sink.told;
+        }) agent.old disk.new
+        (record { coming = F.coming fleet.old; served = F.served fleet.old })
+        (record { coming = F.coming fleet.new; served = F.served fleet.new }) guests service) }
+    ensures any_moment { HasComeAlways D.told disk.old disk.new (holding agent.old) }
+    ensures told { KeepsTelling (D.told disk.old).bytes (D.told disk.new).bytes }
+    ensures visiting { F.visiting fleet.new ≡ F.visiting fleet.old }
+    ensures ports { (F.waiting fleet.new ≡ F.waiting fleet.old)
+        × (F.kept fleet.new ≡ F.kept fleet.old)
+        × (F.lent fleet.new ≡ F.lent fleet.old)
+        × (F.named fleet.new ≡ F.named fleet.old) }
+    ensures cause { IfErr result
+        (λ why. StopsService why (F.faults fleet.old) (F.faults fleet.new)
+        (D.told disk.old).faults (D.told disk.new).faults) }
+    ensures count { F.faults fleet.old ≤ F.faults fleet.new }
+    ensures disk_count { (D.told disk.old).faults ≤ (D.told disk.new).faults }
+{
+    match Vec::with_capacity(alloc, MOST_SEATS) {
+        Ok(mut seated) => {
+            let answer = keep_each(alloc, fleet, disk, place, agent, &mut seated, talks, guests);
+            keep_seated(fleet, seated);
+            answer
+        }
+        Err(_) => Err(KeepFault::NoRoom),
+    }
+}
+
+// Serves guests from when nobody sits. Those that sit at its end are still there.
+#[tactic(auto, using(crate::proofs::KeptRows::stops_later))]
+fn keep_each<F: Fleet, D: Disk>(
+    alloc: Global,
+    fleet: &mut F,
+    disk: &mut D,
+    place: Place,
+    agent: &mut Agent,
+    seated: &mut Vec<F::Guest>,
+    talks: &mut Vec<Talk>,
+    guests: u32,
+) -> Result<Service, KeepFault>
+    requires nobody { (seated.old.items ≡ []) × (talks.old.items ≡ []) }
+    requires places { (most_seats ≤ vec_capacity seated.old)
+        × (most_seats ≤ vec_capacity talks.old) }
+    requires kept { IsOnDisk (D.told disk.old) place (holding agent.old) }
+    ensures keeps { IfOk result
+        (λ service. KeepsSeated (record {
+          source = F.Guest.Source.told;
+          sink = F.Guest.Sink.told;
+        })
+        (table_of agent.old [] []
+        (record { coming = F.coming fleet.old; served = F.served fleet.old }) nothing_counted)
+        guests seated.new.items agent.new service
+        (record { coming = F.coming fleet.new; served = F.served fleet.new })) }
+    ensures durable { IfOk result (λ _. IsHeldOnDisk (D.told disk.new) (holding agent.new)) }
+    ensures any_moment { HasComeAlways D.told disk.old disk.new (holding agent.old) }
+    ensures told { KeepsTelling (D.told disk.old).bytes (D.told disk.new).bytes }
+    ensures visiting { F.visiting fleet.new
+        ≡ F.visiting fleet.old + length seated.new.items }
     ensures ports { (F.waiting fleet.new ≡ F.waiting fleet.old)
         × (F.kept fleet.new ≡ F.kept fleet.old)
         × (F.lent fleet.new ≡ F.lent fleet.old)
@@ -89,41 +182,47 @@ fn keep_all<F: Fleet, D: Disk>(
     };
     let mut here = place;
     while service.guests < guests {
-        let next = keep_next(alloc, fleet, disk, here, agent)?;
+        let next = keep_turn(alloc, fleet, disk, here, agent, seated, talks, service)?;
         let Some(kept) = next else {
             return Ok(service);
         };
-        if wants_room(&kept.1) {
-            return Err(KeepFault::NoRoom);
-        }
         here = kept.0;
-        service = service.with(kept.1);
+        service = kept.1;
     }
     Ok(service)
 }
 
-// Serves the next guest to its end and gives it back, or says that no more will come.
-fn keep_next<F: Fleet, D: Disk>(
+// Waits, and then a guest sits down, or one that sits is read once. None: no more come, and nobody sits.
+fn keep_turn<F: Fleet, D: Disk>(
     alloc: Global,
     fleet: &mut F,
     disk: &mut D,
     place: Place,
     agent: &mut Agent,
-) -> Result<Option<(Place, Served)>, KeepFault>
-    requires { IsOnDisk (D.told disk.old) place (holding agent.old) }
-    ensures next { IfOk result
-        (λ found. KeepsNext (record {
+    seated: &mut Vec<F::Guest>,
+    talks: &mut Vec<Talk>,
+    service: Service,
+) -> Result<Option<(Place, Service)>, KeepFault>
+    requires seats { HasSeats seated.old.items talks.old.items service (vec_capacity seated.old)
+        (vec_capacity talks.old) (F.visiting fleet.old) }
+    requires kept { IsOnDisk (D.told disk.old) place (holding agent.old) }
+    ensures turn { IfOk result
+        (λ found. KeepsTurn (record {
           source = F.Guest.Source.told;
           sink = F.Guest.Sink.told;
-        }) agent.old
-        (record { coming = F.coming fleet.old; served = F.served fleet.old }) found agent.new
-        (record { coming = F.coming fleet.new; served = F.served fleet.new })) }
+        })
+        (table_of agent.old seated.old.items talks.old.items
+        (record { coming = F.coming fleet.old; served = F.served fleet.old }) service) found
+        (table_of agent.new seated.new.items talks.new.items
+        (record { coming = F.coming fleet.new; served = F.served fleet.new }) service)) }
     ensures kept { IfOk result
         (λ found. IsKeptBehind (D.told disk.new) place found (holding agent.new)) }
-    ensures few { IfOk result (λ found. IfSome found (λ kept. kept.1.commands ≤ most)) }
     ensures any_moment { HasComeAlways D.told disk.old disk.new (holding agent.old) }
     ensures told { KeepsTelling (D.told disk.old).bytes (D.told disk.new).bytes }
-    ensures visiting { F.visiting fleet.new ≡ F.visiting fleet.old }
+    ensures places { (vec_capacity seated.new ≡ vec_capacity seated.old)
+        × (vec_capacity talks.new ≡ vec_capacity talks.old) }
+    ensures visiting { F.visiting fleet.new + length seated.old.items
+        ≡ F.visiting fleet.old + length seated.new.items }
     ensures ports { (F.waiting fleet.new ≡ F.waiting fleet.old)
         × (F.kept fleet.new ≡ F.kept fleet.old)
         × (F.lent fleet.new ≡ F.lent fleet.old)
@@ -134,21 +233,218 @@ fn keep_next<F: Fleet, D: Disk>(
     ensures count { F.faults fleet.old ≤ F.faults fleet.new }
     ensures disk_count { (D.told disk.old).faults ≤ (D.told disk.new).faults }
 {
-    let Some(mut guest) = fleet.guest()? else {
-        return Ok(None);
-    };
-    let kept = serve_kept(alloc, disk, place, agent, &mut guest);
-    agent.keeps_few_items();
-    fleet.keep_guest(guest);
-    found_of(kept)
+    match fleet.wait(seated.as_slice()) {
+        Ok(woken) => keep_wake(
+            alloc, fleet, disk, place, agent, seated, talks, woken, service,
+        ),
+        Err(_) => Err(KeepFault::Fleet),
+    }
 }
 
-fn found_of(kept: Result<(Place, Served), StateFault>) -> Result<Option<(Place, Served)>, KeepFault>
-    ensures ok { IfOk kept (λ found. result ≡ Ok (Some found)) }
-    ensures err { IfErr kept (λ why. result ≡ Err (KeepFault.State why)) }
+// Does what a wait has ended for.
+fn keep_wake<F: Fleet, D: Disk>(
+    alloc: Global,
+    fleet: &mut F,
+    disk: &mut D,
+    place: Place,
+    agent: &mut Agent,
+    seated: &mut Vec<F::Guest>,
+    talks: &mut Vec<Talk>,
+    woken: Waited,
+    service: Service,
+) -> Result<Option<(Place, Service)>, KeepFault>
+    requires seats { HasSeats seated.old.items talks.old.items service (vec_capacity seated.old)
+        (vec_capacity talks.old) (F.visiting fleet.old) }
+    requires woken { WaitsFor (F.coming fleet.old) seated.old.items woken }
+    requires kept { IsOnDisk (D.told disk.old) place (holding agent.old) }
+    ensures turn { IfOk result
+        (λ found. KeepsTurn (record {
+          source = F.Guest.Source.told;
+          sink = F.Guest.Sink.told;
+        })
+        (table_of agent.old seated.old.items talks.old.items
+        (record { coming = F.coming fleet.old; served = F.served fleet.old }) service) found
+        (table_of agent.new seated.new.items talks.new.items
+        (record { coming = F.coming fleet.new; served = F.served fleet.new }) service)) }
+    ensures kept { IfOk result
+        (λ found. IsKeptBehind (D.told disk.new) place found (holding agent.new)) }
+    ensures any_moment { HasComeAlways D.told disk.old disk.new (holding agent.old) }
+    ensures told { KeepsTelling (D.told disk.old).bytes (D.told disk.new).bytes }
+    ensures places { (vec_capacity seated.new ≡ vec_capacity seated.old)
+        × (vec_capacity talks.new ≡ vec_capacity talks.old) }
+    ensures visiting { F.visiting fleet.new + length seated.old.items
+        ≡ F.visiting fleet.old + length seated.new.items }
+    ensures ports { (F.waiting fleet.new ≡ F.waiting fleet.old)
+        × (F.kept fleet.new ≡ F.kept fleet.old)
+        × (F.lent fleet.new ≡ F.lent fleet.old)
+        × (F.named fleet.new ≡ F.named fleet.old) }
+    ensures cause { IfErr result
+        (λ why. StopsService why (F.faults fleet.old) (F.faults fleet.new)
+        (D.told disk.old).faults (D.told disk.new).faults) }
+    ensures count { F.faults fleet.old ≤ F.faults fleet.new }
+    ensures disk_count { (D.told disk.old).faults ≤ (D.told disk.new).faults }
 {
-    match kept {
-        Ok(found) => Ok(Some(found)),
-        Err(why) => Err(KeepFault::State(why)),
+    match woken {
+        Waited::Came => keep_next(fleet, disk, place, agent, seated, talks, service),
+        Waited::Seat(at) => keep_heard(
+            alloc, fleet, disk, place, agent, seated, talks, at, service,
+        ),
+        Waited::NoMore => Ok(None),
     }
+}
+
+// The next guest sits down.
+fn keep_next<F: Fleet, D: Disk>(
+    fleet: &mut F,
+    disk: &mut D,
+    place: Place,
+    agent: &mut Agent,
+    seated: &mut Vec<F::Guest>,
+    talks: &mut Vec<Talk>,
+    service: Service,
+) -> Result<Option<(Place, Service)>, KeepFault>
+    requires seats { HasSeats seated.old.items talks.old.items service (vec_capacity seated.old)
+        (vec_capacity talks.old) (F.visiting fleet.old) }
+    requires kept { IsOnDisk (D.told disk.old) place (holding agent.old) }
+    requires comes { IfSome (F.coming fleet.old) (λ guests. 0 < length guests) }
+    ensures turn { IfOk result
+        (λ found. KeepsTurn (record {
+          source = F.Guest.Source.told;
+          sink = F.Guest.Sink.told;
+        })
+        (table_of agent.old seated.old.items talks.old.items
+        (record { coming = F.coming fleet.old; served = F.served fleet.old }) service) found
+        (table_of agent.new seated.new.items talks.new.items
+        (record { coming = F.coming fleet.new; served = F.served fleet.new }) service)) }
+    ensures kept { IfOk result
+        (λ found. IsKeptBehind (D.told disk.new) place found (holding agent.new)) }
+    ensures any_moment { HasComeAlways D.told disk.old disk.new (holding agent.old) }
+    ensures told { KeepsTelling (D.told disk.old).bytes (D.told disk.new).bytes }
+    ensures places { (vec_capacity seated.new ≡ vec_capacity seated.old)
+        × (vec_capacity talks.new ≡ vec_capacity talks.old) }
+    ensures visiting { F.visiting fleet.new + length seated.old.items
+        ≡ F.visiting fleet.old + length seated.new.items }
+    ensures ports { (F.waiting fleet.new ≡ F.waiting fleet.old)
+        × (F.kept fleet.new ≡ F.kept fleet.old)
+        × (F.lent fleet.new ≡ F.lent fleet.old)
+        × (F.named fleet.new ≡ F.named fleet.old) }
+    ensures cause { IfErr result
+        (λ why. StopsService why (F.faults fleet.old) (F.faults fleet.new)
+        (D.told disk.old).faults (D.told disk.new).faults) }
+    ensures count { F.faults fleet.old ≤ F.faults fleet.new }
+    ensures disk_count { (D.told disk.old).faults ≤ (D.told disk.new).faults }
+{
+    match sit_down(fleet, seated, talks, service) {
+        Ok(found) => Ok(with_place(found, place)),
+        Err(_) => Err(KeepFault::Fleet),
+    }
+}
+
+fn with_place(found: Option<Service>, place: Place) -> Option<(Place, Service)>
+    ensures { result ≡ at_place place found }
+{
+    match found {
+        Some(service) => Some((place, service)),
+        None => None,
+    }
+}
+
+// Reads the guest at this place once. Where the file fails it is given back at once.
+fn keep_heard<F: Fleet, D: Disk>(
+    alloc: Global,
+    fleet: &mut F,
+    disk: &mut D,
+    place: Place,
+    agent: &mut Agent,
+    seated: &mut Vec<F::Guest>,
+    talks: &mut Vec<Talk>,
+    at: usize,
+    service: Service,
+) -> Result<Option<(Place, Service)>, KeepFault>
+    requires seats { HasSeats seated.old.items talks.old.items service (vec_capacity seated.old)
+        (vec_capacity talks.old) (F.visiting fleet.old) }
+    requires at { at < length seated.old.items }
+    requires even { length talks.old.items ≡ length seated.old.items }
+    requires kept { IsOnDisk (D.told disk.old) place (holding agent.old) }
+    ensures turn { IfOk result
+        (λ found. KeepsTurn (record {
+          source = F.Guest.Source.told;
+          sink = F.Guest.Sink.told;
+        })
+        (table_of agent.old seated.old.items talks.old.items
+        (record { coming = F.coming fleet.old; served = F.served fleet.old }) service) found
+        (table_of agent.new seated.new.items talks.new.items
+        (record { coming = F.coming fleet.new; served = F.served fleet.new }) service)) }
+    ensures kept { IfOk result
+        (λ found. IsKeptBehind (D.told disk.new) place found (holding agent.new)) }
+    ensures any_moment { HasComeAlways D.told disk.old disk.new (holding agent.old) }
+    ensures told { KeepsTelling (D.told disk.old).bytes (D.told disk.new).bytes }
+    ensures places { (vec_capacity seated.new ≡ vec_capacity seated.old)
+        × (vec_capacity talks.new ≡ vec_capacity talks.old) }
+    ensures visiting { F.visiting fleet.new + length seated.old.items
+        ≡ F.visiting fleet.old + length seated.new.items }
+    ensures ports { (F.waiting fleet.new ≡ F.waiting fleet.old)
+        × (F.kept fleet.new ≡ F.kept fleet.old)
+        × (F.lent fleet.new ≡ F.lent fleet.old)
+        × (F.named fleet.new ≡ F.named fleet.old) }
+    ensures cause { IfErr result
+        (λ why. StopsService why (F.faults fleet.old) (F.faults fleet.new)
+        (D.told disk.old).faults (D.told disk.new).faults) }
+    ensures count { F.faults fleet.old ≤ F.faults fleet.new }
+    ensures disk_count { (D.told disk.old).faults ≤ (D.told disk.new).faults }
+{
+    let mut guest = seated.remove(at);
+    let talk = talks.remove(at);
+    match serve_kept(alloc, disk, place, agent, &mut guest, talk) {
+        Ok(read) => {
+            agent.keeps_few_items();
+            keep_settled(fleet, seated, talks, guest, read.0, read.1, service)
+        }
+        Err(why) => {
+            fleet.keep_guest(guest);
+            Err(KeepFault::State(why))
+        }
+    }
+}
+
+// Where a guest sits that was read. Without memory for an item that it named the service ends.
+fn keep_settled<F: Fleet>(
+    fleet: &mut F,
+    seated: &mut Vec<F::Guest>,
+    talks: &mut Vec<Talk>,
+    guest: F::Guest,
+    place: Place,
+    heard: Heard,
+    service: Service,
+) -> Result<Option<(Place, Service)>, KeepFault>
+    requires places { (length seated.old.items < vec_capacity seated.old)
+        × (length talks.old.items < vec_capacity talks.old) }
+    requires guests { service.guests + 1 < 2 ^ 32 }
+    requires commands { service.commands + heard.served.commands < 2 ^ 64 }
+    requires refused { service.refused + 1 < 2 ^ 32 }
+    requires visiting { 0 < F.visiting fleet.old }
+    ensures found { IfOk result
+        (λ found. (found ≡ Some (place, count_behind service heard.served heard.talk))
+        × (heard.served.fault ≢ Some fault.Memory)) }
+    ensures stops { IfErr result (λ why. why ≡ stop.NoRoom) }
+    ensures seated { seated.new.items ≡ guests_behind seated.old.items guest heard.talk }
+    ensures talks { talks.new.items ≡ talks_behind talks.old.items heard.talk }
+    ensures back { F.served fleet.new ≡ back_behind (F.served fleet.old) guest heard.talk }
+    ensures coming { F.coming fleet.new ≡ F.coming fleet.old }
+    ensures places { (vec_capacity seated.new ≡ vec_capacity seated.old)
+        × (vec_capacity talks.new ≡ vec_capacity talks.old) }
+    ensures visiting { F.visiting fleet.new + length seated.old.items + 1
+        ≡ F.visiting fleet.old + length seated.new.items }
+    ensures ports { (F.waiting fleet.new ≡ F.waiting fleet.old)
+        × (F.kept fleet.new ≡ F.kept fleet.old)
+        × (F.lent fleet.new ≡ F.lent fleet.old)
+        × (F.named fleet.new ≡ F.named fleet.old) }
+    ensures count { F.faults fleet.old ≤ F.faults fleet.new }
+{
+    let served = heard.served;
+    let now = settle(fleet, seated, talks, guest, heard, service);
+    if wants_room(&served) {
+        return Err(KeepFault::NoRoom);
+    }
+    Ok(Some((place, now)))
 }

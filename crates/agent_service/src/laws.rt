@@ -1,8 +1,12 @@
-//! What is read of an agent's file, over crashes and restarts.
-ghost use Rattle.std.specs.Prelude.{◌≡◌, ℕ, List};
+//! What is read of an agent's file, over crashes and restarts, and how many guests sit.
+ghost use Rattle.std.specs.Prelude.{◌≡◌, ◌≤◌, ℕ, List, length};
 ghost use Rattle.agent_service.specs.Keeping.{GoesOnBy, HasCome};
+ghost use Rattle.agent_service.specs.Services.{Guests, Table, Tells, TurnByTurn, first_table, most_seats};
 ghost use Rattle.agent_state.specs.Stored.{IsReadAs};
+ghost use Rattle.switch_agent.specs.Items.{Items};
 ghost use Rattle.wan_edge.specs.Switches.{Holdings};
+
+use wan_edge::Fleet;
 
 /// An image is read as one thing alone: so what the next start holds is determined by what a crash has left.
 pub fn an_image_is_read_as_one_thing()
@@ -16,4 +20,12 @@ pub fn a_restart_goes_on_by_the_agent_rule()
         → HasCome before image
         → IsReadAs image now
         → GoesOnBy before now }
+{}
+
+/// However the turns of a service follow each other, no more guests sit at once than there are seats.
+pub fn no_more_sit_than_there_are_seats<F: Fleet>()
+    ensures { (tells : Tells F.Guest) (items : Items) (before : Guests F.Guest)
+        (course : List (Table F.Guest)) (now : Table F.Guest)
+        → TurnByTurn tells (first_table items before) course now
+        → length now.guests ≤ most_seats }
 {}

@@ -1,7 +1,7 @@
 -- What the two writes of a batch leave, whole and torn.
-use Rattle.std.proofs.Common.{◌≡◌, inl, inr, ◌⊎◌, ⊎_elim, ℕ, ◌+◌, ◌-◌, ◌<◌, ◌≤◌, List, [], ◌∷◌, ◌++◌, length, take, drop, get_or, Option, Some, None, IfSome, Result, Ok, Err, OnOk, refl, sym, subst, ◌∙◌, ap, arith, length-append, length-drop}
+use Rattle.std.proofs.Common.{◌≡◌, inl, inr, ℕ, ◌+◌, ◌-◌, List, [], ◌∷◌, ◌++◌, length, drop, get_or, Option, Some, None, IfSome, Result, Ok, Err, OnOk, refl, sym, subst, ◌∙◌, ap, arith, length-append}
 use Rattle.std.proofs.lemmas.Bool.{cases_eq}
-use Rattle.std.proofs.lemmas.List.{append_assoc, append-nil}
+use Rattle.std.proofs.lemmas.List.{append_assoc}
 use Rattle.disk_model.specs.Crashes.{IsDurable, Only, Stepped}
 use Rattle.disk_model.specs.Moments.{GoesOn, LeavesOnly}
 use Rattle.disk_model.specs.Traces.{DiskTrace}
@@ -10,11 +10,11 @@ use Rattle.disk_model.proofs.Parting.{Torn-behind, Torn-byte, Torn-drop, written
 use Rattle.disk_model.proofs.Running.{LeavesOnly-goes_on, LeavesOnly-torn, Stepped-only}
 use Rattle.disk_model.proofs.Tearing.{Torn-written, length-written}
 use Rattle.disk_model.proofs.Telling.{at_told, told_by}
-use Rattle.agent_state.specs.Batches.{IsBody, Stands, batch_body, batches_of, open_gate}
-use Rattle.agent_state.specs.Images.{batches_in, made_length}
-use Rattle.agent_state.specs.States.{HasPart, Home, IsAtRest, IsCommitted, IsEither, IsStaged}
-use Rattle.agent_state.proofs.Heads.{long_image, part_apart, part_reads, place_low, rest_reads}
-use Rattle.agent_state.proofs.Reading.{Stands-more, batches_closed, batches_open, length-body, length-longer, longer}
+use Rattle.agent_state.specs.Batches.{IsBody, batch_body, open_gate}
+use Rattle.agent_state.specs.Images.{batches_in}
+use Rattle.agent_state.specs.States.{Home, IsAtRest, IsCommitted, IsEither, IsStaged}
+use Rattle.agent_state.proofs.Heads.{long_image, part_apart, place_low, rest_reads}
+use Rattle.agent_state.proofs.Reading.{Stands-more, length-body, length-longer, longer}
 
 module _ (home : Home) (gate : ℕ) (kept : List (List ℕ)) (image : List ℕ) (rest : IsAtRest home gate kept image) where
   -- the front, the gate and what stands behind it

@@ -1,5 +1,5 @@
 -- The head of an agent's file under writes elsewhere, and what an image is read as by its head and its live part.
-use Rattle.std.proofs.Common.{◌≡◌, ◌⊎◌, inl, inr, ⊎_elim, ◌==◌, ◌&&◌, nat_le, nat_lt, if◌then◌else◌, Bool, true, false, ℕ, ◌+◌, ◌<◌, ◌≤◌, List, [], ◌∷◌, ◌++◌, length, take, drop, replicate, Option, Some, None, refl, sym, subst, ◌∙◌, ap, arith, length-append, length-drop}
+use Rattle.std.proofs.Common.{◌≡◌, ◌⊎◌, inl, inr, ⊎_elim, ◌==◌, ◌&&◌, nat_le, nat_lt, if◌then◌else◌, Bool, true, false, ℕ, ◌+◌, ◌<◌, ◌≤◌, List, [], ◌∷◌, ◌++◌, length, take, drop, replicate, Some, None, sym, ◌∙◌, ap, arith, length-append, length-drop}
 use Rattle.std.proofs.lemmas.Bool.{cases_Bool, lt-ltb}
 use Rattle.std.proofs.lemmas.Bool.Decides.{nat_tests}
 use Rattle.std.proofs.lemmas.List.{append-nil, take-append-le}
@@ -8,8 +8,8 @@ use Rattle.disk_model.specs.Places.{Outside}
 use Rattle.disk_model.specs.Writes.{Torn}
 use Rattle.disk_model.proofs.Agreeing.{Torn-agrees, same_range}
 use Rattle.disk_model.proofs.Parting.{Torn-beyond}
-use Rattle.agent_state.specs.Batches.{Stands, batches_of, open_gate}
-use Rattle.agent_state.specs.Images.{batches_in, first_start, is_second, is_state, live_start, made_length, number_place, start_at, state_kind}
+use Rattle.agent_state.specs.Batches.{Stands, batches_of}
+use Rattle.agent_state.specs.Images.{batches_in, first_start, is_state, live_start, made_length, number_place, start_at, state_kind}
 use Rattle.agent_state.specs.Numbers.{byte_at, number_4}
 use Rattle.agent_state.specs.States.{HasPart, Home, IsAtRest}
 use Rattle.agent_state.proofs.Reading.{batches_closed}

@@ -1,20 +1,19 @@
 -- A batch that is added, and a file that is written anew, by what is held.
-use Rattle.std.proofs.Common.{◌≡◌, ◌≢◌, inl, inr, ◌⊎◌, ⊎_elim, ◌==◌, nat_eq, Bool, true, false, ℕ, ◌+◌, ◌<◌, ◌≤◌, ◌^◌, List, [], ◌∷◌, ◌++◌, length, drop, Option, Some, None, IfSome, is_some, unwrap_or, refl, sym, subst, ◌∙◌, ap, arith, length-append, eq-eqb, eqb-true}
+use Rattle.std.proofs.Common.{◌≡◌, inl, inr, ⊎_elim, ◌==◌, nat_eq, false, ℕ, ◌+◌, ◌<◌, ◌^◌, List, [], ◌∷◌, ◌++◌, length, Option, Some, None, IfSome, unwrap_or, refl, sym, subst, ◌∙◌, ap, eq-eqb}
 use Rattle.std.specs.List.{AllByRecursion, IsDistinct}
 use Rattle.std.specs.Map.{keys_of, lookup}
-use Rattle.std.proofs.lemmas.Bool.{cases_Bool, cases_eq, cond-false, cond-true, ne_eqb}
+use Rattle.std.proofs.lemmas.Bool.{cases_eq, cond-false, cond-true, ne_eqb}
 use Rattle.rollout_rules.specs.Agent.{Holding}
 use Rattle.wan_edge.specs.Frames.{CommandFrame}
 use Rattle.wan_edge.specs.Streams.{KeepsTelling}
 use Rattle.wan_edge.specs.Switches.{Holdings, holding_nothing}
-use Rattle.switch_agent.specs.Items.{Items, held_by, holding, last_command, with_stored}
-use Rattle.disk_model.specs.Crashes.{IsDurable, Only, Within}
+use Rattle.switch_agent.specs.Items.{Items, held_by, holding, last_command}
+use Rattle.disk_model.specs.Crashes.{Only}
 use Rattle.disk_model.specs.Moments.{LeavesOnly}
 use Rattle.disk_model.specs.Traces.{DiskTrace}
 use Rattle.disk_model.proofs.Running.{LeavesOnly-weaker}
-use Rattle.agent_state.specs.Batches.{IsBody, batch_body}
+use Rattle.agent_state.specs.Batches.{IsBody}
 use Rattle.agent_state.specs.Disks.{Holds}
-use Rattle.agent_state.specs.Images.{batches_in}
 use Rattle.agent_state.specs.Renewals.{new_gate, new_home}
 use Rattle.agent_state.specs.States.{Home, IsAtRest, IsCommitted, IsEither}
 use Rattle.agent_state.specs.Stored.{AreBytes, IsBeforeOrAfter, IsKept, IsReadAs, Leaves, home_of, last_commands, last_of, part_bytes, with_all}

@@ -1,25 +1,25 @@
 -- What an agent's file is read as when it is opened, and what making it and closing a cut batch leave.
-use Rattle.std.proofs.Common.{◌≡◌, ◌≢◌, inl, inr, ◌⊎◌, ⊎_elim, ◌==◌, ◌&&◌, nat_le, nat_lt, if◌then◌else◌, Bool, true, false, ℕ, zero, suc, ◌+◌, ◌-◌, ◌<◌, ◌≤◌, List, [], ◌∷◌, ◌++◌, length, take, drop, get_or, replicate, Option, Some, None, IfSome, refl, sym, subst, ◌∙◌, ap, arith, length-append, length-drop, take-append-drop}
+use Rattle.std.proofs.Common.{◌≡◌, ◌≢◌, inl, inr, ◌⊎◌, ◌==◌, ◌&&◌, nat_le, nat_lt, if◌then◌else◌, Bool, true, false, ℕ, zero, suc, ◌+◌, ◌-◌, ◌<◌, ◌≤◌, List, [], ◌∷◌, ◌++◌, length, take, drop, get_or, replicate, Option, Some, None, IfSome, refl, sym, subst, ◌∙◌, ap, arith, take-append-drop}
 use Rattle.std.proofs.lemmas.Bool.{cases_eq, eq-eqb, eqb-true}
 use Rattle.std.proofs.lemmas.Bool.Decides.{nat_tests}
 use Rattle.std.proofs.lemmas.List.{append-nil, get_or-drop, length-take-le}
 use Rattle.wan_edge.specs.Switches.{Holdings, holding_nothing}
-use Rattle.disk_model.specs.Crashes.{IsDurable, Only}
+use Rattle.disk_model.specs.Crashes.{IsDurable}
 use Rattle.disk_model.specs.Moments.{LeavesOnly}
 use Rattle.disk_model.specs.Traces.{DiskTrace}
 use Rattle.disk_model.specs.Writes.{Torn, written}
 use Rattle.disk_model.proofs.Parting.{Torn-byte, Torn-drop}
 use Rattle.disk_model.proofs.Running.{LeavesOnly-chain, LeavesOnly-weaker}
 use Rattle.disk_model.proofs.Tearing.{Torn-written}
-use Rattle.agent_state.specs.Batches.{Stands, batches_of, open_gate}
+use Rattle.agent_state.specs.Batches.{batches_of, open_gate}
 use Rattle.agent_state.specs.Disks.{Holds, IsQuiet}
 use Rattle.agent_state.specs.Images.{batches_in, first_start, is_state, live_start, made, made_length, state_kind}
 use Rattle.agent_state.specs.Numbers.{byte_at, number_4}
 use Rattle.agent_state.specs.Opened.{HasLive, IsBlank, IsFound, ReadsAlike, Walks, batch_at}
-use Rattle.agent_state.specs.States.{HasPart, Home, IsAtRest}
-use Rattle.agent_state.specs.Stored.{IsKept, IsReadAs, Leaves, home_of}
+use Rattle.agent_state.specs.States.{HasPart}
+use Rattle.agent_state.specs.Stored.{IsKept, IsReadAs, home_of}
 use Rattle.agent_state.specs.declared.place.Place.{Place}
-use Rattle.agent_state.proofs.Heads.{long_image, part_apart, part_reads, place_low, rest_reads}
+use Rattle.agent_state.proofs.Heads.{long_image, part_apart, part_reads, place_low}
 use Rattle.agent_state.proofs.Reading.{Stands-nothing, batches_closed}
 use Rattle.agent_state.proofs.Renewed.{written_one}
 use Rattle.agent_state.proofs.Walked.{from_gate, none_behind}

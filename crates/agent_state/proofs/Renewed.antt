@@ -1,18 +1,18 @@
 -- What the three writes leave by which a file is written anew, whole and torn.
-use Rattle.std.proofs.Common.{◌≡◌, inl, inr, ◌⊎◌, ⊎_elim, ◌==◌, Bool, true, false, if◌then◌else◌, ℕ, ◌+◌, ◌-◌, ◌<◌, ◌≤◌, ◌^◌, List, [], ◌∷◌, ◌++◌, length, take, drop, get_or, refl, sym, subst, ◌∙◌, ap, arith, length-append, length-drop}
+use Rattle.std.proofs.Common.{◌≡◌, inl, inr, ◌⊎◌, ⊎_elim, ◌==◌, Bool, true, false, ℕ, ◌+◌, ◌-◌, ◌<◌, ◌≤◌, ◌^◌, List, [], ◌∷◌, ◌++◌, length, take, drop, get_or, refl, sym, subst, ◌∙◌, ap, arith, length-append, length-drop}
 use Rattle.std.proofs.lemmas.Bool.{cases_lt}
 use Rattle.std.proofs.lemmas.List.{append_assoc, drop-drop, get_or-drop, take-take}
 use Rattle.disk_model.specs.Writes.{Torn, written}
 use Rattle.disk_model.proofs.Parting.{Torn-beyond}
 use Rattle.disk_model.proofs.Tearing.{Torn-written, drop-written}
 use Rattle.agent_state.specs.Batches.{batch_body, open_gate}
-use Rattle.agent_state.specs.Images.{batches_in, first_start, is_second, made_length, number_place, start_at}
+use Rattle.agent_state.specs.Images.{first_start, is_second, number_place}
 use Rattle.agent_state.specs.Numbers.{byte_at, bytes_4, number_4}
 use Rattle.agent_state.specs.Renewals.{IsLaid, IsNamed, new_gate, new_home, other_of, side_byte}
-use Rattle.agent_state.specs.States.{HasPart, Home, IsAtRest, IsEither}
+use Rattle.agent_state.specs.States.{Home, IsAtRest, IsEither}
 use Rattle.agent_state.specs.Stored.{part_bytes}
 use Rattle.agent_state.proofs.Committing.{torn_rest}
-use Rattle.agent_state.proofs.Heads.{long_image, part_apart, part_before, place_high, place_low, rest_reads, same_byte, same_number}
+use Rattle.agent_state.proofs.Heads.{part_apart, part_before, place_high, place_low, rest_reads, same_byte, same_number}
 use Rattle.agent_state.proofs.Reading.{Stands-more, Stands-nothing, length-bytes_4, number_4-bytes_4, length-batch_body}
 
 -- a write that is torn within a wider range

@@ -1,5 +1,5 @@
 -- What is read of an agent's file as it is opened.
-use Rattle.std.specs.Prelude.{◌≡◌, ◌⊎◌, ⊤, ℕ, ◌+◌, ◌<◌, ◌≤◌, ◌==◌, ◌&&◌, nat_lt, Bool, List, [], ◌∷◌, length, take, drop, Option, Some, None, IfSome, if◌then◌else◌}
+use Rattle.std.specs.Prelude.{◌≡◌, ⊤, ℕ, ◌+◌, ◌<◌, ◌≤◌, ◌==◌, ◌&&◌, nat_lt, Bool, List, [], ◌∷◌, length, take, drop, Option, Some, None, if◌then◌else◌}
 use Rattle.wan_edge.specs.Frames.{CommandFrame, IsCommand, command_bytes}
 use Rattle.wan_edge.specs.Switches.{Holdings, holding_nothing}
 use Rattle.agent_state.specs.Batches.{Stands, batches_of, open_gate}

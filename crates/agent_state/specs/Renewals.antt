@@ -1,5 +1,5 @@
 -- How an agent's file stands while it is written anew.
-use Rattle.std.specs.Prelude.{◌≡◌, ℕ, ◌+◌, ◌<◌, ◌≤◌, ◌^◌, Bool, not, List, [], ◌∷◌, ◌++◌, length, drop, if◌then◌else◌}
+use Rattle.std.specs.Prelude.{◌≡◌, ℕ, ◌+◌, ◌<◌, ◌≤◌, ◌^◌, Bool, not, List, ◌∷◌, ◌++◌, length, drop, if◌then◌else◌}
 use Rattle.agent_state.specs.Batches.{batch_body, open_gate}
 use Rattle.agent_state.specs.Images.{first_start, start_at}
 use Rattle.agent_state.specs.States.{Home, IsAtRest}

@@ -10,7 +10,8 @@ ghost use Rattle.held_service.specs.Questions.{question, questions};
 /// A command with number 0 is the next after no pair, whatever its migration: not after one of an earlier
 /// migration either. So it changes nothing of what is held.
 pub fn number_0_is_never_the_next()
-    ensures next { (held : Held) (migration : ℕ) → is_next_command held (pair_of migration 0) ≡ false }
+    ensures next { (held : Held) (migration : ℕ)
+        → is_next_command held (pair_of migration 0) ≡ false }
     ensures kept { (holding : Holding) (migration : ℕ) (content : List ℕ)
         → held_after holding (pair_of migration 0) content ≡ holding }
 {}

@@ -1,5 +1,5 @@
 //! What the switches of a rollout hold: [`held_text`] asks the home of each item that has an operation, by
-//! commands that no switch applies, and gives what they answer as a text.
+//! commands that no switch applies, and gives what they answer as a text; [`held_pairs`] gives it as a row.
 //!
 //! A question is a command with number 0. By the agent rule none is the next of its item in any migration, so
 //! that a switch answers it by the pair that it holds, and holds what it held ([`laws`]). The switches are
@@ -10,6 +10,7 @@
 
 mod alien;
 mod asking;
+mod collecting;
 mod hearing;
 mod held_lines;
 mod homes;
@@ -21,5 +22,6 @@ mod service;
 mod visiting;
 pub mod worked;
 
+pub use collecting::held_pairs;
 pub use not_told::NotTold;
 pub use service::held_text;

@@ -76,8 +76,8 @@ fn ask_and_tell<F: Fleet>(
     ask_noting(alloc, plan, index, homes, rounds, fleet, row.as_mut_slice())
 }
 
-// A row in which nothing is noted of any of so many items.
-fn no_notes(alloc: Global, count: u32) -> Result<Vec<Option<Held>>, Memory>
+/// A row in which nothing is noted of any of so many items.
+pub(crate) fn no_notes(alloc: Global, count: u32) -> Result<Vec<Option<Held>>, Memory>
     ensures { IfOk result (λ notes. notes.items ≡ no_notes count) }
 {
     let notes = vec![in alloc; None; count as usize]?;

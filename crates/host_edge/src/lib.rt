@@ -20,6 +20,7 @@
 
 mod connection;
 mod dialer;
+mod entrance;
 mod farewell;
 mod faults;
 mod file_disk;

@@ -1,7 +1,9 @@
 ghost use Rattle.std.specs.Prelude.{◌≡◌, [], None, IfOk, IsSome, OnOk};
+ghost use Rattle.wan_edge.specs.Fleets.{WaitsFor};
 ghost use Rattle.host_edge.specs.Ledgers.{kept_in, lent_in, named_in, served_in, visiting_in};
 
 use crate::dialer::Dialer;
+use crate::entrance::Entrance;
 use crate::faults::Faults;
 use crate::fleet_file::is_address;
 use crate::ledger::{Loans, Visits};
@@ -11,32 +13,33 @@ use crate::{TcpGuest, TcpPort};
 use std::alloc::Global;
 use std::fs::File;
 use std::io::{self, ErrorKind};
-use std::net::{Net, OpenListener, OpenStream, TcpListener};
+use std::net::{Net, TcpStream};
 use std::rt::Files;
 use std::time::{Clock, Duration};
-use wan_edge::{Failed, Fleet};
+use wan_edge::{Failed, Fleet, Waited};
 
 /// Switches behind addresses, and the controllers that connect to an address. It tells nothing of what
 /// waits or comes.
 ///
 /// The file of addresses is read at the first use of a switch, and again where a connection is begun anew;
-/// the address for controllers is bound at the first wait for one. A line of the file is a switch's name and
+/// the address for controllers is bound at the first wait for one. A guest of which a wait has told is read
+/// without a further wait, so that several can be served in turn. A line of the file is a switch's name and
 /// its address, split at the last space. A switch that no line names, or more than one does, or whose
 /// address is none, fails at each use. One that can't be reached has its port all the same.
 #[derive(Drop)]
-pub struct TcpFleet<R: Net> {
+pub struct TcpFleet<R> {
     alloc: Global,
     rt: R,
     switches: Switchboard,
     listen: String,
-    listener: Option<R::Listener>,
+    entrance: Option<Entrance>,
     limit: TimeLimit,
     loans: Loans<R>,
-    visits: Visits<R::Stream>,
+    visits: Visits<TcpStream>,
     faults: Faults,
 }
 
-impl<R: Net> TcpFleet<R> {
+impl<R> TcpFleet<R> {
     /// The switches of a file at a path and the controllers that come to an address, of which no call has
     /// failed. Where the one or the other is empty, each call that needs it fails. `milliseconds`, above 0,
     /// is how long connecting, hearing and writing may take; a guest may be read for ever.
@@ -48,7 +51,7 @@ impl<R: Net> TcpFleet<R> {
             rt,
             switches: Switchboard::new(alloc, path),
             listen,
-            listener: None,
+            entrance: None,
             limit: TimeLimit::of_millis(milliseconds),
             loans: Loans::Nothing,
             visits: Visits::Nobody,
@@ -60,7 +63,7 @@ impl<R: Net> TcpFleet<R> {
 impl<R: Net + Files<File = File> + Clock + Copy> Fleet for TcpFleet<R> {
     type Port = TcpPort<R>;
 
-    type Guest = TcpGuest<R::Stream>;
+    type Guest = TcpGuest<TcpStream>;
 
     ghost waiting = { λ _. None };
 
@@ -89,11 +92,23 @@ impl<R: Net + Files<File = File> + Clock + Copy> Fleet for TcpFleet<R> {
         self.loans = self.loans.back(switch, &port);
     }
 
-    fn guest(&mut self) -> Result<Option<TcpGuest<R::Stream>>, Failed> {
-        let answer = accept(
+    fn wait(&mut self, seated: &[TcpGuest<TcpStream>]) -> Result<Waited, Failed> {
+        let answer = wait_at(
+            self.alloc,
             &self.rt,
             self.listen.as_str(),
-            &mut self.listener,
+            &mut self.entrance,
+            seated,
+        );
+        self.faults.counted(answer)
+    }
+
+    fn guest(&mut self) -> Result<Option<TcpGuest<TcpStream>>, Failed> {
+        let answer = accept(
+            self.alloc,
+            &self.rt,
+            self.listen.as_str(),
+            &mut self.entrance,
             self.limit.whole(),
         );
         let stream = self.faults.counted(answer)?;
@@ -101,7 +116,7 @@ impl<R: Net + Files<File = File> + Clock + Copy> Fleet for TcpFleet<R> {
         Ok(Some(TcpGuest::new(stream)))
     }
 
-    fn keep_guest(&mut self, mut guest: TcpGuest<R::Stream>) {
+    fn keep_guest(&mut self, mut guest: TcpGuest<TcpStream>) {
         self.visits = self.visits.back(&guest);
         guest.take_leave(&self.rt, self.limit);
     }
@@ -127,42 +142,50 @@ fn open_port<R: Net + Files<File = File> + Clock + Copy>(
     Ok(TcpPort::new(dialer, address))
 }
 
-// The next connection from a controller, with its time limit.
-fn accept<R: Net>(
+// Waits for a controller, or for something of one of these guests.
+fn wait_at<R: Net>(
+    alloc: Global,
     rt: &R,
     address: &str,
-    listener: &mut Option<R::Listener>,
+    entrance: &mut Option<Entrance>,
+    seated: &[TcpGuest<TcpStream>],
+) -> io::Result<Waited>
+    ensures { IfOk result (λ woken. WaitsFor None seated.now woken) }
+{
+    open_once(alloc, rt, address, entrance)?;
+    let door = entrance.as_mut().unwrap();
+    door.wait(seated)
+}
+
+// The next connection from a controller, which waits, with its time limit: for writes, and for a read that
+// finds nothing, though a wait told of something.
+fn accept<R: Net>(
+    alloc: Global,
+    rt: &R,
+    address: &str,
+    entrance: &mut Option<Entrance>,
     limit: Duration,
-) -> io::Result<R::Stream> {
-    bind_once(rt, address, listener)?;
-    let stream = accept_one(listener.as_ref().unwrap())?;
+) -> io::Result<TcpStream> {
+    open_once(alloc, rt, address, entrance)?;
+    let door = entrance.as_mut().unwrap();
+    let stream = door.next()?;
+    stream.set_nonblocking(false)?;
     stream.set_nodelay(true)?;
+    stream.set_read_timeout(Some(limit))?;
     stream.set_write_timeout(Some(limit))?;
     Ok(stream)
 }
 
-fn bind_once<R: Net>(rt: &R, address: &str, listener: &mut Option<R::Listener>) -> io::Result<()>
-    ensures { OnOk result (IsSome listener.new) }
+fn open_once<R: Net>(
+    alloc: Global,
+    rt: &R,
+    address: &str,
+    entrance: &mut Option<Entrance>,
+) -> io::Result<()>
+    ensures { OnOk result (IsSome entrance.new) }
 {
-    if listener.is_none() {
-        *listener = Some(TcpListener::bind(rt, address)?);
+    if entrance.is_none() {
+        *entrance = Some(Entrance::open(alloc, rt, address)?);
     }
     Ok(())
-}
-
-// One connection. A call that a signal interrupts is made again, and a controller that went before it was
-// taken is passed over.
-fn accept_one<L: OpenListener>(listener: &L) -> io::Result<L::Stream> {
-    for _ in 0..u64::MAX {
-        match listener.accept() {
-            Ok((stream, _)) => return Ok(stream),
-            Err(error) if is_passing(error.kind()) => {}
-            Err(error) => return Err(error),
-        }
-    }
-    Err(ErrorKind::Interrupted.into())
-}
-
-fn is_passing(kind: ErrorKind) -> bool {
-    matches!(kind, ErrorKind::Interrupted | ErrorKind::ConnectionAborted)
 }

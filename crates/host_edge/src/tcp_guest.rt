@@ -10,6 +10,7 @@ use crate::time_limit::TimeLimit;
 use crate::unbroken::{read_noted, write_noted};
 use std::io::{Read, Write};
 use std::net::OpenStream;
+use std::os::fd::{AsRawFd, RawFd};
 use std::time::Clock;
 use wan_edge::{Failed, Guest, Sink, Source};
 
@@ -42,6 +43,13 @@ impl<S> TcpGuest<S> {
             read_faults: Faults::new(),
             write_faults: Faults::new(),
         }
+    }
+}
+
+impl<S: AsRawFd> TcpGuest<S> {
+    /// The number by which the system knows the connection.
+    pub(crate) fn number(&self) -> RawFd {
+        self.stream.as_raw_fd()
     }
 }
 

@@ -55,10 +55,6 @@ whole_list listed = if listed.whole then Some listed.entries else None
 abbrev pub entries_from : ℕ → List ℕ → Option (List Entry)
 entries_from gate image = whole_list (with_rows nothing_read (batches_of (drop gate image)))
 
--- the image has a byte at this gate, and no batch stands from there on
-abbrev pub HasNoMore : ℕ → List ℕ → Type 0
-HasNoMore gate image = (gate < length image) × (batches_of (drop gate image) ≡ [])
-
 -- From one gate to another stand batches with these rows, which were read.
 pub record Walks (bytes : List ℕ) (from gate : ℕ) (old new : Listed) : Type 0 where
   pub rows : List (List ℕ)

@@ -43,6 +43,10 @@ pub record IsAtRest (home : Home) (gate : ℕ) (image : List ℕ) : Type 0 where
   pub closed : mark ≢ open_batch
   pub at : gate ≡ home.slot.start + length front
 
+-- The live part of an image ends at this gate: it is closed, and the batches of later appends stand from there on.
+abbrev pub IsGate : ℕ → List ℕ → Type 0
+IsGate gate image = (home : Home) × IsAtRest home gate image
+
 -- each row has nine bytes
 abbrev pub AreRows : List (List ℕ) → Type 0
 AreRows [] = ⊤

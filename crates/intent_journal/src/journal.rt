@@ -3,8 +3,7 @@ ghost use Rattle.disk_model.specs.Moments.{LeavesOnly};
 ghost use Rattle.intent_journal.specs.Entries.{entry_rows};
 ghost use Rattle.intent_journal.specs.Images.{journal_in};
 ghost use Rattle.intent_journal.specs.Opened.{HasAdded, HasRoom, IsKept};
-ghost use Rattle.intent_journal.specs.Reading.{HasNoMore};
-ghost use Rattle.intent_journal.specs.States.{IsBeforeOrAfter};
+ghost use Rattle.intent_journal.specs.States.{IsBeforeOrAfter, IsGate};
 ghost use Rattle.wan_edge.specs.Streams.{KeepsTelling, Rose};
 
 use crate::appending::commit;
@@ -94,11 +93,11 @@ impl<D: Disk> Journal<D> {
         &self.disk
     }
 
-    /// The place of the gate behind the list, from which on the batches of later appends stand: a byte of the
-    /// image, and while the journal lives no batch stands there.
+    /// The place of the gate behind the list, from which on the batches of later appends stand. While the
+    /// journal lives it is a byte of the image, and closed.
     pub fn gate(&self) -> u64
         ensures { self.now.live ≡ true
-            → IfSome (D.told self.now.disk).bytes (HasNoMore result) }
+            → IfSome (D.told self.now.disk).bytes (IsGate result) }
     {
         self.gate
     }

@@ -2,3 +2,6 @@ mod Values
 mod Grown
 mod Reading
 mod Found
+mod PlainBytes
+mod PlainTail
+mod PlainGrammar

@@ -5,6 +5,7 @@ use crate::build::read;
 use crate::element::Element;
 use crate::fault::DataFault;
 use crate::node::Node;
+use crate::plain_value::read_plain;
 use json::{Reader, Scratch};
 use std::alloc::Global;
 
@@ -21,7 +22,7 @@ impl<'a> Document<'a> {
     ghost use Rattle.json_data.specs.View.{data_of, view};
 
     /// Reads the one value that the bytes are. The scratch takes the texts that aren't as they stand in
-    /// the bytes.
+    /// the bytes, where there are any.
     ///
     /// # Errors
     ///
@@ -37,8 +38,23 @@ impl<'a> Document<'a> {
             → data_in bytes.now ≡ None }
     {
         match simdutf8::compat::from_utf8(bytes) {
-            Ok(text) => Document::read_text(alloc, text, scratch),
+            Ok(text) => Document::read_str(alloc, text, scratch),
             Err(_) => Err(DataFault::NotJson),
+        }
+    }
+
+    /// A plain text is read where it stands, and takes no scratch.
+    fn read_str(
+        alloc: Global,
+        text: &'a str,
+        scratch: &'a mut Scratch,
+    ) -> Result<Document<'a>, DataFault>
+        ensures ok { IfOk result (λ d. data_in text.now ≡ Some (data_of d)) }
+        ensures err { result ≡ Err DataFault.NotJson → data_in text.now ≡ None }
+    {
+        match read_plain(alloc, text) {
+            Ok(nodes) => Ok(Document { nodes }),
+            Err(_) => Document::read_text(alloc, text, scratch),
         }
     }
 

@@ -5,6 +5,9 @@
 //! that value: nesting stops at 127, a number too large for a float is refused, and of equal keys the last
 //! counts. [`Element`] is a value in the document and [`Elements`] what is left of an array; each call is an
 //! equation on the data.
+//!
+//! A plain text, in which blanks alone stand before a token and nothing in a string is escaped, is read where
+//! it stands. Any other is read by `json`'s reader, which takes a [`Scratch`] as long as the text.
 #![tactic(auto)]
 
 mod build;
@@ -14,6 +17,9 @@ mod elements;
 mod fault;
 mod node;
 mod number;
+mod plain_token;
+mod plain_value;
+mod unread;
 
 pub use document::Document;
 pub use element::Element;

@@ -1,9 +1,9 @@
-ghost use Rattle.std.specs.Prelude.{◌≡◌, ◌<◌, [], ◌∷◌, ◌++◌, true, false, None, Some, is_err, IfOk, OnErr, OnOk};
+ghost use Rattle.std.specs.Prelude.{◌≡◌, ◌<◌, [], ◌∷◌, ◌++◌, true, false, None, Some, is_err, IfOk, IsOk, OnErr, OnOk};
 ghost use Rattle.lossy_link.specs.Berths.{kept_at, lent_at, waiting_at};
 ghost use Rattle.lossy_link.specs.FleetState.{after_guest, after_visit, first_guest};
 ghost use Rattle.lossy_link.specs.Names.{name_at};
 ghost use Rattle.wan_edge.specs.FailingTurns.{one_more};
-ghost use Rattle.wan_edge.specs.Fleets.{marked, with_one, without};
+ghost use Rattle.wan_edge.specs.Fleets.{WaitsFor, marked, with_one, without};
 
 mod berth;
 mod berths;
@@ -17,7 +17,7 @@ use lists::{Memory, Text};
 use names::Names;
 use std::alloc::Global;
 use std::marker::Model;
-use wan_edge::{Failed, Fleet, Port};
+use wan_edge::{Failed, Fleet, Port, Waited};
 
 /// Ports that wait for their switches and guests that come in order, all of them told. A port is given to
 /// whoever asks for it by the name of its switch, and to nobody else.
@@ -195,6 +195,23 @@ impl<P: Port + Drop> Fleet for MemoryFleet<P> {
         ensures others { self.new ≡ record self.old { places = self.new.places } }
     {
         self.berths.keep(switch, port);
+    }
+
+    /// Says that a guest comes where one is still to come, and else that the first of those who sit may be
+    /// read. It never fails, and nothing has changed.
+    fn wait(&mut self, seated: &[MemoryGuest]) -> Result<Waited, Failed>
+        ensures goes_on { IsOk result }
+        ensures woken { IfOk result
+            (λ woken. WaitsFor (Some self.old.guests.coming) seated.now woken) }
+        ensures still { self.new ≡ self.old }
+    {
+        if self.guests.has_next() {
+            return Ok(Waited::Came);
+        }
+        if seated.is_empty() {
+            return Ok(Waited::NoMore);
+        }
+        Ok(Waited::Seat(0))
     }
 
     /// Gives the next guest, or says that no more will come. It fails exactly after `fail_guests`.

@@ -23,7 +23,7 @@ use Rattle.rollback_service.specs.Levellings.{IsStartBack}
 use Rattle.rollback_service.specs.Placings.{IsNotPlaced, MayPlace, kept_from}
 
 -- behind a start that alone is settled
-settled-start : (n : ℕ) (start : List ℕ) → length start ≡ n → list_below n (settled (started start)) ≡ start
+pub settled-start : (n : ℕ) (start : List ℕ) → length start ≡ n → list_below n (settled (started start)) ≡ start
 settled-start n start long =
     ext_get_or 0 (list_below n (settled (started start))) start (list_below-length n (settled (started start)) ∙ sym long) (λ i inside.
     let lt : i < n = omega (arith, inside, list_below-length n (settled (started start))) in

@@ -17,7 +17,7 @@ use rollout_report::{KnownPlan, known_plan};
 use std::alloc::Global;
 use wan_model::CheckedPlan;
 
-/// What placing comes to: the disk, and the rollout back, or why its journal wasn't placed.
+/// What placing comes to: the disk, and the rollout of the new journal, or why that wasn't placed.
 #[derive(Drop)]
 pub struct Placed<D> {
     pub disk: D,
@@ -83,8 +83,8 @@ fn way_back(
     Ok(restarted(known, start))
 }
 
-// The same plan, begun at another sound start.
-fn restarted(known: KnownPlan, start: &[u32]) -> KnownPlan
+/// The same plan, begun at another sound start.
+pub fn restarted(known: KnownPlan, start: &[u32]) -> KnownPlan
     requires empty { known.graph.history.entries ≡ [] }
     requires numbers { length start.now ≡ item_count known.graph.rollout.problem }
     requires sound { IsTrue (is_sound known.graph.rollout.problem known.graph.rollout.plan
@@ -99,8 +99,9 @@ fn restarted(known: KnownPlan, start: &[u32]) -> KnownPlan
     KnownPlan { graph, digest }
 }
 
-// Places the journal of a graph at whose start nothing flies.
-fn place_known<D: Disk>(alloc: Global, known: KnownPlan, mut disk: D) -> Placed<D>
+/// Puts the journal of a graph at whose start nothing flies in the place of the one on the disk, and gives the
+/// rollout back. A crash at any moment leaves what stood or the new journal.
+pub fn place_known<D: Disk>(alloc: Global, known: KnownPlan, mut disk: D) -> Placed<D>
     requires { (item : ℕ)
         → item < item_count known.graph.rollout.problem
         → flies known.graph.history item ≡ false }

@@ -7,7 +7,7 @@ ghost use Rattle.dependency_graph.specs.Graph.{op_total};
 ghost use Rattle.dependency_graph.specs.Index.{AreItems};
 ghost use Rattle.order_policy.specs.Answers.{rank_by};
 ghost use Rattle.intent_journal.specs.Openings.{IsLeft, IsOpenedFrom};
-ghost use Rattle.intent_journal.specs.Reading.{HasNoMore};
+ghost use Rattle.intent_journal.specs.States.{IsGate};
 ghost use Rattle.intent_journal.specs.declared.fault.JournalFault.TheVariants as fault;
 ghost use Rattle.rollout_rounds.specs.Rounds as rounds;
 ghost use Rattle.rollout_book.specs.Chronicles.{first_book, graph_of, IsFound, IsNewBook, IsRound};
@@ -199,11 +199,11 @@ impl<D: Disk> Chronicle<D> {
         self.journal.disk()
     }
 
-    /// The place of the gate behind the journal's list, from which on the batches of later rounds stand: a byte
-    /// of the image, and while the book lives no batch stands there.
+    /// The place of the gate behind the journal's list, from which on the batches of later rounds stand. While
+    /// the book lives it is a byte of the image, and closed.
     pub fn gate(&self) -> u64
         ensures { self.now.live ≡ true
-            → IfSome (D.told self.now.disk).bytes (HasNoMore result) }
+            → IfSome (D.told self.now.disk).bytes (IsGate result) }
     {
         self.journal.gate()
     }

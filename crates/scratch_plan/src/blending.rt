@@ -1,17 +1,21 @@
-ghost use Rattle.std.specs.Prelude.{◌≡◌, ◌+◌, ◌-◌, ◌≤◌, None, IsTrue, IfOk};
+ghost use Rattle.std.specs.Prelude.{◌≡◌, ◌+◌, ◌-◌, ◌≤◌, None, IsTrue, IfOk, OnOk, map};
 ghost use Rattle.rollout_rules.specs.Valid.{is_valid_plan};
 ghost use Rattle.plan_check.specs.LeastSlack as slack;
+ghost use Rattle.scratch_plan.specs.Building.{with_stages};
+ghost use Rattle.scratch_plan.specs.Frame.{stage_of};
+ghost use Rattle.scratch_plan.specs.Marks.{is_used};
 ghost use Rattle.scratch_plan.specs.Refusals as refusals;
 ghost use Rattle.scratch_plan.specs.Scratch as spec;
 
-use crate::framing::frame;
+use crate::framing::{add_row, add_stage, add_where, begin, split_row};
+use crate::group::Group;
 use crate::links::{Rule, first_lack};
 use crate::no_plan::NoPlan;
 use crate::refusing::refusal;
-use lists::{Many, Memory, Nums};
+use lists::{Memory, Nums};
 use plan_check::least_slack;
 use std::alloc::Global;
-use wan_model::{Plan, Problem};
+use wan_model::{Plan, Problem, Side};
 
 /// The scratch plan: where a share 1/k of every link is free in both splits, for the least such k from 2
 /// to 64, it moves all rates in k - 1 equal steps. A problem that is refused has none, and where there is
@@ -34,21 +38,29 @@ fn by_slack(alloc: Global, problem: &Problem, k: u32) -> Result<Plan, Memory>
     requires most { k ≤ 64 }
     ensures { IfOk result (λ plan. plan ≡ spec.by_slack problem.now k) }
 {
-    let rows = blended_rows(alloc, problem, k - 1)?;
-    frame(alloc, problem, k - 1, rows.as_slice())
+    let new = split_row(alloc, problem, Side::New, k - 1)?;
+    let row = new.as_slice();
+    let mut plan = begin(alloc, problem, k - 1)?;
+    add_blended(alloc, &mut plan, problem, k - 1)?;
+    add_stage(alloc, &mut plan, problem, row, Group::Used)?;
+    add_where(alloc, &mut plan, problem, Group::Left, row, Group::Wanted)?;
+    Ok(plan)
 }
 
-// The rates after 1 to n - 1 of n equal steps.
-fn blended_rows(alloc: Global, problem: &Problem, n: u32) -> Result<Many<Nums>, Memory>
+// Adds the rates after 1 to n - 1 of n equal steps, each row as it is made.
+fn add_blended(alloc: Global, plan: &mut Plan, problem: &Problem, n: u32) -> Result<(), Memory>
     requires least { 1 ≤ n }
     requires most { n ≤ 64 }
-    ensures { IfOk result (λ rows. rows ≡ spec.blended_rows problem.now n) }
+    ensures { OnOk result
+        (plan.new
+        ≡ with_stages plan.old
+        (map (λ row. stage_of problem.now row is_used) (spec.blended_rows problem.now n))) }
 {
-    let mut rows = Many::new(alloc);
     for a in 0..n - 1 {
-        rows.push(blended_row(alloc, problem, n, a + 1)?)?;
+        let row = blended_row(alloc, problem, n, a + 1)?;
+        add_row(alloc, plan, problem, row, Group::Used)?;
     }
-    Ok(rows)
+    Ok(())
 }
 
 // The rates after a of n equal steps, in units of 1/n.

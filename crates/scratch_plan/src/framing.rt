@@ -36,7 +36,7 @@ pub fn still(alloc: Global, problem: &Problem) -> Result<Plan, Memory>
 }
 
 // The stages before rates move: the old split, idle tunnels gone, new ones there.
-fn begin(alloc: Global, problem: &Problem, scale: u32) -> Result<Plan, Memory>
+pub(crate) fn begin(alloc: Global, problem: &Problem, scale: u32) -> Result<Plan, Memory>
     ensures { IfOk result (λ plan. plan ≡ begun problem.now scale) }
 {
     let old = split_row(alloc, problem, Side::Old, scale)?;
@@ -76,7 +76,7 @@ fn add_rates(alloc: Global, plan: &mut Plan, problem: &Problem, rows: &[Nums]) -
     Ok(())
 }
 
-fn add_where(
+pub(crate) fn add_where(
     alloc: Global,
     plan: &mut Plan,
     problem: &Problem,
@@ -96,7 +96,7 @@ fn add_where(
     add_stage(alloc, plan, problem, row, installed)
 }
 
-fn add_stage(
+pub(crate) fn add_stage(
     alloc: Global,
     plan: &mut Plan,
     problem: &Problem,
@@ -109,6 +109,22 @@ fn add_stage(
 {
     let mut rates = Nums::new(alloc);
     rates.extend_from_slice(row)?;
+    let installed = marks(alloc, problem, installed)?;
+    plan.add_stage(Stage { rates, installed })
+}
+
+// Adds a stage whose rates these become.
+pub(crate) fn add_row(
+    alloc: Global,
+    plan: &mut Plan,
+    problem: &Problem,
+    rates: Nums,
+    installed: Group,
+) -> Result<(), Memory>
+    ensures { OnOk result
+        (plan.new
+        ≡ with_stages plan.old (spec.stage_of problem.now rates (is_in installed) ∷ [])) }
+{
     let installed = marks(alloc, problem, installed)?;
     plan.add_stage(Stage { rates, installed })
 }

@@ -1,6 +1,6 @@
 //! What a start has read of a book's journal, and what it reads of what came since.
 ghost use Rattle.std.specs.Prelude.{◌≡◌, ◌<◌, true, length};
-ghost use Rattle.intent_journal.specs.Reading.{HasNoMore};
+ghost use Rattle.intent_journal.specs.States.{IsGate};
 
 use disk_model::MemoryDisk;
 use intent_journal::entries_behind;
@@ -27,7 +27,7 @@ impl Mark {
     /// All that a book's journal has.
     pub(crate) fn behind(book: &Chronicle<MemoryDisk>) -> Mark
         ensures gate { book.now.live ≡ true
-            → HasNoMore result.gate book.now.disk.timeline.medium.bytes }
+            → IsGate result.gate book.now.disk.timeline.medium.bytes }
         ensures entries { result.entries ≡ length book.now.entries }
     {
         Mark {

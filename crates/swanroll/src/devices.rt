@@ -1,14 +1,15 @@
 //! What the environment names: the devices, of which one that isn't named fails at each call, and numbers.
 
 ghost use Rattle.std.specs.Prelude.{◌≡◌, IfSome};
-ghost use Rattle.swanroll.specs.Limits.{limit_in, ceiling_in, IsSaid};
+ghost use Rattle.named_policies.specs.Saying.{IsSaid};
+ghost use Rattle.swanroll.specs.Limits.{limit_in};
 
 use disk_mirror::Mirror;
 use host_edge::{FileDisk, FileLog, TcpFleet, WatchedFile};
+use named_policies::ceiling_in;
 use rollout_log::Logged;
-use rollout_rules::MOST_STAGES;
 use std::env;
-use swanroll_top::number_in;
+use text_commands::number_in;
 
 /// How long connecting, hearing and writing may take, in milliseconds, where the environment doesn't say.
 const USUAL: u64 = 1_000;
@@ -85,15 +86,5 @@ fn time_limit(word: &str) -> u64
     match number_in(word) {
         Some(number) if number > 0 => u64::from(number),
         _ => USUAL,
-    }
-}
-
-/// A ceiling of 1 to 19 decimal digits, up to the greatest number of stages. Any other word says none.
-fn ceiling_in(word: &str) -> Option<u32>
-    ensures { result ≡ ceiling_in word.now }
-{
-    match number_in(word) {
-        Some(number) if number <= MOST_STAGES as u32 => Some(number),
-        _ => None,
     }
 }

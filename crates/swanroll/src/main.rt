@@ -1,30 +1,29 @@
 //! The program: hands the arguments, the standard streams, the journal's file with its log, the switches
 //! and guests behind sockets, the allocator and its policies to the call that does everything, and ends with
-//! its status. An agent for which the environment names a file is a call of its own, and so is a report of the
-//! journal as it stands.
+//! its status. An agent for which the environment names a file is a call of its own, and so are a report of the
+//! journal as it stands and the problem that its rollout leaves.
 #![tactic(auto)]
 
-ghost use Rattle.std.specs.Prelude.{◌≡◌, ◌≢◌};
-ghost use Rattle.std.specs.IoError.{error_kind};
-ghost use Rattle.swanroll.specs.Policies as spec;
+ghost use Rattle.std.specs.Prelude.{◌≡◌};
+ghost use Rattle.named_policies.specs.Policies as spec;
 
 use devices::{ceiling, fleet, journal, sight, state};
 use host_edge::{StdSink, StdSource};
 use lists::Memory;
+use named_policies::{critical, freeze, order, policies_of};
 use order_policy::{Policies, Policy};
-use policies::{critical, freeze, order, policies_of};
 use std::env;
-use std::io::{Error, ErrorKind};
 use std::process::ExitCode;
 use std::sync::Wait;
 use std::thread::Threads;
 use swanroll_top::{
-    LiveAsked, Unread, guests_asked, keep_agent, live_asked, report_live, start_logged, watch,
+    LiveAsked, guests_asked, keep_agent, left_asked, live_asked, report_live, show_left,
+    start_logged, watch,
 };
+use text_commands::{Unread, why_unread};
 use wan_model::OpView;
 
 mod devices;
-mod policies;
 
 fn main(rt: HostRuntime) -> ExitCode {
     let mut source = StdSource::new(rt, rt.stdin());
@@ -87,7 +86,8 @@ fn run(
 }
 
 /// Does what the arguments ask for: an agent over the file that the environment names for it, where they ask
-/// for an agent and it names one; a report of the journal as it stands; and else all that there is.
+/// for an agent and it names one; a report of the journal as it stands, or what the rollout leaves; and else all
+/// that there is.
 fn begin(
     wait: &(impl Wait + Threads + Sync),
     rt: HostRuntime,
@@ -106,6 +106,10 @@ fn begin(
     if let Some(asked) = live_asked(&arguments) {
         drop(arguments);
         return look(wait, rt, asked, source, sink, notes);
+    }
+    if let Some(migration) = left_asked(&arguments) {
+        drop(arguments);
+        return show_left(rt.alloc(), migration, source, sink, notes, &mut sight(rt));
     }
     start_logged(
         wait,
@@ -140,21 +144,10 @@ fn look(
 fn arguments(rt: &HostRuntime) -> Result<Vec<String>, Unread> {
     let all = match env::args(rt) {
         Ok(all) => all,
-        Err(error) => return Err(unread(&error)),
+        Err(error) => return Err(why_unread(&error)),
     };
     match all.collect::<Vec<String>>(rt.alloc()) {
         Ok(arguments) => Ok(arguments),
         Err(_) => Err(Unread::Memory),
     }
-}
-
-/// Why the arguments couldn't be read: beside want of memory, one of them isn't UTF-8.
-fn unread(error: &Error) -> Unread
-    ensures memory { error_kind error.now ≡ ErrorKind.OutOfMemory → result ≡ Unread.Memory }
-    ensures text { error_kind error.now ≢ ErrorKind.OutOfMemory → result ≡ Unread.NotText }
-{
-    if error.kind() == ErrorKind::OutOfMemory {
-        return Unread::Memory;
-    }
-    Unread::NotText
 }

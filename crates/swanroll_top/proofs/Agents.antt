@@ -2,11 +2,11 @@
 use Rattle.std.proofs.Common.{◌≡◌, ℕ, List, false, Option, Ok, subst, sym, ap, ◌∙◌, inl, inr}
 use Rattle.agent_service.specs.Services.{Guests, Tells}
 use Rattle.swanroll_top.specs.Agents.{EndsOwn, RunsAgent, ServesAs}
-use Rattle.swanroll_top.specs.Endings.{status_of, tells_place}
-use Rattle.swanroll_top.specs.Runs.{EndsWith, Follows, IsTold}
-use Rattle.swanroll_top.specs.declared.ending.Ending.{Ending}
-use Rattle.swanroll_top.specs.declared.ending.Ending.TheVariants.{Done, Usage, AboveLimit, Input, NotValid, NoPlan, Unshown, ReadFault, WriteFault, DiskFault, GuestFault, Refused, NotFinished, OutOfMemory}
-use Rattle.swanroll_top.proofs.Programs.{known-told}
+use Rattle.text_commands.specs.Endings.{status_of, tells_place}
+use Rattle.text_commands.specs.Runs.{EndsWith, Follows, IsTold}
+use Rattle.text_commands.specs.declared.ending.Ending.{Ending}
+use Rattle.text_commands.specs.declared.ending.Ending.TheVariants.{Done, Usage, AboveLimit, Input, NotValid, NoPlan, Unshown, ReadFault, WriteFault, DiskFault, GuestFault, Refused, NotFinished, OutOfMemory}
+use Rattle.text_commands.proofs.Programs.{known-told}
 
 pub text-own : (text : List ℕ) (e : Ending) (out now : Option (List ℕ)) → EndsWith (Ok text) e out now → EndsOwn e
 text-own text e out now (inl done) = inl done.0

@@ -41,17 +41,17 @@ use Rattle.completion_laws.specs.Faults.{IsExcused, IsWithoutFault}
 use Rattle.completion_laws.specs.Finishing.{FinishesOrIsExcused, FinishesOrWants, IsSure, IsWant}
 use Rattle.completion_laws.proofs.Excused.{ran-excused}
 use Rattle.completion_laws.proofs.Finished.{wants}
-use Rattle.swanroll_top.specs.Endings.{ending_of_journal, status_of}
+use Rattle.text_commands.specs.Endings.{ending_of_journal, status_of}
 use Rattle.swanroll_top.specs.Ready.{CountsNoFault, GoesOnFrom, IsReadyFor, WaitsReady}
-use Rattle.swanroll_top.specs.Reports.{rollout_to}
+use Rattle.text_commands.specs.Answers.{rollout_to}
 use Rattle.swanroll_top.specs.Rollouts.{FleetSeen, IsUnbegun, OpensAndRolls, RefusesAs, Rolls, RollsAs, ending_of_stop, line_or_ending}
-use Rattle.swanroll_top.specs.Runs.{EndsWith, IsInput}
-use Rattle.swanroll_top.specs.declared.ending.Ending.{Ending}
-use Rattle.swanroll_top.specs.declared.ending.Ending.TheVariants.{Done, Usage, AboveLimit, Input, NotValid, NoPlan, Unshown, ReadFault, WriteFault, DiskFault, GuestFault, Refused, NotFinished, OutOfMemory}
-use Rattle.swanroll_top.proofs.Inputs.{told-within}
+use Rattle.text_commands.specs.Runs.{EndsWith, IsInput}
+use Rattle.text_commands.specs.declared.ending.Ending.{Ending}
+use Rattle.text_commands.specs.declared.ending.Ending.TheVariants.{Done, Usage, AboveLimit, Input, NotValid, NoPlan, Unshown, ReadFault, WriteFault, DiskFault, GuestFault, Refused, NotFinished, OutOfMemory}
+use Rattle.text_commands.proofs.Inputs.{told-within}
 use Rattle.swanroll_top.proofs.Reporting.{rolled-within}
 use Rattle.swanroll_top.proofs.Outcomes.{rose-later}
-use Rattle.swanroll_top.proofs.Programs.{follows-ends, told-same}
+use Rattle.text_commands.proofs.Programs.{follows-ends, told-same}
 
 -- what holds of what an option has, where it has this
 pub of-some : {X : Type 0} (Q : X → Type 0) (x : X) (o : Option X) → o ≡ Some x → IfSome o Q → Q x

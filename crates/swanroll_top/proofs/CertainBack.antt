@@ -42,19 +42,19 @@ use Rattle.rollback_service.specs.Placings.{IsNotPlaced, IsSeen}
 use Rattle.rollback_service.specs.declared.answer.LevelAnswer.{LevelAnswer}
 use Rattle.rollback_service.specs.declared.answer.LevelAnswer.TheVariants as ended
 use Rattle.rollback_service.specs.declared.origin.BackFrom.{BackFrom}
-use Rattle.swanroll_top.specs.Endings.{ending_of_journal, status_of}
+use Rattle.text_commands.specs.Endings.{ending_of_journal, status_of}
 use Rattle.swanroll_top.specs.Ready.{CountsNoFault, GoesOnFrom, IsServedFor, WaitsReady}
-use Rattle.swanroll_top.specs.Reports.{rollout_to}
+use Rattle.text_commands.specs.Answers.{rollout_to}
 use Rattle.swanroll_top.specs.Rollbacks.{Closes, FindsNoJournal, Levels, OpensAndRollsBack, Reverts, RevertsAs, RollsBack, TakesBack, back_text}
 use Rattle.swanroll_top.specs.Rollouts.{FleetSeen, IsUnbegun, RefusesAs, ending_of_stop}
-use Rattle.swanroll_top.specs.Runs.{IsInput}
-use Rattle.swanroll_top.specs.declared.ending.Ending.{Ending}
-use Rattle.swanroll_top.specs.declared.ending.Ending.TheVariants.{Done, Usage, AboveLimit, Input, NotValid, NoPlan, Unshown, ReadFault, WriteFault, DiskFault, GuestFault, Refused, NotFinished, OutOfMemory}
+use Rattle.text_commands.specs.Runs.{IsInput}
+use Rattle.text_commands.specs.declared.ending.Ending.{Ending}
+use Rattle.text_commands.specs.declared.ending.Ending.TheVariants.{Done, Usage, AboveLimit, Input, NotValid, NoPlan, Unshown, ReadFault, WriteFault, DiskFault, GuestFault, Refused, NotFinished, OutOfMemory}
 use Rattle.swanroll_top.proofs.Certain.{opened-ready, opened-waited, some-same}
-use Rattle.swanroll_top.proofs.Inputs.{told-within}
+use Rattle.text_commands.proofs.Inputs.{told-within}
 use Rattle.swanroll_top.proofs.Levelling.{here}
 use Rattle.swanroll_top.proofs.Outcomes.{rose-later}
-use Rattle.swanroll_top.proofs.Programs.{follows-ends, told-same}
+use Rattle.text_commands.proofs.Programs.{follows-ends, told-same}
 use Rattle.swanroll_top.proofs.Reporting.{rolled-within}
 use Rattle.swanroll_top.proofs.Reverting.{Begun, is_run, level-stopped, levels-rose, run-begun}
 use Rattle.switch_laws.proofs.Answered.{some_at}

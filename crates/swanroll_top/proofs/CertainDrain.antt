@@ -36,17 +36,17 @@ use Rattle.completion_laws.proofs.Excused.{ran-ends}
 use Rattle.completion_laws.proofs.Finished.{only-want}
 use Rattle.completion_laws.proofs.NoFaults.{no-fault}
 use Rattle.swanroll_top.specs.Drains.{Drains, DrainsAs, OpensAndDrains, drained_or_ending}
-use Rattle.swanroll_top.specs.Endings.{status_of}
+use Rattle.text_commands.specs.Endings.{status_of}
 use Rattle.swanroll_top.specs.Ready.{CountsNoFault, GoesOnFrom, IsServedFor, WaitsReady}
-use Rattle.swanroll_top.specs.Reports.{rollout_to}
+use Rattle.text_commands.specs.Answers.{rollout_to}
 use Rattle.swanroll_top.specs.Rollouts.{FleetSeen, ending_of_stop}
-use Rattle.swanroll_top.specs.Runs.{EndsWith, IsInput}
-use Rattle.swanroll_top.specs.declared.ending.Ending.{Ending}
+use Rattle.text_commands.specs.Runs.{EndsWith, IsInput}
+use Rattle.text_commands.specs.declared.ending.Ending.{Ending}
 use Rattle.swanroll_top.proofs.Certain.{of-some, opened-ready, opened-waited, some-same}
 use Rattle.swanroll_top.proofs.CertainBack.{excused-never, goes-opened, unbegun-never, unopened-never, wanting-never}
-use Rattle.swanroll_top.proofs.Inputs.{told-within}
+use Rattle.text_commands.proofs.Inputs.{told-within}
 use Rattle.swanroll_top.proofs.Outcomes.{rose-later}
-use Rattle.swanroll_top.proofs.Programs.{follows-ends, told-same}
+use Rattle.text_commands.proofs.Programs.{follows-ends, told-same}
 use Rattle.swanroll_top.proofs.Reporting.{rolled-within}
 
 -- ---- a rollout that was drained, from a disk that tells its image

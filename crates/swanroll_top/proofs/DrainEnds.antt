@@ -16,15 +16,16 @@ use Rattle.rollout_service.specs.declared.answer.RunAnswer.TheVariants as outcom
 use Rattle.rollback_plan.specs.Levels.{levelling}
 use Rattle.rollback_service.specs.Drainings.{HasDrained, HoldsAll}
 use Rattle.swanroll_top.specs.Drains.{Drains, DrainsIn, DrainsOut, drained_or_ending}
-use Rattle.swanroll_top.specs.Endings.{ending_of_journal}
-use Rattle.swanroll_top.specs.Reading.{IsShortInput}
-use Rattle.swanroll_top.specs.Reports.{ReadsDocument, rollout_in}
+use Rattle.text_commands.specs.Endings.{ending_of_journal}
+use Rattle.text_commands.specs.Reading.{IsShortInput}
+use Rattle.text_commands.specs.Answers.{rollout_in}
+use Rattle.swanroll_top.specs.Reports.{ReadsDocument}
 use Rattle.swanroll_top.specs.Rollouts.{FleetSeen, IsDiskFault, IsUnbegun, RefusesAs, ending_of_stop, line_or_ending}
-use Rattle.swanroll_top.specs.Runs.{Follows, Gives, IsInput}
-use Rattle.swanroll_top.specs.Safety.{IsValid}
-use Rattle.swanroll_top.specs.declared.ending.Ending.{Ending}
-use Rattle.swanroll_top.specs.declared.ending.Ending.TheVariants.{Done, Usage, AboveLimit, Input, NotValid, NoPlan, Unshown, ReadFault, WriteFault, DiskFault, GuestFault, Refused, NotFinished, OutOfMemory}
-use Rattle.swanroll_top.specs.declared.unfinished.Unfinished.TheVariants.{PortFault}
+use Rattle.text_commands.specs.Runs.{Follows, Gives, IsInput}
+use Rattle.text_commands.specs.Safety.{IsValid}
+use Rattle.text_commands.specs.declared.ending.Ending.{Ending}
+use Rattle.text_commands.specs.declared.ending.Ending.TheVariants.{Done, Usage, AboveLimit, Input, NotValid, NoPlan, Unshown, ReadFault, WriteFault, DiskFault, GuestFault, Refused, NotFinished, OutOfMemory}
+use Rattle.text_commands.specs.declared.unfinished.Unfinished.TheVariants.{PortFault}
 use Rattle.swanroll_top.proofs.Outcomes.{disk-failed, given-or-memory, same-ending, without_text}
 use Rattle.swanroll_top.proofs.Reporting.{reads-document, short-rollout}
 use Rattle.swanroll_top.proofs.Rolling.{never-disk, unbegun}

@@ -9,13 +9,13 @@ use Rattle.held_service.specs.HeldText.{AsksAll, TellsText}
 use Rattle.held_service.specs.declared.not_told.NotTold.{NotTold}
 use Rattle.held_service.specs.declared.not_told.NotTold.TheVariants as not_told
 use Rattle.swanroll_top.specs.HeldAsked.{Asks, AsksIn, WritesHeld, ending_of_not_told, told_or_ending}
-use Rattle.swanroll_top.specs.Reading.{IsShortInput}
-use Rattle.swanroll_top.specs.Reports.{rollout_in, rollout_to}
+use Rattle.text_commands.specs.Reading.{IsShortInput}
+use Rattle.text_commands.specs.Answers.{rollout_in, rollout_to}
 use Rattle.swanroll_top.specs.Rollouts.{EndsRollout, FleetSeen, RefusesAs, may_end}
-use Rattle.swanroll_top.specs.Runs.{EndsWith, Follows, IsInput}
-use Rattle.swanroll_top.specs.declared.ending.Ending.{Ending}
-use Rattle.swanroll_top.specs.declared.ending.Ending.TheVariants.{Done, AboveLimit, WriteFault, DiskFault}
-use Rattle.swanroll_top.proofs.Answering.{is_answer, rollout-answers}
+use Rattle.text_commands.specs.Runs.{EndsWith, Follows, IsInput}
+use Rattle.text_commands.specs.declared.ending.Ending.{Ending}
+use Rattle.text_commands.specs.declared.ending.Ending.TheVariants.{Done, AboveLimit, WriteFault, DiskFault}
+use Rattle.text_commands.proofs.Answering.{is_answer, rollout-answers}
 use Rattle.swanroll_top.proofs.Reporting.{long-rollout, short-rollout}
 use Rattle.swanroll_top.proofs.Rolling.{unbegun}
 

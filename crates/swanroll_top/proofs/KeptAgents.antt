@@ -6,11 +6,11 @@ use Rattle.disk_model.proofs.Running.{LeavesOnly-start}
 use Rattle.wan_edge.specs.Streams.{Appends}
 use Rattle.agent_service.specs.KeptServices.{MayBeLeft}
 use Rattle.swanroll_top.specs.Agents.{EndsOwn}
-use Rattle.swanroll_top.specs.Endings.{status_of}
+use Rattle.text_commands.specs.Endings.{status_of}
 use Rattle.swanroll_top.specs.KeptAgents.{kept_status}
-use Rattle.swanroll_top.specs.Runs.{EndsWith, Follows}
-use Rattle.swanroll_top.specs.declared.ending.Ending.{Ending}
-use Rattle.swanroll_top.specs.declared.ending.Ending.TheVariants.{Done, OutOfMemory, WriteFault}
+use Rattle.text_commands.specs.Runs.{EndsWith, Follows}
+use Rattle.text_commands.specs.declared.ending.Ending.{Ending}
+use Rattle.text_commands.specs.declared.ending.Ending.TheVariants.{Done, OutOfMemory, WriteFault}
 use Rattle.swanroll_top.specs.declared.kept_ending.KeptEnding.{KeptEnding}
 
 -- what holds of what was read holds where it was read

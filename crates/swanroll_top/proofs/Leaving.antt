@@ -14,14 +14,15 @@ use Rattle.intent_journal.specs.Recovered.{KeepsNow, MayStand, OnRefusal, kept_f
 use Rattle.intent_journal.specs.Verdicts.{verdict}
 use Rattle.rollout_report.specs.Journals.{digest_for}
 use Rattle.rollout_report.proofs.Journaling.{still_each}
-use Rattle.swanroll_top.specs.Endings.{ending_of_journal, status_of}
+use Rattle.text_commands.specs.Endings.{ending_of_journal, status_of}
 use Rattle.swanroll_top.specs.Leavings.{LeavesJournal, LeavesRead, LeavesReported}
-use Rattle.swanroll_top.specs.Reading.{IsCut, IsShortInput}
-use Rattle.swanroll_top.specs.Reports.{EndsJournal, rollout_in, rollout_to}
-use Rattle.swanroll_top.specs.Runs.{EndsWith, Gives, IsTold}
-use Rattle.swanroll_top.specs.declared.ending.Ending.{Ending}
-use Rattle.swanroll_top.specs.declared.ending.Ending.TheVariants.{Done, Usage, AboveLimit, Input, NotValid, NoPlan, Unshown, ReadFault, WriteFault, DiskFault, GuestFault, Refused, NotFinished, OutOfMemory}
-use Rattle.swanroll_top.proofs.Inputs.{told-short}
+use Rattle.text_commands.specs.Reading.{IsCut, IsShortInput}
+use Rattle.text_commands.specs.Answers.{rollout_in, rollout_to}
+use Rattle.swanroll_top.specs.Reports.{EndsJournal}
+use Rattle.text_commands.specs.Runs.{EndsWith, Gives, IsTold}
+use Rattle.text_commands.specs.declared.ending.Ending.{Ending}
+use Rattle.text_commands.specs.declared.ending.Ending.TheVariants.{Done, Usage, AboveLimit, Input, NotValid, NoPlan, Unshown, ReadFault, WriteFault, DiskFault, GuestFault, Refused, NotFinished, OutOfMemory}
+use Rattle.text_commands.proofs.Inputs.{told-short}
 use Rattle.swanroll_top.proofs.Reporting.{short-rollout}
 
 -- ---- which statuses speak of the journal

@@ -76,20 +76,20 @@ use Rattle.rollback_service.specs.declared.answer.LevelAnswer.TheVariants as end
 use Rattle.rollback_service.specs.declared.origin.BackFrom.{BackFrom}
 use Rattle.rollback_service.specs.declared.origin.BackFrom.TheVariants as whence
 use Rattle.rollback_service.proofs.Levellings.{turns-most, turns-sound}
-use Rattle.swanroll_top.specs.Endings.{ending_of_journal}
+use Rattle.text_commands.specs.Endings.{ending_of_journal}
 use Rattle.swanroll_top.specs.LevelTargets.{AreHeldAtStage, EndsAtStage, EndsBackSafely, HasListFrom, IsFoundOrPlaced, IsHeldAtStage, IsLevelThere, IsTakenBack, LeadsSoFar, LevelsSafely, OnLevel, SendsSoFar, operations_to}
-use Rattle.swanroll_top.specs.Reports.{rollout_to}
+use Rattle.text_commands.specs.Answers.{rollout_to}
 use Rattle.swanroll_top.specs.Rollbacks.{Closes, Levels, Reverts, RevertsAs, RollsBackOpened, RollsBackOutOf, TakesBack, back_text}
 use Rattle.swanroll_top.specs.Rollouts.{FleetSeen, ending_of_stop}
 use Rattle.swanroll_top.specs.Targets.{EndsWithin, IsOfBegun, StaysSafe}
-use Rattle.swanroll_top.specs.declared.ending.Ending.{Ending}
-use Rattle.swanroll_top.specs.declared.ending.Ending.TheVariants.{Done, DiskFault, NotFinished, OutOfMemory, WriteFault}
-use Rattle.swanroll_top.specs.declared.unfinished.Unfinished.TheVariants.{PortFault}
+use Rattle.text_commands.specs.declared.ending.Ending.{Ending}
+use Rattle.text_commands.specs.declared.ending.Ending.TheVariants.{Done, DiskFault, NotFinished, OutOfMemory, WriteFault}
+use Rattle.text_commands.specs.declared.unfinished.Unfinished.TheVariants.{PortFault}
 use Rattle.swanroll_top.proofs.Elsewhere.{none-settled}
 use Rattle.swanroll_top.proofs.Reaching.{begun-told, berths-within, is-told, is_of_begun, journal-begun, not-begun, of-begun, unbegun-refused}
 use Rattle.swanroll_top.proofs.Reverting.{Begun, is_run, run-begun, run-unbegun}
 use Rattle.swanroll_top.proofs.SettledPorts.{berths-settled, each-more, told-more}
-use Rattle.swanroll_top.proofs.Statuses.{is-done}
+use Rattle.text_commands.proofs.Statuses.{is-done}
 
 -- ---- the policy
 

@@ -14,16 +14,16 @@ use Rattle.file_sight.specs.declared.unseen.Unseen.TheVariants as unseen
 use Rattle.rollout_report.specs.Journals.{Tells, journal_report}
 use Rattle.swanroll_top.specs.JournalRoom.{journal_room}
 use Rattle.swanroll_top.specs.Live.{Sees, ending_of_unseen}
-use Rattle.swanroll_top.specs.Reports.{rollout_in}
-use Rattle.swanroll_top.specs.Runs.{EndsWith, Gives}
+use Rattle.text_commands.specs.Answers.{rollout_in}
+use Rattle.text_commands.specs.Runs.{EndsWith, Gives}
 use Rattle.swanroll_top.specs.Watches.{AreReported, Differ, EndsLooking, HasNoText, ImageText, IsReported, TextOr, TurnOf, Writes, WritesAnew, Wrote, all_of, ends_finished, last_of, or_live, turn_after, turn_of}
-use Rattle.swanroll_top.specs.declared.ending.Ending.{Ending}
-use Rattle.swanroll_top.specs.declared.ending.Ending.TheVariants.{Done, Usage, AboveLimit, Input, NotValid, NoPlan, Unshown, ReadFault, WriteFault, DiskFault, GuestFault, Refused, NotFinished, OutOfMemory}
+use Rattle.text_commands.specs.declared.ending.Ending.{Ending}
+use Rattle.text_commands.specs.declared.ending.Ending.TheVariants.{Done, Usage, AboveLimit, Input, NotValid, NoPlan, Unshown, ReadFault, WriteFault, DiskFault, GuestFault, Refused, NotFinished, OutOfMemory}
 use Rattle.swanroll_top.specs.declared.live.LiveEnding.{LiveEnding}
 use Rattle.swanroll_top.specs.declared.live.LiveEnding.TheVariants.{Ended, InUse}
 use Rattle.swanroll_top.specs.declared.turning.Turn.{Turn}
 use Rattle.swanroll_top.specs.declared.turning.Turn.TheVariants.{Goes, Ends}
-use Rattle.swanroll_top.proofs.Answering.{is_answer, rollout-gives}
+use Rattle.text_commands.proofs.Answering.{is_answer, rollout-gives}
 
 -- ---- the text of an image, and of what was seen
 

@@ -39,7 +39,7 @@ use Rattle.swanroll_top.specs.NextRollbacks.{MayBeFoundEither, NextStartEither, 
 use Rattle.swanroll_top.specs.NextStarts.{IsTakenAgain, MayBeFound, StartsAgain}
 use Rattle.swanroll_top.specs.Rollbacks.{Closes, Reverts, RollsBack, TakesBack}
 use Rattle.swanroll_top.specs.Rollouts.{FleetSeen}
-use Rattle.swanroll_top.specs.declared.ending.Ending.{Ending}
+use Rattle.text_commands.specs.declared.ending.Ending.{Ending}
 use Rattle.swanroll_top.proofs.Levelling.{here, level-end}
 use Rattle.swanroll_top.proofs.NextStarting.{kept-owner, rolled-again, same-kept, unopened-again}
 use Rattle.swanroll_top.proofs.Reverting.{is_run, run-begun}

@@ -25,7 +25,7 @@ use Rattle.rollout_service.specs.declared.answer.RunAnswer.{RunAnswer}
 use Rattle.rollout_service.specs.declared.answer.RunAnswer.TheVariants as answer
 use Rattle.swanroll_top.specs.NextStarts.{IsTakenAgain, LeavesToNext, MayBeFound, NextStart, StartsAgain}
 use Rattle.swanroll_top.specs.Rollouts.{FleetSeen, Rolls}
-use Rattle.swanroll_top.specs.declared.ending.Ending.{Ending}
+use Rattle.text_commands.specs.declared.ending.Ending.{Ending}
 
 -- whatever an opened journal keeps is of its digest and migration
 pub kept-owner : (r : Rollout) (digest : Digest) (v : Verdict) (what : Kept) → kept_for r digest v ≡ Some what → (what.digest ≡ digest.bytes) × (what.migration ≡ digest.migration)

@@ -10,21 +10,22 @@ use Rattle.rollout_report.specs.Journals.{journal_report}
 use Rattle.watch_laws.specs.Kept.{AreOneJournal}
 use Rattle.watch_laws.specs.Watching.{AreMoments, AreReadFrom, HeldOnce, Moment}
 use Rattle.watch_laws.proofs.Watched.{there_once}
-use Rattle.swanroll_top.specs.Endings.{status_of}
+use Rattle.text_commands.specs.Endings.{status_of}
 use Rattle.swanroll_top.specs.Live.{LiveTold, WroteOnce, plain}
-use Rattle.swanroll_top.specs.Program.{Streams}
-use Rattle.swanroll_top.specs.Reports.{EndsReport, FollowsReport, IsLate, RunsReport, or_journal, rollout_to}
-use Rattle.swanroll_top.specs.Runs.{EndsWith, IsTold, TellsInput}
-use Rattle.swanroll_top.specs.declared.ending.Ending.{Ending}
-use Rattle.swanroll_top.specs.declared.ending.Ending.TheVariants.{Done, Usage, AboveLimit, Input, NotValid, NoPlan, Unshown, ReadFault, WriteFault, DiskFault, GuestFault, Refused, NotFinished, OutOfMemory}
+use Rattle.text_commands.specs.Program.{Streams}
+use Rattle.text_commands.specs.Answers.{rollout_to}
+use Rattle.swanroll_top.specs.Reports.{EndsReport, FollowsReport, IsLate, RunsReport, or_journal}
+use Rattle.text_commands.specs.Runs.{EndsWith, IsTold, TellsInput}
+use Rattle.text_commands.specs.declared.ending.Ending.{Ending}
+use Rattle.text_commands.specs.declared.ending.Ending.TheVariants.{Done, Usage, AboveLimit, Input, NotValid, NoPlan, Unshown, ReadFault, WriteFault, DiskFault, GuestFault, Refused, NotFinished, OutOfMemory}
 use Rattle.swanroll_top.specs.declared.live.LiveEnding.{LiveEnding}
 use Rattle.swanroll_top.specs.declared.live.LiveEnding.TheVariants.{Ended, InUse}
-use Rattle.swanroll_top.proofs.Answering.{is_answer, rollout-answers}
+use Rattle.text_commands.proofs.Answering.{is_answer, rollout-answers}
 use Rattle.swanroll_top.proofs.Complete.{reported}
-use Rattle.swanroll_top.proofs.Inputs.{told-within}
+use Rattle.text_commands.proofs.Inputs.{told-within}
 use Rattle.swanroll_top.proofs.Leaving.{told-status}
 use Rattle.swanroll_top.proofs.Reporting.{long-rollout, rolled-within, short-rollout}
-use Rattle.swanroll_top.proofs.Statuses.{is-done}
+use Rattle.text_commands.proofs.Statuses.{is-done}
 
 -- a refused input comes to no ending that a command has behind it
 to-answers : (input : List ℕ) (x : Ending) → rollout_to input ≡ Err x → is_answer x ≡ true

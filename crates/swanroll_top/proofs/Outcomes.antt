@@ -24,12 +24,12 @@ use Rattle.intent_journal.specs.Openings.{IsLeft}
 use Rattle.rollout_service.specs.Outcomes.{HasRolled, IfRolled, OnUnopened, answer_for}
 use Rattle.rollout_service.specs.declared.answer.RunAnswer.{RunAnswer}
 use Rattle.rollout_service.specs.declared.answer.RunAnswer.TheVariants as answer
-use Rattle.swanroll_top.specs.Endings.{ending_of_journal, status_of}
+use Rattle.text_commands.specs.Endings.{ending_of_journal, status_of}
 use Rattle.swanroll_top.specs.Rollouts.{EndsRollout, IsDiskFault, ending_of_stop, line_or_ending, may_end}
-use Rattle.swanroll_top.specs.Runs.{EndsWith, Follows, Gives}
-use Rattle.swanroll_top.specs.declared.ending.Ending.{Ending}
-use Rattle.swanroll_top.specs.declared.ending.Ending.TheVariants.{Done, Usage, AboveLimit, Input, NotValid, NoPlan, Unshown, ReadFault, WriteFault, DiskFault, GuestFault, Refused, NotFinished, OutOfMemory}
-use Rattle.swanroll_top.proofs.Programs.{ends-unwritten}
+use Rattle.text_commands.specs.Runs.{EndsWith, Follows, Gives}
+use Rattle.text_commands.specs.declared.ending.Ending.{Ending}
+use Rattle.text_commands.specs.declared.ending.Ending.TheVariants.{Done, Usage, AboveLimit, Input, NotValid, NoPlan, Unshown, ReadFault, WriteFault, DiskFault, GuestFault, Refused, NotFinished, OutOfMemory}
+use Rattle.text_commands.proofs.Programs.{ends-unwritten}
 
 -- ---- an ending in place of a text
 

@@ -1,5 +1,5 @@
 -- How the promise of the call follows from what a command brought about and from what was noted.
-use Rattle.std.proofs.Common.{◌≡◌, ℕ, Bool, List, drop, String, false, Option, Some, None, Result, Ok, Err, refl, sym, ap, ◌∙◌, subst, arith}
+use Rattle.std.proofs.Common.{◌≡◌, ℕ, Bool, List, drop, String, Option, Some, None, Result, Ok, Err, refl, sym, ap, ◌∙◌, subst, arith}
 use Rattle.std.specs.declared.alloc.Global.{Global}
 use Rattle.rollout_rules.specs.declared.op.OpView.{OpView}
 use Rattle.agent_service.specs.Services.{Guests}
@@ -11,31 +11,32 @@ use Rattle.swanroll_top.specs.AgentPromise.{BringsService, ServesAsOne}
 use Rattle.swanroll_top.specs.Agents.{service_answer}
 use Rattle.swanroll_top.specs.DrainPromise.{BringsDrain, DrainPromise}
 use Rattle.swanroll_top.specs.Drains.{DrainsAs}
-use Rattle.swanroll_top.specs.Endings.{status_of, tells_place}
+use Rattle.text_commands.specs.Endings.{ending_of_unread, status_of, tells_place}
 use Rattle.swanroll_top.specs.HeldPromise.{BringsHeld, HeldPromise}
-use Rattle.swanroll_top.specs.Program.{NotesLine, Streams}
-use Rattle.swanroll_top.specs.Promise.{Brings, EndsUnread, Keeps, Promise, Ran, StartPromise, ending_of_unread}
+use Rattle.text_commands.specs.Program.{NotesLine, Streams}
+use Rattle.swanroll_top.specs.Promise.{Brings, EndsUnread, Keeps, Promise, Ran, StartPromise}
 use Rattle.swanroll_top.specs.ReportPromise.{BringsReport, ReportPromise}
 use Rattle.swanroll_top.specs.Reports.{RunsReport}
 use Rattle.swanroll_top.specs.Rollouts.{RollsAs, RunsRollout}
 use Rattle.swanroll_top.specs.RollbackPromise.{BringsRollback, RollbackPromise}
 use Rattle.swanroll_top.specs.Rollbacks.{RevertsAs}
 use Rattle.swanroll_top.specs.RunPromise.{BringsRollout, RunPromise}
-use Rattle.swanroll_top.specs.Runs.{IsInput, IsTold, Runs}
-use Rattle.swanroll_top.specs.TextPromise.{TextPromise}
+use Rattle.text_commands.specs.Runs.{IsInput, IsTold}
 use Rattle.swanroll_top.specs.TrialPromise.{TrialPromise}
 use Rattle.swanroll_top.specs.Tries.{RunsTrial, tried}
+use Rattle.swanroll_top.specs.Uses.{uses_of}
 use Rattle.swanroll_top.specs.Views.{Objects, Outside, Views, outside, seen, source_at, streams, used, written_at}
-use Rattle.swanroll_top.specs.Words.{Asked, TextAsked, a_drain, a_report, a_rollback, a_run, a_text, a_trial, an_agent, asked_by, what_is_held}
-use Rattle.swanroll_top.specs.declared.arguments.Unread.{Unread}
-use Rattle.swanroll_top.specs.declared.arguments.Unread.TheVariants as unread
-use Rattle.swanroll_top.specs.declared.ending.Ending.{Ending}
-use Rattle.swanroll_top.specs.declared.ending.Ending.TheVariants.{Usage, DiskFault, OutOfMemory}
+use Rattle.swanroll_top.specs.Words.{Asked, a_drain, a_report, a_rollback, a_run, a_text, a_trial, an_agent, asked_by, what_is_held}
+use Rattle.text_commands.specs.declared.arguments.Unread.{Unread}
+use Rattle.text_commands.specs.declared.ending.Ending.{Ending}
+use Rattle.text_commands.specs.declared.ending.Ending.TheVariants.{Usage, DiskFault}
+use Rattle.text_commands.proofs.KeptTexts.{text-keeps, unread-known}
 use Rattle.swanroll_top.proofs.Agents.{serves-as}
 use Rattle.swanroll_top.proofs.DrainEnds.{drains-behind}
 use Rattle.swanroll_top.proofs.HeldAsking.{asks-writes}
 use Rattle.swanroll_top.proofs.Leaving.{told-leaves, told-status}
-use Rattle.swanroll_top.proofs.Programs.{command-run, ended, follows-ends, follows-of, follows-unwritten, known-told, not-usage, report-unwritten, reports-of, rollout-unwritten, rollouts-of, text-unwritten, told-brings, usage-run}
+use Rattle.text_commands.proofs.Programs.{command-run, ended, follows-ends, follows-unwritten, known-told, not-usage, text-unwritten, told-brings, usage-run}
+use Rattle.swanroll_top.proofs.Programs.{report-unwritten, reports-of, rollout-unwritten, rollouts-of}
 use Rattle.swanroll_top.proofs.NextStarting.{rolls-next}
 use Rattle.swanroll_top.proofs.NextReverting.{reverts-next}
 use Rattle.swanroll_top.proofs.Reaching.{rolls-ends, rolls-safe, rolls-target}
@@ -43,7 +44,7 @@ use Rattle.swanroll_top.proofs.Levelling.{reverts-back, reverts-ends, reverts-sa
 use Rattle.swanroll_top.proofs.Reverting.{reverts-behind}
 use Rattle.swanroll_top.proofs.Rolling.{rolls-behind}
 use Rattle.swanroll_top.proofs.Settling.{drains-ends, drains-next, drains-safe, drains-still}
-use Rattle.swanroll_top.proofs.Statuses.{is-disk-fault, is-done}
+use Rattle.text_commands.proofs.Statuses.{is-disk-fault, is-done}
 
 -- what is told alike is the same
 
@@ -64,21 +65,6 @@ pub same-guests : {G : Type 0} (before now : Guests G) → now.coming ≡ before
 same-guests before now c s = ap (λ x. guests_with x now.served) c ∙ ap (λ x. guests_with before.coming x) s
 
 -- ---- by what is told of an ending
-
--- `plan`, `check` and `sim`
-text-keeps : (what : TextAsked) (before after : Streams) (e : Ending) (status : ℕ) → Runs what before.source after.source e before.sink.written after.sink.written → IsTold e status before.notes.written after.notes.written before.notes.faults after.notes.faults
-    → TextPromise what before after status
-text-keeps what before after e status runs told =
-    let told_runs = told-brings (λ x. Runs what before.source after.source x before.sink.written after.sink.written) before.sink.written after.sink.written e told.told told.is runs
-    (text-unwritten what before.source after.source before.sink.written after.sink.written e runs) (λ same. same) in
-    record {
-      does = λ read memory. record {
-        ending = told.told;
-        is_status = told.is_status;
-        follows = follows-of what before.source after.source before.sink.written after.sink.written told.told told_runs (λ h. read (told.is_status ∙ h)) (λ h. memory (told.is_status ∙ h));
-        line = told.line;
-      };
-    }
 
 -- `trial`
 trial-keeps : (policy : OpView → ℕ) (shape : Shape) (before after : Streams) (e : Ending) (status : ℕ) → RunsTrial policy shape before.source after.source e before.sink.written after.sink.written
@@ -301,7 +287,7 @@ module _ {S K D F P G : Type 0} (views : Views S K D F P G) where
       → (status ≡ 0 → after.notes ≡ before.notes) → Promise views asked before status after
   promised asked c before after e status is ran told quiet =
       subst (λ a. Promise views a before status after) (sym is) (record {
-        run = command-run (Some c) c (streams views before) (streams views after) e status refl (command-silent c (used before) (used after) e ran.brings)
+        run = command-run (uses_of (Some c)) (Some c) c (streams views before) (streams views after) e status refl (command-silent c (used before) (used after) e ran.brings)
             ran.read_fault ran.write_fault ran.disk_fault ran.guest_fault ran.unfinished ran.ran told;
         untouched = λ h. absurd (not-usage e status _ _ _ _ ran.ran told h);
         quiet = quiet;
@@ -320,7 +306,7 @@ module _ {S K D F P G : Type 0} (views : Views S K D F P G) where
       → (status ≡ 0 → notes_now ≡ notes) → Promise views asked (outside source sink notes disk fleet) status (outside source sink notes_now disk fleet)
   usage-promised asked source sink notes notes_now disk fleet status is told quiet =
       subst (λ a. Promise views a (outside source sink notes disk fleet) status (outside source sink notes_now disk fleet)) (sym is) (record {
-        run = usage-run None (streams views (outside source sink notes disk fleet)) (streams views (outside source sink notes_now disk fleet)) status refl refl refl told;
+        run = usage-run (uses_of None) None (streams views (outside source sink notes disk fleet)) (streams views (outside source sink notes_now disk fleet)) status refl refl refl told;
         untouched = λ h. refl;
         quiet = quiet;
         unnamed = record { unread = refl; disk = refl; fleet = refl; ports = refl };
@@ -329,11 +315,6 @@ module _ {S K D F P G : Type 0} (views : Views S K D F P G) where
       })
 
   -- ---- from the arguments on
-
-  -- the line of such an ending takes no memory
-  unread-known : (why : Unread) → tells_place (ending_of_unread why) ≡ false
-  unread-known unread.NotText = refl
-  unread-known unread.Memory = refl
 
   pub read-started : {A : Type 0} (policies : List (List ℕ × (OpView → ℕ))) (arguments : Result A Unread) (list : A → List (String Global)) (all : A) (words : List (String Global)) (before after : Outside S K D F) (status : ℕ)
       → arguments ≡ Ok all → words ≡ drop 1 (list all) → Promise views (asked_by policies words) before status after → StartPromise views policies arguments list before status after

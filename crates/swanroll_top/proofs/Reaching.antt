@@ -47,22 +47,22 @@ use Rattle.intent_journal.specs.Openings.{IsLeft, found_by}
 use Rattle.rollout_service.specs.Outcomes.{HasRolled, IfRolled, OnUnopened, answer_for}
 use Rattle.rollout_service.specs.declared.answer.RunAnswer.{RunAnswer}
 use Rattle.rollout_service.specs.declared.answer.RunAnswer.TheVariants as outcome
-use Rattle.swanroll_top.specs.Endings.{ending_of_journal, status_of}
-use Rattle.swanroll_top.specs.Lines.{IsToldAs}
-use Rattle.swanroll_top.specs.Reports.{rollout_in, rollout_to}
+use Rattle.text_commands.specs.Endings.{ending_of_journal, status_of}
+use Rattle.text_commands.specs.Lines.{IsToldAs}
+use Rattle.text_commands.specs.Answers.{rollout_in, rollout_to}
 use Rattle.swanroll_top.specs.Rollouts.{FleetSeen, IsUnbegun, Rolls, RollsAs, RollsOpened, RollsOut, RollsOutOf, ending_of_stop, finished_line, line_or_ending}
-use Rattle.swanroll_top.specs.Program.{IsUnfinished}
-use Rattle.swanroll_top.specs.Runs.{EndsWith, Follows}
+use Rattle.text_commands.specs.Program.{IsUnfinished}
+use Rattle.text_commands.specs.Runs.{EndsWith, Follows}
 use Rattle.swanroll_top.specs.Targets.{BeginsNothing, EndsAtTarget, EndsSafely, EndsWithin, IsOfBegun, ReachesTarget, RestsHeld, StaysSafe}
-use Rattle.swanroll_top.specs.Unfinished.{unfinished_status}
-use Rattle.swanroll_top.specs.declared.ending.Ending.{Ending}
-use Rattle.swanroll_top.specs.declared.ending.Ending.TheVariants.{Done, Usage, AboveLimit, Input, NotValid, NoPlan, Unshown, ReadFault, WriteFault, DiskFault, GuestFault, Refused, NotFinished, OutOfMemory}
-use Rattle.swanroll_top.specs.declared.unfinished.Unfinished.{Unfinished}
-use Rattle.swanroll_top.specs.declared.unfinished.Unfinished.TheVariants.{RoundsSpent, PortFault, Above, NotMine, NoAnswer, Held}
-use Rattle.swanroll_top.proofs.Answering.{is_answer, rollout-answers}
+use Rattle.text_commands.specs.Unfinished.{unfinished_status}
+use Rattle.text_commands.specs.declared.ending.Ending.{Ending}
+use Rattle.text_commands.specs.declared.ending.Ending.TheVariants.{Done, Usage, AboveLimit, Input, NotValid, NoPlan, Unshown, ReadFault, WriteFault, DiskFault, GuestFault, Refused, NotFinished, OutOfMemory}
+use Rattle.text_commands.specs.declared.unfinished.Unfinished.{Unfinished}
+use Rattle.text_commands.specs.declared.unfinished.Unfinished.TheVariants.{RoundsSpent, PortFault, Above, NotMine, NoAnswer, Held}
+use Rattle.text_commands.proofs.Answering.{is_answer, rollout-answers}
 use Rattle.swanroll_top.proofs.Elsewhere.{none-settled}
-use Rattle.swanroll_top.proofs.Programs.{follows-ends, told-same}
-use Rattle.swanroll_top.proofs.Statuses.{is-done, is-unfinished, not-status}
+use Rattle.text_commands.proofs.Programs.{follows-ends, told-same}
+use Rattle.text_commands.proofs.Statuses.{is-done, is-unfinished, not-status}
 
 -- ---- endings that come only behind a rollout that was begun
 

@@ -14,7 +14,8 @@ use Rattle.switch_laws.proofs.SmallRuns.{unused_starts}
 use Rattle.completion_laws.specs.Worked.{begun_one}
 use Rattle.completion_laws.proofs.Examples.{silent-waits, unused-ready}
 use Rattle.swanroll_top.specs.Ready.{CountsNoFault, IsReadyFor}
-use Rattle.swanroll_top.specs.Worked.{answered_once, by_item, failed_once, fleet_with, in_rounds, itself, never_used, none_begins, unanswered, waiting_at_first}
+use Rattle.text_commands.specs.Worked.{by_item}
+use Rattle.swanroll_top.specs.Worked.{answered_once, failed_once, fleet_with, in_rounds, itself, never_used, none_begins, unanswered, waiting_at_first}
 
 -- whatever the homes of items are
 never-used-starts : StartsAsFound two_flows 4 (homes_of two_flows.problem) (fresh []) (view itself (first_talk 0 never_used))

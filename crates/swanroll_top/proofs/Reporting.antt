@@ -14,21 +14,21 @@ use Rattle.problem_json.specs.declared.fault.InputFault.{InputFault}
 use Rattle.intent_journal.specs.declared.fault.JournalFault.{JournalFault}
 use Rattle.intent_journal.specs.declared.fault.JournalFault.TheVariants as journal
 use Rattle.rollout_report.specs.Journals.{Tells, journal_report}
-use Rattle.swanroll_top.specs.Answers.{◌>>=◌, checked, or_ending, unless_broken}
-use Rattle.swanroll_top.specs.Endings.{ending_of, ending_of_journal, status_of}
-use Rattle.swanroll_top.specs.Reading.{IsCut, IsShortInput}
-use Rattle.swanroll_top.specs.Reports.{EndsJournal, EndsReport, FollowsReport, FollowsReported, IsLate, ReadsDocument, RunsReport, or_journal, rollout_in, rollout_to}
-use Rattle.swanroll_top.specs.Runs.{EndsWith, Gives, IsInput, IsReadToEnd}
-use Rattle.swanroll_top.specs.Safety.{IsValid}
-use Rattle.swanroll_top.specs.Taken.{IsValidDocument}
-use Rattle.swanroll_top.specs.declared.ending.Ending.{Ending}
-use Rattle.swanroll_top.specs.declared.ending.Ending.TheVariants.{Done, Usage, AboveLimit, Input, NotValid, NoPlan, Unshown, ReadFault, WriteFault, DiskFault, GuestFault, Refused, NotFinished, OutOfMemory}
-use Rattle.swanroll_top.proofs.Answering.{is_answer, rollout-answers, rollout-gives}
-use Rattle.swanroll_top.proofs.Documents.{checked-by}
-use Rattle.swanroll_top.proofs.Inputs.{beyond-input}
-use Rattle.swanroll_top.proofs.Steps.{fault-ends}
-use Rattle.swanroll_top.specs.declared.unfinished.Unfinished.{Unfinished}
-use Rattle.swanroll_top.proofs.Statuses.{not-status}
+use Rattle.text_commands.specs.Answers.{◌>>=◌, checked, or_ending, unless_broken, rollout_in, rollout_to}
+use Rattle.text_commands.specs.Endings.{ending_of, ending_of_journal, status_of}
+use Rattle.text_commands.specs.Reading.{IsCut, IsShortInput}
+use Rattle.swanroll_top.specs.Reports.{EndsJournal, EndsReport, FollowsReport, FollowsReported, IsLate, ReadsDocument, RunsReport, or_journal}
+use Rattle.text_commands.specs.Runs.{EndsWith, Gives, IsInput, IsReadToEnd}
+use Rattle.text_commands.specs.Safety.{IsValid}
+use Rattle.text_commands.specs.Taken.{IsValidDocument}
+use Rattle.text_commands.specs.declared.ending.Ending.{Ending}
+use Rattle.text_commands.specs.declared.ending.Ending.TheVariants.{Done, Usage, AboveLimit, Input, NotValid, NoPlan, Unshown, ReadFault, WriteFault, DiskFault, GuestFault, Refused, NotFinished, OutOfMemory}
+use Rattle.text_commands.proofs.Answering.{is_answer, rollout-answers, rollout-gives}
+use Rattle.text_commands.proofs.Documents.{checked-by}
+use Rattle.text_commands.proofs.Inputs.{beyond-input}
+use Rattle.text_commands.proofs.Steps.{fault-ends}
+use Rattle.text_commands.specs.declared.unfinished.Unfinished.{Unfinished}
+use Rattle.text_commands.proofs.Statuses.{not-status}
 
 -- ---- whether an input is a document with a valid plan
 

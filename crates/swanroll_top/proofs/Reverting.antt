@@ -27,18 +27,19 @@ use Rattle.rollback_service.specs.Placings.{HasPlaced, IsNotPlaced, IsSeen, MayP
 use Rattle.rollback_service.specs.declared.answer.LevelAnswer.{LevelAnswer}
 use Rattle.rollback_service.specs.declared.answer.LevelAnswer.TheVariants as level
 use Rattle.rollback_service.specs.declared.origin.BackFrom.{BackFrom}
-use Rattle.swanroll_top.specs.Endings.{ending_of_journal, status_of}
-use Rattle.swanroll_top.specs.Reading.{IsShortInput}
-use Rattle.swanroll_top.specs.Reports.{ReadsDocument, rollout_in}
+use Rattle.text_commands.specs.Endings.{ending_of_journal, status_of}
+use Rattle.text_commands.specs.Reading.{IsShortInput}
+use Rattle.text_commands.specs.Answers.{rollout_in}
+use Rattle.swanroll_top.specs.Reports.{ReadsDocument}
 use Rattle.swanroll_top.specs.Rollbacks.{Closes, FindsNoJournal, Levels, Reverts, RevertsIn, TakesBack, back_text}
 use Rattle.swanroll_top.specs.Rollouts.{FleetSeen, IsUnbegun, RefusesAs, ending_of_stop}
-use Rattle.swanroll_top.specs.Runs.{Follows, IsInput}
+use Rattle.text_commands.specs.Runs.{Follows, IsInput}
 use Rattle.swanroll_top.specs.Targets.{BeginsNothing}
-use Rattle.swanroll_top.specs.declared.ending.Ending.{Ending}
-use Rattle.swanroll_top.specs.declared.ending.Ending.TheVariants.{WriteFault, DiskFault, NotFinished, OutOfMemory}
-use Rattle.swanroll_top.specs.declared.unfinished.Unfinished.TheVariants.{PortFault}
+use Rattle.text_commands.specs.declared.ending.Ending.{Ending}
+use Rattle.text_commands.specs.declared.ending.Ending.TheVariants.{WriteFault, DiskFault, NotFinished, OutOfMemory}
+use Rattle.text_commands.specs.declared.unfinished.Unfinished.TheVariants.{PortFault}
 use Rattle.swanroll_top.proofs.Outcomes.{journal-disk, rose-later, stop-disk, text-not-disk}
-use Rattle.swanroll_top.proofs.Programs.{follows-ends}
+use Rattle.text_commands.proofs.Programs.{follows-ends}
 use Rattle.swanroll_top.proofs.Reporting.{reads-document, short-rollout}
 use Rattle.swanroll_top.proofs.Rolling.{never-disk, unbegun}
 

@@ -9,18 +9,19 @@ use Rattle.disk_model.specs.Traces.{DiskTrace}
 use Rattle.wan_edge.specs.Ports.{PortTrace}
 use Rattle.wan_edge.specs.ReadAll.{GoesBeyond}
 use Rattle.rollout_run.specs.declared.running.Limits.{Limits}
-use Rattle.swanroll_top.specs.Endings.{status_of}
-use Rattle.swanroll_top.specs.Reading.{IsCut, IsShortInput}
-use Rattle.swanroll_top.specs.Reports.{ReadsDocument, rollout_in, rollout_to}
+use Rattle.text_commands.specs.Endings.{status_of}
+use Rattle.text_commands.specs.Reading.{IsCut, IsShortInput}
+use Rattle.text_commands.specs.Answers.{rollout_in, rollout_to}
+use Rattle.swanroll_top.specs.Reports.{ReadsDocument}
 use Rattle.swanroll_top.specs.Rollouts.{EndsRollout, FleetSeen, FollowsRollout, FollowsRolled, IsRefused, IsUnbegun, LeavesAll, RefusesAs, Rolls, RollsIn, RollsOut, RunsRollout, may_end}
-use Rattle.swanroll_top.specs.Runs.{EndsWith, Gives, IsInput}
-use Rattle.swanroll_top.specs.Taken.{IsValidDocument}
-use Rattle.swanroll_top.specs.declared.ending.Ending.{Ending}
-use Rattle.swanroll_top.specs.declared.ending.Ending.TheVariants.{Done, Usage, AboveLimit, Input, NotValid, NoPlan, Unshown, ReadFault, WriteFault, DiskFault, GuestFault, Refused, NotFinished, OutOfMemory}
-use Rattle.swanroll_top.proofs.Answering.{is_answer, rollout-answers}
-use Rattle.swanroll_top.proofs.Inputs.{beyond-input}
+use Rattle.text_commands.specs.Runs.{EndsWith, Gives, IsInput}
+use Rattle.text_commands.specs.Taken.{IsValidDocument}
+use Rattle.text_commands.specs.declared.ending.Ending.{Ending}
+use Rattle.text_commands.specs.declared.ending.Ending.TheVariants.{Done, Usage, AboveLimit, Input, NotValid, NoPlan, Unshown, ReadFault, WriteFault, DiskFault, GuestFault, Refused, NotFinished, OutOfMemory}
+use Rattle.text_commands.proofs.Answering.{is_answer, rollout-answers}
+use Rattle.text_commands.proofs.Inputs.{beyond-input}
 use Rattle.swanroll_top.proofs.Reporting.{IsJudgedAs, beyond-reports, long-rollout, reads-document, rollout-judged, short-rollout}
-use Rattle.swanroll_top.proofs.Statuses.{not-status}
+use Rattle.text_commands.proofs.Statuses.{not-status}
 
 -- ---- an input that is refused
 

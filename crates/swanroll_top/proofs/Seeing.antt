@@ -9,10 +9,10 @@ use Rattle.file_sight.specs.declared.unseen.Unseen.TheVariants as unseen
 use Rattle.watch_laws.proofs.Watched.{there_once}
 use Rattle.swanroll_top.specs.JournalRoom.{journal_room}
 use Rattle.swanroll_top.specs.Live.{ReportsSeen, WasThere, ending_of_unseen, in_memory}
-use Rattle.swanroll_top.specs.Reading.{IsCut}
+use Rattle.text_commands.specs.Reading.{IsCut}
 use Rattle.swanroll_top.specs.Reports.{FollowsReported}
-use Rattle.swanroll_top.specs.declared.ending.Ending.{Ending}
-use Rattle.swanroll_top.specs.declared.ending.Ending.TheVariants.{Done, Usage, AboveLimit, Input, NotValid, NoPlan, Unshown, ReadFault, WriteFault, DiskFault, GuestFault, Refused, NotFinished, OutOfMemory}
+use Rattle.text_commands.specs.declared.ending.Ending.{Ending}
+use Rattle.text_commands.specs.declared.ending.Ending.TheVariants.{Done, Usage, AboveLimit, Input, NotValid, NoPlan, Unshown, ReadFault, WriteFault, DiskFault, GuestFault, Refused, NotFinished, OutOfMemory}
 use Rattle.swanroll_top.specs.declared.live.LiveEnding.{LiveEnding}
 use Rattle.swanroll_top.specs.declared.live.LiveEnding.TheVariants.{Ended, InUse}
 

@@ -54,21 +54,21 @@ use Rattle.rollback_service.specs.Drainings.{HoldsAll}
 use Rattle.levelling_laws.proofs.Drained.{list-begins_nothing}
 use Rattle.swanroll_top.specs.Drains.{Drains, DrainsAs, DrainsOpened, DrainsOut, DrainsOutOf, drained_line, drained_or_ending, line_with_left}
 use Rattle.swanroll_top.specs.DrainTargets.{DrainsSafely, EndsDrainSafely, IsBegunIn, IsDrained, SendsAgain, settled_in_all}
-use Rattle.swanroll_top.specs.Endings.{ending_of_journal}
+use Rattle.text_commands.specs.Endings.{ending_of_journal}
 use Rattle.swanroll_top.specs.NextStarts.{NextStart}
-use Rattle.swanroll_top.specs.Reports.{rollout_to}
+use Rattle.text_commands.specs.Answers.{rollout_to}
 use Rattle.swanroll_top.specs.Rollouts.{FleetSeen, RollsOut}
-use Rattle.swanroll_top.specs.Runs.{EndsWith, Follows}
+use Rattle.text_commands.specs.Runs.{EndsWith, Follows}
 use Rattle.swanroll_top.specs.Targets.{IsOfBegun, StaysSafe}
-use Rattle.swanroll_top.specs.declared.ending.Ending.{Ending}
-use Rattle.swanroll_top.specs.declared.ending.Ending.TheVariants.{Done, DiskFault, NotFinished, OutOfMemory}
-use Rattle.swanroll_top.specs.declared.unfinished.Unfinished.TheVariants.{PortFault}
+use Rattle.text_commands.specs.declared.ending.Ending.{Ending}
+use Rattle.text_commands.specs.declared.ending.Ending.TheVariants.{Done, DiskFault, NotFinished, OutOfMemory}
+use Rattle.text_commands.specs.declared.unfinished.Unfinished.TheVariants.{PortFault}
 use Rattle.swanroll_top.proofs.Elsewhere.{none-settled}
 use Rattle.swanroll_top.proofs.Levelling.{levels-holds, stop-not-done}
 use Rattle.swanroll_top.proofs.NextStarting.{rolls-next}
 use Rattle.swanroll_top.proofs.Reaching.{RunsFrom, begun-ends, begun-told, berths-within, has-run, is-told, is_of_begun, is_ran, journal-begun, not-begun, of-begun, unbegun-nothing, unbegun-refused}
 use Rattle.swanroll_top.proofs.SettledPorts.{berths-settled}
-use Rattle.swanroll_top.proofs.Statuses.{is-done}
+use Rattle.text_commands.proofs.Statuses.{is-done}
 
 -- ---- what is settled
 

@@ -12,14 +12,14 @@ use Rattle.case_gen.specs.Draws.{seeded}
 use Rattle.case_gen.proofs.Planned.{has_plan}
 use Rattle.sim_run.specs.TrialText.{trial_text}
 use Rattle.sim_run.specs.declared.shape.Shape.{Shape}
-use Rattle.swanroll_top.specs.Answers.{chosen_by}
-use Rattle.swanroll_top.specs.Endings.{ending_without}
-use Rattle.swanroll_top.specs.Runs.{Follows, Gives}
+use Rattle.text_commands.specs.Answers.{chosen_by}
+use Rattle.text_commands.specs.Endings.{ending_without}
+use Rattle.text_commands.specs.Runs.{Follows, Gives}
 use Rattle.swanroll_top.specs.Tries.{IsShape, case_of, events_of, tried, with_plan}
-use Rattle.swanroll_top.specs.declared.ending.Ending.{Ending}
-use Rattle.swanroll_top.specs.declared.ending.Ending.TheVariants.{Done, Usage, AboveLimit, Input, NotValid, NoPlan, Unshown, ReadFault, WriteFault, DiskFault, GuestFault, Refused, NotFinished, OutOfMemory}
-use Rattle.swanroll_top.specs.declared.words.Planner.TheVariants.{Slack}
-use Rattle.swanroll_top.proofs.Planned.{IsChoice, there-by}
+use Rattle.text_commands.specs.declared.ending.Ending.{Ending}
+use Rattle.text_commands.specs.declared.ending.Ending.TheVariants.{Done, Usage, AboveLimit, Input, NotValid, NoPlan, Unshown, ReadFault, WriteFault, DiskFault, GuestFault, Refused, NotFinished, OutOfMemory}
+use Rattle.text_commands.specs.declared.words.Planner.TheVariants.{Slack}
+use Rattle.text_commands.proofs.Planned.{IsChoice, there-by}
 
 not-ok : (r : Result (List ℕ) Ending) (e : Ending) → IsOk r → r ≡ Err e → ⊥
 not-ok (Ok text) e ok is = cc

@@ -1,10 +1,10 @@
 -- The promise of `agent`, which serves the guests of the fleet.
 use Rattle.std.specs.Prelude.{◌≡◌, ℕ}
 use Rattle.swanroll_top.specs.Agents.{RunsAgent, ServesAs}
-use Rattle.swanroll_top.specs.Endings.{status_of}
-use Rattle.swanroll_top.specs.Program.{NotesLine}
+use Rattle.text_commands.specs.Endings.{status_of}
+use Rattle.text_commands.specs.Program.{NotesLine}
 use Rattle.swanroll_top.specs.Views.{Objects, Outside, Views, guests_of, streams, used, written_at}
-use Rattle.swanroll_top.specs.declared.ending.Ending.{Ending}
+use Rattle.text_commands.specs.declared.ending.Ending.{Ending}
 
 -- what an agent has brought about that ended so
 abbrev pub BringsService : {S K D F P G : Type 0} → Views S K D F P G → ℕ → Objects S K D F → Ending → Objects S K D F → Type 0
@@ -19,8 +19,8 @@ pub record ServesAsOne {S K D F P G : Type 0} (views : Views S K D F P G) (guest
   pub line : NotesLine ending (streams views before) (streams views after)
 
 pub record AgentPromise {S K D F P G : Type 0} (views : Views S K D F P G) (guests : ℕ) (before : Outside S K D F) (status : ℕ) (after : Outside S K D F) : Type 0 where
-  -- One agent serves so many guests in turn, and gives each back; the line says what came of it. Behind each guest it keeps no more items than a
-  -- document within the limits has (`few` of `IsVisit`).
+  -- One agent serves so many guests turn by turn, up to 64 at once, and gives each back; the line says what came of it. Behind each read it keeps no more
+  -- items than a document within the limits has (`few` of `HearsOne`).
   pub serves : ServesAs views.guest guests (guests_of (views.fleet before.fleet)) (guests_of (views.fleet after.fleet)) status (written_at views (used before)) (written_at views (used after))
   -- the guests, what was written, the status and the line are those of one ending
   pub one : ServesAsOne views guests before status after

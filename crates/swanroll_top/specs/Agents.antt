@@ -4,10 +4,10 @@ use Rattle.agent_service.specs.Services.{Guests, Serves, Tells}
 use Rattle.agent_service.specs.declared.service.Service.{Service}
 use Rattle.agent_service.specs.declared.service.ServiceFault.{ServiceFault}
 use Rattle.agent_service.specs.declared.service.ServiceFault.TheVariants.{Fleet, Memory}
-use Rattle.swanroll_top.specs.Endings.{status_of, tells_place}
-use Rattle.swanroll_top.specs.Runs.{Follows}
-use Rattle.swanroll_top.specs.declared.ending.Ending.{Ending}
-use Rattle.swanroll_top.specs.declared.ending.Ending.TheVariants.{Done, GuestFault, OutOfMemory, WriteFault}
+use Rattle.text_commands.specs.Endings.{status_of, tells_place}
+use Rattle.text_commands.specs.Runs.{Follows}
+use Rattle.text_commands.specs.declared.ending.Ending.{Ending}
+use Rattle.text_commands.specs.declared.ending.Ending.TheVariants.{Done, GuestFault, OutOfMemory, WriteFault}
 
 -- how many guests came, how many commands were carried out, and how many guests were refused
 abbrev pub service_line : Service → List ℕ
@@ -23,7 +23,7 @@ service_answer (Err Memory) = Err OutOfMemory
 abbrev pub EndsOwn : Ending → Type 0
 EndsOwn ending = (ending ≡ Done) ⊎ ((ending ≡ WriteFault) ⊎ (ending ≡ OutOfMemory))
 
--- One agent, which held nothing at first, served this many guests in turn, and the run ends as what came of it says.
+-- One agent, which held nothing at first, served this many guests turn by turn, and the run ends as what came of it says.
 pub record RunsAgent {G : Type 0} (tells : Tells G) (guests : ℕ) (before now : Guests G) (ending : Ending) (out out_now : Option (List ℕ)) : Type 0 where
   pub came : Result Service ServiceFault
   pub serves : Serves tells before now guests came

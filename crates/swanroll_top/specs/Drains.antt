@@ -15,16 +15,16 @@ use Rattle.rollout_service.specs.Outcomes.{HasRolled, IfRolled, OnUnopened}
 use Rattle.rollout_service.specs.declared.answer.RunAnswer.{RunAnswer}
 use Rattle.rollout_service.specs.declared.answer.RunAnswer.TheVariants as outcome
 use Rattle.rollback_service.specs.Drainings.{HoldsAll}
-use Rattle.swanroll_top.specs.Endings.{ending_of_journal, status_of}
+use Rattle.text_commands.specs.Endings.{ending_of_journal, status_of}
 use Rattle.swanroll_top.specs.JournalRoom.{journal_room}
-use Rattle.swanroll_top.specs.Lines.{IsToldAs}
-use Rattle.swanroll_top.specs.Reports.{rollout_to}
+use Rattle.text_commands.specs.Lines.{IsToldAs}
+use Rattle.text_commands.specs.Answers.{rollout_to}
 use Rattle.swanroll_top.specs.Rollouts.{FailsToOpen, FleetSeen, IsRefused, IsUnbegun, LeavesAll, ending_of_stop}
-use Rattle.swanroll_top.specs.Runs.{Follows}
-use Rattle.swanroll_top.specs.Safety.{IsValid}
-use Rattle.swanroll_top.specs.declared.ending.Ending.{Ending}
-use Rattle.swanroll_top.specs.declared.ending.Ending.TheVariants.{NotFinished, OutOfMemory}
-use Rattle.swanroll_top.specs.declared.unfinished.Unfinished.TheVariants.{PortFault}
+use Rattle.text_commands.specs.Runs.{Follows}
+use Rattle.text_commands.specs.Safety.{IsValid}
+use Rattle.text_commands.specs.declared.ending.Ending.{Ending}
+use Rattle.text_commands.specs.declared.ending.Ending.TheVariants.{NotFinished, OutOfMemory}
+use Rattle.text_commands.specs.declared.unfinished.Unfinished.TheVariants.{PortFault}
 
 -- how many operations there are, and how many of them are settled
 abbrev pub drained_line : ℕ → ℕ → List ℕ

@@ -6,12 +6,12 @@ use Rattle.wan_edge.specs.Streams.{Appends, Rose}
 use Rattle.held_service.specs.HeldText.{AsksAll, TellsText}
 use Rattle.held_service.specs.declared.not_told.NotTold.{NotTold}
 use Rattle.held_service.specs.declared.not_told.NotTold.TheVariants as not_told
-use Rattle.swanroll_top.specs.Reports.{rollout_to}
+use Rattle.text_commands.specs.Answers.{rollout_to}
 use Rattle.swanroll_top.specs.Rollouts.{FleetSeen, IsRefused, IsUnbegun}
-use Rattle.swanroll_top.specs.Runs.{Follows}
-use Rattle.swanroll_top.specs.declared.ending.Ending.{Ending}
-use Rattle.swanroll_top.specs.declared.ending.Ending.TheVariants.{NotFinished, OutOfMemory}
-use Rattle.swanroll_top.specs.declared.unfinished.Unfinished.TheVariants.{RoundsSpent, PortFault, NotMine, NoAnswer}
+use Rattle.text_commands.specs.Runs.{Follows}
+use Rattle.text_commands.specs.declared.ending.Ending.{Ending}
+use Rattle.text_commands.specs.declared.ending.Ending.TheVariants.{NotFinished, OutOfMemory}
+use Rattle.text_commands.specs.declared.unfinished.Unfinished.TheVariants.{RoundsSpent, PortFault, NotMine, NoAnswer}
 
 -- how a run ends where a switch didn't tell all that it was asked: a question is named as operation 0 of its item
 abbrev pub ending_of_not_told : Rollout → ℕ → NotTold → Ending

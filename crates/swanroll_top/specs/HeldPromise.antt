@@ -1,13 +1,13 @@
 -- The promise of `held`, which asks the switches of the rollout of its input what they hold, over the ports of the fleet.
 use Rattle.std.specs.Prelude.{◌≡◌, ◌≢◌, ℕ}
-use Rattle.swanroll_top.specs.Endings.{status_of}
+use Rattle.text_commands.specs.Endings.{status_of}
 use Rattle.swanroll_top.specs.HeldAsked.{Asks, WritesHeld}
-use Rattle.swanroll_top.specs.Lines.{IsToldAs}
-use Rattle.swanroll_top.specs.Program.{NotesLine}
+use Rattle.text_commands.specs.Lines.{IsToldAs}
+use Rattle.text_commands.specs.Program.{NotesLine}
 use Rattle.swanroll_top.specs.Rollouts.{RunsRollout}
 use Rattle.swanroll_top.specs.RunPromise.{RollsAndNotes}
 use Rattle.swanroll_top.specs.Views.{Objects, Outside, Views, guests_of, input_of, seen, source_at, streams, used, written_at}
-use Rattle.swanroll_top.specs.declared.ending.Ending.{Ending}
+use Rattle.text_commands.specs.declared.ending.Ending.{Ending}
 
 -- what has been brought about where it ended so
 pub record BringsHeld {S K D F P G : Type 0} (views : Views S K D F P G) (rounds : ℕ) (before : Objects S K D F) (ending : Ending) (after : Objects S K D F) : Type 0 where

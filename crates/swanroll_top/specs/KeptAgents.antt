@@ -10,9 +10,9 @@ use Rattle.agent_service.specs.declared.service.Service.{Service}
 use Rattle.agent_state.specs.declared.fault.StateFault.{StateFault}
 use Rattle.agent_state.specs.declared.fault.StateFault.TheVariants.{Damaged, Disk, Memory, NotState}
 use Rattle.swanroll_top.specs.Agents.{service_line}
-use Rattle.swanroll_top.specs.Endings.{line_of, status_of}
+use Rattle.text_commands.specs.Endings.{line_of, status_of}
 use Rattle.swanroll_top.specs.Words.{Asked, an_agent}
-use Rattle.swanroll_top.specs.declared.ending.Ending.{Ending}
+use Rattle.text_commands.specs.declared.ending.Ending.{Ending}
 use Rattle.swanroll_top.specs.declared.kept_ending.KeptEnding.{KeptEnding}
 use Rattle.swanroll_top.specs.declared.kept_ending.KeptEnding.TheVariants.{Ended, State}
 
@@ -41,15 +41,16 @@ abbrev pub kept_line : KeptEnding → List ℕ
 kept_line (Ended ending) = line_of ending
 kept_line (State why) = state_line why
 
--- guests were served in turn from what the disk told, all that the agent holds is on the disk, and the line says what came of it
-abbrev pub IsServed : {D G : Type 0} → (D → DiskTrace) → Tells G → D → D → Guests G → Guests G → Option (List ℕ) → Option (List ℕ) → Type 0
-IsServed trace tells disk disk_now before now out out_now = (service : Service) × KeepsGuests trace tells disk disk_now before now service × Appends out (service_line service) out_now
+-- so many guests were served turn by turn from what the disk told, or fewer since no more come and nobody sits; all that the agent holds is on the disk, and
+-- the line says what came of it
+abbrev pub IsServed : {D G : Type 0} → (D → DiskTrace) → Tells G → D → D → Guests G → Guests G → ℕ → Option (List ℕ) → Option (List ℕ) → Type 0
+IsServed trace tells disk disk_now before now asked out out_now = (service : Service) × KeepsGuests trace tells disk disk_now before now asked service × Appends out (service_line service) out_now
 
 -- An agent with a file, by its status. It follows from the disk as it was opened: whenever a crash comes, it leaves what might have been left then, or what
--- is read alike, or what the agent rule makes of what was read; and where the line was written, guests were served in turn from what was read, and all that
+-- is read alike, or what the agent rule makes of what was read; and where the line was written, guests were served turn by turn from what was read, and all that
 -- the agent holds is on the disk.
-pub record KeepsAgent {D G : Type 0} (trace : D → DiskTrace) (tells : Tells G) (disk disk_now : D) (before now : Guests G) (status : ℕ) (out out_now : Option (List ℕ)) : Type 0 where
+pub record KeepsAgent {D G : Type 0} (trace : D → DiskTrace) (tells : Tells G) (disk disk_now : D) (before now : Guests G) (asked status : ℕ) (out out_now : Option (List ℕ)) : Type 0 where
   pub opened : D
   pub opens : Opens (trace disk) (trace opened)
   pub any_moment : IfSome (trace opened).bytes (λ image. LeavesOnly trace opened disk_now (MayBeLeft (trace opened).may_leave image))
-  pub served : status ≡ 0 → IsServed trace tells opened disk_now before now out out_now
+  pub served : status ≡ 0 → IsServed trace tells opened disk_now before now asked out out_now

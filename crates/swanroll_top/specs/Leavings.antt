@@ -10,9 +10,9 @@ use Rattle.intent_journal.specs.declared.digest.Digest.{Digest}
 use Rattle.intent_journal.specs.Recovered.{KeepsNow, MayStand, kept_for}
 use Rattle.intent_journal.specs.Verdicts.{verdict}
 use Rattle.rollout_report.specs.Journals.{digest_for}
-use Rattle.swanroll_top.specs.Reports.{rollout_to}
-use Rattle.swanroll_top.specs.Runs.{TellsInput}
-use Rattle.swanroll_top.specs.declared.ending.Ending.{Ending}
+use Rattle.text_commands.specs.Answers.{rollout_to}
+use Rattle.text_commands.specs.Runs.{TellsInput}
+use Rattle.text_commands.specs.declared.ending.Ending.{Ending}
 
 -- What a run of this status leaves on a disk that told this image, of a journal that knows its rollout by this digest.
 pub record LeavesJournal {D : Type 0} (trace : D → DiskTrace)

@@ -37,7 +37,7 @@ use Rattle.rollout_report.specs.Journals.{digest_for}
 use Rattle.rollout_run.specs.declared.running.Limits.{Limits}
 use Rattle.swanroll_top.specs.DrainTargets.{EndsSettled}
 use Rattle.swanroll_top.specs.Rollbacks.{back_text}
-use Rattle.swanroll_top.specs.Safety.{MayBeginBack}
+use Rattle.text_commands.specs.Safety.{MayBeginBack}
 use Rattle.swanroll_top.specs.Targets.{BeginsNothing, StaysSafe}
 
 -- ---- what the switches hold at a level

@@ -10,10 +10,11 @@ use Rattle.rollout_report.specs.Journals.{journal_report}
 use Rattle.watch_laws.specs.Kept.{AreOneJournal}
 use Rattle.watch_laws.specs.Watching.{AreMoments, AreReadFrom, HeldOnce, Moment}
 use Rattle.swanroll_top.specs.JournalRoom.{journal_room}
-use Rattle.swanroll_top.specs.Reports.{FollowsReported, RunsReport, rollout_to}
-use Rattle.swanroll_top.specs.Runs.{IsInput, IsTold}
-use Rattle.swanroll_top.specs.declared.ending.Ending.{Ending}
-use Rattle.swanroll_top.specs.declared.ending.Ending.TheVariants.{DiskFault, OutOfMemory, ReadFault, WriteFault}
+use Rattle.text_commands.specs.Answers.{rollout_to}
+use Rattle.swanroll_top.specs.Reports.{FollowsReported, RunsReport}
+use Rattle.text_commands.specs.Runs.{IsInput, IsTold}
+use Rattle.text_commands.specs.declared.ending.Ending.{Ending}
+use Rattle.text_commands.specs.declared.ending.Ending.TheVariants.{DiskFault, OutOfMemory, ReadFault, WriteFault}
 use Rattle.swanroll_top.specs.declared.live.LiveEnding.{LiveEnding}
 use Rattle.swanroll_top.specs.declared.live.LiveEnding.TheVariants.{Ended, InUse}
 

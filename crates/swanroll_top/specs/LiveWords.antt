@@ -1,6 +1,7 @@
 -- The words of `report --live`: the command, that word, and pairs.
 use Rattle.std.specs.Prelude.{ℕ, ◌&&◌, List, [], ◌∷◌, codes, bytes_eq, Option, None, option_and_then, option_map, if◌then◌else◌}
-use Rattle.swanroll_top.specs.Words.{are_pairs, migration_in, numbered}
+use Rattle.text_commands.specs.Words.{are_pairs, numbered}
+use Rattle.swanroll_top.specs.Words.{migration_in}
 use Rattle.swanroll_top.specs.declared.live_words.LiveAsked.{LiveAsked}
 
 abbrev pub live_names : List (List ℕ)

@@ -15,7 +15,7 @@ use Rattle.rollback_service.specs.Levellings.{TurnsFrom, start_of}
 use Rattle.rollback_service.specs.Placings.{kept_from}
 use Rattle.rollback_service.specs.declared.origin.BackFrom.{BackFrom}
 use Rattle.swanroll_top.specs.NextStarts.{MayBeFound}
-use Rattle.swanroll_top.specs.Reports.{rollout_to}
+use Rattle.text_commands.specs.Answers.{rollout_to}
 
 -- The image is one that the next opening of the way back takes, as the next migration: it is the journal of the way back from where the history is levelled that was
 -- found in the first image, and begins soundly, with the contents that items have there.

@@ -5,23 +5,24 @@ use Rattle.rollout_rules.specs.declared.op.OpView.{OpView}
 use Rattle.wan_edge.specs.Streams.{Rose}
 use Rattle.swanroll_top.specs.AgentPromise.{AgentPromise, BringsService}
 use Rattle.swanroll_top.specs.DrainPromise.{BringsDrain, DrainPromise}
+use Rattle.text_commands.specs.Endings.{ending_of_unread}
 use Rattle.swanroll_top.specs.HeldPromise.{BringsHeld, HeldPromise}
-use Rattle.swanroll_top.specs.Program.{IsEnded, IsRun}
+use Rattle.text_commands.specs.Program.{IsEnded, IsRun}
 use Rattle.swanroll_top.specs.ReportPromise.{BringsReport, ReportPromise}
 use Rattle.swanroll_top.specs.RollbackPromise.{BringsRollback, RollbackPromise}
 use Rattle.swanroll_top.specs.RunPromise.{BringsRollout, RunPromise}
-use Rattle.swanroll_top.specs.Runs.{Runs}
-use Rattle.swanroll_top.specs.TextPromise.{TextPromise}
+use Rattle.text_commands.specs.Runs.{Runs}
+use Rattle.text_commands.specs.TextPromise.{TextPromise}
 use Rattle.swanroll_top.specs.TrialPromise.{TrialPromise}
 use Rattle.swanroll_top.specs.Tries.{RunsTrial}
-use Rattle.swanroll_top.specs.Uses.{Uses, uses_of}
+use Rattle.text_commands.specs.Uses.{Uses}
+use Rattle.swanroll_top.specs.Uses.{uses_of}
 use Rattle.swanroll_top.specs.Views.{Objects, Outside, Views, source_at, streams, used, written_at}
 use Rattle.swanroll_top.specs.Words.{Asked, a_drain, a_report, a_rollback, a_run, a_text, a_trial, an_agent, asked_by, what_is_held}
-use Rattle.swanroll_top.specs.declared.arguments.Unread.{Unread}
-use Rattle.swanroll_top.specs.declared.arguments.Unread.TheVariants.{NotText, Memory}
-use Rattle.swanroll_top.specs.declared.ending.Ending.{Ending}
-use Rattle.swanroll_top.specs.declared.ending.Ending.TheVariants.{Usage, ReadFault, WriteFault, DiskFault, GuestFault, NotFinished, OutOfMemory}
-use Rattle.swanroll_top.specs.declared.unfinished.Unfinished.{Unfinished}
+use Rattle.text_commands.specs.declared.arguments.Unread.{Unread}
+use Rattle.text_commands.specs.declared.ending.Ending.{Ending}
+use Rattle.text_commands.specs.declared.ending.Ending.TheVariants.{Usage, ReadFault, WriteFault, DiskFault, GuestFault, NotFinished}
+use Rattle.text_commands.specs.declared.unfinished.Unfinished.{Unfinished}
 
 -- ---- what a command doesn't use
 
@@ -89,7 +90,7 @@ Keeps views (Some (what_is_held rounds)) before status after = HeldPromise views
 -- The promise of the call.
 pub record Promise {S K D F P G : Type 0} (views : Views S K D F P G) (asked : Option Asked) (before : Outside S K D F) (status : ℕ) (after : Outside S K D F) : Type 0 where
   -- which statuses there are, that no object is said to have failed that didn't, and that the notes have the line of the status
-  pub run : IsRun asked (streams views before) (streams views after) status
+  pub run : IsRun (uses_of asked) asked (streams views before) (streams views after) status
   -- words that are no command line leave the source as it was
   pub untouched : status ≡ 2 → after.source ≡ before.source
   -- where the text was written nothing is noted
@@ -102,11 +103,6 @@ pub record Promise {S K D F P G : Type 0} (views : Views S K D F P G) (asked : O
   pub command : Keeps views asked before status after
 
 -- ---- from the arguments on
-
--- arguments that aren't text are no command line, and without memory for them the program ends for want of it
-abbrev pub ending_of_unread : Unread → Ending
-ending_of_unread NotText = Usage
-ending_of_unread Memory = OutOfMemory
 
 -- The program ended before any word was read: all but the notes is as it was.
 pub record EndsUnread {S K D F P G : Type 0} (views : Views S K D F P G) (ending : Ending) (before : Outside S K D F) (status : ℕ) (after : Outside S K D F) : Type 0 where

@@ -17,9 +17,9 @@ use Rattle.rollout_report.specs.Journals.{digest_for}
 use Rattle.rollout_run.specs.declared.running.Limits.{Limits}
 use Rattle.intent_journal.specs.Openings.{found_by}
 use Rattle.completion_laws.specs.Answering.{IsReady}
-use Rattle.swanroll_top.specs.Reports.{rollout_to}
+use Rattle.text_commands.specs.Answers.{rollout_to}
 use Rattle.swanroll_top.specs.Rollouts.{FleetSeen}
-use Rattle.swanroll_top.specs.Runs.{TellsInput}
+use Rattle.text_commands.specs.Runs.{TellsInput}
 
 -- The source tells its input, which is a document with a valid plan; and the disk tells its image, which is blank or a journal of this rollout with a
 -- legal list. The rollout goes on from this history.

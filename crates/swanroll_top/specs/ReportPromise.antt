@@ -4,12 +4,12 @@ use Rattle.rollout_rules.specs.Wan.{Rollout}
 use Rattle.disk_model.specs.Traces.{DiskTrace}
 use Rattle.disk_mirror.specs.Openings.{Opens}
 use Rattle.wan_edge.specs.Streams.{SourceTrace}
-use Rattle.swanroll_top.specs.Endings.{status_of}
+use Rattle.text_commands.specs.Endings.{status_of}
 use Rattle.swanroll_top.specs.Leavings.{LeavesRead, LeavesReported}
-use Rattle.swanroll_top.specs.Program.{NotesLine, Streams}
+use Rattle.text_commands.specs.Program.{NotesLine, Streams}
 use Rattle.swanroll_top.specs.Reports.{FollowsReport, FollowsReported, ReadsDocument, RunsReport}
 use Rattle.swanroll_top.specs.Views.{Objects, Outside, Views, over, source_at, streams, used, written_at}
-use Rattle.swanroll_top.specs.declared.ending.Ending.{Ending}
+use Rattle.text_commands.specs.declared.ending.Ending.{Ending}
 
 -- what stays of the journal, whenever a crash comes, where a report ends with this status
 abbrev pub LeavesList : {S K D F P G : Type 0} → Views S K D F P G → ℕ → Objects S K D F → ℕ → Objects S K D F → Type 0

@@ -1,24 +1,15 @@
 -- What the command `report` reads and writes.
-use Rattle.std.specs.Prelude.{◌≡◌, ⊤, ◌↔◌, ℕ, List, length, nat_lt, Option, Some, Result, Ok, Err, IfSome, if◌then◌else◌}
+use Rattle.std.specs.Prelude.{◌≡◌, ⊤, ◌↔◌, ℕ, List, Option, Some, Result, Ok, Err, IfSome}
 use Rattle.rollout_rules.specs.Wan.{Rollout}
-use Rattle.rollout_rules.specs.declared.limits.TheConstants.{MOST_INPUT}
-use Rattle.problem_json.specs.GrammarDocuments.{document_in}
 use Rattle.wan_edge.specs.Streams.{SourceTrace}
 use Rattle.intent_journal.specs.declared.fault.JournalFault.{JournalFault}
 use Rattle.rollout_report.specs.Journals.{journal_report}
-use Rattle.swanroll_top.specs.Answers.{◌>>=◌, checked, or_ending}
-use Rattle.swanroll_top.specs.Endings.{ending_of_journal, status_of}
-use Rattle.swanroll_top.specs.Runs.{EndsWith, IsInput, IsReadToEnd}
-use Rattle.swanroll_top.specs.Taken.{IsValidDocument}
-use Rattle.swanroll_top.specs.declared.ending.Ending.{Ending}
-use Rattle.swanroll_top.specs.declared.ending.Ending.TheVariants.{AboveLimit, DiskFault, OutOfMemory, ReadFault, Refused}
-
--- the rollout of a document whose plan is valid, of an input within the limit and of any
-unfoldable pub rollout_in : List ℕ → Result Rollout Ending
-rollout_in input = or_ending (document_in input) >>= checked
-
-unfoldable pub rollout_to : List ℕ → Result Rollout Ending
-rollout_to input = if nat_lt MOST_INPUT (length input) then Err AboveLimit else rollout_in input
+use Rattle.text_commands.specs.Answers.{rollout_to}
+use Rattle.text_commands.specs.Endings.{ending_of_journal, status_of}
+use Rattle.text_commands.specs.Runs.{EndsWith, IsInput, IsReadToEnd}
+use Rattle.text_commands.specs.Taken.{IsValidDocument}
+use Rattle.text_commands.specs.declared.ending.Ending.{Ending}
+use Rattle.text_commands.specs.declared.ending.Ending.TheVariants.{DiskFault, OutOfMemory, ReadFault, Refused}
 
 abbrev pub or_journal : Result (List ℕ) JournalFault → Result (List ℕ) Ending
 or_journal (Ok text) = Ok text

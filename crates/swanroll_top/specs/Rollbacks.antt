@@ -17,16 +17,16 @@ use Rattle.rollback_service.specs.Placings.{HasPlaced, IsNotPlaced, IsSeen, MayP
 use Rattle.rollback_service.specs.declared.answer.LevelAnswer.{LevelAnswer}
 use Rattle.rollback_service.specs.declared.answer.LevelAnswer.TheVariants as level
 use Rattle.rollback_service.specs.declared.origin.BackFrom.{BackFrom}
-use Rattle.swanroll_top.specs.Endings.{ending_of_journal, status_of}
+use Rattle.text_commands.specs.Endings.{ending_of_journal, status_of}
 use Rattle.swanroll_top.specs.JournalRoom.{journal_room}
-use Rattle.swanroll_top.specs.Lines.{IsToldAs}
-use Rattle.swanroll_top.specs.Reports.{rollout_to}
+use Rattle.text_commands.specs.Lines.{IsToldAs}
+use Rattle.text_commands.specs.Answers.{rollout_to}
 use Rattle.swanroll_top.specs.Rollouts.{FailsToOpen, FleetSeen, IsRefused, IsUnbegun, LeavesAll, ending_of_stop}
-use Rattle.swanroll_top.specs.Runs.{Follows}
-use Rattle.swanroll_top.specs.Safety.{IsValid}
-use Rattle.swanroll_top.specs.declared.ending.Ending.{Ending}
-use Rattle.swanroll_top.specs.declared.ending.Ending.TheVariants.{NotFinished, OutOfMemory}
-use Rattle.swanroll_top.specs.declared.unfinished.Unfinished.TheVariants.{PortFault}
+use Rattle.text_commands.specs.Runs.{Follows}
+use Rattle.text_commands.specs.Safety.{IsValid}
+use Rattle.text_commands.specs.declared.ending.Ending.{Ending}
+use Rattle.text_commands.specs.declared.ending.Ending.TheVariants.{NotFinished, OutOfMemory}
+use Rattle.text_commands.specs.declared.unfinished.Unfinished.TheVariants.{PortFault}
 
 -- the document of the way back of a rollout, and a line feed
 abbrev pub back_text : Rollout → List ℕ

@@ -17,16 +17,16 @@ use Rattle.intent_journal.specs.Openings.{IsLeft}
 use Rattle.rollout_service.specs.Outcomes.{HasRolled, IfRolled, OnUnopened}
 use Rattle.rollout_service.specs.declared.answer.RunAnswer.{RunAnswer}
 use Rattle.rollout_service.specs.declared.answer.RunAnswer.TheVariants as outcome
-use Rattle.swanroll_top.specs.Endings.{ending_of_journal, status_of}
+use Rattle.text_commands.specs.Endings.{ending_of_journal, status_of}
 use Rattle.swanroll_top.specs.JournalRoom.{journal_room}
-use Rattle.swanroll_top.specs.Lines.{IsToldAs}
-use Rattle.swanroll_top.specs.Reports.{rollout_to}
-use Rattle.swanroll_top.specs.Runs.{Follows, IsInput}
-use Rattle.swanroll_top.specs.Safety.{IsValid}
-use Rattle.swanroll_top.specs.Taken.{IsValidDocument}
-use Rattle.swanroll_top.specs.declared.ending.Ending.{Ending}
-use Rattle.swanroll_top.specs.declared.ending.Ending.TheVariants.{DiskFault, Done, NotFinished, OutOfMemory, ReadFault, Refused, WriteFault}
-use Rattle.swanroll_top.specs.declared.unfinished.Unfinished.TheVariants.{RoundsSpent, PortFault, Above, NotMine, NoAnswer, Held}
+use Rattle.text_commands.specs.Lines.{IsToldAs}
+use Rattle.text_commands.specs.Answers.{rollout_to}
+use Rattle.text_commands.specs.Runs.{Follows, IsInput}
+use Rattle.text_commands.specs.Safety.{IsValid}
+use Rattle.text_commands.specs.Taken.{IsValidDocument}
+use Rattle.text_commands.specs.declared.ending.Ending.{Ending}
+use Rattle.text_commands.specs.declared.ending.Ending.TheVariants.{DiskFault, Done, NotFinished, OutOfMemory, ReadFault, Refused, WriteFault}
+use Rattle.text_commands.specs.declared.unfinished.Unfinished.TheVariants.{RoundsSpent, PortFault, Above, NotMine, NoAnswer, Held}
 
 -- how many operations there are, and how many entries the journal had at first
 abbrev pub finished_line : ℕ → ℕ → List ℕ

@@ -2,15 +2,15 @@
 use Rattle.std.specs.Prelude.{◌≡◌, ◌≢◌, ℕ}
 use Rattle.rollout_rules.specs.declared.op.OpView.{OpView}
 use Rattle.rollout_run.specs.declared.running.Limits.{Limits}
-use Rattle.swanroll_top.specs.Endings.{status_of}
-use Rattle.swanroll_top.specs.Lines.{IsToldAs}
+use Rattle.text_commands.specs.Endings.{status_of}
+use Rattle.text_commands.specs.Lines.{IsToldAs}
 use Rattle.swanroll_top.specs.NextStarts.{NextStart}
-use Rattle.swanroll_top.specs.Program.{NotesLine, Streams}
+use Rattle.text_commands.specs.Program.{NotesLine, Streams}
 use Rattle.swanroll_top.specs.Reports.{ReadsDocument}
 use Rattle.swanroll_top.specs.Rollouts.{FollowsRollout, Rolls, RollsAs, RunsRollout}
 use Rattle.swanroll_top.specs.Targets.{EndsSafely, IsOfBegun, ReachesTarget, StaysSafe}
 use Rattle.swanroll_top.specs.Views.{Objects, Outside, Views, guests_of, input_of, seen, source_at, streams, used, written_at}
-use Rattle.swanroll_top.specs.declared.ending.Ending.{Ending}
+use Rattle.text_commands.specs.declared.ending.Ending.{Ending}
 
 -- what a run has brought about that ended so
 pub record BringsRollout {S K D F P G : Type 0} (views : Views S K D F P G) (limits : Limits) (policy : OpView → ℕ) (before : Objects S K D F) (ending : Ending) (after : Objects S K D F) : Type 0 where

@@ -30,7 +30,7 @@ use Rattle.holding_laws.specs.Untold.{EachMayHold}
 use Rattle.rollout_report.specs.Journals.{digest_for}
 use Rattle.rollout_run.specs.declared.running.Limits.{Limits}
 use Rattle.intent_journal.specs.Openings.{found_by}
-use Rattle.swanroll_top.specs.Reports.{rollout_to}
+use Rattle.text_commands.specs.Answers.{rollout_to}
 use Rattle.swanroll_top.specs.Rollouts.{finished_line}
 
 -- The port of this berth was opened, and one is back at its switch. Where the switch held at entry what the list found allows, and all that its port

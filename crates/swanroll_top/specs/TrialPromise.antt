@@ -2,10 +2,10 @@
 use Rattle.std.specs.Prelude.{◌≡◌, ◌≢◌, ℕ}
 use Rattle.rollout_rules.specs.declared.op.OpView.{OpView}
 use Rattle.sim_run.specs.declared.shape.Shape.{Shape}
-use Rattle.swanroll_top.specs.Endings.{status_of}
-use Rattle.swanroll_top.specs.Program.{NotesLine, Streams}
+use Rattle.text_commands.specs.Endings.{status_of}
+use Rattle.text_commands.specs.Program.{NotesLine, Streams}
 use Rattle.swanroll_top.specs.Tries.{FollowsTrial}
-use Rattle.swanroll_top.specs.declared.ending.Ending.{Ending}
+use Rattle.text_commands.specs.declared.ending.Ending.{Ending}
 
 -- The whole of a trial: the status, what was written and the line of the notes follow from its numbers.
 pub record TriesAndNotes (policy : OpView → ℕ) (shape : Shape) (before after : Streams) (status : ℕ) : Type 0 where

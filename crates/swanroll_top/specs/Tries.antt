@@ -12,12 +12,12 @@ use Rattle.case_gen.specs.Draws.{seeded}
 use Rattle.rollout_run.specs.declared.running.Limits.{Limits}
 use Rattle.sim_run.specs.TrialText.{trial_text}
 use Rattle.sim_run.specs.declared.shape.Shape.{Shape}
-use Rattle.swanroll_top.specs.Answers.{chosen_by}
-use Rattle.swanroll_top.specs.Endings.{ending_without}
-use Rattle.swanroll_top.specs.Runs.{EndsWith, Follows}
+use Rattle.text_commands.specs.Answers.{chosen_by}
+use Rattle.text_commands.specs.Endings.{ending_without}
+use Rattle.text_commands.specs.Runs.{EndsWith, Follows}
 use Rattle.swanroll_top.specs.Words.{Asked, a_rollback, a_trial}
-use Rattle.swanroll_top.specs.declared.ending.Ending.{Ending}
-use Rattle.swanroll_top.specs.declared.words.Planner.TheVariants.{Slack}
+use Rattle.text_commands.specs.declared.ending.Ending.{Ending}
+use Rattle.text_commands.specs.declared.words.Planner.TheVariants.{Slack}
 
 -- the numbers of which a case can be made
 pub record IsShape (s : Shape) : Type 0 where

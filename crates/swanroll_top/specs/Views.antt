@@ -5,9 +5,9 @@ use Rattle.wan_edge.specs.Ports.{PortTrace}
 use Rattle.wan_edge.specs.Streams.{SinkTrace, SourceTrace}
 use Rattle.agent_service.specs.Services.{Guests, Tells}
 use Rattle.rollout_ports.specs.Berths.{FleetPorts}
-use Rattle.swanroll_top.specs.Program.{Streams}
+use Rattle.text_commands.specs.Program.{Streams}
 use Rattle.swanroll_top.specs.Rollouts.{FleetSeen}
-use Rattle.swanroll_top.specs.Runs.{IsInput}
+use Rattle.text_commands.specs.Runs.{IsInput}
 
 -- the guests of a fleet: those to come, where they are told, those given back, and how many are out
 pub record GuestsTrace (G : Type 0) : Type 0 where

@@ -4,12 +4,12 @@ use Rattle.rollout_rules.specs.Wan.{Rollout}
 use Rattle.wan_edge.specs.Streams.{Appends, AppendsPart, Rose, SinkTrace, SourceTrace}
 use Rattle.intent_journal.specs.declared.fault.JournalFault.{JournalFault}
 use Rattle.rollout_report.specs.Journals.{journal_report}
-use Rattle.swanroll_top.specs.Endings.{ending_of_journal}
+use Rattle.text_commands.specs.Endings.{ending_of_journal}
 use Rattle.swanroll_top.specs.Live.{FailsToSee, LiveTold, Sees, in_memory}
-use Rattle.swanroll_top.specs.Reading.{IsShortInput, IsCut}
-use Rattle.swanroll_top.specs.Reports.{rollout_in}
-use Rattle.swanroll_top.specs.declared.ending.Ending.{Ending}
-use Rattle.swanroll_top.specs.declared.ending.Ending.TheVariants.{Done, DiskFault, OutOfMemory, ReadFault, Refused, WriteFault}
+use Rattle.text_commands.specs.Reading.{IsShortInput, IsCut}
+use Rattle.text_commands.specs.Answers.{rollout_in}
+use Rattle.text_commands.specs.declared.ending.Ending.{Ending}
+use Rattle.text_commands.specs.declared.ending.Ending.TheVariants.{Done, DiskFault, OutOfMemory, ReadFault, Refused, WriteFault}
 use Rattle.swanroll_top.specs.declared.live.LiveEnding.{LiveEnding}
 use Rattle.swanroll_top.specs.declared.live.LiveEnding.TheVariants.{Ended, InUse}
 use Rattle.swanroll_top.specs.declared.turning.Turn.{Turn}

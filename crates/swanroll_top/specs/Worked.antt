@@ -1,5 +1,5 @@
 -- The policies of the worked command lines, and fleets with one port.
-use Rattle.std.specs.Prelude.{ℕ, ◌-◌, ◌==◌, false, List, [], ◌∷◌, codes, Option, Some, None, if◌then◌else◌}
+use Rattle.std.specs.Prelude.{ℕ, ◌-◌, ◌==◌, false, Option, Some, None, if◌then◌else◌}
 use Rattle.rollout_rules.specs.Release.{held_back}
 use Rattle.rollout_rules.specs.declared.op.OpView.{OpView}
 use Rattle.wan_edge.specs.Ports.{PortTrace}
@@ -7,17 +7,6 @@ use Rattle.switch_laws.specs.Worked.{answering, silent, unused}
 use Rattle.rollout_run.specs.declared.running.Limits.{Limits}
 use Rattle.completion_laws.specs.Worked.{promptly}
 use Rattle.swanroll_top.specs.Rollouts.{FleetSeen}
-
--- the longest chain first
-abbrev pub chain_first : OpView → ℕ
-chain_first view = 4294967295 - view.chain
-
--- all at one rank, so by item
-abbrev pub by_item : OpView → ℕ
-by_item view = 0
-
-abbrev pub two_policies : List (List ℕ × (OpView → ℕ))
-two_policies = (codes "critical", chain_first) ∷ (codes "order", by_item) ∷ []
 
 -- each operation held back
 abbrev pub none_begins : OpView → ℕ

@@ -3,17 +3,16 @@
 ghost use Rattle.std.specs.Prelude.{◌≡◌, ◌≢◌, Ok, IfOk};
 ghost use Rattle.wan_edge.specs.Streams.{Rose};
 ghost use Rattle.swanroll_top.specs.Agents.{EndsOwn, RunsAgent, service_line};
-ghost use Rattle.swanroll_top.specs.Runs.{Follows};
+ghost use Rattle.text_commands.specs.Runs.{Follows};
 
-use crate::ending::Ending;
-use crate::writing::write_text;
 use agent_service::{Service, ServiceFault, serve_guests};
 use lists::{Memory, Text};
 use std::alloc::Global;
+use text_commands::{Ending, write_text};
 use wan_edge::{Fleet, Sink};
 
-/// One agent serves this many guests of the fleet, or fewer where no more come, and a line says how many
-/// came, how many commands were carried out, and how many guests were refused.
+/// One agent serves this many guests of the fleet, up to 64 at once, or fewer where no more come, and a line
+/// says how many were served or refused, how many commands were carried out, and how many were refused.
 pub fn agent<K: Sink, F: Fleet>(alloc: Global, guests: u32, fleet: &mut F, sink: &mut K) -> Ending
     ensures runs { RunsAgent (record { source = F.Guest.Source.told; sink = F.Guest.Sink.told })
         guests

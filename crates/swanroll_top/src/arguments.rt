@@ -1,41 +1,16 @@
-ghost use Rattle.std.specs.Prelude.{◌≡◌, drop};
 ghost use Rattle.order_policy.specs.Named.{answers_in};
 ghost use Rattle.rollout_ports.specs.Berths.{ports_of};
 ghost use Rattle.swanroll_top.specs.Promise.{StartPromise};
 ghost use Rattle.swanroll_top.specs.Views.{outside};
 
-use crate::ending::Ending;
-use crate::notes::note;
 use crate::top::{Ended, swanroll};
 use disk_mirror::Openable;
 use order_policy::{Policies, Policy};
 use std::alloc::Global;
 use std::sync::Wait;
 use std::thread::Threads;
+use text_commands::{Ending, Unread, note, words_of};
 use wan_edge::{Fleet, Sink, Source};
-
-/// Why the arguments of a program couldn't be read.
-#[derive(Clone, Copy, Debug, PartialEq, Eq)]
-pub enum Unread {
-    /// One of them isn't UTF-8.
-    NotText,
-    /// No memory was found.
-    Memory,
-}
-
-impl From<Unread> for Ending {
-    ghost use Rattle.std.specs.Prelude.{◌≡◌};
-    ghost use Rattle.swanroll_top.specs.Promise.{ending_of_unread};
-
-    ghost from_gives = { λ why ending. ending ≡ ending_of_unread why };
-
-    fn from(why: Unread) -> Ending {
-        match why {
-            Unread::NotText => Ending::Usage,
-            Unread::Memory => Ending::OutOfMemory,
-        }
-    }
-}
 
 /// Does what the program's arguments ask for, of which the first is its own name, and answers its exit
 /// status and the disk. Arguments that aren't text are no command line.
@@ -80,15 +55,5 @@ where
             status: note(alloc, notes, Ending::from(why)),
             disk,
         },
-    }
-}
-
-/// The words behind the program's own name.
-pub(crate) fn words_of(arguments: &[String]) -> &[String]
-    ensures { result.now ≡ drop 1 arguments.now }
-{
-    match arguments {
-        [_, words @ ..] => words,
-        [] => &[],
     }
 }

@@ -3,18 +3,13 @@
 ghost use Rattle.std.specs.Prelude.{◌≡◌, ◌≢◌, ◌-◌, IfOk};
 ghost use Rattle.wan_edge.specs.Streams.{Rose};
 ghost use Rattle.swanroll_top.specs.Drains.{Drains, DrainsIn, DrainsOut, OpensAndDrains, drained_line, drained_or_ending, line_with_left};
-ghost use Rattle.swanroll_top.specs.Reports.{rollout_in};
+ghost use Rattle.text_commands.specs.Answers.{rollout_in};
 ghost use Rattle.swanroll_top.specs.Rollouts.{EndsRollout, FollowsRolled, IsDiskFault, RunsRollout, fleet_of};
-ghost use Rattle.swanroll_top.specs.Runs.{Follows, Gives, IsInput};
+ghost use Rattle.text_commands.specs.Runs.{Follows, Gives, IsInput};
 
-use crate::ending::Ending;
 use crate::journal_room::journal_room;
-use crate::reading::read_input;
 use crate::rollout::ending_of_stop;
 use crate::run::Closed;
-use crate::texts::rollout_of;
-use crate::unfinished::Unfinished;
-use crate::writing::write_text;
 use dependency_graph::checked_plan_is_valid;
 use disk_mirror::Openable;
 use disk_model::Disk;
@@ -25,6 +20,7 @@ use rollout_service::RunAnswer;
 use std::alloc::Global;
 use std::sync::Wait;
 use std::thread::Threads;
+use text_commands::{Ending, Unfinished, read_input, rollout_of, write_text};
 use wan_edge::{Fleet, Nums8, Sink, Source};
 use wan_model::CheckedPlan;
 

@@ -3,17 +3,13 @@
 ghost use Rattle.std.specs.Prelude.{◌≡◌, ◌≢◌};
 ghost use Rattle.wan_edge.specs.Streams.{Rose};
 ghost use Rattle.swanroll_top.specs.HeldAsked.{Asks, AsksIn, AsksRollout, ending_of_not_told};
-ghost use Rattle.swanroll_top.specs.Reports.{rollout_in};
+ghost use Rattle.text_commands.specs.Answers.{rollout_in};
 ghost use Rattle.swanroll_top.specs.Rollouts.{EndsRollout, FollowsRolled, RunsRollout, fleet_of};
-ghost use Rattle.swanroll_top.specs.Runs.{IsInput};
+ghost use Rattle.text_commands.specs.Runs.{IsInput};
 
-use crate::ending::Ending;
-use crate::reading::read_input;
-use crate::texts::rollout_of;
-use crate::unfinished::Unfinished;
-use crate::writing::write_text;
 use held_service::{NotTold, held_text};
 use std::alloc::Global;
+use text_commands::{Ending, Unfinished, read_input, rollout_of, write_text};
 use wan_edge::{Fleet, Nums8, Sink, Source};
 use wan_model::CheckedPlan;
 

@@ -5,24 +5,22 @@ ghost use Rattle.intent_journal.specs.declared.fault.JournalFault.TheVariants as
 ghost use Rattle.disk_mirror.specs.Openings.{IsTold};
 ghost use Rattle.wan_edge.specs.Streams.{Rose};
 ghost use Rattle.rollout_report.specs.Journals.{digest_for};
-ghost use Rattle.swanroll_top.specs.Endings.{status_of};
-ghost use Rattle.swanroll_top.specs.declared.unfinished.Unfinished.{Unfinished};
+ghost use Rattle.text_commands.specs.Endings.{status_of};
+ghost use Rattle.text_commands.specs.declared.unfinished.Unfinished.{Unfinished};
 ghost use Rattle.swanroll_top.specs.Leavings.{LeavesJournal};
 ghost use Rattle.swanroll_top.specs.ReportPromise.{ReportsIn, ReportsOn};
-ghost use Rattle.swanroll_top.specs.Reports.{EndsJournal, FollowsReported, rollout_in};
+ghost use Rattle.text_commands.specs.Answers.{rollout_in};
+ghost use Rattle.swanroll_top.specs.Reports.{EndsJournal, FollowsReported};
 
-use crate::ending::Ending;
 use crate::journal_room::journal_room;
-use crate::reading::read_input;
 use crate::run::Closed;
-use crate::texts::rollout_of;
-use crate::writing::write_text;
 use disk_mirror::Openable;
 use disk_model::Disk;
 use intent_journal::JournalFault;
 use lists::Text;
 use rollout_report::{Reported, report_journal};
 use std::alloc::Global;
+use text_commands::{Ending, read_input, rollout_of, write_text};
 use wan_edge::{Nums8, Sink, Source};
 use wan_model::CheckedPlan;
 

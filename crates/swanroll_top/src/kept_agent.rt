@@ -7,10 +7,7 @@ ghost use Rattle.swanroll_top.specs.KeptAgents.{IsServed, KeepsAgent, guests_in,
 ghost use Rattle.swanroll_top.specs.Words.{asked, asked_by};
 
 use crate::agent::write_service;
-use crate::arguments::{Unread, words_of};
-use crate::ending::Ending;
 use crate::kept_ending::KeptEnding;
-use crate::line::{Line, out_of_memory};
 use crate::top::Ended;
 use crate::words::{Command, command_of};
 use agent_service::{KeepFault, keep_guests};
@@ -18,6 +15,7 @@ use agent_state::StateFault;
 use disk_mirror::Openable;
 use order_policy::{Policies, Policy};
 use std::alloc::Global;
+use text_commands::{Ending, Line, Unread, out_of_memory, words_of};
 use wan_edge::{Fleet, Sink, write_all};
 
 // How many bytes the file of an agent may have when it is opened.
@@ -47,8 +45,8 @@ fn guests_of(command: Option<Command<'_>>) -> Option<u32>
     }
 }
 
-/// One agent, which holds what the file on this disk says, serves this many guests of the fleet, or fewer
-/// where no more come, and a line says what came of it, as without a file. What a read of commands changes
+/// One agent, which holds what the file on this disk says, serves this many guests of the fleet, several at
+/// once, or fewer where no more come, and a line says what came of it, as without a file. What a read of commands changes
 /// is on the disk as one batch before its answers go out. The statuses are those of an agent without a
 /// file, and two more: 8, the disk failed; 10, the file is none of an agent's, or is damaged.
 pub fn keep_agent<K: Sink, D: Openable, F: Fleet>(
@@ -64,7 +62,7 @@ pub fn keep_agent<K: Sink, D: Openable, F: Fleet>(
       sink = F.Guest.Sink.told;
     }) disk result.disk
         (record { coming = F.coming fleet.old; served = F.served fleet.old })
-        (record { coming = F.coming fleet.new; served = F.served fleet.new }) result.status
+        (record { coming = F.coming fleet.new; served = F.served fleet.new }) guests result.status
         (K.told sink.old).written (K.told sink.new).written }
     ensures visiting { F.visiting fleet.new ≡ F.visiting fleet.old }
     ensures ports { (F.waiting fleet.new ≡ F.waiting fleet.old)
@@ -97,7 +95,7 @@ fn keep_opened<K: Sink, D: Openable, F: Fleet>(
           sink = F.Guest.Sink.told;
         }) disk result.disk
         (record { coming = F.coming fleet.old; served = F.served fleet.old })
-        (record { coming = F.coming fleet.new; served = F.served fleet.new })
+        (record { coming = F.coming fleet.new; served = F.served fleet.new }) guests
         (K.told sink.old).written (K.told sink.new).written }
     ensures visiting { F.visiting fleet.new ≡ F.visiting fleet.old }
     ensures ports { (F.waiting fleet.new ≡ F.waiting fleet.old)
@@ -126,7 +124,7 @@ fn serve<K: Sink, D: Openable, F: Fleet>(
           sink = F.Guest.Sink.told;
         }) disk.old disk.new
         (record { coming = F.coming fleet.old; served = F.served fleet.old })
-        (record { coming = F.coming fleet.new; served = F.served fleet.new })
+        (record { coming = F.coming fleet.new; served = F.served fleet.new }) guests
         (K.told sink.old).written (K.told sink.new).written }
     ensures visiting { F.visiting fleet.new ≡ F.visiting fleet.old }
     ensures ports { (F.waiting fleet.new ≡ F.waiting fleet.old)

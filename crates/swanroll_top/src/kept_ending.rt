@@ -1,13 +1,12 @@
 //! How an agent with a file ends.
 ghost use Rattle.std.specs.Prelude.{◌≡◌, IfOk};
 ghost use Rattle.swanroll_top.specs.KeptAgents as kept;
-ghost use Rattle.swanroll_top.specs.Lines.{bytes_of};
+ghost use Rattle.text_commands.specs.Lines.{bytes_of};
 
-use crate::ending::Ending;
-use crate::line::{Line, out_of_memory};
 use agent_state::StateFault;
 use lists::{Memory, Text};
 use std::alloc::Global;
+use text_commands::{Ending, Line, out_of_memory};
 
 /// How an agent with a file ends: as one without, or for its file.
 #[derive(Debug, Drop)]

@@ -1,26 +1,16 @@
 //! What the contract of the call says together with the rules, as functions that only say it.
 
-ghost use Rattle.rollout_rules.specs.Network.{IsNetwork};
-ghost use Rattle.rollout_rules.specs.Wan.{Problem, Rollout, Plan};
-ghost use Rattle.std.specs.Prelude.{◌≡◌, ◌≢◌, ℕ, ◌+◌, ◌*◌, ◌≤◌, List, length, Option, Some, None, Ok, IfSome, IsTrue, IsSome, IsOk, Err};
+ghost use Rattle.rollout_rules.specs.Wan.{Rollout};
+ghost use Rattle.std.specs.Prelude.{◌≡◌, ◌≢◌, ℕ, ◌+◌, ◌*◌, ◌≤◌, List, length, Option, Some, Ok, IfSome, IsSome, IsOk};
 ghost use Rattle.std.specs.List.{AllByRecursion};
 ghost use Rattle.rollout_rules.specs.History.{History};
 ghost use Rattle.rollout_rules.specs.Items.{item_count};
-ghost use Rattle.rollout_rules.specs.Valid.{is_valid_plan};
 ghost use Rattle.rollout_rules.specs.Safe.{IsSafe};
-ghost use Rattle.rollout_rules.specs.Slack.{has_slack};
 ghost use Rattle.rollout_laws.specs.Good.{places_held};
 ghost use Rattle.wan_edge.specs.Switches.{Holdings};
 ghost use Rattle.rollout_ports.specs.Berths.{FleetPorts};
 ghost use Rattle.rollout_ports.specs.Homes.{working_homes};
-ghost use Rattle.rollout_rules.specs.declared.limits.TheConstants.{MOST_INPUT};
-ghost use Rattle.plan_check.specs.LeastSlack.{least_slack};
-ghost use Rattle.scratch_plan.specs.Frame.{has_equal_rates};
-ghost use Rattle.scratch_plan.specs.Refusals.{refusal};
-ghost use Rattle.plan_choose.specs.Choice.{direct_plan, step_plan, most_tried};
 ghost use Rattle.dependency_graph.specs.Graph.{op_total};
-ghost use Rattle.fewest_plan.specs.declared.cause.Cause.TheVariants.{Stuck};
-ghost use Rattle.problem_json.specs.Grammar.{problem_in};
 ghost use Rattle.rollout_rules.specs.declared.op.OpView.{OpView};
 ghost use Rattle.agent_service.specs.Services.{Guests};
 ghost use Rattle.intent_journal.specs.States.{Home};
@@ -28,29 +18,22 @@ ghost use Rattle.rollback_service.specs.declared.origin.BackFrom.{BackFrom};
 ghost use Rattle.wan_edge.specs.Streams.{SinkTrace, SourceTrace};
 ghost use Rattle.watch_laws.specs.Watching.{AreMoments, AreReadFrom, Moment};
 ghost use Rattle.rollout_run.specs.declared.running.Limits.{Limits};
+ghost use Rattle.swanroll_top.specs.SameTexts.{AreAskedTheSame};
 ghost use Rattle.swanroll_top.specs.Agents.{ServesAs};
-ghost use Rattle.swanroll_top.specs.Answers.{answer_to};
+ghost use Rattle.text_commands.specs.Answers.{rollout_to};
 ghost use Rattle.swanroll_top.specs.JournalRoom.{journal_room};
 ghost use Rattle.swanroll_top.specs.Live.{LivePromise, WroteOnce};
 ghost use Rattle.rollout_report.specs.Journals.{journal_report};
-ghost use Rattle.swanroll_top.specs.Reports.{rollout_to};
-ghost use Rattle.swanroll_top.specs.Program.{Streams};
+ghost use Rattle.text_commands.specs.Program.{Streams};
 ghost use Rattle.swanroll_top.specs.ReportPromise.{ReportsBy};
-ghost use Rattle.swanroll_top.specs.Runs.{IsInput, TellsInput};
-ghost use Rattle.swanroll_top.specs.TextPromise.{TextPromise};
+ghost use Rattle.text_commands.specs.Runs.{IsInput, TellsInput};
 ghost use Rattle.swanroll_top.specs.TrialPromise.{TrialPromise};
 ghost use Rattle.swanroll_top.specs.Drains.{DrainsAs};
 ghost use Rattle.swanroll_top.specs.Ready.{CountsNoFault, GoesOnFrom, IsReadyFor, IsServedFor};
 ghost use Rattle.swanroll_top.specs.Rollbacks.{RevertsAs};
 ghost use Rattle.swanroll_top.specs.Rollouts.{FleetSeen, RollsAs};
-ghost use Rattle.swanroll_top.specs.Taken.{IsShownDocument, IsValidDocument, IsValidScript};
 ghost use Rattle.swanroll_top.specs.Joined.{MayHoldNow, TellsHeld, chosen};
 ghost use Rattle.swanroll_top.specs.Targets.{RestsHeld, StaysSafe};
-ghost use Rattle.swanroll_top.specs.Words.{TextAsked, a_plan, a_check, the_loads, the_way_back, a_rehearsal, a_script, the_explanation};
-ghost use Rattle.swanroll_top.specs.declared.ending.Ending.TheVariants.{NoPlan};
-ghost use Rattle.swanroll_top.specs.declared.words.Planner.{Planner};
-ghost use Rattle.swanroll_top.specs.declared.words.Planner.TheVariants.{Slack};
-ghost use Rattle.sim_run.specs.declared.script_shape.ScriptShape.{ScriptShape};
 ghost use Rattle.sim_run.specs.declared.shape.Shape.{Shape};
 ghost use Rattle.swanroll_top.specs.Tries.{IsShape, tried};
 
@@ -58,90 +41,10 @@ use disk_model::Disk;
 use file_sight::Sight;
 use wan_edge::Fleet;
 
-/// Where the input is a problem whose loads and entries fit, each of these is enough for `plan` to have an
-/// answer, whoever plans: equal rates, a direct plan that is valid, a number of steps with a plan, slack 1/k
-/// for some k from 2 to 64.
-pub fn what_fits_is_planned()
-    ensures still { (planner : Planner) (input : List ℕ) (p : Problem)
-        → length input ≤ MOST_INPUT
-        → problem_in input ≡ Ok p
-        → refusal p ≡ None
-        → IsTrue (has_equal_rates p)
-        → IsOk (answer_to (a_plan planner) input) }
-    ensures direct { (planner : Planner) (input : List ℕ) (p : Problem)
-        → length input ≤ MOST_INPUT
-        → problem_in input ≡ Ok p
-        → refusal p ≡ None
-        → IsTrue (is_valid_plan p (direct_plan p))
-        → IsOk (answer_to (a_plan planner) input) }
-    ensures steps { (planner : Planner) (input : List ℕ) (p : Problem) (q : ℕ)
-        → length input ≤ MOST_INPUT
-        → problem_in input ≡ Ok p
-        → refusal p ≡ None
-        → 2 ≤ q
-        → q ≤ most_tried (least_slack p)
-        → IsSome (step_plan p q)
-        → IsOk (answer_to (a_plan planner) input) }
-    ensures slack { (planner : Planner) (input : List ℕ) (p : Problem) (k : ℕ)
-        → length input ≤ MOST_INPUT
-        → problem_in input ≡ Ok p
-        → refusal p ≡ None
-        → 2 ≤ k
-        → k ≤ 64
-        → IsTrue (has_slack p k)
-        → IsOk (answer_to (a_plan planner) input) }
-{}
-
-/// Where `plan` has an answer by `slack`, it has one by every planner; that its plan never has more rate
-/// steps is a part of the promise.
-pub fn each_planner_plans_what_slack_does()
-    ensures { (planner : Planner) (input : List ℕ)
-        → IsOk (answer_to (a_plan Slack) input)
-        → IsOk (answer_to (a_plan planner) input) }
-{}
-
-/// Where the answer of `plan` is that none exists, the problem has no valid plan, of any number of steps.
-pub fn where_none_exists_there_is_no_valid_plan()
-    ensures { (planner : Planner) (input : List ℕ) (p : Problem) (link : ℕ)
-        → length input ≤ MOST_INPUT
-        → problem_in input ≡ Ok p
-        → IsNetwork p
-        → answer_to (a_plan planner) input
-        ≡ Err (NoPlan (record { problem = p; cause = Stuck link }))
-        → (plan : Plan)
-        → IsTrue (is_valid_plan p plan)
-        → ⊥ }
-{}
-
-/// Every document with a valid plan has an answer of `loads`, `explain` and `back`, of `rehearse` whatever its
-/// numbers and the policy, and of `check` where what it says of fewer rate steps, if it does, is shown; and
-/// every script on one has an answer of `sim`, whatever the policy.
-pub fn what_is_valid_is_answered()
-    ensures check { (input : List ℕ) → IsShownDocument input → IsOk (answer_to a_check input) }
-    ensures loads { (input : List ℕ) → IsValidDocument input → IsOk (answer_to the_loads input) }
-    ensures back { (input : List ℕ) → IsValidDocument input → IsOk (answer_to the_way_back input) }
-    ensures explain { (input : List ℕ)
-        → IsValidDocument input
-        → IsOk (answer_to the_explanation input) }
-    ensures sim { (policy : OpView → ℕ) (input : List ℕ)
-        → IsValidScript input
-        → IsOk (answer_to (a_rehearsal policy) input) }
-    ensures rehearse { (shape : ScriptShape) (policy : OpView → ℕ) (input : List ℕ)
-        → IsValidDocument input
-        → IsOk (answer_to (a_script shape policy) input) }
-{}
-
-/// A run whose source tells its input, by what it had left or by what was taken of it, and whose command has
-/// an answer to it, ends with status 0 unless the source or the sink failed or memory ran out.
-pub fn an_answer_is_written()
-    ensures { (asked : TextAsked) (before after : Streams) (status : ℕ) (input : List ℕ)
-        → TextPromise asked before after status
-        → TellsInput before.source after.source input
-        → IsOk (answer_to asked input)
-        → status ≢ 6
-        → status ≢ 7
-        → status ≢ 12
-        → status ≡ 0 }
+/// Words that ask for a text of the input alone ask for the same of the program which makes such texts alone
+/// and of the whole one, so that what either promises of them is the same.
+pub fn both_programs_are_asked_for_the_same_texts()
+    ensures { AreAskedTheSame }
 {}
 
 /// A report ends with status 0 unless the source, the sink or the disk failed or memory ran out, where the

@@ -2,18 +2,16 @@
 ghost use Rattle.std.specs.Prelude.{◌≡◌, ◌≢◌, ◌<◌, ◌^◌, codes, Ok, Some};
 ghost use Rattle.wan_edge.specs.Streams.{Rose};
 ghost use Rattle.swanroll_top.specs.Live.{LivePromise, LiveTold, NotesText, ReportsLive, ReportsSeen, in_memory};
-ghost use Rattle.swanroll_top.specs.Reports.{FollowsReported, rollout_in};
+ghost use Rattle.text_commands.specs.Answers.{rollout_in};
+ghost use Rattle.swanroll_top.specs.Reports.{FollowsReported};
 
-use crate::ending::Ending;
 use crate::journal_report::report_opened;
 use crate::journal_room::journal_room;
-use crate::notes::note;
-use crate::reading::read_input;
 use crate::run::Closed;
-use crate::texts::rollout_of;
 use disk_model::MemoryDisk;
 use file_sight::{Sight, Unseen, look};
 use std::alloc::Global;
+use text_commands::{Ending, note, read_input, rollout_of};
 use wan_edge::{Nums8, Sink, Source, Turns, write_all};
 use wan_model::CheckedPlan;
 

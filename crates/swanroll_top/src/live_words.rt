@@ -2,10 +2,10 @@
 ghost use Rattle.std.specs.Prelude.{◌≡◌, bytes_eq, drop, map, string_bytes, IfOk};
 ghost use Rattle.std.specs.List.{list_any};
 ghost use Rattle.swanroll_top.specs.LiveWords.{live_at, live_behind, live_in, live_names, live_pairs, live_with};
-ghost use Rattle.swanroll_top.specs.Words.{are_pairs};
+ghost use Rattle.text_commands.specs.Words.{are_pairs};
 
-use crate::arguments::{Unread, words_of};
-use crate::words::{begins_with_dash, migration_of, numbered};
+use crate::words::migration_of;
+use text_commands::{Unread, begins_with_dash, numbered, words_of};
 
 /// How many seconds may lie between two looks.
 const MOST_SECONDS: u64 = 86_400;

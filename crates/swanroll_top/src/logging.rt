@@ -5,7 +5,7 @@ ghost use Rattle.rollout_ports.specs.Berths.{ports_of};
 ghost use Rattle.swanroll_top.specs.Promise.{StartPromise};
 ghost use Rattle.swanroll_top.specs.Views.{outside};
 
-use crate::arguments::{Unread, start};
+use crate::arguments::start;
 use crate::top::Ended;
 use disk_mirror::Shown;
 use order_policy::{Policies, Policy};
@@ -14,6 +14,7 @@ use std::alloc::Global;
 use std::sync::Wait;
 use std::thread::Threads;
 use std::time::Clock;
+use text_commands::Unread;
 use wan_edge::{Fleet, Sink, Source};
 
 /// The same as [`start`], over a disk with a log: what was written to the log is a front of the lines of a list

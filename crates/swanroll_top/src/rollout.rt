@@ -3,17 +3,12 @@
 ghost use Rattle.std.specs.Prelude.{◌≡◌, ◌≢◌, ◌++◌, IfOk};
 ghost use Rattle.order_policy.specs.Answers.{rank_by};
 ghost use Rattle.wan_edge.specs.Streams.{Rose};
-ghost use Rattle.swanroll_top.specs.Reports.{rollout_in};
+ghost use Rattle.text_commands.specs.Answers.{rollout_in};
 ghost use Rattle.swanroll_top.specs.Rollouts.{EndsRollout, FollowsRolled, IsDiskFault, OpensAndRolls, Rolls, RollsIn, RollsOut, RunsRollout, ending_of_stop, finished_line, fleet_of, line_or_ending};
-ghost use Rattle.swanroll_top.specs.Runs.{Follows, Gives, IsInput};
+ghost use Rattle.text_commands.specs.Runs.{Follows, Gives, IsInput};
 
-use crate::ending::Ending;
 use crate::journal_room::journal_room;
-use crate::reading::read_input;
 use crate::run::Closed;
-use crate::texts::rollout_of;
-use crate::unfinished::Unfinished;
-use crate::writing::write_text;
 use dependency_graph::checked_plan_is_valid;
 use disk_mirror::Openable;
 use disk_model::Disk;
@@ -25,6 +20,7 @@ use shared_history::Cause;
 use std::alloc::Global;
 use std::sync::Wait;
 use std::thread::Threads;
+use text_commands::{Ending, Unfinished, read_input, rollout_of, write_text};
 use wan_edge::{Fleet, Nums8, Sink, Source};
 use wan_model::CheckedPlan;
 

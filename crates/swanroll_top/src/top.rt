@@ -4,8 +4,6 @@ ghost use Rattle.swanroll_top.specs.Promise.{Promise};
 ghost use Rattle.swanroll_top.specs.Views.{outside};
 ghost use Rattle.swanroll_top.specs.Words.{asked_by};
 
-use crate::ending::Ending;
-use crate::notes::note;
 use crate::run::{Closed, run};
 use crate::words::command_of;
 use disk_mirror::Openable;
@@ -13,6 +11,7 @@ use order_policy::{Policies, Policy};
 use std::alloc::Global;
 use std::sync::Wait;
 use std::thread::Threads;
+use text_commands::{Ending, note};
 use wan_edge::{Fleet, Sink, Source};
 
 /// How the program ended: its exit status, and the disk.

@@ -3,18 +3,16 @@
 ghost use Rattle.std.specs.Prelude.{◌≡◌, ◌≢◌};
 ghost use Rattle.order_policy.specs.Answers.{rank_by};
 ghost use Rattle.wan_edge.specs.Streams.{Rose};
-ghost use Rattle.swanroll_top.specs.Runs.{Follows, Gives};
-ghost use Rattle.swanroll_top.specs.declared.unfinished.Unfinished.{Unfinished};
+ghost use Rattle.text_commands.specs.Runs.{Follows, Gives};
+ghost use Rattle.text_commands.specs.declared.unfinished.Unfinished.{Unfinished};
 ghost use Rattle.swanroll_top.specs.Tries.{IsShape, tried};
 
-use crate::ending::Ending;
-use crate::texts::by_slack;
-use crate::writing::write_text;
 use case_gen::{Draws, make_case};
 use lists::Text;
 use order_policy::Policy;
 use sim_run::{Shape, run_trial};
 use std::alloc::Global;
+use text_commands::{Ending, by_slack, write_text};
 use wan_edge::Sink;
 
 /// Makes the case of these numbers, chooses a plan for it, and writes the text of its trial under a policy.

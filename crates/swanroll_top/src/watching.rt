@@ -1,18 +1,14 @@
 //! `report --live --follow`, which looks at the journal's file again and again.
 ghost use Rattle.std.specs.Prelude.{◌≡◌, bytes_eq, IfOk, Ok};
 ghost use Rattle.rollout_report.specs.Journals.{journal_report};
-ghost use Rattle.swanroll_top.specs.Reports.{rollout_in};
-ghost use Rattle.swanroll_top.specs.Runs.{Gives};
+ghost use Rattle.text_commands.specs.Answers.{rollout_in};
+ghost use Rattle.text_commands.specs.Runs.{Gives};
 ghost use Rattle.swanroll_top.specs.Watches.{ImageText, TextOr, TurnOf, WatchPromise, WatchesInput, WatchesRollout, Writes, WritesAnew, ends_finished, last_bytes, or_live, turn_after, turn_behind, turn_of};
 
-use crate::ending::Ending;
 use crate::journal_room::journal_room;
 use crate::live::{LiveEnding, in_memory, limit_of, tell};
 use crate::live_words::LiveAsked;
-use crate::reading::read_input;
-use crate::texts::rollout_of;
 use crate::turning::Turn;
-use crate::writing::write_text;
 use disk_model::MemoryDisk;
 use file_sight::{Sight, look};
 use intent_journal::JournalFault;
@@ -22,6 +18,7 @@ use std::alloc::Global;
 use std::sync::Wait;
 use std::thread::sleep;
 use std::time::{Clock, Duration};
+use text_commands::{Ending, read_input, rollout_of, write_text};
 use wan_edge::{Nums8, Sink, Source, Turns};
 use wan_model::CheckedPlan;
 

@@ -1,15 +1,20 @@
-ghost use Rattle.std.specs.Prelude.{◌≡◌, ◌≤◌, map, string_bytes, bytes_eq, option_map, IfSome};
+ghost use Rattle.std.specs.Prelude.{◌≡◌, map, string_bytes, bytes_eq, option_map, IfSome};
 ghost use Rattle.std.specs.List.{list_any};
 ghost use Rattle.order_policy.specs.Answers.{rank_by};
 ghost use Rattle.order_policy.specs.Named.{answers_in, policy_named};
-ghost use Rattle.swanroll_top.specs.Words.{asked, asked_by, kind_named, names_of, begins_with_dash, are_pairs, value_or, planner_in, planner_named, policy_in, migration_in, guests_in, in_millions, number_in, number_of, in_range, numbered, limits_in, shape_in, script_shape_in, are_digits, trial_numbers, with_kind, before_last, rollback_in, held_in, origin_in, origin_named};
+ghost use Rattle.text_commands.specs.Words.{are_pairs, policy_in, text_asked, text_with_pairs};
+ghost use Rattle.swanroll_top.specs.Words.{asked, asked_by, before_last, guests_in, held_in, in_millions, kind_named, limits_in, migration_in, names_of, origin_in, origin_named, other_kind_named, rollback_in, shape_in, trial_numbers, with_kind};
 ghost use Rattle.swanroll_top.specs.Tries.{HasNext, IsAskedShape, IsShape};
 
 use order_policy::{Policies, Policy};
 use rollback_service::BackFrom;
 use rollout_rules::{MOST_FLOWS, MOST_SWITCHES};
 use rollout_run::Limits;
-use sim_run::{ScriptShape, Shape};
+use sim_run::Shape;
+use text_commands::{
+    LARGEST_SEED, MOST_EVENTS, TextCommand, TextKind, begins_with_dash, number_in, numbered,
+    planner_of, script_shape_of, text_kind_named, text_takes, value_or,
+};
 
 /// How many guests an agent may be asked to serve.
 const MOST_GUESTS: u32 = 1_000_000;
@@ -22,15 +27,6 @@ const MOST_ROUNDS: u64 = 200_000;
 
 /// The last number of a migration, which has no next one.
 const LAST_MIGRATION: u32 = 4_294_967_295;
-
-/// The largest seed of a trial, or of a script that is drawn.
-const LARGEST_SEED: u64 = 1_000_000_000_000_000_000;
-
-/// How many events a trial, or a script that is drawn, may be asked for.
-const MOST_EVENTS: u64 = 100_000;
-
-/// How many digits a number has at the most.
-const MOST_DIGITS: usize = 19;
 
 /// What a command line asks for: a command, and what its pairs say.
 #[derive(Clone, Copy)]
@@ -53,43 +49,11 @@ pub enum Command<'a> {
     Held(u32),
 }
 
-/// A command that makes a text of its input alone.
-#[derive(Clone, Copy)]
-pub enum TextCommand<'a> {
-    /// A plan by a planner.
-    Plan(Planner),
-    Check,
-    Loads,
-    Back,
-    Explain,
-    /// A plan with what shows that fewer rate steps are impossible.
-    Least,
-    /// A rehearsal under a policy.
-    Sim(&'a Policy),
-    /// A script of these numbers, which is drawn under a policy.
-    Rehearse(ScriptShape, &'a Policy),
-}
-
-/// Who chooses a plan.
-#[derive(Clone, Copy, Debug, PartialEq, Eq)]
-pub enum Planner {
-    /// By few steps of a linear program, else from scratch by the least slack.
-    Slack,
-    /// The same, or the greedy rule's plan in its place where that has fewer rate steps.
-    Fewest,
-}
-
 /// A command by its word.
 #[derive(Clone, Copy, Debug, PartialEq, Eq)]
 pub enum Kind {
-    Plan,
-    Check,
-    Loads,
-    Back,
-    Explain,
-    Least,
-    Sim,
-    Rehearse,
+    /// That of a command which makes a text of its input alone.
+    Text(TextKind),
     Report,
     Agent,
     Trial,
@@ -116,15 +80,16 @@ pub fn command_of<'a>(words: &[String], policies: &'a Policies<Policy>) -> Optio
 fn kind_named(word: &str) -> Option<Kind>
     ensures { result ≡ kind_named word.now }
 {
+    match text_kind_named(word) {
+        Some(text) => Some(Kind::Text(text)),
+        None => other_kind_named(word),
+    }
+}
+
+fn other_kind_named(word: &str) -> Option<Kind>
+    ensures { result ≡ other_kind_named word.now }
+{
     match word {
-        "plan" => Some(Kind::Plan),
-        "check" => Some(Kind::Check),
-        "loads" => Some(Kind::Loads),
-        "back" => Some(Kind::Back),
-        "explain" => Some(Kind::Explain),
-        "least" => Some(Kind::Least),
-        "sim" => Some(Kind::Sim),
-        "rehearse" => Some(Kind::Rehearse),
         "report" => Some(Kind::Report),
         "agent" => Some(Kind::Agent),
         "trial" => Some(Kind::Trial),
@@ -149,17 +114,7 @@ fn command_with<'a>(
         return None;
     }
     match kind {
-        Kind::Plan => Some(Command::Text(TextCommand::Plan(planner_of(pairs)?))),
-        Kind::Check => Some(Command::Text(TextCommand::Check)),
-        Kind::Loads => Some(Command::Text(TextCommand::Loads)),
-        Kind::Back => Some(Command::Text(TextCommand::Back)),
-        Kind::Explain => Some(Command::Text(TextCommand::Explain)),
-        Kind::Least => Some(Command::Text(TextCommand::Least)),
-        Kind::Sim => Some(Command::Text(TextCommand::Sim(policy_of(pairs, policies)?))),
-        Kind::Rehearse => Some(Command::Text(TextCommand::Rehearse(
-            script_shape_of(pairs)?,
-            policy_of(pairs, policies)?,
-        ))),
+        Kind::Text(text) => Some(Command::Text(text_with_pairs(text, pairs, policies)?)),
         Kind::Report => Some(Command::Report(migration_of(pairs)?)),
         Kind::Agent => Some(Command::Agent(guests_of(pairs)?)),
         Kind::Trial => Some(Command::Trial(shape_of(pairs)?, policy_of(pairs, policies)?)),
@@ -170,15 +125,53 @@ fn command_with<'a>(
     }
 }
 
+// The pairs of a command that makes a text, as `text_commands` reads them. A call of a lower crate that gives back a policy counts as one that makes
+// a closure, and what takes policies and calls it gets no proof; so it is read here once more.
+fn text_with_pairs<'a>(
+    kind: TextKind,
+    pairs: &[String],
+    policies: &'a Policies<Policy>,
+) -> Option<TextCommand<'a>>
+    ensures { option_map text_asked result
+        ≡ text_with_pairs (answers_in policies.now) (map string_bytes pairs.now) kind }
+{
+    match kind {
+        TextKind::Plan => Some(TextCommand::Plan(planner_of(pairs)?)),
+        TextKind::Check => Some(TextCommand::Check),
+        TextKind::Loads => Some(TextCommand::Loads),
+        TextKind::Back => Some(TextCommand::Back),
+        TextKind::Explain => Some(TextCommand::Explain),
+        TextKind::Least => Some(TextCommand::Least),
+        TextKind::Sim => Some(TextCommand::Sim(policy_of(pairs, policies)?)),
+        TextKind::Rehearse => Some(TextCommand::Rehearse(
+            script_shape_of(pairs)?,
+            policy_of(pairs, policies)?,
+        )),
+    }
+}
+
+// The policy that is asked for.
+fn policy_of<'a>(pairs: &[String], policies: &'a Policies<Policy>) -> Option<&'a Policy>
+    ensures { option_map (λ policy. rank_by policy.now.answers) result
+        ≡ policy_in (answers_in policies.now) (map string_bytes pairs.now) }
+{
+    policy_named(policies, value_or(pairs, "--policy", "critical")?)
+}
+
+// The policy that stands first under a name.
+fn policy_named<'a>(policies: &'a Policies<Policy>, name: &str) -> Option<&'a Policy>
+    ensures { option_map (λ policy. rank_by policy.now.answers) result
+        ≡ policy_named name.now (answers_in policies.now) }
+{
+    policies.find(name)
+}
+
 /// Whether the command takes a name.
 fn takes(kind: Kind, name: &str) -> bool
     ensures { result ≡ list_any (bytes_eq name.now) (names_of kind) }
 {
     match kind {
-        Kind::Plan => name == "--planner",
-        Kind::Check | Kind::Loads | Kind::Explain | Kind::Back | Kind::Least => false,
-        Kind::Sim => name == "--policy",
-        Kind::Rehearse => matches!(name, "--seed" | "--events" | "--policy"),
+        Kind::Text(text) => text_takes(text, name),
         Kind::Report => name == "--migration",
         Kind::Agent => name == "--guests",
         Kind::Trial => names_a_number(name) || name == "--policy",
@@ -211,37 +204,6 @@ fn are_pairs(kind: Kind, words: &[String]) -> bool
         rest = more;
     }
     rest.is_empty()
-}
-
-pub(crate) fn begins_with_dash(word: &str) -> bool
-    ensures { result ≡ begins_with_dash word.now }
-{
-    matches!(word.as_bytes(), [b'-', ..])
-}
-
-/// The planner that the pairs name; `slack` where they name none.
-fn planner_of(pairs: &[String]) -> Option<Planner>
-    ensures { result ≡ planner_in (map string_bytes pairs.now) }
-{
-    planner_named(value_or(pairs, "--planner", "slack")?)
-}
-
-fn planner_named(word: &str) -> Option<Planner>
-    ensures { result ≡ planner_named word.now }
-{
-    match word {
-        "slack" => Some(Planner::Slack),
-        "fewest" => Some(Planner::Fewest),
-        _ => None,
-    }
-}
-
-/// The policy that the pairs name, if it is there.
-fn policy_of<'a>(pairs: &[String], policies: &'a Policies<Policy>) -> Option<&'a Policy>
-    ensures { option_map (λ policy. rank_by policy.now.answers) result
-        ≡ policy_in (answers_in policies.now) (map string_bytes pairs.now) }
-{
-    policy_named(policies, value_or(pairs, "--policy", "critical")?)
 }
 
 /// The number of the migration that the pairs name; 0 where they name none.
@@ -342,109 +304,4 @@ fn shape_of(pairs: &[String]) -> Option<Shape>
         seed,
         events: events as u32,
     })
-}
-
-/// The numbers of the script that the pairs name, each with the default of a trial.
-fn script_shape_of(pairs: &[String]) -> Option<ScriptShape>
-    ensures { result ≡ script_shape_in (map string_bytes pairs.now) }
-{
-    let seed = numbered(pairs, "--seed", "1", 0, LARGEST_SEED)?;
-    let events = numbered(pairs, "--events", "1000", 0, MOST_EVENTS)?;
-    Some(ScriptShape {
-        seed,
-        events: events as u32,
-    })
-}
-
-/// The number that the pairs name, within its range; a default where they name none.
-pub(crate) fn numbered(
-    pairs: &[String],
-    name: &str,
-    default: &str,
-    low: u64,
-    high: u64,
-) -> Option<u64>
-    ensures value { result ≡ numbered name.now default.now low high (map string_bytes pairs.now) }
-    ensures least { IfSome result (λ number. low ≤ number) }
-    ensures most { IfSome result (λ number. number ≤ high) }
-{
-    in_range(low, high, long_number_in(value_or(pairs, name, default)?)?)
-}
-
-fn in_range(low: u64, high: u64, number: u64) -> Option<u64>
-    ensures value { result ≡ in_range low high number }
-    ensures least { IfSome result (λ number. low ≤ number) }
-    ensures most { IfSome result (λ number. number ≤ high) }
-{
-    if number < low || number > high {
-        return None;
-    }
-    Some(number)
-}
-
-/// A number below 2^64 in 1 to 19 decimal digits.
-fn long_number_in(word: &str) -> Option<u64>
-    ensures { result ≡ number_of 64 word.now }
-{
-    if word.len() > MOST_DIGITS || !are_digits(word.as_bytes()) {
-        return None;
-    }
-    match word.parse::<u64>() {
-        Ok(number) => Some(number),
-        Err(_) => None,
-    }
-}
-
-/// A number below 2^32 in 1 to 19 decimal digits.
-pub fn number_in(word: &str) -> Option<u32>
-    ensures { result ≡ number_in word.now }
-{
-    if word.len() > MOST_DIGITS || !are_digits(word.as_bytes()) {
-        return None;
-    }
-    match word.parse::<u32>() {
-        Ok(number) => Some(number),
-        Err(_) => None,
-    }
-}
-
-fn are_digits(bytes: &[u8]) -> bool
-    ensures { result ≡ are_digits bytes.now }
-{
-    let mut rest = bytes;
-    while let [byte, more @ ..] = rest {
-        if !byte.is_ascii_digit() {
-            return false;
-        }
-        rest = more;
-    }
-    true
-}
-
-/// The policy that stands first under a name.
-fn policy_named<'a>(policies: &'a Policies<Policy>, name: &str) -> Option<&'a Policy>
-    ensures { option_map (λ policy. rank_by policy.now.answers) result
-        ≡ policy_named name.now (answers_in policies.now) }
-{
-    policies.find(name)
-}
-
-/// The value behind a name, or the default where it isn't among the pairs; None where it stands there
-/// twice.
-fn value_or<'a>(pairs: &'a [String], name: &str, default: &'a str) -> Option<&'a str>
-    ensures { option_map (λ value. value.now) result
-        ≡ value_or name.now default.now (map string_bytes pairs.now) }
-{
-    let mut found = None;
-    let mut rest = pairs;
-    while let [word, value, more @ ..] = rest {
-        if word.as_str() == name {
-            if found.is_some() {
-                return None;
-            }
-            found = Some(value.as_str());
-        }
-        rest = more;
-    }
-    Some(found.unwrap_or(default))
 }

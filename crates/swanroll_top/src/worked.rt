@@ -5,12 +5,14 @@ ghost use Rattle.rollout_rules.specs.Worked.{fresh};
 ghost use Rattle.switch_laws.specs.Worked.{two_flows};
 ghost use Rattle.completion_laws.specs.Worked.{begun_one};
 ghost use Rattle.rollback_service.specs.declared.origin.BackFrom.TheVariants.{Here, Level};
+ghost use Rattle.text_commands.specs.Worked.{by_item, chain_first, two_policies};
 ghost use Rattle.swanroll_top.specs.Drains.{line_with_left};
 ghost use Rattle.swanroll_top.specs.LiveWords.{live_in};
 ghost use Rattle.swanroll_top.specs.Ready.{CountsNoFault, IsReadyFor};
-ghost use Rattle.swanroll_top.specs.Words.{a_drain, a_plan, a_check, the_loads, the_way_back, a_rehearsal, a_report, a_rollback, a_script, a_text, a_trial, an_agent, asked_in, the_explanation, the_least, what_is_held};
-ghost use Rattle.swanroll_top.specs.declared.words.Planner.TheVariants.{Slack, Fewest};
-ghost use Rattle.swanroll_top.specs.Worked.{answered_once, by_item, chain_first, failed_once, fleet_with, in_rounds, itself, never_used, none_begins, two_policies, unanswered, waiting_at_first};
+ghost use Rattle.text_commands.specs.Words.{a_plan, a_check, the_loads, the_way_back, a_rehearsal, a_script, the_explanation, the_least};
+ghost use Rattle.swanroll_top.specs.Words.{a_drain, a_report, a_rollback, a_text, a_trial, an_agent, asked_in, what_is_held};
+ghost use Rattle.text_commands.specs.declared.words.Planner.TheVariants.{Slack, Fewest};
+ghost use Rattle.swanroll_top.specs.Worked.{answered_once, failed_once, fleet_with, in_rounds, itself, never_used, none_begins, unanswered, waiting_at_first};
 
 /// A command alone, and a rehearsal under the policy that is named.
 pub fn command_lines()

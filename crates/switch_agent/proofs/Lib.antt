@@ -1,4 +1,5 @@
 pub mod Carrying
 pub mod Chains
+pub mod Pieces
 pub mod Rooms
-pub mod SoFar
+pub mod Stops

@@ -1,18 +1,16 @@
--- What the serving of a guest comes to.
-use Rattle.std.specs.Prelude.{◌≡◌, ℕ, ◌<◌, ◌≤◌, ◌++◌, List, length, false, Option, Some, None, ◌==◌, ◌||◌, Bool, [], ◌∷◌}
+-- What a read of a guest, and the serving of what came, come to.
+use Rattle.std.specs.Prelude.{◌≡◌, ℕ, ◌-◌, ◌<◌, ◌≤◌, ◌++◌, List, length, false, Option, Some, None, ◌==◌, ◌||◌, Bool, [], ◌∷◌, if◌then◌else◌}
 use Rattle.std.specs.List.{flat_map}
 use Rattle.wan_edge.specs.Frames.{CommandFrame, IsCommand, IsCutCommand, Splits, answer_bytes, command_bytes}
 use Rattle.wan_edge.specs.Streams.{Appends, AppendsPart, IsAtEnd, SourceTrace, Takes}
 use Rattle.wan_edge.specs.Switches.{Holdings, after_commands, answers_to}
 use Rattle.wire_frames.specs.Reading.{IsCommandFault}
 use Rattle.switch_agent.specs.Items.{Items, holding, seen}
+use Rattle.switch_agent.specs.Talks.{Talking}
+use Rattle.switch_agent.specs.declared.heard.Heard.{Heard}
 use Rattle.switch_agent.specs.declared.serve_fault.ServeFault.{ServeFault}
 use Rattle.switch_agent.specs.declared.serve_fault.ServeFault.TheVariants.{Frame, Long, Memory, Read, Write}
 use Rattle.switch_agent.specs.declared.serve_fault.Served.{Served}
-
--- how many bytes of one guest are read at most
-abbrev pub most : ℕ
-most = 100_000_000
 
 -- the bytes of the answers to these commands, by what is held before them
 abbrev pub answered : Holdings → List CommandFrame → List ℕ
@@ -60,18 +58,39 @@ IsOwnFault Write = Unit {0}
 IsOwnFault Long = ⊥
 IsOwnFault Memory = Unit {0}
 
--- how many bytes were read, and whether the end was
-abbrev pub ReadsSo : Option ServeFault → ℕ → Option (List ℕ) → Type 0
-ReadsSo None count left = (count < most) × IsAtEnd left
-ReadsSo (Some (Frame fault)) count left = count ≤ most
-ReadsSo (Some Read) count left = count < most
-ReadsSo (Some Write) count left = count ≤ most
-ReadsSo (Some Long) count left = count ≡ most
-ReadsSo (Some Memory) count left = count ≤ most
+-- what is left of a guest behind a read without a fault: it is read further where more may be read of it
+abbrev pub heard_on : ℕ → List ℕ → ℕ → Bool → Heard
+heard_on commands kept room full =
+    if full
+    then record { served = record { commands = commands; fault = Some Long }; talk = None }
+    else record { served = record { commands = commands; fault = None }; talk = Some (record { kept = kept; room = room }) }
 
--- These bytes of the guest were read, and the commands at their front carried out and answered.
-pub record ServesGuest (before now : Items) (source source_now : SourceTrace) (served : Served) (written written_now : Option (List ℕ)) : Type 0 where
+-- what comes of a read by which so many commands were carried out, by the fault that ended them: this is kept of the guest, and so many bytes may still be read
+abbrev pub heard_by : ℕ → Option ServeFault → List ℕ → ℕ → Heard
+heard_by commands (Some fault) kept room = record { served = record { commands = commands; fault = Some fault }; talk = None }
+heard_by commands None kept room = heard_on commands kept room (room == 0)
+
+-- Whether a guest is read further behind a read, by its fault: it said something and may say more, and what stands behind its commands is kept; it came to
+-- its end; or it isn't for the fault's sake.
+abbrev pub GoesFurther : Option ServeFault → Option Talking → List ℕ → List ℕ → ℕ → Option (List ℕ) → Type 0
+GoesFurther None (Some talk) bytes rest room left = (0 < length bytes) × (0 < room) × (talk ≡ record { kept = rest; room = room })
+GoesFurther None None bytes rest room left = (length bytes ≡ 0) × IsAtEnd left
+GoesFurther (Some (Frame fault)) talk bytes rest room left = talk ≡ None
+GoesFurther (Some Read) talk bytes rest room left = (talk ≡ None) × (length bytes ≡ 0)
+GoesFurther (Some Write) talk bytes rest room left = talk ≡ None
+GoesFurther (Some Long) talk bytes rest room left = (talk ≡ None) × (room ≡ 0)
+GoesFurther (Some Memory) talk bytes rest room left = talk ≡ None
+
+-- What these bytes of a guest brought about, behind what was kept of it: the whole commands at their front were carried out in order and answered, each by
+-- what was held before it, and what stands behind them is no whole command. Each command ends in one of these bytes.
+pub record HearsBytes (before now : Items) (talk : Talking) (bytes : List ℕ) (heard : Heard) (left : Option (List ℕ)) (written written_now : Option (List ℕ)) : Type 0 where
+  pub carried : CarriesOut before now (talk.kept ++ bytes) heard.served IsCutCommand written written_now
+  pub few : heard.served.commands ≤ length bytes
+  pub further : GoesFurther heard.served.fault heard.talk bytes carried.rest (talk.room - length bytes) left
+
+-- One read of a guest: these bytes came, no more than may be read of it, and this is what they brought about.
+pub record HearsGuest (before now : Items) (talk : Talking) (source source_now : SourceTrace) (heard : Heard) (written written_now : Option (List ℕ)) : Type 0 where
   pub bytes : List ℕ
   pub takes : Takes bytes source source_now
-  pub so_many : ReadsSo served.fault (length bytes) source_now.left
-  pub carried : CarriesOut before now bytes served IsCutCommand written written_now
+  pub within : length bytes ≤ talk.room
+  pub hears : HearsBytes before now talk bytes heard source_now.left written written_now

@@ -2,17 +2,23 @@
 //! come as guests.
 //!
 //! Contracts see an [`Agent`] as its items in the order in which it saw them, each with the command that
-//! was carried out last, from which follows what is held of it. [`serve_bytes`] reads a guest to its
-//! end and answers each command: its contract says what was read, carried out and written in each
-//! case. An agent keeps no more items than a document within the limits has, whatever comes, and has
-//! room for each of these ([`laws`]).
+//! was carried out last, from which follows what is held of it. [`serve_read`] reads a guest once and
+//! answers each command that ends in what came: its contract says what was read, carried out and written
+//! in each case, and what is kept of the guest ([`Talk`]), so that several guests can be read in turn. An
+//! agent keeps no more items than a document within the limits has, whatever comes, and has room for each
+//! of these ([`laws`]).
 #![tactic(auto)]
 
 mod agent;
+mod heard;
+mod hearing;
 pub mod laws;
 mod serve;
 mod serve_fault;
+mod talk;
 
 pub use agent::Agent;
-pub use serve::serve_bytes;
+pub use heard::Heard;
+pub use hearing::{read_some, serve_read};
 pub use serve_fault::{ServeFault, Served};
+pub use talk::Talk;

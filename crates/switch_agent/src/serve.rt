@@ -1,65 +1,15 @@
 ghost use Rattle.std.specs.Prelude.{◌≡◌, ◌<◌, ◌≤◌, ◌++◌, [], length, take, None, Some, IfSome, IsTrue};
-ghost use Rattle.switch_agent.specs.Serving.{CarriesOut, IsOwnFault, ServesGuest};
+ghost use Rattle.switch_agent.specs.Serving.{CarriesOut, IsOwnFault};
 ghost use Rattle.switch_agent.specs.declared.serve_fault.ServeFault.TheVariants as fault;
 ghost use Rattle.wan_edge.specs.Frames.{IsCommand, IsCutCommand, answer_bytes, command_bytes};
-ghost use Rattle.wan_edge.specs.Streams.{Rose, SinkSteps, SourceSteps};
+ghost use Rattle.wan_edge.specs.Streams.{Rose, SinkSteps};
 
 use crate::{Agent, ServeFault, Served};
 use wan_edge::{Guest, write_all};
 use wire_frames::{ANSWER_LEN, Answer, Command, CommandReader, write_answer};
 
-/// How many bytes are read of one guest.
-const MOST: usize = 100_000_000;
-
-/// How many bytes one call reads at most.
-const BUFFER: usize = 4_096;
-
-/// Reads the guest to its end, and carries out and answers each command in order. A command that is cut
-/// off at the end is dropped.
-pub fn serve_bytes<G: Guest>(agent: &mut Agent, guest: &mut G) -> Served
-    ensures served { ServesGuest agent.old agent.new (G.Source.told guest.old)
-        (G.Source.told guest.new) result (G.Sink.told guest.old).written
-        (G.Sink.told guest.new).written }
-    ensures read_cause { result.fault ≡ Some fault.Read
-        → Rose (G.Source.told guest.old).faults (G.Source.told guest.new).faults }
-    ensures write_cause { result.fault ≡ Some fault.Write
-        → Rose (G.Sink.told guest.old).faults (G.Sink.told guest.new).faults }
-    ensures reads { SourceSteps (G.Source.told guest.old) (G.Source.told guest.new) }
-    ensures writes { SinkSteps (G.Sink.told guest.old) (G.Sink.told guest.new) }
-{
-    let mut buffer = [0; BUFFER];
-    let mut reader = CommandReader::new();
-    let mut commands = 0;
-    let mut room = MOST;
-    while room > 0 {
-        let fits = room.min(BUFFER);
-        let n = match guest.read(&mut buffer[..fits]) {
-            Ok(0) => return Served {
-                commands,
-                fault: None,
-            },
-            Ok(n) => n,
-            Err(_) => return Served {
-                commands,
-                fault: Some(ServeFault::Read),
-            },
-        };
-        let served = serve_piece(agent, guest, &mut reader, &buffer[..n]);
-        commands += served.commands;
-        if let Some(fault) = served.fault {
-            let fault = Some(fault);
-            return Served { commands, fault };
-        }
-        room -= n;
-    }
-    Served {
-        commands,
-        fault: Some(ServeFault::Long),
-    }
-}
-
-// Carries out and answers the commands that end in the piece.
-fn serve_piece<G: Guest>(
+/// Carries out and answers the commands that end in the piece, in order.
+pub(crate) fn serve_piece<G: Guest>(
     agent: &mut Agent,
     guest: &mut G,
     reader: &mut CommandReader,

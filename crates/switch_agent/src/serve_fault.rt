@@ -15,8 +15,8 @@ pub enum ServeFault {
     Memory,
 }
 
-/// What came of a guest: how many commands were carried out, those that changed nothing among them, and
-/// the fault, where its end was not reached.
+/// What came of a guest, or of one read of it: how many commands were carried out, those that changed
+/// nothing among them, and the fault, where there was one.
 #[derive(Clone, Copy, Debug, PartialEq, Eq)]
 pub struct Served {
     pub commands: u64,

@@ -1,7 +1,9 @@
 -- Ports by the number of their switch, and guests in a row: what a fleet gives, and takes back.
-use Rattle.std.specs.Prelude.{◌≡◌, ℕ, ◌==◌, List, [], ◌∷◌, Bool, Option, Some, None, IfSome, if◌then◌else◌}
+use Rattle.std.specs.Prelude.{◌≡◌, ℕ, ◌<◌, ◌==◌, List, [], ◌∷◌, length, Bool, Option, Some, None, IfSome, if◌then◌else◌}
 use Rattle.wan_edge.specs.Ports.{IsNew, PortTrace}
 use Rattle.wan_edge.specs.Streams.{SinkTrace, SourceTrace}
+use Rattle.wan_edge.specs.declared.waited.Waited.{Waited}
+use Rattle.wan_edge.specs.declared.waited.Waited.TheVariants.{Came, NoMore, Seat}
 
 -- what stands at each number, the one at this number taken away
 abbrev pub without : {X : Type 0} → (ℕ → Option X) → ℕ → ℕ → Option X
@@ -31,3 +33,10 @@ pub record IsNewGuest (source : SourceTrace) (sink : SinkTrace) : Type 0 where
 abbrev pub GivesGuest : {G : Type 0} → (G → SourceTrace) → (G → SinkTrace) → Option (List G) → G → Option (List G) → Type 0
 GivesGuest source sink None guest now = (now ≡ None) × IsNewGuest (source guest) (sink guest)
 GivesGuest source sink (Some coming) guest now = (later : List _) × (coming ≡ guest ∷ later) × (now ≡ Some later)
+
+-- What a wait may end with, where these are to come and these sit: a guest comes, whom the next call gives; something is there of the guest at this place;
+-- or no more come, and nobody sits.
+abbrev pub WaitsFor : {G : Type 0} → Option (List G) → List G → Waited → Type 0
+WaitsFor coming seated Came = IfSome coming (λ guests. 0 < length guests)
+WaitsFor coming seated (Seat place) = place < length seated
+WaitsFor coming seated NoMore = (length seated ≡ 0) × IfSome coming (λ guests. length guests ≡ 0)

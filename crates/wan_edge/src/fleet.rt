@@ -1,9 +1,9 @@
 ghost use Rattle.std.specs.Prelude.{◌≡◌, ℕ, ◌+◌, ◌<◌, ◌≤◌, [], ◌∷◌, ◌++◌, Bool, true, false, List, None, Option, Some, IfOk, IfSome, OnErr, OnOk};
 ghost use Rattle.std.specs.Option.{option_map};
-ghost use Rattle.wan_edge.specs.Fleets.{GivesGuest, GivesPort, marked, with_one, without};
+ghost use Rattle.wan_edge.specs.Fleets.{GivesGuest, GivesPort, WaitsFor, marked, with_one, without};
 ghost use Rattle.wan_edge.specs.Streams.{Rose};
 
-use crate::{Failed, Guest, Port};
+use crate::{Failed, Guest, Port, Waited};
 
 /// The switches that a controller can reach, by number, and the controllers that come to an agent.
 ///
@@ -72,6 +72,21 @@ pub trait Fleet {
         ensures guests { (coming self.new ≡ coming self.old)
             × (served self.new ≡ served self.old)
             × (visiting self.new ≡ visiting self.old) }
+        ensures count { faults self.old ≤ faults self.new };
+
+    /// Waits until a controller comes, or something is there of one of the guests that sit, and says which;
+    /// or says that no more will come and nobody sits. Nothing is given, read or written by it, and it may
+    /// wait for ever.
+    fn wait(&mut self, seated: &[Self::Guest]) -> Result<Waited, Failed>
+        ensures woken { IfOk result (λ woken. WaitsFor (coming self.old) seated.now woken) }
+        ensures guests { (coming self.new ≡ coming self.old)
+            × (served self.new ≡ served self.old)
+            × (visiting self.new ≡ visiting self.old) }
+        ensures ports { (waiting self.new ≡ waiting self.old)
+            × (kept self.new ≡ kept self.old)
+            × (lent self.new ≡ lent self.old)
+            × (named self.new ≡ named self.old) }
+        ensures cause { OnErr result (Rose (faults self.old) (faults self.new)) }
         ensures count { faults self.old ≤ faults self.new };
 
     /// Waits for the next controller that comes, or says that no more will come. Where it isn't told who

@@ -4,7 +4,8 @@
 //!
 //! A [`Port`] is the way to one switch and back, and its contracts say which ports keep to the agent
 //! rule. A [`Guest`] is a controller that comes to an agent, source and sink in one. A [`Fleet`] gives
-//! the ports of a controller and the guests of an agent, and takes them back.
+//! the ports of a controller and the guests of an agent, and takes them back; and it waits until a guest
+//! comes or one of those that an agent has may be read.
 //!
 //! Beside the traits stand objects in memory, which fail at calls of the caller's choice, plain
 //! ones, which never fail, and the two walks that every program needs: reading to the end within a
@@ -23,6 +24,7 @@ mod plain_source;
 mod port;
 mod reading;
 mod stream;
+mod waited;
 mod writing;
 
 pub use failing_turns::{FailingTurns, Turns};
@@ -35,4 +37,5 @@ pub use plain_source::{Nums8, PlainSource};
 pub use port::Port;
 pub use reading::{ReadFault, read_all};
 pub use stream::{Failed, Sink, Source};
+pub use waited::Waited;
 pub use writing::write_all;

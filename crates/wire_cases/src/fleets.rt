@@ -2,7 +2,7 @@ use lists::{Memory, Text};
 use lossy_link::{MemoryFleet, MemoryGuest, SilentPort};
 use std::alloc::Global;
 use std::test::Fail;
-use wan_edge::{Fleet, MemorySink, MemorySource, Nums8, Turns};
+use wan_edge::{Fleet, MemorySink, MemorySource, Nums8, Turns, Waited};
 
 // A fleet of the switches 1 and 2, which are called A and B.
 fn two_switches(alloc: Global) -> Result<MemoryFleet<SilentPort>, Memory> {
@@ -82,5 +82,30 @@ fn coming(alloc: Global) -> Result<[Option<bool>; 3], Memory> {
 #[test]
 fn a_guest_comes_once_and_none_where_the_fleet_fails(rt: HostRuntime) -> Result<(), Fail> {
     assert_eq!(rt; coming(rt.alloc())?, [Some(true), Some(false), None]);
+    Ok(())
+}
+
+// What a wait says with one guest to come and nobody seated, with nobody and one seated, and with neither.
+fn waited(alloc: Global) -> Result<[bool; 3], Memory> {
+    let mut fleet = MemoryFleet::new(alloc);
+    fleet.put_guest(guest(alloc))?;
+    let came = says(&mut fleet, &[], Waited::Came);
+    let _ = comes(&mut fleet);
+    let seated = [guest(alloc)];
+    let seat = says(&mut fleet, &seated, Waited::Seat(0));
+    let none = says(&mut fleet, &[], Waited::NoMore);
+    Ok([came, seat, none])
+}
+
+fn says(fleet: &mut MemoryFleet<SilentPort>, seated: &[MemoryGuest], woken: Waited) -> bool {
+    match fleet.wait(seated) {
+        Ok(found) => found == woken,
+        Err(_) => false,
+    }
+}
+
+#[test]
+fn a_wait_says_who_is_next(rt: HostRuntime) -> Result<(), Fail> {
+    assert_eq!(rt; waited(rt.alloc())?, [true, true, true]);
     Ok(())
 }

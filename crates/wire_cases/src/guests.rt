@@ -2,7 +2,7 @@
 use lossy_link::MemoryGuest;
 use std::alloc::Global;
 use std::test::Fail;
-use switch_agent::{Agent, ServeFault, Served, serve_bytes};
+use switch_agent::{Agent, ServeFault, Served, Talk, serve_read};
 use wan_edge::{MemorySink, MemorySource, Nums8, Turns};
 
 // Operations 1 and 2 of item 3 in migration 0. An answer has 13 bytes.
@@ -24,11 +24,25 @@ fn failing(alloc: Global, reads: &[u64], writes: &[u64]) -> Result<MemoryGuest, 
     ))
 }
 
+// What comes of the first read of a guest, and of the second where there is one: all commands, and the fault.
+fn read_twice(agent: &mut Agent, guest: &mut MemoryGuest) -> Served {
+    let first = serve_read(agent, guest, Talk::new());
+    let commands = first.served.commands;
+    let fault = first.served.fault;
+    match first.talk {
+        Some(talk) => Served {
+            commands,
+            fault: serve_read(agent, guest, talk).served.fault,
+        },
+        None => Served { commands, fault },
+    }
+}
+
 // How serving the guest ends, and how many bytes it was answered.
 fn served(alloc: Global, guest: MemoryGuest) -> (Served, usize, bool) {
     let mut agent = Agent::new(alloc);
     let mut guest = guest;
-    let served = serve_bytes(&mut agent, &mut guest);
+    let served = read_twice(&mut agent, &mut guest);
     let holds = agent.content(3) == Some([5].as_slice());
     (served, guest.written().len(), holds)
 }

@@ -1,4 +1,4 @@
-ghost use Rattle.std.specs.Prelude.{◌≡◌, ◌<◌, [], ◌∷◌, ◌++◌, OnErr, OnOk};
+ghost use Rattle.std.specs.Prelude.{◌≡◌, ◌<◌, [], ◌∷◌, ◌++◌, false, length, true, OnErr, OnOk};
 ghost use Rattle.lossy_link.specs.FleetState.{after_guest, after_visit, first_guest};
 
 use crate::MemoryGuest;
@@ -55,6 +55,14 @@ impl GuestQueue {
         self.served.reserve(places)?;
         self.coming.push_back(guest)?;
         Ok(())
+    }
+
+    /// Whether a guest still comes.
+    pub(crate) fn has_next(&self) -> bool
+        ensures yes { result ≡ true → 0 < length self.now.coming }
+        ensures no { result ≡ false → length self.now.coming ≡ 0 }
+    {
+        !self.coming.is_empty()
     }
 
     /// Gives the first guest that comes, if one does.

@@ -3,9 +3,9 @@ use Rattle.rollout_rules.specs.Release.{held_back}
 use Rattle.order_policy.specs.Answers.{last_rank, rank_by}
 use Rattle.order_policy.proofs.Ranks.{answers_by}
 use Rattle.order_policy.proofs.Boxed.{boxed}
-use Rattle.swanroll.specs.Policies.{critical, order, freeze, RanksBy}
-use Rattle.swanroll.proofs.Boxes.{ranks_by}
-use Rattle.swanroll.proofs.Ceilings.{freeze-most}
+use Rattle.named_policies.specs.Policies.{critical, order, freeze, RanksBy}
+use Rattle.named_policies.proofs.Boxes.{ranks_by}
+use Rattle.named_policies.proofs.Frozen.{freeze-most}
 use Rattle.swanroll.proofs.run.OwnLists as lists
 use Rattle.swanroll.proofs.run.Goals as goal
 

@@ -2,7 +2,7 @@ use Rattle.std.proofs.Common.{ap, refl}
 use Rattle.wan_edge.specs.Frames.{answer_bytes}
 use Rattle.switch_agent.specs.Items.{holding}
 use Rattle.switch_agent.proofs.Chains.{carried_one}
-use Rattle.switch_agent.proofs.SoFar.{no_room}
+use Rattle.switch_agent.proofs.Stops.{no_room}
 use Rattle.agent_service.proofs.Batching.{Stores-one, Stores-same, as_told}
 use Rattle.agent_service.proofs.gathering.carry.Goals as goal
 

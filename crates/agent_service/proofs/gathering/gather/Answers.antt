@@ -1,10 +1,10 @@
-use Rattle.std.proofs.Common.{◌≡◌, ◌∙◌, ◌+◌, ◌-◌, ◌++◌, List, ℕ, length, take, drop, Option, Some, None, subst, arith}
+use Rattle.std.proofs.Common.{◌≡◌, ◌+◌, ◌-◌, ◌++◌, List, ℕ, length, take, drop, Option, Some, None, subst, arith}
 use Rattle.std.specs.Prelude.{IfSome}
 use Rattle.switch_agent.specs.Items.{holding}
 use Rattle.switch_agent.specs.Serving.{CarriesOut, IsOwnFault}
 use Rattle.switch_agent.specs.declared.serve_fault.ServeFault.{ServeFault}
 use Rattle.switch_agent.proofs.Chains.{carried_with_more, carry_on, behind_on, bytes_all, bytes_on, rest_on}
-use Rattle.agent_service.proofs.Batching.{Stores-chain, stores_none}
+use Rattle.agent_service.proofs.Batching.{Stores-chain}
 use Rattle.agent_service.proofs.gathering.gather.Goals as goal
 
 pub returns-in-Some-clause-carried : goal.returns-in-Some-clause-carried

@@ -1,6 +1,6 @@
 use Rattle.std.proofs.Common.{◌≡◌}
 use Rattle.switch_agent.specs.Items.{holding}
-use Rattle.switch_agent.proofs.SoFar.{fault_carried, none_carried}
+use Rattle.switch_agent.proofs.Stops.{fault_carried, none_carried}
 use Rattle.agent_service.proofs.Batching.{stores_none}
 use Rattle.agent_service.proofs.gathering.gather_next.Goals as goal
 

@@ -1,32 +1,21 @@
-use Rattle.std.proofs.Common.{◌∙◌, ap, arith}
-use Rattle.agent_service.specs.declared.service.Service.{Service}
-use Rattle.agent_service.proofs.Rows.{few_of, given_one, one_at_most, served_last, served_one}
+use Rattle.std.proofs.Common.{[], refl, subst, inl}
+use Rattle.wan_edge.specs.Streams.{Rose}
+use Rattle.switch_agent.specs.Items.{Items}
+use Rattle.agent_service.specs.Services.{ServesBy, first_table}
+use Rattle.agent_service.proofs.Rows.{fleet_cause}
 use Rattle.agent_service.proofs.guests.serve_guests.Goals as goal
 
-pub returns-then-wants_room-clause-served : goal.returns-then-wants_room-clause-served
-returns-then-wants_room-clause-served g c =
-    let served = c.in-Some.served in
-    let one = given_one _ c.loop-service.agent c.serve_next.new.agent _ _ c.in_ok-served.field-0 served c.in-Some.is c.in_ok-served.ensures.served in
-    served_last _ _ _ _ c.loop-service.agent c.serve_next.new.agent c.loop-service.service served c.loop-service.invariant.so_far one c.args.guests (c.wants_room.ensures.yes c.if-wants_room.true) (omega (arith, c.loop-service-test))
+-- an agent that is new holds nothing
+pub returns-in-Ok-clause-served : goal.returns-in-Ok-clause-served
+returns-in-Ok-clause-served g c =
+    subst (λ (items : Items). ServesBy (record { source = g.F.Guest.Source.told; sink = g.F.Guest.Sink.told }) items (record { coming = g.F.Fleet.coming c.args.fleet.now; served = g.F.Fleet.served c.args.fleet.now })
+    (record { coming = g.F.Fleet.coming c.serve_with.new.fleet; served = g.F.Fleet.served c.serve_with.new.fleet }) c.args.guests c.serve_with.result) c.new-agent.ensures c.serve_with.ensures.served
 
-pub loop-service-preserved : goal.loop-service-preserved
-loop-service-preserved g c =
-    let i = c.loop-service.invariant in
-    let served = c.in-Some.served in
-    let one = given_one _ c.loop-service.agent c.serve_next.new.agent _ _ c.in_ok-served.field-0 served c.in-Some.is c.in_ok-served.ensures.served in
-    let few = few_of c.in_ok-served.field-0 served c.in-Some.is c.in_ok-served.ensures.few in
-    let guests = ap (λ (s : Service). s.guests) c.with-service.ensures in
-    let commands = ap (λ (s : Service). s.commands) c.with-service.ensures in
-    let refused = ap (λ (s : Service). s.refused) c.with-service.ensures in
-    record {
-      so_far = served_one _ _ _ _ c.loop-service.agent c.serve_next.new.agent c.loop-service.service served i.so_far one c.with-service.result c.with-service.ensures (c.wants_room.ensures.no c.if-wants_room.false);
-      within = omega (arith, guests, c.loop-service-test);
-      commands = omega (arith, guests, commands, i.commands, few);
-      refused = omega (arith, guests, refused, i.refused, one_at_most served.fault);
-      visiting = c.in_ok-served.ensures.visiting ∙ i.visiting;
-      waiting = c.in_ok-served.ensures.ports.0 ∙ i.waiting;
-      kept = c.in_ok-served.ensures.ports.1 ∙ i.kept;
-      lent = c.in_ok-served.ensures.ports.2 ∙ i.lent;
-      named = c.in_ok-served.ensures.ports.3 ∙ i.named;
-      count = omega (arith, i.count, c.in_ok-served.ensures.count);
-    }
+pub returns-in-Ok-clause-cause : goal.returns-in-Ok-clause-cause
+returns-in-Ok-clause-cause g c = fleet_cause c.serve_with.result (Rose (g.F.Fleet.faults c.args.fleet.now) (g.F.Fleet.faults c.serve_with.new.fleet)) c.serve_with.ensures.cause
+
+-- no memory was found for the seats
+pub returns-clause-served : goal.returns-clause-served
+returns-clause-served g c =
+    let first = first_table [] (record { coming = g.F.Fleet.coming c.args.fleet.now; served = g.F.Fleet.served c.args.fleet.now }) in
+    record { course = []; end = first; last = first; goes = refl; ends = inl (refl, refl); coming = refl; back = refl }

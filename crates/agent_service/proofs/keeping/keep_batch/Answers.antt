@@ -1,5 +1,4 @@
 use Rattle.std.proofs.Common.{◌≡◌, inl, length, rules, subst, sym}
-use Rattle.wan_edge.specs.Switches.{Holdings}
 use Rattle.switch_agent.specs.Items.{holding}
 use Rattle.agent_state.specs.Stored.{IsBeforeOrAfter, IsKept}
 use Rattle.agent_state.proofs.KeptFiles.{kept_reads}

@@ -1,27 +1,38 @@
-use Rattle.std.proofs.Common.{rules}
 use Rattle.switch_agent.specs.Items.{holding}
-use Rattle.agent_service.proofs.KeptRows.{come_still, found_behind, found_few, found_visit, kept_few, kept_visit}
+use Rattle.agent_service.specs.Services.{table_of}
+use Rattle.agent_service.proofs.KeptRows.{come_still, seats_durable, seats_kept}
 use Rattle.agent_service.proofs.kept.keep_next.Goals as goal
 
--- no guest came, or the fleet failed: the disk is as it was
-pub returns-in_default-clause-any_moment : goal.returns-in_default-clause-any_moment
-returns-in_default-clause-any_moment g c = come_still g.D.Disk.told c.args.disk.now c.args.place (holding c.args.agent.now) (g.met.D.Disk.only_now c.args.disk.now) c.requires
+pub sit_down-requires-clause-even : goal.sit_down-requires-clause-even
+sit_down-requires-clause-even g c = c.requires.seats.even
 
-pub returns-in_err-guest-clause-any_moment : goal.returns-in_err-guest-clause-any_moment
-returns-in_err-guest-clause-any_moment g c = come_still g.D.Disk.told c.args.disk.now c.args.place (holding c.args.agent.now) (g.met.D.Disk.only_now c.args.disk.now) c.requires
+pub sit_down-requires-clause-few : goal.sit_down-requires-clause-few
+sit_down-requires-clause-few g c = c.requires.seats.few
 
--- a guest came
-pub returns-clause-kept : goal.returns-clause-kept
-returns-clause-kept g c = found_behind (g.D.Disk.told c.serve_kept-kept.new.disk) c.args.place c.serve_kept-kept.result c.found_of.result (holding c.serve_kept-kept.new.agent) c.found_of.ensures.ok c.found_of.ensures.err c.serve_kept-kept.ensures.kept
+pub sit_down-requires-clause-places : goal.sit_down-requires-clause-places
+sit_down-requires-clause-places g c = (c.requires.seats.guest_room, c.requires.seats.talk_room)
 
-pub returns-clause-few : goal.returns-clause-few
-returns-clause-few g c =
-    found_few c.serve_kept-kept.result c.found_of.result c.found_of.ensures.ok c.found_of.ensures.err
-    (kept_few c.args.agent.now c.serve_kept-kept.new.agent _ _ _ _ c.serve_kept-kept.result c.serve_kept-kept.ensures.served)
+pub sit_down-requires-clause-guests : goal.sit_down-requires-clause-guests
+sit_down-requires-clause-guests g c = c.requires.seats.guest_more
 
-pub returns-clause-next : goal.returns-clause-next
-returns-clause-next g c =
-    found_visit _ c.args.agent.now c.serve_kept-kept.new.agent _ _ c.serve_kept-kept.result c.found_of.result c.found_of.ensures.ok c.found_of.ensures.err
-    (kept_visit (record { source = g.F.Guest.Source.told; sink = g.F.Guest.Sink.told }) c.args.agent.now c.serve_kept-kept.new.agent
-    (record { coming = g.F.Fleet.coming c.args.fleet.now; served = g.F.Fleet.served c.args.fleet.now }) (record { coming = g.F.Fleet.coming c.keep_guest.new.self; served = g.F.Fleet.served c.keep_guest.new.self })
-    c.in-Some.guest c.serve_kept-kept.new.guest c.serve_kept-kept.result (search rules) c.serve_kept-kept.ensures.served c.serve_kept-kept.ensures.read_cause c.serve_kept-kept.ensures.write_cause c.keeps_few_items.ensures.few)
+pub sit_down-requires-clause-refused : goal.sit_down-requires-clause-refused
+sit_down-requires-clause-refused g c = c.requires.seats.refused_more
+
+pub sit_down-requires-clause-visiting : goal.sit_down-requires-clause-visiting
+sit_down-requires-clause-visiting g c = c.requires.seats.known
+
+pub returns-in-Ok-clause-turn : goal.returns-in-Ok-clause-turn
+returns-in-Ok-clause-turn g c =
+    let before = table_of c.args.agent.now c.args.seated.now.items c.args.talks.now.items (record { coming = g.F.Fleet.coming c.args.fleet.now; served = g.F.Fleet.served c.args.fleet.now }) c.args.service in
+    let now = table_of c.args.agent.now c.sit_down.new.seated.items c.sit_down.new.talks.items (record { coming = g.F.Fleet.coming c.sit_down.new.fleet; served = g.F.Fleet.served c.sit_down.new.fleet }) c.args.service in
+    seats_kept (record { source = g.F.Guest.Source.told; sink = g.F.Guest.Sink.told }) before now c.args.place c.in-Ok.found c.with_place.result c.with_place.ensures c.requires.comes (c.in-Ok.ensures.sits c.args.agent.now)
+
+pub returns-in-Ok-clause-kept : goal.returns-in-Ok-clause-kept
+returns-in-Ok-clause-kept g c = seats_durable (g.D.Disk.told c.args.disk.now) c.args.place c.in-Ok.found c.with_place.result (holding c.args.agent.now) c.with_place.ensures c.requires.kept
+
+-- the disk is as it was
+pub returns-in-Ok-clause-any_moment : goal.returns-in-Ok-clause-any_moment
+returns-in-Ok-clause-any_moment g c = come_still g.D.Disk.told c.args.disk.now c.args.place (holding c.args.agent.now) (g.met.D.Disk.only_now c.args.disk.now) c.requires.kept
+
+pub returns-in-Err-clause-any_moment : goal.returns-in-Err-clause-any_moment
+returns-in-Err-clause-any_moment g c = come_still g.D.Disk.told c.args.disk.now c.args.place (holding c.args.agent.now) (g.met.D.Disk.only_now c.args.disk.now) c.requires.kept

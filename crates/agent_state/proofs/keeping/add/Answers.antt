@@ -1,5 +1,5 @@
 use Rattle.std.proofs.Common.{◌≡◌, ◌∙◌, ◌+◌, inl, ℕ, ap, length, refl, rules}
-use Rattle.agent_state.specs.Stored.{IsBeforeOrAfter, IsKept, home_of}
+use Rattle.agent_state.specs.Stored.{IsBeforeOrAfter, IsKept}
 use Rattle.agent_state.proofs.KeptFiles.{add_run, added, kept_reads}
 use Rattle.agent_state.proofs.Passages.{still_run}
 use Rattle.agent_state.proofs.keeping.add.Goals as goal

@@ -1,4 +1,4 @@
-use Rattle.std.proofs.Common.{◌∙◌, inl, inr, ℕ, List}
+use Rattle.std.proofs.Common.{inr, ℕ, List}
 use Rattle.switch_agent.specs.Items.{holding}
 use Rattle.agent_state.specs.Stored.{IsBeforeOrAfter, IsReadAs}
 use Rattle.agent_state.proofs.Passages.{chained_run}

@@ -1,6 +1,5 @@
 use Rattle.std.proofs.Common.{◌≡◌, ◌∙◌, ◌+◌, ℕ, ap, not, length, refl, rules, subst, sym}
 use Rattle.switch_agent.specs.Items.{holding}
-use Rattle.agent_state.specs.Renewals.{new_gate}
 use Rattle.agent_state.specs.Stored.{AreBytes, IsKept, IsReadAs, last_commands}
 use Rattle.agent_state.specs.declared.place.Place.{Place}
 use Rattle.agent_state.proofs.KeptFiles.{anew_run, kept_reads, renewed}

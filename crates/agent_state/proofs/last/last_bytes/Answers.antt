@@ -1,4 +1,4 @@
-use Rattle.std.proofs.Common.{◌≡◌, ◌+◌, Some, rules, arith}
+use Rattle.std.proofs.Common.{rules}
 use Rattle.agent_state.proofs.Lasts.{lasts-all, lasts-more}
 use Rattle.agent_state.proofs.last.last_bytes.Goals as goal
 

@@ -1,5 +1,4 @@
-use Rattle.std.proofs.Common.{◌≡◌, ◌-◌, ◌++◌, length, drop, take}
-use Rattle.std.specs.List.{All}
+use Rattle.std.proofs.Common.{◌-◌, length, take}
 use Rattle.agent_state.specs.Stored.{AreBytes, last_commands}
 use Rattle.agent_state.proofs.last.last_bytes.Given as goal
 

@@ -1,4 +1,4 @@
-use Rattle.std.proofs.Common.{rules, ◌≡◌, Bool, true, false, refl, subst, [], ◌∷◌, ◌∙◌}
+use Rattle.std.proofs.Common.{rules, ◌≡◌, Bool, true, false, refl, subst, [], ◌∷◌}
 use Rattle.agent_state.specs.Disks.{Holds}
 use Rattle.agent_state.specs.Opened.{IsFound, ReadsAlike}
 use Rattle.agent_state.specs.Stored.{IsKept}

@@ -1,7 +1,7 @@
 use Rattle.agent_state.specs.Opened.{IsBlank, ReadsAlike}
 use Rattle.agent_state.specs.Stored.{IsKept}
 use Rattle.wan_edge.specs.Switches.{holding_nothing}
-use Rattle.std.proofs.Common.{ap, length, ◌≡◌, ℕ, subst, List}
+use Rattle.std.proofs.Common.{ap, length, ◌≡◌, ℕ, subst}
 use Rattle.disk_model.specs.Writes.{Torn}
 use Rattle.agent_state.proofs.Openings.{blank_torn, made_done}
 use Rattle.agent_state.proofs.Passages.{write_holds, write_run}

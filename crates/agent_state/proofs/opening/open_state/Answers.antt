@@ -1,10 +1,10 @@
-use Rattle.std.proofs.Common.{rules, ◌≡◌, ◌∙◌, inl, inr, ℕ, List, Option, IfSome, refl, sym, subst, true, false}
+use Rattle.std.proofs.Common.{refl, sym, subst}
 use Rattle.switch_agent.specs.Items.{holding}
-use Rattle.wan_edge.specs.Switches.{Holdings, holding_nothing}
+use Rattle.wan_edge.specs.Switches.{Holdings}
 use Rattle.agent_state.specs.Disks.{Holds}
-use Rattle.agent_state.specs.Opened.{IsBlank, IsFound, IsRefused, ReadsAlike}
+use Rattle.agent_state.specs.Opened.{IsBlank, IsFound}
 use Rattle.agent_state.specs.Stored.{IsKept, IsReadAs}
-use Rattle.agent_state.proofs.Openings.{blank_reads, found_read, holds_read, nothing_read, quiet_run, read_told, then_alike}
+use Rattle.agent_state.proofs.Openings.{found_read, holds_read, nothing_read, quiet_run, read_told, then_alike}
 use Rattle.agent_state.proofs.opening.open_state.Goals as goal
 
 pub returns-in_err-image-clause-any_moment : goal.returns-in_err-image-clause-any_moment

@@ -1,4 +1,4 @@
-use Rattle.std.proofs.Common.{◌≡◌, ◌∙◌, ◌+◌, Some, take, drop, List, ℕ, sym, subst, rules}
+use Rattle.std.proofs.Common.{List, ℕ, subst, rules}
 use Rattle.switch_agent.specs.Items.{holding}
 use Rattle.agent_state.specs.Opened.{Restores}
 use Rattle.agent_state.proofs.Walked.{Walks-next, Walks-start}

@@ -1,5 +1,5 @@
 use Rattle.std.proofs.Common.{refl}
-use Rattle.swanroll_top.proofs.Following.{cut-rollout}
+use Rattle.text_commands.proofs.Following.{cut-rollout}
 use Rattle.swanroll_top.proofs.Leaving.{cut-leaves, input-leaves}
 use Rattle.swanroll_top.proofs.Opening.{opens-nothing}
 use Rattle.swanroll_top.proofs.Reporting.{cut-reports, report-no-guest, report-no-read, report-no-rollout, report-no-usage, short-reports}

@@ -1,4 +1,4 @@
-use Rattle.swanroll_top.specs.Runs.{IsInput}
+use Rattle.text_commands.specs.Runs.{IsInput}
 use Rattle.swanroll_top.proofs.Reaching.{held-rest}
 use Rattle.swanroll_top.proofs.laws.a_rollout_is_held_by_its_policy_alone.Goals as goal
 

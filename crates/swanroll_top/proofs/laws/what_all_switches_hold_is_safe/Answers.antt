@@ -1,4 +1,4 @@
-use Rattle.swanroll_top.specs.Runs.{IsInput}
+use Rattle.text_commands.specs.Runs.{IsInput}
 use Rattle.swanroll_top.proofs.Joining.{may-joined, told-joined}
 use Rattle.swanroll_top.proofs.laws.what_all_switches_hold_is_safe.Goals as goal
 

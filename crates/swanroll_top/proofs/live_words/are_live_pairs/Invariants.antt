@@ -1,6 +1,6 @@
 use Rattle.std.proofs.Common.{◌≡◌, map, string_bytes, length}
 use Rattle.swanroll_top.specs.LiveWords.{live_names}
-use Rattle.swanroll_top.specs.Words.{are_pairs}
+use Rattle.text_commands.specs.Words.{are_pairs}
 use Rattle.swanroll_top.proofs.live_words.are_live_pairs.Given as goal
 
 -- the words are pairs exactly where those that are left are

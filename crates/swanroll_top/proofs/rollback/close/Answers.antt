@@ -3,8 +3,8 @@ use Rattle.rollback_service.specs.Levellings.{MayStart}
 use Rattle.rollback_service.specs.declared.answer.LevelAnswer.{LevelAnswer}
 use Rattle.swanroll_top.specs.Rollbacks.{Closes}
 use Rattle.swanroll_top.specs.Rollouts.{may_end}
-use Rattle.swanroll_top.specs.declared.ending.Ending.TheVariants.{NotFinished, OutOfMemory}
-use Rattle.swanroll_top.specs.declared.unfinished.Unfinished.TheVariants.{PortFault}
+use Rattle.text_commands.specs.declared.ending.Ending.TheVariants.{NotFinished, OutOfMemory}
+use Rattle.text_commands.specs.declared.unfinished.Unfinished.TheVariants.{PortFault}
 use Rattle.swanroll_top.proofs.Outcomes.{stop-may}
 use Rattle.swanroll_top.proofs.Reverting.{stop-not-cut}
 use Rattle.swanroll_top.proofs.rollback.close.Goals as goal

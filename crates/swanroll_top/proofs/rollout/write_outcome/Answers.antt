@@ -1,5 +1,5 @@
 use Rattle.std.proofs.Common.{sym, subst}
-use Rattle.swanroll_top.specs.Runs.{Follows}
+use Rattle.text_commands.specs.Runs.{Follows}
 use Rattle.swanroll_top.proofs.Agents.{text-follows}
 use Rattle.swanroll_top.proofs.Outcomes.{err-disk, err-ends, err-not-cut, gives-follows, text-ends, text-not-disk}
 use Rattle.swanroll_top.proofs.rollout.write_outcome.Goals as goal

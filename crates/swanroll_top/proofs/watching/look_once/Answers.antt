@@ -1,4 +1,4 @@
-use Rattle.swanroll_top.specs.Reports.{rollout_in}
+use Rattle.text_commands.specs.Answers.{rollout_in}
 use Rattle.swanroll_top.proofs.LookingOn.{text-turn, textless-turn}
 use Rattle.swanroll_top.proofs.watching.look_once.Goals as goal
 

@@ -1,6 +1,6 @@
 use Rattle.std.proofs.Common.{List, ℕ, subst}
-use Rattle.swanroll_top.specs.Reports.{rollout_in}
-use Rattle.swanroll_top.specs.Runs.{Gives}
+use Rattle.text_commands.specs.Answers.{rollout_in}
+use Rattle.text_commands.specs.Runs.{Gives}
 use Rattle.swanroll_top.proofs.watching.plan_of.Goals as goal
 
 pub returns-in-Ok : goal.returns-in-Ok

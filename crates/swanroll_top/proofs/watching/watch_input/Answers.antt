@@ -1,5 +1,5 @@
 use Rattle.std.proofs.Common.{List, ℕ, subst, sym}
-use Rattle.swanroll_top.specs.Reports.{rollout_in}
+use Rattle.text_commands.specs.Answers.{rollout_in}
 use Rattle.swanroll_top.specs.Watches.{Wrote}
 use Rattle.swanroll_top.proofs.LookingOn.{wrote-more, wrote-none}
 use Rattle.swanroll_top.proofs.watching.watch_input.Goals as goal

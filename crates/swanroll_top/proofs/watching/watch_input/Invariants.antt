@@ -1,5 +1,5 @@
 -- Reports were written, each another one than the one before, and this one last.
-use Rattle.swanroll_top.specs.Reports.{rollout_in}
+use Rattle.text_commands.specs.Answers.{rollout_in}
 use Rattle.swanroll_top.specs.Watches.{Wrote}
 use Rattle.swanroll_top.proofs.watching.watch_input.Given as goal
 

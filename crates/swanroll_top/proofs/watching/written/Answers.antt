@@ -1,5 +1,5 @@
 use Rattle.std.proofs.Common.{List, ℕ, Ok, subst}
-use Rattle.swanroll_top.specs.Runs.{EndsWith}
+use Rattle.text_commands.specs.Runs.{EndsWith}
 use Rattle.swanroll_top.proofs.LookingOn.{written-turn}
 use Rattle.swanroll_top.proofs.watching.written.Goals as goal
 

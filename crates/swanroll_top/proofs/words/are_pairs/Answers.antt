@@ -1,6 +1,6 @@
 use Rattle.std.proofs.Common.{string_bytes, sym, ◌∙◌}
 use Rattle.swanroll_top.specs.Words.{names_of}
-use Rattle.swanroll_top.proofs.Pairs.{last-pairs}
+use Rattle.text_commands.proofs.Pairs.{last-pairs}
 use Rattle.swanroll_top.proofs.words.are_pairs.Goals as goal
 
 pub returns : goal.returns

@@ -1,5 +1,6 @@
 use Rattle.std.proofs.Common.{◌≡◌, map, string_bytes, length}
-use Rattle.swanroll_top.specs.Words.{names_of, are_pairs}
+use Rattle.text_commands.specs.Words.{are_pairs}
+use Rattle.swanroll_top.specs.Words.{names_of}
 use Rattle.swanroll_top.proofs.words.are_pairs.Given as goal
 
 -- the words are pairs exactly where those that are left are

@@ -1,7 +1,7 @@
 use Rattle.std.proofs.Common.{sym, ap, ◌∙◌}
 use Rattle.order_policy.specs.Named.{answers_in}
 use Rattle.swanroll_top.specs.Words.{kind_named}
-use Rattle.swanroll_top.proofs.Pairs.{first-asked}
+use Rattle.swanroll_top.proofs.FirstAsked.{first-asked}
 use Rattle.swanroll_top.proofs.words.command_of.Goals as goal
 
 pub returns-in_ok-kind_named-in-len1-up-clause-asked : goal.returns-in_ok-kind_named-in-len1-up-clause-asked

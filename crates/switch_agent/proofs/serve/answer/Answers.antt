@@ -1,5 +1,5 @@
 use Rattle.switch_agent.proofs.Chains.{carried_in_part, carried_one}
-use Rattle.switch_agent.proofs.SoFar.{no_room}
+use Rattle.switch_agent.proofs.Stops.{no_room}
 use Rattle.switch_agent.proofs.serve.answer.Goals as goal
 
 pub returns-in-Ok-write_all-clause-carried : goal.returns-in-Ok-write_all-clause-carried

@@ -1,5 +1,5 @@
 use Rattle.std.proofs.Common.{◌≡◌}
-use Rattle.switch_agent.proofs.SoFar.{fault_carried, none_carried}
+use Rattle.switch_agent.proofs.Stops.{fault_carried, none_carried}
 use Rattle.switch_agent.proofs.serve.serve_next.Goals as goal
 
 pub returns-in-Ok-default-None-clause-carried : goal.returns-in-Ok-default-None-clause-carried

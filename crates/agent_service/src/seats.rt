@@ -1,0 +1,247 @@
+//! The seats at which several guests are served at once: who sits down, who stays, and who leaves.
+ghost use Rattle.std.specs.Prelude.{◌≡◌, ◌+◌, ◌<◌, ◌≤◌, ◌^◌, false, length, true, vec_capacity, IfOk, OnErr};
+ghost use Rattle.agent_service.specs.Services.{LosesFirst, MakesRoom, SeatsNext, SitsFrom, after_leaving, back_behind, count_behind, guests_behind, most_seats, table_of, talks_behind};
+ghost use Rattle.switch_agent.specs.Items.{Items};
+ghost use Rattle.wan_edge.specs.Streams.{Rose};
+
+use crate::Service;
+use switch_agent::{Heard, Talk};
+use wan_edge::{Failed, Fleet};
+
+/// How many guests sit at once at most.
+pub(crate) const MOST_SEATS: usize = 64;
+
+/// The next guest sits down behind all others, or no more come. Where all seats are taken, the guest that
+/// has said nothing for longest leaves its own before.
+pub(crate) fn sit_down<F: Fleet>(
+    fleet: &mut F,
+    seated: &mut Vec<F::Guest>,
+    talks: &mut Vec<Talk>,
+    service: Service,
+) -> Result<Option<Service>, Failed>
+    requires even { length talks.old.items ≡ length seated.old.items }
+    requires few { length seated.old.items ≤ most_seats }
+    requires places { (most_seats ≤ vec_capacity seated.old)
+        × (most_seats ≤ vec_capacity talks.old) }
+    requires guests { service.guests + 1 < 2 ^ 32 }
+    requires refused { service.refused + 1 < 2 ^ 32 }
+    requires visiting { length seated.old.items ≤ F.visiting fleet.old }
+    ensures sits { IfOk result
+        (λ found. (items : Items)
+        → SeatsNext (record {
+          source = F.Guest.Source.told;
+          sink = F.Guest.Sink.told;
+        })
+        (table_of items seated.old.items talks.old.items
+        (record { coming = F.coming fleet.old; served = F.served fleet.old }) service) found
+        (table_of items seated.new.items talks.new.items
+        (record { coming = F.coming fleet.new; served = F.served fleet.new }) service)) }
+    ensures still { OnErr result
+        ((seated.new.items ≡ seated.old.items)
+        × (talks.new.items ≡ talks.old.items)
+        × (F.coming fleet.new ≡ F.coming fleet.old)
+        × (F.served fleet.new ≡ F.served fleet.old)) }
+    ensures places { (vec_capacity seated.new ≡ vec_capacity seated.old)
+        × (vec_capacity talks.new ≡ vec_capacity talks.old) }
+    ensures visiting { F.visiting fleet.new + length seated.old.items
+        ≡ F.visiting fleet.old + length seated.new.items }
+    ensures ports { (F.waiting fleet.new ≡ F.waiting fleet.old)
+        × (F.kept fleet.new ≡ F.kept fleet.old)
+        × (F.lent fleet.new ≡ F.lent fleet.old)
+        × (F.named fleet.new ≡ F.named fleet.old) }
+    ensures cause { OnErr result (Rose (F.faults fleet.old) (F.faults fleet.new)) }
+    ensures count { F.faults fleet.old ≤ F.faults fleet.new }
+{
+    let found = fleet.guest()?;
+    let Some(guest) = found else {
+        return Ok(None);
+    };
+    let now = seat(fleet, seated, talks, guest, service);
+    Ok(Some(now))
+}
+
+// A guest that came sits down behind all others.
+fn seat<F: Fleet>(
+    fleet: &mut F,
+    seated: &mut Vec<F::Guest>,
+    talks: &mut Vec<Talk>,
+    guest: F::Guest,
+    service: Service,
+) -> Service
+    requires even { length talks.old.items ≡ length seated.old.items }
+    requires few { length seated.old.items ≤ most_seats }
+    requires places { (most_seats ≤ vec_capacity seated.old)
+        × (most_seats ≤ vec_capacity talks.old) }
+    requires guests { service.guests + 1 < 2 ^ 32 }
+    requires refused { service.refused + 1 < 2 ^ 32 }
+    requires visiting { length seated.old.items ≤ F.visiting fleet.old }
+    ensures sits { (items : Items)
+        → SitsFrom
+        (table_of items seated.old.items talks.old.items
+        (record { coming = F.coming fleet.old; served = F.served fleet.old }) service) guest
+        (table_of items seated.new.items talks.new.items
+        (record { coming = F.coming fleet.new; served = F.served fleet.new }) result) }
+    ensures coming { F.coming fleet.new ≡ F.coming fleet.old }
+    ensures places { (vec_capacity seated.new ≡ vec_capacity seated.old)
+        × (vec_capacity talks.new ≡ vec_capacity talks.old) }
+    ensures visiting { F.visiting fleet.new + length seated.old.items + 1
+        ≡ F.visiting fleet.old + length seated.new.items }
+    ensures ports { (F.waiting fleet.new ≡ F.waiting fleet.old)
+        × (F.kept fleet.new ≡ F.kept fleet.old)
+        × (F.lent fleet.new ≡ F.lent fleet.old)
+        × (F.named fleet.new ≡ F.named fleet.old) }
+    ensures count { F.faults fleet.old ≤ F.faults fleet.new }
+{
+    let now = make_room(fleet, seated, talks, service);
+    let talk = Talk::new();
+    seated.push_reserved(guest);
+    talks.push_reserved(talk);
+    now
+}
+
+// Where all seats are taken, the guest that has said nothing for longest leaves: it is the first.
+fn make_room<F: Fleet>(
+    fleet: &mut F,
+    seated: &mut Vec<F::Guest>,
+    talks: &mut Vec<Talk>,
+    service: Service,
+) -> Service
+    requires even { length talks.old.items ≡ length seated.old.items }
+    requires few { length seated.old.items ≤ most_seats }
+    requires guests { service.guests + 1 < 2 ^ 32 }
+    requires refused { service.refused + 1 < 2 ^ 32 }
+    requires visiting { length seated.old.items ≤ F.visiting fleet.old }
+    ensures room { (items : Items)
+        → MakesRoom
+        (table_of items seated.old.items talks.old.items
+        (record { coming = F.coming fleet.old; served = F.served fleet.old }) service)
+        (table_of items seated.new.items talks.new.items
+        (record { coming = F.coming fleet.old; served = F.served fleet.new }) result) }
+    ensures coming { F.coming fleet.new ≡ F.coming fleet.old }
+    ensures free { (length seated.new.items < most_seats)
+        × (length talks.new.items ≡ length seated.new.items) }
+    ensures places { (vec_capacity seated.new ≡ vec_capacity seated.old)
+        × (vec_capacity talks.new ≡ vec_capacity talks.old) }
+    ensures visiting { F.visiting fleet.new + length seated.old.items
+        ≡ F.visiting fleet.old + length seated.new.items }
+    ensures ports { (F.waiting fleet.new ≡ F.waiting fleet.old)
+        × (F.kept fleet.new ≡ F.kept fleet.old)
+        × (F.lent fleet.new ≡ F.lent fleet.old)
+        × (F.named fleet.new ≡ F.named fleet.old) }
+    ensures count { F.faults fleet.old ≤ F.faults fleet.new }
+{
+    if is_full(seated.as_slice()) {
+        return lose_first(fleet, seated, talks, service);
+    }
+    service
+}
+
+// Whether all seats are taken.
+fn is_full<G>(seated: &[G]) -> bool
+    ensures yes { result ≡ true → most_seats ≤ length seated.now }
+    ensures no { result ≡ false → length seated.now < most_seats }
+{
+    if seated.len() < MOST_SEATS {
+        return false;
+    }
+    true
+}
+
+// The first of those that sit leaves, and is refused.
+fn lose_first<F: Fleet>(
+    fleet: &mut F,
+    seated: &mut Vec<F::Guest>,
+    talks: &mut Vec<Talk>,
+    service: Service,
+) -> Service
+    requires full { length seated.old.items ≡ most_seats }
+    requires even { length talks.old.items ≡ length seated.old.items }
+    requires guests { service.guests + 1 < 2 ^ 32 }
+    requires refused { service.refused + 1 < 2 ^ 32 }
+    requires visiting { 0 < F.visiting fleet.old }
+    ensures lost { (items : Items)
+        → LosesFirst
+        (table_of items seated.old.items talks.old.items
+        (record { coming = F.coming fleet.old; served = F.served fleet.old }) service)
+        (table_of items seated.new.items talks.new.items
+        (record { coming = F.coming fleet.old; served = F.served fleet.new }) result) }
+    ensures coming { F.coming fleet.new ≡ F.coming fleet.old }
+    ensures free { (length seated.new.items + 1 ≡ length seated.old.items)
+        × (length talks.new.items + 1 ≡ length talks.old.items) }
+    ensures places { (vec_capacity seated.new ≡ vec_capacity seated.old)
+        × (vec_capacity talks.new ≡ vec_capacity talks.old) }
+    ensures visiting { F.visiting fleet.new + 1 ≡ F.visiting fleet.old }
+    ensures ports { (F.waiting fleet.new ≡ F.waiting fleet.old)
+        × (F.kept fleet.new ≡ F.kept fleet.old)
+        × (F.lent fleet.new ≡ F.lent fleet.old)
+        × (F.named fleet.new ≡ F.named fleet.old) }
+    ensures count { F.faults fleet.old ≤ F.faults fleet.new }
+{
+    let first = seated.remove(0);
+    let talk = talks.remove(0);
+    drop(talk);
+    fleet.keep_guest(first);
+    service.with_refused()
+}
+
+/// A guest that was read sits behind all others, where it is read further; else it is given back.
+pub(crate) fn settle<F: Fleet>(
+    fleet: &mut F,
+    seated: &mut Vec<F::Guest>,
+    talks: &mut Vec<Talk>,
+    guest: F::Guest,
+    heard: Heard,
+    service: Service,
+) -> Service
+    requires places { (length seated.old.items < vec_capacity seated.old)
+        × (length talks.old.items < vec_capacity talks.old) }
+    requires guests { service.guests + 1 < 2 ^ 32 }
+    requires commands { service.commands + heard.served.commands < 2 ^ 64 }
+    requires refused { service.refused + 1 < 2 ^ 32 }
+    requires visiting { 0 < F.visiting fleet.old }
+    ensures seated { seated.new.items ≡ guests_behind seated.old.items guest heard.talk }
+    ensures talks { talks.new.items ≡ talks_behind talks.old.items heard.talk }
+    ensures back { F.served fleet.new ≡ back_behind (F.served fleet.old) guest heard.talk }
+    ensures counted { result ≡ count_behind service heard.served heard.talk }
+    ensures coming { F.coming fleet.new ≡ F.coming fleet.old }
+    ensures places { (vec_capacity seated.new ≡ vec_capacity seated.old)
+        × (vec_capacity talks.new ≡ vec_capacity talks.old) }
+    ensures visiting { F.visiting fleet.new + length seated.old.items + 1
+        ≡ F.visiting fleet.old + length seated.new.items }
+    ensures ports { (F.waiting fleet.new ≡ F.waiting fleet.old)
+        × (F.kept fleet.new ≡ F.kept fleet.old)
+        × (F.lent fleet.new ≡ F.lent fleet.old)
+        × (F.named fleet.new ≡ F.named fleet.old) }
+    ensures count { F.faults fleet.old ≤ F.faults fleet.new }
+{
+    let Heard { served, talk } = heard;
+    match talk {
+        Some(talk) => {
+            seated.push_reserved(guest);
+            talks.push_reserved(talk);
+            service.with_commands(served.commands)
+        }
+        None => {
+            fleet.keep_guest(guest);
+            service.with_guest(served)
+        }
+    }
+}
+
+/// Gives all back that sit, from the one that spoke last on. It takes no memory.
+pub(crate) fn keep_seated<F: Fleet>(fleet: &mut F, mut seated: Vec<F::Guest>)
+    requires { length seated.items ≤ F.visiting fleet.old }
+    ensures back { F.served fleet.new ≡ after_leaving (F.served fleet.old) seated.items }
+    ensures coming { F.coming fleet.new ≡ F.coming fleet.old }
+    ensures visiting { F.visiting fleet.new + length seated.items ≡ F.visiting fleet.old }
+    ensures ports { (F.waiting fleet.new ≡ F.waiting fleet.old)
+        × (F.kept fleet.new ≡ F.kept fleet.old)
+        × (F.lent fleet.new ≡ F.lent fleet.old)
+        × (F.named fleet.new ≡ F.named fleet.old) }
+    ensures count { F.faults fleet.old ≤ F.faults fleet.new }
+{
+    while let Some(guest) = seated.pop() {
+        fleet.keep_guest(guest);
+    }
+    seated.destroy_empty();
+}

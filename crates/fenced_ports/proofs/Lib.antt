@@ -1,0 +1,5 @@
+pub mod Sifted
+pub mod Framed
+pub mod Standing
+pub mod Lending
+pub mod Floors

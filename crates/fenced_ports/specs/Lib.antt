@@ -1,0 +1,6 @@
+pub mod Histories
+pub mod Parts
+pub mod Sieves
+pub mod Framing
+pub mod FencedPorts
+pub mod Ledgers

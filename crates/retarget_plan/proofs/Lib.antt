@@ -1,0 +1,11 @@
+pub mod Divisors
+pub mod Sizes
+pub mod Goings
+pub mod OldSides
+pub mod Beginnings
+pub mod Sheds
+pub mod Looked
+pub mod Found
+pub mod Copied
+pub mod Leavings
+pub mod Holdings

@@ -1,0 +1,6 @@
+pub mod Units
+pub mod Left
+pub mod Standing
+pub mod Leaving
+pub mod Copies
+pub mod Shedding

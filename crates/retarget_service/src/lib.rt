@@ -1,0 +1,12 @@
+//! The problem that a rollout leaves, as a text, by the bytes of its journal.
+//!
+//! [`left_by`] reads the journal over a disk in memory, as it is opened for a rollout, and writes on no other; what
+//! its history leaves is that of `retarget_plan`. An operator who has it may choose another new split and go on
+//! with the next migration.
+#![tactic(auto)]
+
+mod by_journal;
+mod unwritten;
+
+pub use by_journal::left_by;
+pub use unwritten::Unwritten;

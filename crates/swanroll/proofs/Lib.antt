@@ -1,2 +1,0 @@
-mod Boxes
-mod Ceilings

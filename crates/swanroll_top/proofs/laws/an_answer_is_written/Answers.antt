@@ -1,5 +1,0 @@
-use Rattle.swanroll_top.proofs.Complete.{answer-written}
-use Rattle.swanroll_top.proofs.laws.an_answer_is_written.Goals as goal
-
-pub returns : goal.returns
-returns c = λ asked before after status input. answer-written asked before after status input

@@ -1,5 +1,0 @@
-use Rattle.swanroll_top.proofs.Complete.{none-exists}
-use Rattle.swanroll_top.proofs.laws.where_none_exists_there_is_no_valid_plan.Goals as goal
-
-pub returns : goal.returns
-returns c = none-exists

@@ -1,8 +1,0 @@
-use Rattle.swanroll_top.proofs.Answering.{no-write-fault, no-done}
-use Rattle.swanroll_top.proofs.run.write_answer.Goals as goal
-
-pub returns-in-Err-clause-cause : goal.returns-in-Err-clause-cause
-returns-in-Err-clause-cause g c = λ e. absurd (no-write-fault _ _ (rw e at c.in-Err.ensures.gives))
-
-pub returns-in-Err-clause-safe : goal.returns-in-Err-clause-safe
-returns-in-Err-clause-safe g c = λ e. absurd (no-done _ _ (rw e at c.in-Err.ensures.gives))

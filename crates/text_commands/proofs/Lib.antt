@@ -1,0 +1,16 @@
+pub mod Steps
+pub mod Planned
+pub mod Documents
+pub mod Claims
+pub mod Leasts
+pub mod Commands
+pub mod Answering
+pub mod Refused
+pub mod Inputs
+pub mod Following
+pub mod Statuses
+pub mod Programs
+pub mod KeptTexts
+pub mod Complete
+pub mod Digits
+pub mod Pairs

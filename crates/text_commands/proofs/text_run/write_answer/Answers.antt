@@ -1,0 +1,8 @@
+use Rattle.text_commands.proofs.Answering.{no-write-fault, no-done}
+use Rattle.text_commands.proofs.text_run.write_answer.Goals as goal
+
+pub returns-in-Err-clause-cause : goal.returns-in-Err-clause-cause
+returns-in-Err-clause-cause g c = λ e. absurd (no-write-fault _ _ (rw e at c.in-Err.ensures.gives))
+
+pub returns-in-Err-clause-safe : goal.returns-in-Err-clause-safe
+returns-in-Err-clause-safe g c = λ e. absurd (no-done _ _ (rw e at c.in-Err.ensures.gives))

@@ -1,0 +1,12 @@
+use Rattle.std.proofs.lemmas.Result.{err_from_is_err_and}
+use Rattle.text_commands.proofs.Commands.{plan-refuses, plan-answers, read-plans-safely}
+use Rattle.text_commands.proofs.texts.plan.plan.Goals as goal
+
+pub returns-in_err-problem-clause-gives : goal.returns-in_err-problem-clause-gives
+returns-in_err-problem-clause-gives c = let p = err_from_is_err_and c.from_residual.result c.from_residual.ensures.1 in rw (p.1, p.2) (plan-refuses _ _ _ c.in_err-problem.ensures)
+
+pub returns-clause-gives : goal.returns-clause-gives
+returns-clause-gives c = rw (plan-answers _ _ _ c.in_ok-problem.ensures) c.planned.ensures.gives
+
+pub returns-clause-safe : goal.returns-clause-safe
+returns-clause-safe c = read-plans-safely _ _ _ c.planned.result c.in_ok-problem.ensures c.planned.ensures.safe
