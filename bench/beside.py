@@ -1,5 +1,5 @@
-"""Times `swanroll plan` on the largest problem that takes 63 steps beside an unverified fast program: the whole, and what lies behind reading,
-which is the whole less a run on the same problem that is refused right behind reading.
+"""Times `swanroll plan` on the largest problem that takes 63 steps beside an unverified fast program: the whole, and what comes after reading,
+which is the whole less a run on the same problem that is refused right after reading.
 
     python3 bench/beside.py PROGRAM [--runs N]
 
@@ -42,8 +42,8 @@ def main():
     (ours, ours_read), (theirs, theirs_read) = ([least[program, path] for path in inputs] for program in programs)
     print(f"beside: plan in 63 steps: {ours:.3f} s of the processor beside {theirs:.3f} s, {ours / theirs:.1f} times; {peaks[0]} beside {peaks[1]}")
     print(f"beside: reading: {ours_read:.3f} s beside {theirs_read:.3f} s, {ours_read / theirs_read:.1f} times")
-    behind, other = ours - ours_read, theirs - theirs_read
-    print(f"beside: behind reading: {behind:.3f} s beside {other:.3f} s, {behind / other:.1f} times")
+    after, other = ours - ours_read, theirs - theirs_read
+    print(f"beside: after reading: {after:.3f} s beside {other:.3f} s, {after / other:.1f} times")
 
 
 if __name__ == "__main__":

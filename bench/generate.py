@@ -6,7 +6,7 @@ The largest has every count at its limit: 1,024 switches, 2,048 links, 1,024 flo
 128 bytes. With --share N each count of rows is an N-th of that. With --stages it is a document whose plan has so many stages, which go from the
 old rates to the new ones in equal steps. With --slack K the rates are large and each link has the least capacity of which both loads leave
 a K-th free, so that it takes K - 1 steps where no linear program is small enough. With --refused the first link has no capacity, so that the
-problem is refused right behind reading.
+problem is refused right after reading.
 """
 
 import argparse

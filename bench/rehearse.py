@@ -12,7 +12,7 @@ import tempfile
 
 from measure import HERE, peak_memory, run_once
 
-# How many flows and events, without a start, and with one behind each crash and stop.
+# How many flows and events, without a start, and with one after each crash and stop.
 SIZES = [(20, 2500), (20, 5000), (20, 10000), (20, 20000), (40, 10000), (80, 10000), (160, 10000)]
 CASES = [(*size, "steady") for size in SIZES] + [(20, 2500, "mixture"), (20, 10000, "mixture")]
 

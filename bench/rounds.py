@@ -25,7 +25,7 @@ BESIDE = [
     ("20 flows of 16 tunnels of 16 links, 62 steps", dict(flows=20, events=400, steps=62, tunnels=16, links=16, script="lockstep"), 5),
 ]
 # What opens its journal again and again: each start is a recovery, which the other program doesn't make, so it has no aim.
-STARTS = ("200 flows, 65 steps, 10,000 events, a start behind each crash and stop", dict(flows=200, events=10000, steps=65))
+STARTS = ("200 flows, 65 steps, 10,000 events, a start after each crash and stop", dict(flows=200, events=10000, steps=65))
 # Cases that differ in one size, and how much faster than it the time may grow.
 GROWTH = [
     ("flows", [dict(flows=flows, events=10000, steps=62, script="steady") for flows in (128, 1024)], lambda few, many: many / few * math.log(many) / math.log(few)),

@@ -7,11 +7,13 @@ _swanroll_options() {
         sim) echo --policy ;;
         rehearse) echo --seed --events --policy ;;
         trial) echo --k --switches --flows --seed --events --policy ;;
-        run) echo --workers --rounds --policy --migration ;;
+        run) echo --workers --rounds --policy --migration --term ;;
+        takeover) echo --term --workers --rounds --policy --migration ;;
         drain) echo --workers --rounds --migration ;;
         rollback) echo --workers --rounds --migration --from ;;
         report) echo --live --follow --migration ;;
         left) echo --migration ;;
+        retarget) echo --planner --shed --migration ;;
         held) echo --rounds ;;
         agent) echo --guests ;;
     esac
@@ -22,7 +24,7 @@ _swanroll() {
     if [[ $before == [\<\>]* ]]; then
         : # a file, by the default
     elif [ "$COMP_CWORD" -eq 1 ]; then
-        words="plan check loads explain back least sim rehearse trial run drain rollback report left held agent"
+        words="plan check loads explain back least sim rehearse trial run takeover drain rollback report left retarget held agent"
     elif [ "$before" = --policy ]; then
         words="critical order freeze"
     elif [ "$before" = --planner ]; then

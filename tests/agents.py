@@ -1,6 +1,6 @@
 """The command `agent` over loopback: controllers connect to the built program one after the other, send commands cut anywhere, and read the
-answers. Without a reference these are worked cases, the agent rule, commands cut at each byte, and cut off there, what begins no command, the longest guest, the words,
-and addresses at which nothing can listen; with one, drawn guests, of which answers, the line at the end and the status are compared with it.
+answers. Without a reference these are worked cases, the agent rule, commands with terms, commands cut at each byte, and cut off there, what begins no command, the
+longest guest, the words, and addresses at which nothing can listen; with one, drawn guests, of which answers, the line at the end and the status are compared with it.
 
     python3 tests/agents.py PROGRAM [REFERENCE]
 """
@@ -14,7 +14,7 @@ import sys
 import threading
 import time
 
-from switches import ANSWER_BYTES, answer
+from switches import ANSWER_BYTES, answer, next_command
 
 sys.path.insert(0, os.path.join(os.path.dirname(os.path.abspath(__file__)), "..", "bench"))
 from agent_streams import command, commands, ending, ENDS, LONG, MOST_RATES  # noqa: E402
@@ -27,6 +27,20 @@ RULE = {
     3: [((2, 0), (0, 0)), ((2, 4), (2, 4)), ((1, 5), (2, 4)), ((3, 0), (2, 4)), ((3, 1), (3, 1))],
     2 ** 32 - 1: [((2 ** 32 - 1, 2 ** 32 - 1), (2 ** 32 - 1, 2 ** 32 - 1)), ((2 ** 32 - 1, 0), (2 ** 32 - 1, 2 ** 32 - 1))],
 }
+
+# What a fenced agent reads and writes, command by command: a probe of term 2, a command without a term, one of term 2, and a late one of term 1.
+FENCED = [
+    ("46 00000002 4D 00000000 00000000 00000000 00000001 01 0000000000000000", "46 00000002 4E 00000000 00000000 00000000"),
+    ("4D 00000000 00000000 00000001 00000001 01 0000000000000000", "4E 00000000 00000000 00000000"),
+    ("46 00000002 4D 00000000 00000000 00000001 00000001 01 0000000000000000", "46 00000002 4E 00000000 00000000 00000001"),
+    ("46 00000001 4D 00000000 00000000 00000002 00000001 01 0000000000000000", "46 00000002 4E 00000000 00000000 00000001"),
+]
+FENCED = [(bytes.fromhex(said), bytes.fromhex(told)) for said, told in FENCED]
+
+
+def with_term(number, frame):
+    """A command that names this term, and an answer that tells this floor."""
+    return b"F" + number.to_bytes(4, "big") + frame
 
 
 def held_port():
@@ -124,6 +138,57 @@ def ruled(program):
         yield f"items {name}", answers == [b"".join(told for _, told in talk)] and end[0] == 0
 
 
+def fenced(program):
+    """The rows of a fenced agent, whole, each by a guest of its own, and byte by byte."""
+    said, told = b"".join(row[0] for row in FENCED), b"".join(row[1] for row in FENCED)
+    answers, end = served(program, [said])
+    yield "the rows whole", answers == [told] and end == (0, "agent: guests 1, commands 4, refused 0\n", "")
+    answers, end = served(program, [row[0] for row in FENCED], ("--guests", "4"))
+    yield "each by a guest of its own", answers == [row[1] for row in FENCED] and end == (0, "agent: guests 4, commands 4, refused 0\n", "")
+    with started(program) as (held, agent):
+        with connected(held, agent) as guest:
+            guest.setsockopt(socket.IPPROTO_TCP, socket.TCP_NODELAY, 1)
+            guest.settimeout(PATIENCE)
+            for number, (row, answered) in enumerate(FENCED):
+                for at in range(len(row)):
+                    guest.sendall(row[at:at + 1])
+                    time.sleep(0.001)
+                yield f"row {number} byte by byte", guest.recv(len(answered), socket.MSG_WAITALL) == answered
+        yield "the line behind the bytes", ended(agent) == (0, "agent: guests 1, commands 4, refused 0\n", "")
+
+
+def terms(program):
+    """Terms from 0 to the highest, rising and late, with plain commands between; commands with a term that are cut at each byte; and what is cut off."""
+    top = 2 ** 32 - 1
+    talk, floor, number = [], 0, 0
+    for term in (0, None, 1, 1, 0, None, 3, 2, 70000, 3, None, top, 70000, top, None):
+        takes = (term or 0) >= floor
+        floor, number = (term or 0, number + 1) if takes else (floor, number)
+        said, told = command(1, 9, number if takes else number + 1, 3, [number]), answer(1 if number else 0, 9, number)
+        talk.append((said, told) if term is None else (with_term(term, said), with_term(floor, told)))
+    answers, end = served(program, [b"".join(said for said, _ in talk)])
+    yield "rising and late", answers == [b"".join(told for _, told in talk)] and end == (0, f"agent: guests 1, commands {len(talk)}, refused 0\n", "")
+    with started(program) as (held, agent):
+        with connected(held, agent) as guest:
+            guest.setsockopt(socket.IPPROTO_TCP, socket.TCP_NODELAY, 1)
+            guest.settimeout(PATIENCE)
+            length = len(with_term(0, command(1, 1, 1, 1, [6, 7])))
+            for at in range(1, length):
+                said, told = with_term(at, command(1, at, 1, 1, [6, 7])), with_term(at, answer(1, at, 1))
+                guest.sendall(said[:at])
+                time.sleep(0.001)
+                guest.sendall(said[at:])
+                yield f"a term, cut at {at}", guest.recv(len(told), socket.MSG_WAITALL) == told
+        yield "all that were cut", ended(agent) == (0, f"agent: guests 1, commands {length - 1}, refused 0\n", "")
+    said = with_term(7, command(1, 1, 1, 1, [6, 7]))
+    answers, end = served(program, [said[:length] for length in range(len(said))] + [command(0, 1, 1, 1, [6])], ("--guests", str(len(said) + 1)))
+    yield "what is cut off raises nothing", answers == [b""] * len(said) + [answer(0, 1, 1)] and end == (0, f"agent: guests {len(said) + 1}, commands 1, refused 0\n", "")
+    bad = [with_term(9, bytes([kind]) + b"more") for kind in (0, 0x41, 0x43, 0x44, 0x46, 0x4E, 0xFF)] + [with_term(9, command(0, 3, 2, 1, [5], count=count)) for count in (0, 17, 255)]
+    good, told = command(0, 3, 1, 1, [6]), answer(0, 3, 1)
+    answers, end = served(program, [good + one + good for one in bad] + [command(0, 3, 2, 1, [6])], ("--guests", str(len(bad) + 1)))
+    yield "no command behind a term", answers == [told] * len(bad) + [answer(0, 3, 2)] and end == (0, f"agent: guests {len(bad) + 1}, commands {len(bad) + 1}, refused {len(bad)}\n", "")
+
+
 def cut(program):
     """A command of 1, 2 or 16 rates in two pieces, cut at each byte: it is answered before anything more is said."""
     with started(program) as (held, agent):
@@ -198,17 +263,28 @@ def words(program):
         yield given, (done.returncode, done.stdout, done.stderr) == usage
 
 
+def drawn_terms(rng, data):
+    """The same commands, some of them with a term: around one that rises, or any."""
+    found, term, share = b"", 0, rng.choice((0, 0.3, 1))
+    while data:
+        _, length = next_command(data)
+        if rng.random() < 0.1:
+            term = min(term + rng.choice((1, 1, rng.randrange(1000), rng.randrange(2 ** 32))), 2 ** 32 - 1)
+        head = with_term(rng.choice((term, term, rng.randint(0, term))), b"") if rng.random() < share else b""
+        found, data = found + head + data[:length], data[length:]
+    return found
+
+
 def drawn(program, reference):
     """Guests with drawn commands, whole and broken off, beside the reference."""
     sys.dont_write_bytecode = True
     sys.path.insert(0, os.path.abspath(reference))
     from oracle import agent, features
 
-    plain = features.EVERYTHING.changed("-term")
     rng = random.Random(5)
     for run in range(RUNS):
-        guests = [commands(rng)[0] + ending(rng, rng.choice(ENDS)) for _ in range(rng.choice((1, 2, 3, 8)))]
-        wanted, line = agent.serve_guests(guests, plain)
+        guests = [drawn_terms(rng, commands(rng)[0]) + ending(rng, rng.choice(ENDS)) for _ in range(rng.choice((1, 2, 3, 8)))]
+        wanted, line = agent.serve_guests(guests, features.EVERYTHING)
         answers, end = served(program, guests, ("--guests", str(len(guests))), run)
         # also where a guest is refused, the answers to what it sent before reach it
         yield f"drawn {run}", answers == wanted and end == (0, line, "")
@@ -216,7 +292,7 @@ def drawn(program, reference):
 
 def main():
     program = sys.argv[1]
-    kinds = [drawn(program, sys.argv[2])] if len(sys.argv) > 2 else [kind(program) for kind in (worked, ruled, cut, dropped, frames, long, without_guests, words)]
+    kinds = [drawn(program, sys.argv[2])] if len(sys.argv) > 2 else [kind(program) for kind in (worked, ruled, fenced, terms, cut, dropped, frames, long, without_guests, words)]
     cases = [case for kind in kinds for case in kind]
     wrong = [name for name, right in cases if not right]
     print(f"agents: {len(cases)} cases, {len(wrong)} wrong")

@@ -2,7 +2,7 @@
 
     python3 tests/growths.py [PROGRAM]
 
-With the program: `plan`, `check`, `sim`, `rehearse`, `trial`, `report`, `report --live`, `left`, `run`, `drain`, `rollback`, `held` and `agent` over small inputs end as they would, or with status 12 and its line, and with nothing else; the
+With the program: `plan`, `check`, `sim`, `rehearse`, `trial`, `report`, `report --live`, `left`, `retarget`, `run`, `drain`, `rollback`, `held` and `agent` over small inputs end as they would, or with status 12 and its line, and with nothing else; the
 journal of a `run` has what its switches carried out, and the next start goes on to the end; a `drain` is given again, and a `rollback` is gone on with by the journal that is there; where a worker's thread can't be started, the others serve its ports. Without: the calls of a journal, made by `measure journal` (which has to be
 built, by `rt run -- linear < stdin` in its folder), and whether each image that is left is still a journal with the list before or after the batch, or with the journal
 that was placed. A few lines of C that refuse one allocation or thread stand before the C library's; where there is no C compiler nothing is tried, and it is said.
@@ -22,8 +22,9 @@ from agents import PATIENCE, command, connected, exchange, held_port
 from carried import Items
 from drains import drained, goes_on
 from from_here import gone_on as gone_on_from_here
-from journal_files import BEGIN, entries_in
+from journal_files import BEGIN, entries_in, text_of
 from named import EXCHANGE, FULL_TABLES, ONE, TWO, read
+from new_targets import target
 from outcomes import report
 from rollbacks import came_to, gone_on, journal, taken_back
 from rolling import finished, planned, rollout, same
@@ -266,6 +267,25 @@ def reports_of(one, refusing, words):
     yield f"{words} after all of them", None if one.run(words) == whole else "another text"
 
 
+def targets(program, refusing):
+    """Another target, from the first moment of a rollout: the journal is the old one or the new one, and what was written is whole or nothing."""
+    text = text_of(dict(TWO, target=target(TWO, [tunnel["old"] for tunnel in Items(TWO).tunnels])))
+    image = journal(TWO, [])
+    with rollout(program, TWO, image) as one:
+        whole = one.run("retarget", refusing.environment(0, one.environment), text)
+        placed, count = one.image(), refusing.count()
+    with rollout(program, TWO, image) as one:
+        before = one.run("report", one.environment, text_of(TWO))
+    for refused in range(1, count + 1):
+        with rollout(program, TWO, image) as one:
+            end = one.run("retarget", refusing.environment(refused, one.environment), text)
+            right = end == whole or end in ((8, "", "journal device fault\n"), (8, whole[1], "journal device fault\n")) or end[0] == 12 and end[1] in ("", whole[1])
+            yield f"allocation {refused} of retarget", None if right else f"{end}"
+            left = one.image()
+            right = left == placed or end[0] != 0 and (left == image or one.run("report", one.environment, text_of(TWO)) == before)
+            yield f"allocation {refused} of retarget, the journal", None if right else f"{end}: neither the old journal nor the new one"
+
+
 def agents(program, refusing):
     """An agent at which one allocation is refused answers what it carried out, and says how it ended."""
     data = b"".join(command(0, item, 1, 2, [6]) for item in range(4))
@@ -300,7 +320,7 @@ def outcomes(program):
         if program is None:
             yield from journals(refusing)
             return
-        for kind in (texts, reports, rollouts, drains, taken, holdings, threads, agents):
+        for kind in (texts, reports, targets, rollouts, drains, taken, holdings, threads, agents):
             yield from kind(program, refusing)
 
 

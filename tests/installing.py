@@ -125,7 +125,7 @@ def completions(house):
         return sorted(done.stdout.split()) if (done.returncode, done.stderr) == (0, "") else done.stderr
 
     yield "the commands", same(completed(""), sorted(commands()))
-    yield "the commands by their first letter", same(completed("r"), ["rehearse", "report", "rollback", "run"])
+    yield "the commands by their first letter", same(completed("r"), ["rehearse", "report", "retarget", "rollback", "run"])
     for command, names in options_of().items():
         yield f"the options of {command}", same(completed(command, ""), names)
         if names:

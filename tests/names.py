@@ -10,6 +10,7 @@ import re
 from outcomes import report
 
 TOP = os.path.join(os.path.dirname(os.path.abspath(__file__)), "..")
+WORDS_APART = ("crates/swanroll_top/src/left_words.rt", "crates/retarget_top/src/words.rt")
 DOCUMENTS = ["docs/COMMANDS.md", "docs/TEXTS.md", "bin/help.txt"]
 
 # Names that stand for others in a document, and those of other people's protocols and of the toolchain's modules.
@@ -30,7 +31,7 @@ def codes_of_words():
 def commands():
     """The words of the commands, as the code has them."""
     found = [name for code in codes_of_words() for name in re.findall(r'^\s*"([a-z]+)" => Some\((?:Text)?Kind::', code, re.M)]
-    return found + re.findall(r'word == "([a-z]+)"', text("crates/swanroll_top/src/left_words.rt"))
+    return found + [name for path in (*WORDS_APART, "crates/takeover_top/src/taking_words.rt") for name in re.findall(r'word == "([a-z]+)"', text(path))]
 
 
 def live_options():
@@ -38,8 +39,13 @@ def live_options():
     return re.findall(r'"(--[a-z]+)"', text("crates/swanroll_top/src/live_words.rt"))
 
 
+def taking_options():
+    """Those of a takeover, whose words are read apart; its term is the only one that `run` takes besides its own."""
+    return re.findall(r'"(--[a-z]+)"', re.search(r"^fn takes\(.*?^}", text("crates/takeover_top/src/taking_words.rt"), re.M | re.S).group())
+
+
 def options():
-    return sorted(set(re.findall(r'"(--[a-z]+)"', "".join(codes_of_words())) + live_options()))
+    return sorted(set(re.findall(r'"(--[a-z]+)"', "".join(codes_of_words() + [text(path) for path in WORDS_APART])) + live_options() + taking_options()))
 
 
 def options_of():
@@ -51,7 +57,10 @@ def options_of():
     taken = {kind.lower(): re.findall(r'"(--[a-z]+)"', arm) + ("names_a_number" in arm) * numbers for kinds, arm in arms for kind in re.findall(r"Kind::(\w+)", kinds)}
     del taken["text"]
     taken["report"] = list({*taken["report"], *live_options()})
-    taken["left"] = re.findall(r'"(--[a-z]+)"', text("crates/swanroll_top/src/left_words.rt"))
+    for name, path in zip(("left", "retarget"), WORDS_APART):
+        taken[name] = re.findall(r'"(--[a-z]+)"', re.search(r"^fn takes\(.*?^}", text(path), re.M | re.S).group())
+    taken["takeover"] = taking_options()
+    taken["run"] = list({*taken["run"], *re.findall(r'"(--[a-z]+)"', text("crates/takeover_top/src/term_words.rt"))})
     return {command: sorted(names) for command, names in taken.items()}
 
 
@@ -78,7 +87,7 @@ def crates():
 def statuses():
     """The exit statuses of the code."""
     bodies = [re.search(r"pub fn status\(.*?\n    }\n", text(f"crates/text_commands/src/{name}.rt"), re.S).group() for name in ("ending", "unfinished")]
-    left = re.findall(r"^            (\d+)$", text("crates/swanroll_top/src/left.rt"), re.M)
+    left = re.findall(r"^            (\d+)$", text("crates/swanroll_top/src/left.rt") + text("crates/takeover_top/src/telling.rt"), re.M)
     return sorted(set(map(int, re.findall(r"=> (\d+),", "".join(bodies)) + left)))
 
 

@@ -23,13 +23,16 @@ def planned(program, problem):
 class Rollout:
     """A document, the switches of its network, the file of its journal, and the program that is started over them."""
 
+    # what plays a switch
+    plays = Switch
+
     def __init__(self, program, folder, document, image, fates):
         self.program, self.text = program, document if isinstance(document, str) else text_of(document)
         self.document = json.loads(self.text)
         self.journal, self.fleet = os.path.join(folder, "journal"), os.path.join(folder, "fleet")
         self.put(image)
         fates = fates if isinstance(fates, dict) else {switch["name"]: fates for switch in self.document["problem"]["switches"]}
-        self.switches = {switch["name"]: Switch(switch["name"], fates.get(switch["name"], plain)) for switch in self.document["problem"]["switches"]}
+        self.switches = {switch["name"]: self.plays(switch["name"], fates.get(switch["name"], plain)) for switch in self.document["problem"]["switches"]}
         write_fleet(self.fleet, self.switches.values())
         self.environment = {key: value for key, value in os.environ.items() if key not in DEVICES}
         self.environment.update(SWANROLL_JOURNAL=self.journal, SWANROLL_FLEET=self.fleet, SWANROLL_TIMEOUT="30000")
@@ -119,8 +122,8 @@ class Rollout:
 
 
 @contextlib.contextmanager
-def rollout(program, document=ONE, image=None, fates=plain):
-    with tempfile.TemporaryDirectory() as folder, contextlib.closing(Rollout(program, folder, document, image, fates)) as one:
+def rollout(program, document=ONE, image=None, fates=plain, of=Rollout):
+    with tempfile.TemporaryDirectory() as folder, contextlib.closing(of(program, folder, document, image, fates)) as one:
         yield one
 
 

@@ -460,7 +460,7 @@ class Reference:
         from oracle import agent, cli, disk, features, journal, release, runner
 
         self.gen, self.agent, self.cli, self.disk, self.journal, self.release, self.runner = gen, agent, cli, disk, journal, release, runner
-        self.features = features.EVERYTHING.changed("none,places,planner,lp,widths,marks,crashes,policies,freeze,migration,run,report,journal=r16")
+        self.features = features.EVERYTHING.changed("none,places,planner,lp,widths,marks,crashes,policies,freeze,migration,run,report,term,journal=r16")
 
 
 def drawn(program, reference):

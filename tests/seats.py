@@ -1,5 +1,5 @@
 """The command `agent` over loopback with several controllers connected at once: each is answered while the others are there, by what is held then, whoever
-brought it about; halves of commands that come by turns; sixty-five of them, of which the one that has said nothing for longest is sent away; one whose process
+brought it about; a floor that one of them has raised; halves of commands that come by turns; sixty-five of them, of which the one that has said nothing for longest is sent away; one whose process
 stands still and one that reads no answers, which keep nobody out; one that is cut off behind the last guest that was asked for;
 all of it with a file and without, and what is held behind a kill; and a rollout over agents to which other controllers are connected.
 
@@ -18,7 +18,7 @@ import tempfile
 import threading
 import time
 
-from agents import connected, ended, held_port
+from agents import FENCED, connected, ended, held_port, with_term
 from named import ONE, TWO
 from rolling import finished
 from switches import ANSWER_BYTES, answer
@@ -61,13 +61,17 @@ class Guest:
     def say(self, data):
         self.stream.sendall(data)
 
-    def hear(self):
+    def hear(self, length=ANSWER_BYTES):
         """One answer; less of it where the connection has ended."""
-        return self.stream.recv(ANSWER_BYTES, socket.MSG_WAITALL)
+        return self.stream.recv(length, socket.MSG_WAITALL)
 
     def ask(self, migration, item, number, rates=(6,)):
         self.say(command(migration, item, number, 1, list(rates)))
         return self.hear()
+
+    def ask_in_term(self, term, migration, item, number, rates=(6,)):
+        self.say(with_term(term, command(migration, item, number, 1, list(rates))))
+        return self.hear(ANSWER_BYTES + 5)
 
     def is_sent_away(self):
         try:
@@ -109,6 +113,45 @@ def two(program, state):
         yield "one of them has gone", first.ask(2, 3, 5) == answer(2, 3, 5)
         first.leave()
         yield "the line behind two", ended(agent) == line(2, 9, 0)
+
+
+def floors(program, state):
+    """A floor that the one has raised holds for the other, who is connected too: a plain command of it changes nothing any more, nor does one of a lower term."""
+    with started(program, 2, state) as (held, agent):
+        first, second = Guest(held, agent), Guest(held, agent)
+        plain = second.ask(0, 3, 1) == answer(0, 3, 1)
+        right = [
+            plain,
+            first.ask_in_term(2, 0, 3, 0) == with_term(2, answer(0, 3, 1)),
+            second.ask(0, 3, 2) == answer(0, 3, 1),
+            second.ask_in_term(1, 0, 3, 2) == with_term(2, answer(0, 3, 1)),
+            first.ask(0, 3, 2) == answer(0, 3, 1),
+            first.ask_in_term(2, 0, 3, 2) == with_term(2, answer(0, 3, 2)),
+            second.ask_in_term(7, 0, 3, 3) == with_term(7, answer(0, 3, 3)),
+            first.ask_in_term(2, 0, 3, 4) == with_term(7, answer(0, 3, 3)),
+            first.ask_in_term(7, 0, 3, 4) == with_term(7, answer(0, 3, 4)),
+        ]
+        yield "two with terms", all(right)
+        second.leave()
+        late = Guest(held, agent)
+        yield "one that comes later", late.ask(1, 3, 1) == answer(0, 3, 4)
+        late.leave()
+        yield "the line behind two with terms", ended(agent) == line(2, 10, 0)
+        first.stream.close()
+
+
+def rows(program, state):
+    """The rows of a fenced agent by two connections in turn."""
+    with started(program, 2, state) as (held, agent):
+        guests = Guest(held, agent), Guest(held, agent)
+        right = True
+        for row, (said, told) in enumerate(FENCED):
+            guests[row % 2].say(said)
+            right = right and guests[row % 2].hear(len(told)) == told
+        yield "rows by turns", right
+        for guest in guests:
+            guest.leave()
+        yield "the line behind the rows", ended(agent) == line(2, 4, 0)
 
 
 def halves(program, state):
@@ -250,6 +293,19 @@ def kept(program, folder):
         guest = Guest(held, agent)
         yield "what is held behind it", [guest.ask(0, 1, 0), guest.ask(0, 2, 0)] == [answer(0, 1, 2), answer(3, 2, 7)]
         guest.leave()
+    with started(program, 10, path) as (held, agent):
+        first, second = Guest(held, agent), Guest(held, agent)
+        told = [first.ask_in_term(9, 0, 1, 0), second.ask(0, 1, 3)]
+        agent.kill()
+        agent.wait()
+        yield "a floor before the kill", told == [with_term(9, answer(0, 1, 2)), answer(0, 1, 2)]
+        first.stream.close()
+        second.stream.close()
+    with started(program, 1, path) as (held, agent):
+        guest = Guest(held, agent)
+        told = [guest.ask(0, 1, 3), guest.ask_in_term(8, 0, 1, 3), guest.ask_in_term(9, 0, 1, 3)]
+        yield "the floor behind it", told == [answer(0, 1, 2), with_term(9, answer(0, 1, 2)), with_term(9, answer(0, 1, 3))]
+        guest.leave()
 
 
 def chatters(held, agent, stops):
@@ -296,7 +352,7 @@ def rollouts(program, folder, with_file):
 def outcomes(program):
     with tempfile.TemporaryDirectory() as folder:
         for with_file in (False, True):
-            for number, kind in enumerate((two, halves, drawn, many, one_stands_still, cut_off, slow_reader)):
+            for number, kind in enumerate((two, floors, rows, halves, drawn, many, one_stands_still, cut_off, slow_reader)):
                 state = os.path.join(folder, f"state.{number}") if with_file else None
                 for name, right in kind(program, state):
                     yield name + (", with a file" if with_file else ""), right

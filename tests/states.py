@@ -1,5 +1,5 @@
-"""An agent with a file, `SWANROLL_STATE`, over loopback: what it has answered it holds behind the next start, killed before and behind each call of its disk and
-at drawn moments; its file cut at each byte, and each byte of its last batch torn; a disk that fails at each call; files that are none of an agent's; and a file
+"""An agent with a file, `SWANROLL_STATE`, over loopback: what it has answered it holds behind the next start, under the floor that it has told, killed before and
+behind each call of its disk and at drawn moments; its file cut at each byte, and each byte of its last batch torn; a disk that fails at each call; files that are none of an agent's; and a file
 that is written anew. What a file is read as is worked out here a second time, from its bytes alone.
 
     python3 tests/states.py PROGRAM
@@ -17,7 +17,7 @@ import tempfile
 import threading
 import time
 
-from agents import connected, held_port
+from agents import FENCED, connected, held_port, with_term
 from switches import ANSWER_BYTES, answer, next_command
 from syncs import NUMBERS, Calls
 
@@ -34,23 +34,42 @@ READS = [
     [(4, 2, 7, 1, tuple(range(1, 17))), (4, 2, 8, 1, (0,)), (0, 1, 4, 2, (3,))],
     [(4, 70655, 1, 3, (2 ** 64 - 1,)), (5, 1, 1, 2, (1,))],
 ]
+# Reads of commands of which some name a term, as a sixth part: it rises with a command that changes something and with a probe, and late ones come of both kinds.
+TERMED = [
+    [(0, 1, 1, 2, (6,)), (0, 1, 2, 2, (5,), 3), (0, 1, 3, 2, (5,), 2)],
+    [(0, 1, 3, 2, (4,)), (0, 2, 1, 1, (4,), 3)],
+    [(0, 7, 0, 1, (0,), 70000)],
+    [(0, 7, 0, 1, (0,), 70000), (0, 1, 3, 2, (4,), 4)],
+    [(2, 2, 5, 1, (1, 2), 70000), (2, 2, 6, 1, (1, 2), 70001), (2, 2, 7, 1, (1, 2))],
+]
+# the floor stands beside the items
+FLOOR = "floor"
 
 
 def after(held, commands):
-    """What is held behind these commands by the agent rule: of each item the command that was carried out last."""
+    """What is held behind these commands by the rule of terms: the floor, and of each item the command that was carried out last."""
     held = dict(held)
-    for migration, item, number, scale, rates in commands:
+    for migration, item, number, scale, rates, *terms in commands:
+        term = terms[0] if terms else 0
+        if term < held.get(FLOOR, 0):
+            continue
+        if term:
+            held[FLOOR] = term
         if is_next(held.get(item, (0, 0))[:2], (migration, number)):
             held[item] = (migration, number, scale, tuple(rates))
     return held
 
 
 def pairs(held):
-    return {item: one[:2] for item, one in held.items()}
+    return {item: one[:2] for item, one in held.items() if item != FLOOR}
 
 
 def sent(commands):
-    return b"".join(command(migration, item, number, scale, list(rates)) for migration, item, number, scale, rates in commands)
+    said = b""
+    for migration, item, number, scale, rates, *terms in commands:
+        frame = command(migration, item, number, scale, list(rates))
+        said += with_term(terms[0], frame) if terms else frame
+    return said
 
 
 def number_4(data, at):
@@ -80,6 +99,8 @@ def read_as(image):
         return found
     held = {}
     for number, batch in enumerate(found):
+        if batch[:1] == b"F" and len(batch) >= 5:
+            held[FLOOR], batch = number_4(batch, 1), batch[5:]
         while batch:
             try:
                 one, length = next_command(batch)
@@ -127,7 +148,7 @@ def talk(held, agent, reads):
         with connected(held, agent) as guest:
             for commands in reads:
                 guest.sendall(sent(commands))
-                wanted = len(answers) + ANSWER_BYTES * len(commands)
+                wanted = len(answers) + sum(ANSWER_BYTES + 5 * (len(one) > 5) for one in commands)
                 while len(answers) < wanted:
                     more = guest.recv(1 << 16)
                     if not more:
@@ -162,7 +183,13 @@ def told(program, path, items):
 
 
 ITEMS = sorted({one[1] for read in READS for one in read})
-STATES = [after({}, sum(READS[:n], [])) for n in range(len(READS) + 1)]
+
+
+def states_of(reads):
+    return [after({}, sum(reads[:n], [])) for n in range(len(reads) + 1)]
+
+
+STATES = states_of(READS)
 
 
 def expected(reads, held=None):
@@ -171,7 +198,8 @@ def expected(reads, held=None):
     for one in sum(reads, []):
         held = after(held, [one])
         pair = held.get(one[1], (0, 0))[:2]
-        data += answer(pair[0], one[1], pair[1])
+        told_of = answer(pair[0], one[1], pair[1])
+        data += with_term(held.get(FLOOR, 0), told_of) if len(one) > 5 else told_of
     return data
 
 
@@ -196,6 +224,50 @@ def worked(program, folder):
         ended(agent)
 
 
+def floors(program, folder):
+    """A floor that was told holds behind a restart: for late commands and for those without a term; an older file, without one, has floor 0."""
+    path = os.path.join(folder, "floors")
+    with started(program, path) as (held, agent):
+        answers = talk(held, agent, TERMED)
+        end = ended(agent)
+    state = states_of(TERMED)[-1]
+    yield "answers and end", answers == expected(TERMED) and end == (0, "agent: guests 1, commands %d, refused 0\n" % len(sum(TERMED, [])), "")
+    image = contents(path)
+    yield "its file", read_as(image) == state and state[FLOOR] == 70001 and len(batches(image)[0]) == 4
+    yield "what it tells", told(program, path, ITEMS) == pairs(state) and contents(path) == image
+    late = [[(0, 1, 3, 2, (4,)), (0, 1, 3, 2, (4,), 70000), (0, 3, 1, 2, (4,), 1)]]
+    with started(program, path) as (held, agent):
+        answers = talk(held, agent, late)
+        ended(agent)
+    yield "late ones behind it", answers == expected(late, state) and contents(path) == image and answers[13:18] == with_term(70001, b"")
+    for number, (said, answered) in enumerate(FENCED):
+        row = os.path.join(folder, "rows")
+        with started(program, row, 10) as (held, agent):
+            with connected(held, agent) as guest:
+                guest.sendall(said)
+                heard = guest.recv(len(answered), socket.MSG_WAITALL)
+            agent.kill()
+        yield f"row {number}, and a kill behind it", heard == answered
+    older = os.path.join(folder, "older")
+    with started(program, older) as (held, agent):
+        talk(held, agent, READS)
+        ended(agent)
+    yield "an older file", b"F" not in {batch[:1] for batch in batches(contents(older))[0]} and FLOOR not in read_as(contents(older))
+    more = [[(5, 1, 2, 2, (7,)), (5, 1, 3, 2, (7,), 1), (5, 1, 4, 2, (7,))]]
+    with started(program, older) as (held, agent):
+        answers = talk(held, agent, more)
+        ended(agent)
+    yield "it gets a floor", answers == expected(more, STATES[-1]) and read_as(contents(older)) == after(STATES[-1], sum(more, []))
+    row = [(1, item, number, 1, tuple(range(number, number + 16)), 5) for number in range(1, 121) for item in range(3)]
+    grows = os.path.join(folder, "grows")
+    reads = [row[at:at + 3] for at in range(0, len(row), 3)]
+    with started(program, grows) as (held, agent):
+        answers = talk(held, agent, reads)
+        ended(agent)
+    image = contents(grows)
+    yield "a file that is written anew keeps it", answers == expected(reads) and read_as(image) == after({}, row) and len(image) < 25_000 and batches(image)[0][0][:5] == with_term(5, b"")
+
+
 class Turn:
     """At the call of this number, from 0, the agent is killed, before it or before the next one; or that call fails, or it and all behind it."""
 
@@ -214,13 +286,13 @@ class Turn:
         return None
 
 
-def turned(program, path, turn):
-    """The answers of an agent over this turn, and how it ended; None where calls can't be seen here."""
+def turned(program, path, turn, reads):
+    """The answers of an agent to these reads over this turn, and how it ended; None where calls can't be seen here."""
     calls = Calls(path, NUMBERS, turn)
     with started(program, path, preexec_fn=calls.in_child) as (held, agent):
         if not calls.attach():
             return None
-        answers = talk(held, agent, READS)
+        answers = talk(held, agent, reads)
         end = ended(agent)
     calls.close()
     return answers, end
@@ -228,34 +300,34 @@ def turned(program, path, turn):
 
 def each_call(program, folder):
     """At each call of the disk in turn: what is found is what was held before a read or behind all of it, and no less than was answered."""
-    for fate in ("killed before", "killed behind", "fails", "stops"):
-        good, number = True, 0
+    for name, reads, fate in [(name, reads, fate) for name, reads in (("plain", READS), ("with terms", TERMED)) for fate in ("killed before", "killed behind", "fails", "stops")]:
+        good, number, states = True, 0, states_of(reads)
         while number < MOST_CALLS:
-            path = os.path.join(folder, f"{fate}-{number}")
+            path = os.path.join(folder, f"{name}-{fate}-{number}")
             put(path, b"")
             turn = Turn(number, fate)
-            rolled = turned(program, path, turn)
+            rolled = turned(program, path, turn, reads)
             if rolled is None:
                 print("states: calls of the disk can't be seen here")
                 return
             answers, end = rolled
             read = read_as(contents(path))
-            counts = [n for n, state in enumerate(STATES) if state == read]
-            answered = max(n for n in range(len(READS) + 1) if answers.startswith(expected(READS[:n])))
-            whole = answers == expected(READS[:answered])
+            counts = [n for n, state in enumerate(states) if state == read]
+            answered = max(n for n in range(len(reads) + 1) if answers.startswith(expected(reads[:n])))
+            whole = answers == expected(reads[:answered])
             if turn.count <= number + (fate == "killed behind"):  # what would have ended it never came
-                good = good and end[0] == 0 and read == STATES[-1]
+                good = good and end[0] == 0 and read == states[-1]
                 break
             faulty = end == FAULT if fate in ("fails", "stops") else end[0] == -signal.SIGKILL
             held = told(program, path, ITEMS)
             good = good and bool(counts) and max(counts) >= answered and whole and faulty and held == pairs(read)
             with started(program, path) as (again, agent):
-                answers = talk(again, agent, READS)
+                answers = talk(again, agent, reads)
                 ended(agent)
-            good = good and answers == expected(READS, read)
-            good = good and read_as(contents(path)) == after(read, sum(READS, []))
+            good = good and answers == expected(reads, read)
+            good = good and read_as(contents(path)) == after(read, sum(reads, []))
             number += 1
-        yield f"{fate}: {number} calls", good and 0 < number < MOST_CALLS
+        yield f"{name}, {fate}: {number} calls", good and 0 < number < MOST_CALLS
 
 
 def cut_and_torn(program, folder):
@@ -350,7 +422,7 @@ def main():
         sys.exit(__doc__)
     program, failed, count = os.path.abspath(sys.argv[1]), 0, 0
     with tempfile.TemporaryDirectory() as folder:
-        for rows in (worked, each_call, cut_and_torn, refused, grown, killed):
+        for rows in (worked, floors, each_call, cut_and_torn, refused, grown, killed):
             for name, good in rows(program, folder):
                 count += 1
                 if not good:

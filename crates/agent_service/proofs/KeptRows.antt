@@ -4,25 +4,26 @@ use Rattle.std.specs.List.{All, flat_map}
 use Rattle.std.proofs.lemmas.List.Elements.{All-append, All-nil}
 use Rattle.wan_edge.specs.Frames.{CommandFrame, IsCommand, command_bytes}
 use Rattle.wan_edge.specs.Streams.{Appends, AppendsPart, KeepsTelling, Reads, Rose, SinkTrace, SourceTrace}
-use Rattle.wan_edge.specs.Switches.{Holdings, after_command, after_commands}
+use Rattle.wan_edge.specs.Switches.{Holdings}
+use Rattle.fenced_agent.specs.Agents.{FencedHoldings, FencedItems, after_all_termed, after_termed, fenced_holding}
+use Rattle.fenced_agent.specs.Frames.{IsTermedCommand, TermedCommand, fence_bytes}
 use Rattle.disk_model.specs.Moments.{LeavesOnly}
 use Rattle.disk_model.specs.Traces.{DiskTrace}
 use Rattle.disk_model.proofs.Running.{LeavesOnly-chain, LeavesOnly-weaker}
-use Rattle.switch_agent.specs.Items.{Items, holding}
-use Rattle.switch_agent.specs.Serving.{CarriesOut, Ends, HearsBytes, HearsGuest, answered}
+use Rattle.agent_talks.specs.Serving.{CarriesOut, Ends, HearsBytes, HearsGuest, answered}
 use Rattle.switch_agent.specs.Talks.{Talking}
-use Rattle.switch_agent.specs.declared.heard.Heard.{Heard}
+use Rattle.agent_talks.specs.declared.heard.Heard.{Heard}
 use Rattle.switch_agent.specs.declared.serve_fault.ServeFault.{ServeFault}
 use Rattle.switch_agent.specs.declared.serve_fault.ServeFault.TheVariants.{Frame, Long, Memory, Read, Write}
 use Rattle.switch_agent.specs.declared.serve_fault.Served.{Served}
-use Rattle.switch_agent.proofs.Pieces.{guest_heard}
-use Rattle.agent_state.specs.Stored.{AreBytes, IsBeforeOrAfter, IsKept, IsReadAs, with_all}
+use Rattle.agent_talks.proofs.Pieces.{guest_heard}
+use Rattle.agent_state.specs.Stored.{AreBytes, IsBeforeOrAfter, IsKept, IsReadAs, with_all, with_batch}
 use Rattle.agent_state.specs.declared.place.Place.{Place}
 use Rattle.agent_state.proofs.KeptFiles.{kept_reads}
 use Rattle.agent_state.proofs.Passages.{chained_run, still_run, weaker_run}
 use Rattle.agent_state.proofs.Quiet.{causes_later}
 use Rattle.agent_state.proofs.Refusals.{at_disk_later, causes_at_disk}
-use Rattle.agent_service.specs.Keeping.{HasCome, IsOnDisk, Stores}
+use Rattle.agent_service.specs.Keeping.{HasCome, IsOnDisk, StoresAll}
 use Rattle.agent_service.specs.KeptServices.{EndsService, HasComeAlways, IsHeldOnDisk, IsKeptBehind, KeepsFrom, KeepsSeated, KeepsTurn, MayBeLeft, StopsService, at_place}
 use Rattle.agent_service.specs.Services.{Guests, MakesRoom, SeatsNext, SitsDown, Table, Tells, TurnByTurn, Turns, after_leaving, counted, first_table}
 use Rattle.agent_state.specs.Opened.{ReadsAlike}
@@ -33,54 +34,54 @@ use Rattle.agent_service.proofs.Rows.{TurnsSoFar, none_came, rose_until, some_by
 
 -- ---- batches
 
--- the batch as the call is given it
-pub Stores-at : (a b : Holdings) (x y z : List ℕ) → x ≡ [] → z ≡ y → Stores a b x y → Stores a b [] z
-Stores-at a b x y z empty is stores = subst (λ (l : List ℕ). Stores a b [] l) (sym is) (subst (λ (l : List ℕ). Stores a b l y) empty stores)
-
-pub stored_bytes : (a b : Holdings) (batch : List ℕ) (stores : Stores a b [] batch) → AreBytes stores.commands batch
-stored_bytes a b batch stores = subst (AreBytes stores.commands) (sym stores.is) stores.are
-
 none_by : (commands : List CommandFrame) (a b : Holdings) (bytes : List ℕ) → AreBytes commands bytes → length bytes ≡ 0 → b ≡ with_all a commands → b ≡ a
 none_by [] a b bytes are none leads = leads
 none_by (c ∷ cs) a b bytes are none leads = absurd (omega (arith, none, ap length are.is, length-append (command_bytes c) (flat_map command_bytes cs), some_bytes c))
 
+abbrev under : ℕ → Holdings → FencedHoldings
+under floor held = record { floor = floor; held = held }
+
+none_in : (floor : Option ℕ) (commands : List CommandFrame) (a : FencedHoldings) (bytes behind : List ℕ) → AreBytes commands behind → bytes ≡ fence_bytes floor ++ behind → length bytes ≡ 0 → with_batch a (record { floor = floor; commands = commands }) ≡ a
+none_in None commands a bytes behind are parts none = ap (under a.floor) (none_by commands a.held (with_all a.held commands) behind are (sym (ap length parts) ∙ none) refl)
+none_in (Some floor) commands a bytes behind are parts none = absurd (omega (arith, ap length parts, none))
+
 -- an empty batch changes nothing
-pub none_stored : (a b : Holdings) (batch : List ℕ) → Stores a b [] batch → length batch ≡ 0 → b ≡ a
-none_stored a b batch stores none = none_by stores.commands a b batch (stored_bytes a b batch stores) none stores.leads
+pub none_stored : (a b : FencedHoldings) (batch : List ℕ) → StoresAll a b batch → length batch ≡ 0 → b ≡ a
+none_stored a b batch stores none = stores.leads ∙ none_in stores.stored.floor stores.stored.commands a batch stores.is.behind stores.is.are stores.is.parts none
 
 -- ---- what a crash leaves
 
-after-append : (held : Holdings) (xs ys : List CommandFrame) → after_commands held (xs ++ ys) ≡ after_commands (after_commands held xs) ys
+after-append : (held : FencedHoldings) (xs ys : List TermedCommand) → after_all_termed held (xs ++ ys) ≡ after_all_termed (after_all_termed held xs) ys
 after-append held [] ys = refl
-after-append held (x ∷ xs) ys = after-append (after_command held x) xs ys
+after-append held (x ∷ xs) ys = after-append (after_termed held x) xs ys
 
-pub come_now : (a : Holdings) (image : List ℕ) → IsReadAs image a → HasCome a image
-come_now a image read = record { commands = []; fit = All-nil IsCommand; read = read }
+pub come_now : (a : FencedHoldings) (image : List ℕ) → IsReadAs image a → HasCome a image
+come_now a image read = record { commands = []; fit = All-nil IsTermedCommand; read = read }
 
-pub come_more : (a b : Holdings) (commands : List CommandFrame) (image : List ℕ) → All IsCommand commands → b ≡ after_commands a commands → HasCome b image → HasCome a image
+pub come_more : (a b : FencedHoldings) (commands : List TermedCommand) (image : List ℕ) → All IsTermedCommand commands → b ≡ after_all_termed a commands → HasCome b image → HasCome a image
 come_more a b commands image fit reached come = record {
   commands = commands ++ come.commands;
-  fit = All-append IsCommand commands come.commands fit come.fit;
-  read = subst (IsReadAs image) (ap (λ (h : Holdings). after_commands h come.commands) reached ∙ sym (after-append a commands come.commands)) come.read;
+  fit = All-append IsTermedCommand commands come.commands fit come.fit;
+  read = subst (IsReadAs image) (ap (λ (h : FencedHoldings). after_all_termed h come.commands) reached ∙ sym (after-append a commands come.commands)) come.read;
 }
 
-pub come_either : (a b : Holdings) (commands : List CommandFrame) (image : List ℕ) → All IsCommand commands → b ≡ after_commands a commands → IsBeforeOrAfter a b image → HasCome a image
+pub come_either : (a b : FencedHoldings) (commands : List TermedCommand) (image : List ℕ) → All IsTermedCommand commands → b ≡ after_all_termed a commands → IsBeforeOrAfter a b image → HasCome a image
 come_either a b commands image fit reached (inl was) = come_now a image was
 come_either a b commands image fit reached (inr is) = come_more a b commands image fit reached (come_now b image is)
 
 module _ {D : Type 0} (trace : D → DiskTrace) where
   -- nothing was written
-  pub come_still : (disk : D) (place : Place) (held : Holdings) → ((c : List ℕ) → (trace disk).left_since (trace disk).moment c → (trace disk).may_leave c) → IsOnDisk (trace disk) place held → HasComeAlways trace disk disk held
+  pub come_still : (disk : D) (place : Place) (held : FencedHoldings) → ((c : List ℕ) → (trace disk).left_since (trace disk).moment c → (trace disk).may_leave c) → IsOnDisk (trace disk) place held → HasComeAlways trace disk disk held
   come_still disk place held now kept = still_run trace (IsKept place held) (λ image. HasCome held) (trace disk).bytes disk now kept (λ image is. come_now held image (kept_reads place held image is))
 
   -- a batch, done or not
-  pub come_kept : (old new : D) (a b : Holdings) (commands : List CommandFrame) → All IsCommand commands → b ≡ after_commands a commands
+  pub come_kept : (old new : D) (a b : FencedHoldings) (commands : List TermedCommand) → All IsTermedCommand commands → b ≡ after_all_termed a commands
       → IfSome (trace old).bytes (λ _. LeavesOnly trace old new (IsBeforeOrAfter a b)) → HasComeAlways trace old new a
   come_kept old new a b commands fit reached run =
       weaker_run trace (λ image. IsBeforeOrAfter a b) (λ image. HasCome a) (trace old).bytes old new (λ image c either. come_either a b commands c fit reached either) run
 
   -- one run behind another
-  pub come_then : (old mid new : D) (a b : Holdings) (commands : List CommandFrame) → All IsCommand commands → b ≡ after_commands a commands → KeepsTelling (trace old).bytes (trace mid).bytes
+  pub come_then : (old mid new : D) (a b : FencedHoldings) (commands : List TermedCommand) → All IsTermedCommand commands → b ≡ after_all_termed a commands → KeepsTelling (trace old).bytes (trace mid).bytes
       → IfSome (trace mid).bytes (trace mid).may_leave → ((t : ℕ) (c : List ℕ) → t ≤ (trace mid).moment → (trace mid).may_leave c → (trace mid).left_since t c)
       → HasComeAlways trace old mid a → HasComeAlways trace mid new b → HasComeAlways trace old new a
   come_then old mid new a b commands fit reached told shows counts first second =
@@ -93,7 +94,7 @@ bytes_of : {a b : List ℕ} → Some a ≡ Some b → a ≡ b
 bytes_of {a} {b} is = ap (λ (told : Option (List ℕ)). unwrap_or told a) is
 
 -- all that was gathered is the answers to what was carried out
-gathered_all : (fault : Option ServeFault) (P : List ℕ → Type 0) (items : Items) (rest none answers xs : List ℕ) → none ≡ [] → fault ≢ Some Write → Ends fault P items rest (Some none) xs (Some answers) → answers ≡ xs
+gathered_all : (fault : Option ServeFault) (P : List ℕ → Type 0) (items : FencedItems) (rest none answers xs : List ℕ) → none ≡ [] → fault ≢ Some Write → Ends fault P items rest (Some none) xs (Some answers) → answers ≡ xs
 gathered_all None P items rest none answers xs empty unwritten ends = bytes_of ends.1 ∙ ap (λ (l : List ℕ). l ++ xs) empty
 gathered_all (Some (Frame fault)) P items rest none answers xs empty unwritten ends = bytes_of ends.1 ∙ ap (λ (l : List ℕ). l ++ xs) empty
 gathered_all (Some Read) P items rest none answers xs empty unwritten ends = bytes_of ends.1 ∙ ap (λ (l : List ℕ). l ++ xs) empty
@@ -101,7 +102,7 @@ gathered_all (Some Write) P items rest none answers xs empty unwritten ends = ab
 gathered_all (Some Long) P items rest none answers xs empty unwritten ends = bytes_of ends.1 ∙ ap (λ (l : List ℕ). l ++ xs) empty
 gathered_all (Some Memory) P items rest none answers xs empty unwritten ends = bytes_of ends.1 ∙ ap (λ (l : List ℕ). l ++ xs) empty
 
-ends_out : (fault : Option ServeFault) (P : List ℕ → Type 0) (items : Items) (rest none answers xs : List ℕ) (w w' : Option (List ℕ)) → none ≡ [] → fault ≢ Some Write → Ends fault P items rest (Some none) xs (Some answers)
+ends_out : (fault : Option ServeFault) (P : List ℕ → Type 0) (items : FencedItems) (rest none answers xs : List ℕ) (w w' : Option (List ℕ)) → none ≡ [] → fault ≢ Some Write → Ends fault P items rest (Some none) xs (Some answers)
     → Appends w answers w' → Ends fault P items rest w xs w'
 ends_out None P items rest none answers xs w w' empty unwritten ends out = (ends.0, subst (λ (l : List ℕ). Appends w l w') (gathered_all None P items rest none answers xs empty unwritten ends) out)
 ends_out (Some (Frame fault)) P items rest none answers xs w w' empty unwritten ends out = (ends.0, subst (λ (l : List ℕ). Appends w l w') (gathered_all (Some (Frame fault)) P items rest none answers xs empty unwritten ends) out)
@@ -111,7 +112,7 @@ ends_out (Some Long) P items rest none answers xs w w' empty unwritten ends out 
 ends_out (Some Memory) P items rest none answers xs w w' empty unwritten ends out = (ends.0, subst (λ (l : List ℕ). Appends w l w') (gathered_all (Some Memory) P items rest none answers xs empty unwritten ends) out)
 
 -- what was gathered goes out whole
-pub all_out : (a b : Items) (bytes : List ℕ) (served now : Served) (P : List ℕ → Type 0) (none answers : List ℕ) (w w' : Option (List ℕ)) → none ≡ [] → served.fault ≢ Some Write → now ≡ served
+pub all_out : (a b : FencedItems) (bytes : List ℕ) (served now : Served) (P : List ℕ → Type 0) (none answers : List ℕ) (w w' : Option (List ℕ)) → none ≡ [] → served.fault ≢ Some Write → now ≡ served
     → CarriesOut a b bytes served P (Some none) (Some answers) → Appends w answers w' → CarriesOut a b bytes now P w w'
 all_out a b bytes served now P none answers w w' empty unwritten same carried out =
     subst (λ (s : Served). CarriesOut a b bytes s P w w') (sym same) (record {
@@ -121,11 +122,11 @@ all_out a b bytes served now P none answers w w' empty unwritten same carried ou
       counted = carried.counted;
       holds = carried.holds;
       items_seen = carried.items_seen;
-      ends = ends_out served.fault P b carried.rest none answers (answered (holding a) carried.commands) w w' empty unwritten carried.ends out;
+      ends = ends_out served.fault P b carried.rest none answers (answered (fenced_holding a) carried.commands) w w' empty unwritten carried.ends out;
     })
 
 -- or in part
-pub part_out : (a b : Items) (bytes : List ℕ) (served now : Served) (P : List ℕ → Type 0) (none answers : List ℕ) (w w' : Option (List ℕ)) → none ≡ [] → served.fault ≢ Some Write
+pub part_out : (a b : FencedItems) (bytes : List ℕ) (served now : Served) (P : List ℕ → Type 0) (none answers : List ℕ) (w w' : Option (List ℕ)) → none ≡ [] → served.fault ≢ Some Write
     → now ≡ record { commands = served.commands; fault = Some Write } → CarriesOut a b bytes served P (Some none) (Some answers) → AppendsPart w answers w' → CarriesOut a b bytes now P w w'
 part_out a b bytes served now P none answers w w' empty unwritten same carried out =
     subst (λ (s : Served). CarriesOut a b bytes s P w w') (sym same) (record {
@@ -135,10 +136,10 @@ part_out a b bytes served now P none answers w w' empty unwritten same carried o
       counted = carried.counted;
       holds = carried.holds;
       items_seen = carried.items_seen;
-      ends = subst (λ (xs : List ℕ). AppendsPart w xs w') (gathered_all served.fault P b carried.rest none answers (answered (holding a) carried.commands) empty unwritten carried.ends) out;
+      ends = subst (λ (xs : List ℕ). AppendsPart w xs w') (gathered_all served.fault P b carried.rest none answers (answered (fenced_holding a) carried.commands) empty unwritten carried.ends) out;
     })
 
-pub went_out : {X E : Type 0} (a b : Items) (bytes : List ℕ) (served now : Served) (P : List ℕ → Type 0) (none answers out : List ℕ) (result : Result X E) (w w' : Option (List ℕ)) → none ≡ [] → out ≡ answers → served.fault ≢ Some Write
+pub went_out : {X E : Type 0} (a b : FencedItems) (bytes : List ℕ) (served now : Served) (P : List ℕ → Type 0) (none answers out : List ℕ) (result : Result X E) (w w' : Option (List ℕ)) → none ≡ [] → out ≡ answers → served.fault ≢ Some Write
     → OnOk result (now ≡ served) → OnErr result (now ≡ record { commands = served.commands; fault = Some Write })
     → CarriesOut a b bytes served P (Some none) (Some answers) → OnOk result (Appends w out w') → OnErr result (AppendsPart w out w') → CarriesOut a b bytes now P w w'
 went_out a b bytes served now P none answers out (Ok x) w w' empty is unwritten same other carried all part =
@@ -148,7 +149,7 @@ went_out a b bytes served now P none answers out (Err e) w w' empty is unwritten
 
 -- ---- one read
 
-pub kept_heard : {E : Type 0} (result : Result (Place × Heard) E) (a b : Items) (talk : Talking) (kept : List ℕ) (room n : ℕ) (buffer : List ℕ) (source mid now : SourceTrace) (sink mid_sink : SinkTrace) (w' : Option (List ℕ))
+pub kept_heard : {E : Type 0} (result : Result (Place × Heard) E) (a b : FencedItems) (talk : Talking) (kept : List ℕ) (room n : ℕ) (buffer : List ℕ) (source mid now : SourceTrace) (sink mid_sink : SinkTrace) (w' : Option (List ℕ))
     → kept ≡ talk.kept → room ≡ talk.room → OnOk result (now ≡ mid) → mid_sink ≡ sink → Reads n buffer source mid → n ≤ room → n ≤ length buffer
     → IfOk result (λ k. HearsBytes a b (record { kept = kept; room = room }) (take n buffer) k.1 mid.left mid_sink.written w') → IfOk result (λ k. HearsGuest a b talk source now k.1 sink.written w')
 kept_heard (Ok k) a b talk kept room n buffer source mid now sink mid_sink w' kept_is room_is unread unwritten reads few inside hears =
@@ -183,11 +184,11 @@ next_kept tells before now place None some next = (next.0, none_came before.comi
 pub seats_kept : {G : Type 0} (tells : Tells G) (before now : Table G) (place : Place) (found : Option Service) (kept : Option (Place × Service)) → kept ≡ at_place place found → IfSome before.coming (λ gs. 0 < length gs) → SeatsNext tells before found now → KeepsTurn tells before kept now
 seats_kept tells before now place found kept is some next = subst (λ (k : Option (Place × Service)). KeepsTurn tells before k now) (sym is) (next_kept tells before now place found some next)
 
-place_kept : (disk : DiskTrace) (place : Place) (found : Option Service) (held : Holdings) → IsOnDisk disk place held → IsKeptBehind disk place (at_place place found) held
+place_kept : (disk : DiskTrace) (place : Place) (found : Option Service) (held : FencedHoldings) → IsOnDisk disk place held → IsKeptBehind disk place (at_place place found) held
 place_kept disk place (Some count) held kept = kept
 place_kept disk place None held kept = kept
 
-pub seats_durable : (disk : DiskTrace) (place : Place) (found : Option Service) (kept : Option (Place × Service)) (held : Holdings) → kept ≡ at_place place found → IsOnDisk disk place held → IsKeptBehind disk place kept held
+pub seats_durable : (disk : DiskTrace) (place : Place) (found : Option Service) (kept : Option (Place × Service)) (held : FencedHoldings) → kept ≡ at_place place found → IsOnDisk disk place held → IsKeptBehind disk place kept held
 seats_durable disk place found kept held is durable = subst (λ (k : Option (Place × Service)). IsKeptBehind disk place k held) (sym is) (place_kept disk place found held durable)
 
 -- a guest was read, and where it sits is settled
@@ -199,10 +200,10 @@ settled_kept (Err why) place count Q P is holds = tt
 pub turn_kept : {G : Type 0} (tells : Tells G) (before now : Table G) (found : Option (Place × Service)) (kept : Place × Service) → found ≡ Some kept → KeepsTurn tells before found now → Turns tells before (counted now kept.1)
 turn_kept tells before now found kept is turn = subst (λ (f : Option (Place × Service)). KeepsTurn tells before f now) is turn
 
-pub next_durable : (disk : DiskTrace) (place : Place) (found : Option (Place × Service)) (kept : Place × Service) (held : Holdings) → found ≡ Some kept → IsKeptBehind disk place found held → IsOnDisk disk kept.0 held
+pub next_durable : (disk : DiskTrace) (place : Place) (found : Option (Place × Service)) (kept : Place × Service) (held : FencedHoldings) → found ≡ Some kept → IsKeptBehind disk place found held → IsOnDisk disk kept.0 held
 next_durable disk place found kept held is behind = subst (λ (f : Option (Place × Service)). IsKeptBehind disk place f held) is behind
 
-pub none_durable : (disk : DiskTrace) (place : Place) (found : Option (Place × Service)) (held : Holdings) → found ≡ None → IsKeptBehind disk place found held → IsOnDisk disk place held
+pub none_durable : (disk : DiskTrace) (place : Place) (found : Option (Place × Service)) (held : FencedHoldings) → found ≡ None → IsKeptBehind disk place found held → IsOnDisk disk place held
 none_durable disk place found held is behind = subst (λ (f : Option (Place × Service)). IsKeptBehind disk place f held) is behind
 
 -- all that were asked for were served
@@ -229,8 +230,8 @@ none_kept tells first before now asked found so_far more is turn =
     }
 
 -- those that sat were given back
-pub seats_left : {D G E : Type 0} (trace : D → DiskTrace) (tells : Tells G) (items items_now : Items) (new : D) (before mid now : Guests G) (asked : ℕ) (guests : List G) (result : Result Service E) → now.coming ≡ mid.coming → now.served ≡ after_leaving mid.served guests
-    → IfOk result (λ service. KeepsSeated tells (first_table items before) asked guests items_now service mid) → IfOk result (λ service. IsHeldOnDisk (trace new) (holding items_now)) → IfOk result (λ service. KeepsFrom trace tells items new before now asked service)
+pub seats_left : {D G E : Type 0} (trace : D → DiskTrace) (tells : Tells G) (items items_now : FencedItems) (new : D) (before mid now : Guests G) (asked : ℕ) (guests : List G) (result : Result Service E) → now.coming ≡ mid.coming → now.served ≡ after_leaving mid.served guests
+    → IfOk result (λ service. KeepsSeated tells (first_table items before) asked guests items_now service mid) → IfOk result (λ service. IsHeldOnDisk (trace new) (fenced_holding items_now)) → IfOk result (λ service. KeepsFrom trace tells items new before now asked service)
 seats_left trace tells items items_now new before mid now asked guests (Ok service) coming back keeps durable = record {
   items_now = items_now;
   serves = record {
@@ -255,7 +256,7 @@ module _ {D : Type 0} (trace : D → DiskTrace) where
   opened_run told old new left run = weaker_run trace (λ image c. left c ⊎ ReadsAlike image c) (MayBeLeft left) told old new (λ image c is. ⊎_elim inl (λ alike. inr (inl alike)) is) run
 
   -- and the guests behind it
-  pub served_run : (told between : Option (List ℕ)) (old mid new : D) (left : List ℕ → Type 0) (held : Holdings) → KeepsTelling told between
+  pub served_run : (told between : Option (List ℕ)) (old mid new : D) (left : List ℕ → Type 0) (held : FencedHoldings) → KeepsTelling told between
       → IfSome between (trace mid).may_leave → ((t : ℕ) (c : List ℕ) → t ≤ (trace mid).moment → (trace mid).may_leave c → (trace mid).left_since t c)
       → IfSome told (λ image. IsReadAs image held) → IfSome told (λ image. LeavesOnly trace old mid (λ c. left c ⊎ ReadsAlike image c)) → IfSome between (λ _. LeavesOnly trace mid new (HasCome held))
       → IfSome told (λ image. LeavesOnly trace old new (MayBeLeft left image))
@@ -313,36 +314,36 @@ sat_items tells a b sits =
 -- ---- turns, one behind the other
 
 -- turns bring what was held on by commands alone
-pub record Reached (before now : Holdings) : Type 0 where
-  pub commands : List CommandFrame
-  pub fit : All IsCommand commands
-  pub are : now ≡ after_commands before commands
+pub record Reached (before now : FencedHoldings) : Type 0 where
+  pub commands : List TermedCommand
+  pub fit : All IsTermedCommand commands
+  pub are : now ≡ after_all_termed before commands
 
-one_reached : {G : Type 0} (tells : Tells G) (a b : Table G) → Turns tells a b → Reached (holding a.items) (holding b.items)
-one_reached tells a b (inl sits) = record { commands = []; fit = All-nil IsCommand; are = ap holding (sat_items tells a b sits) }
+one_reached : {G : Type 0} (tells : Tells G) (a b : Table G) → Turns tells a b → Reached (fenced_holding a.items) (fenced_holding b.items)
+one_reached tells a b (inl sits) = record { commands = []; fit = All-nil IsTermedCommand; are = ap fenced_holding (sat_items tells a b sits) }
 one_reached tells a b (inr hears) =
     let carried = hears.hears.hears.hears.carried in
     record {
       commands = carried.commands;
       fit = carried.whole.fit;
-      are = ap (λ (t : Table _). holding t.items) hears.hears.behind ∙ carried.holds;
+      are = ap (λ (t : Table _). fenced_holding t.items) hears.hears.behind ∙ carried.holds;
     }
 
-turns_reached : {G : Type 0} (tells : Tells G) (before : Table G) (course : List (Table G)) (now : Table G) → TurnByTurn tells before course now → Reached (holding before.items) (holding now.items)
-turns_reached tells before [] now row = record { commands = []; fit = All-nil IsCommand; are = ap (λ (t : Table _). holding t.items) row }
+turns_reached : {G : Type 0} (tells : Tells G) (before : Table G) (course : List (Table G)) (now : Table G) → TurnByTurn tells before course now → Reached (fenced_holding before.items) (fenced_holding now.items)
+turns_reached tells before [] now row = record { commands = []; fit = All-nil IsTermedCommand; are = ap (λ (t : Table _). fenced_holding t.items) row }
 turns_reached tells before (table ∷ later) now row =
     let first = one_reached tells before table row.0 in
     let rest = turns_reached tells table later now row.1 in
     record {
       commands = first.commands ++ rest.commands;
-      fit = All-append IsCommand first.commands rest.commands first.fit rest.fit;
-      are = rest.are ∙ ap (λ (h : Holdings). after_commands h rest.commands) first.are ∙ sym (after-append (holding before.items) first.commands rest.commands);
+      fit = All-append IsTermedCommand first.commands rest.commands first.fit rest.fit;
+      are = rest.are ∙ ap (λ (h : FencedHoldings). after_all_termed h rest.commands) first.are ∙ sym (after-append (fenced_holding before.items) first.commands rest.commands);
     }
 
 -- the run of one turn more
 pub come_on : {D G : Type 0} (trace : D → DiskTrace) (old mid new : D) (tells : Tells G) (first before : Table G) → TurnsSoFar tells first before → KeepsTelling (trace old).bytes (trace mid).bytes
     → IfSome (trace mid).bytes (trace mid).may_leave → ((t : ℕ) (c : List ℕ) → t ≤ (trace mid).moment → (trace mid).may_leave c → (trace mid).left_since t c)
-    → HasComeAlways trace old mid (holding first.items) → HasComeAlways trace mid new (holding before.items) → HasComeAlways trace old new (holding first.items)
+    → HasComeAlways trace old mid (fenced_holding first.items) → HasComeAlways trace mid new (fenced_holding before.items) → HasComeAlways trace old new (fenced_holding first.items)
 come_on trace old mid new tells first before so_far told shows counts first_run second =
     let reached = turns_reached tells first so_far.course before so_far.goes in
-    come_then trace old mid new (holding first.items) (holding before.items) reached.commands reached.fit reached.are told shows counts first_run second
+    come_then trace old mid new (fenced_holding first.items) (fenced_holding before.items) reached.commands reached.fit reached.are told shows counts first_run second

@@ -8,10 +8,10 @@ use Rattle.wan_edge.specs.Frames.{CommandFrame, command_bytes, command_head}
 use Rattle.wan_edge.specs.Streams.{Rose}
 use Rattle.wan_edge.specs.declared.waited.Waited.{Waited}
 use Rattle.wan_edge.specs.declared.waited.Waited.TheVariants.{Came, NoMore, Seat}
-use Rattle.switch_agent.specs.Items.{Items}
-use Rattle.switch_agent.specs.Serving.{GoesFurther}
+use Rattle.fenced_agent.specs.Agents.{FencedItems}
+use Rattle.agent_talks.specs.Serving.{GoesFurther}
 use Rattle.switch_agent.specs.Talks.{Talking, most, new_talk, room_of}
-use Rattle.switch_agent.specs.declared.heard.Heard.{Heard}
+use Rattle.agent_talks.specs.declared.heard.Heard.{Heard}
 use Rattle.switch_agent.specs.declared.serve_fault.ServeFault.{ServeFault}
 use Rattle.switch_agent.specs.declared.serve_fault.ServeFault.TheVariants.{Frame, Long, Memory, Read, Write}
 use Rattle.switch_agent.specs.declared.serve_fault.Served.{Served}
@@ -71,7 +71,7 @@ pub turn_more : {G : Type 0} (tells : Tells G) (first a b : Table G) → TurnsSo
 turn_more tells first a b so_far next = record { course = so_far.course ++ b ∷ []; goes = TurnByTurn-more tells first a b so_far.course so_far.goes next }
 
 -- nobody sits at first
-pub nobody_seated : {G : Type 0} (items : Items) (guests : List G) (talks : List Talking) (fleet : Guests G) → guests ≡ [] → talks ≡ [] → table_of items guests talks fleet nothing_counted ≡ first_table items fleet
+pub nobody_seated : {G : Type 0} (items : FencedItems) (guests : List G) (talks : List Talking) (fleet : Guests G) → guests ≡ [] → talks ≡ [] → table_of items guests talks fleet nothing_counted ≡ first_table items fleet
 nobody_seated items guests talks fleet none no_talks = λ i. table_of items (none i) (no_talks i) fleet nothing_counted
 
 -- ---- what stays within its bounds
@@ -94,7 +94,7 @@ pub record Lightens {G : Type 0} (a b : Table G) : Type 0 where
   pub one : b.count.guests ≤ a.count.guests + 1
   pub lighter : (asked : ℕ) → a.count.guests < asked → weight asked b < weight asked a
 
-pub nobody_even : {G : Type 0} (items : Items) (guests : List G) (talks : List Talking) (fleet : Guests G) → guests ≡ [] → talks ≡ [] → IsEven (table_of items guests talks fleet nothing_counted)
+pub nobody_even : {G : Type 0} (items : FencedItems) (guests : List G) (talks : List Talking) (fleet : Guests G) → guests ≡ [] → talks ≡ [] → IsEven (table_of items guests talks fleet nothing_counted)
 nobody_even items guests talks fleet none no_talks = record {
   even = omega (arith, ap length none, ap length no_talks);
   few = omega (arith, ap length none);
@@ -172,7 +172,7 @@ spent_by (Some Write) talk bytes rest room commands left further within some few
 spent_by (Some Long) talk bytes rest room commands left further within some few = (omega (arith, ap room_of further.0, within, few), omega (arith, ap room_of further.0, some))
 spent_by (Some Memory) talk bytes rest room commands left further within some few = (omega (arith, ap room_of further, within, few), omega (arith, ap room_of further, some))
 
-settled_lighter : {G : Type 0} (a : Table G) (place : ℕ) (items : Items) (guest : G) (talk : Talking) (served : Served) (kept : Option Talking) → IsEven a → place < length a.guests → talk ≡ slice_index_or a.talks place talk
+settled_lighter : {G : Type 0} (a : Table G) (place : ℕ) (items : FencedItems) (guest : G) (talk : Talking) (served : Served) (kept : Option Talking) → IsEven a → place < length a.guests → talk ≡ slice_index_or a.talks place talk
     → served.commands + room_of kept ≤ talk.room → room_of kept < talk.room → Lightens a (settled a place items guest (record { served = served; talk = kept }))
 settled_lighter a place items guest talk served None even inside is spent less =
     let fewer = length_removed a.guests place inside in
@@ -230,7 +230,7 @@ turns_even : {G : Type 0} (tells : Tells G) (a : Table G) (course : List (Table 
 turns_even tells a [] b even row = subst (λ (t : Table _). IsEven t) (sym row) even
 turns_even tells a (table ∷ later) b even row = turns_even tells table later b (turn_lighter tells a table even row.0).keeps row.1
 
-pub few_from_first : {G : Type 0} (tells : Tells G) (items : Items) (before : Guests G) (course : List (Table G)) (now : Table G) → TurnByTurn tells (first_table items before) course now → length now.guests ≤ most_seats
+pub few_from_first : {G : Type 0} (tells : Tells G) (items : FencedItems) (before : Guests G) (course : List (Table G)) (now : Table G) → TurnByTurn tells (first_table items before) course now → length now.guests ≤ most_seats
 few_from_first tells items before course now goes = (turns_even tells (first_table items before) course now (nobody_even items [] [] before refl refl) goes).few
 
 -- what a turn asks for is there
@@ -253,7 +253,7 @@ seats_known guests talks count guest_places talk_places visiting now is seats = 
 -- ---- the tables of a turn
 
 -- where a guest is that was read
-pub settled_is : {G : Type 0} (before : Table G) (place : ℕ) (items : Items) (guest : G) (heard : Heard) (left guests : List G) (left_talks talks : List Talking) (coming : Option (List G)) (back : List G) (count : Service)
+pub settled_is : {G : Type 0} (before : Table G) (place : ℕ) (items : FencedItems) (guest : G) (heard : Heard) (left guests : List G) (left_talks talks : List Talking) (coming : Option (List G)) (back : List G) (count : Service)
     → left ≡ remove before.guests place → left_talks ≡ remove before.talks place → guests ≡ guests_behind left guest heard.talk → talks ≡ talks_behind left_talks heard.talk → coming ≡ before.coming
     → back ≡ back_behind before.back guest heard.talk → count ≡ count_behind before.count heard.served heard.talk → table_of items guests talks (record { coming = coming; served = back }) count ≡ settled before place items guest heard
 settled_is before place items guest heard left guests left_talks talks coming back count out out_talks guests_are talks_are coming_is back_is count_is =
@@ -262,14 +262,14 @@ settled_is before place items guest heard left guests left_talks talks coming ba
     λ i. record { items = items; guests = all_guests i; talks = all_talks i; coming = coming_is i; back = back_is i; count = count_is i }
 
 -- a guest that sat down
-pub seated_is : {G : Type 0} (between : Table G) (guest : G) (items : Items) (guests : List G) (talks : List Talking) (coming : Option (List G)) (back : List G) (count : Service)
+pub seated_is : {G : Type 0} (between : Table G) (guest : G) (items : FencedItems) (guests : List G) (talks : List Talking) (coming : Option (List G)) (back : List G) (count : Service)
     → items ≡ between.items → guests ≡ between.guests ++ guest ∷ [] → talks ≡ between.talks ++ new_talk ∷ [] → coming ≡ between.coming → back ≡ between.back → count ≡ between.count
     → table_of items guests talks (record { coming = coming; served = back }) count ≡ with_seat between guest
 seated_is between guest items guests talks coming back count items_are guests_are talks_are coming_is back_is count_is =
     λ i. record { items = items_are i; guests = guests_are i; talks = talks_are i; coming = coming_is i; back = back_is i; count = count_is i }
 
 -- a table in which nothing has changed but in name
-pub same_table : {G : Type 0} (items : Items) (guests guests' : List G) (talks talks' : List Talking) (coming coming' : Option (List G)) (back back' : List G) (count : Service)
+pub same_table : {G : Type 0} (items : FencedItems) (guests guests' : List G) (talks talks' : List Talking) (coming coming' : Option (List G)) (back back' : List G) (count : Service)
     → guests' ≡ guests → talks' ≡ talks → coming' ≡ coming → back' ≡ back
     → table_of items guests' talks' (record { coming = coming'; served = back' }) count ≡ table_of items guests talks (record { coming = coming; served = back }) count
 same_table items guests guests' talks talks' coming coming' back back' count guests_are talks_are coming_is back_is =

@@ -1,12 +1,13 @@
--- What the serving of guests by one agent comes to, several of them at once.
+-- What the serving of guests by one agent comes to, several of them at once, whose commands may name a term.
 use Rattle.std.specs.Prelude.{◌≡◌, ◌≢◌, ◌⊎◌, ℕ, ◌+◌, ◌<◌, ◌≤◌, List, [], ◌∷◌, ◌++◌, length, slice_index_or, Option, Some, None, IfSome, Result, Ok, Err}
 use Rattle.std.specs.List.{remove}
 use Rattle.wan_edge.specs.Fleets.{GivesGuest}
 use Rattle.wan_edge.specs.Streams.{Rose, SinkTrace, SourceTrace}
-use Rattle.switch_agent.specs.Items.{Items, most_items}
-use Rattle.switch_agent.specs.Serving.{HearsGuest}
+use Rattle.fenced_agent.specs.Agents.{FencedItems}
+use Rattle.switch_agent.specs.Items.{most_items}
+use Rattle.agent_talks.specs.Serving.{HearsGuest}
 use Rattle.switch_agent.specs.Talks.{Talking, new_talk}
-use Rattle.switch_agent.specs.declared.heard.Heard.{Heard}
+use Rattle.agent_talks.specs.declared.heard.Heard.{Heard}
 use Rattle.switch_agent.specs.declared.serve_fault.ServeFault.TheVariants.{Memory as NoRoom, Read, Write}
 use Rattle.switch_agent.specs.declared.serve_fault.Served.{Served}
 use Rattle.agent_service.specs.declared.service.Service.{Service}
@@ -27,17 +28,17 @@ pub record Guests (G : Type 0) : Type 0 where
   pub coming : Option (List G)
   pub served : List G
 
--- One moment of a service: what the agent holds; the guests that sit, from the one that has said nothing for longest to the one that spoke last, and what is
+-- One moment of a service: the floor of the agent and what it holds; the guests that sit, from the one that has said nothing for longest to the one that spoke last, and what is
 -- kept of each of them; who is to come, where that is told; who was given back; and what was counted.
 pub record Table (G : Type 0) : Type 0 where
-  pub items : Items
+  pub items : FencedItems
   pub guests : List G
   pub talks : List Talking
   pub coming : Option (List G)
   pub back : List G
   pub count : Service
 
-abbrev pub table_of : {G : Type 0} → Items → List G → List Talking → Guests G → Service → Table G
+abbrev pub table_of : {G : Type 0} → FencedItems → List G → List Talking → Guests G → Service → Table G
 table_of items guests talks fleet count = record { items = items; guests = guests; talks = talks; coming = fleet.coming; back = fleet.served; count = count }
 
 -- the same with another count
@@ -120,7 +121,7 @@ count_behind count served None = with_guest count served
 count_behind count served (Some talk) = with_commands count served.commands
 
 -- where a guest that sat at a place is then, what is kept of it, and what is counted
-abbrev pub settled : {G : Type 0} → Table G → ℕ → Items → G → Heard → Table G
+abbrev pub settled : {G : Type 0} → Table G → ℕ → FencedItems → G → Heard → Table G
 settled table place items guest heard = record {
   items = items;
   guests = guests_behind (remove table.guests place) guest heard.talk;
@@ -130,8 +131,8 @@ settled table place items guest heard = record {
   count = count_behind table.count heard.served heard.talk;
 }
 
--- One of the guests that sit was read once, by what was kept of it alone; its commands were carried out and answered by what was held then, whoever brought it
--- about. A fault of reading or of writing came only where the count of these rose. The agent keeps no more items than a document within the limits has,
+-- One of the guests that sit was read once, by what was kept of it alone; its commands were carried out and answered by the floor and what was held then, whoever
+-- brought it about. A fault of reading or of writing came only where the count of these rose. The agent keeps no more items than a document within the limits has,
 -- whatever came.
 pub record HearsOne {G : Type 0} (tells : Tells G) (before : Table G) (heard : Heard) (now : Table G) : Type 0 where
   pub place : ℕ
@@ -141,11 +142,11 @@ pub record HearsOne {G : Type 0} (tells : Tells G) (before : Table G) (heard : H
   pub kept : IsAt before.talks place talk
   pub some : 0 < talk.room
   pub guest_now : G
-  pub items : Items
+  pub items : FencedItems
   pub hears : HearsGuest before.items items talk (tells.source guest) (tells.source guest_now) heard (tells.sink guest).written (tells.sink guest_now).written
   pub read_cause : heard.served.fault ≡ Some Read → Rose (tells.source guest).faults (tells.source guest_now).faults
   pub write_cause : heard.served.fault ≡ Some Write → Rose (tells.sink guest).faults (tells.sink guest_now).faults
-  pub few : length items ≤ most_items
+  pub few : length items.items ≤ most_items
   pub behind : now ≡ settled before place items guest_now heard
 
 -- the same, and memory was found for each item that was named
@@ -190,11 +191,11 @@ after_leaving back [] = back
 after_leaving back (guest ∷ guests) = after_leaving back guests ++ guest ∷ []
 
 -- before anybody came
-abbrev pub first_table : {G : Type 0} → Items → Guests G → Table G
+abbrev pub first_table : {G : Type 0} → FencedItems → Guests G → Table G
 first_table items guests = table_of items [] [] guests nothing_counted
 
 -- From these items guests were served turn by turn, and the service ended so. Whoever sat then was given back, and counts no further.
-pub record ServesBy {G : Type 0} (tells : Tells G) (items : Items) (before now : Guests G) (asked : ℕ) (result : Result Service ServiceFault) : Type 0 where
+pub record ServesBy {G : Type 0} (tells : Tells G) (items : FencedItems) (before now : Guests G) (asked : ℕ) (result : Result Service ServiceFault) : Type 0 where
   pub course : List (Table G)
   pub end : Table G
   pub last : Table G
@@ -203,9 +204,13 @@ pub record ServesBy {G : Type 0} (tells : Tells G) (items : Items) (before now :
   pub coming : now.coming ≡ last.coming
   pub back : now.served ≡ after_leaving last.back last.guests
 
--- from no item held
+-- no term heard, and no item held
+abbrev pub no_items : FencedItems
+no_items = record { floor = 0; items = [] }
+
+-- from no term heard and no item held
 abbrev pub Serves : {G : Type 0} → Tells G → Guests G → Guests G → ℕ → Result Service ServiceFault → Type 0
-Serves tells before now asked result = ServesBy tells [] before now asked result
+Serves tells before now asked result = ServesBy tells no_items before now asked result
 
 -- The same while the guests still sit, from this moment to that.
 pub record ServesSeated {G : Type 0} (tells : Tells G) (first : Table G) (asked : ℕ) (result : Result Service ServiceFault) (guests : List G) (now : Guests G) : Type 0 where

@@ -9,13 +9,16 @@ ghost use Rattle.wan_edge.specs.Streams.{Rose};
 
 use crate::seats::{MOST_SEATS, keep_seated, settle, sit_down};
 use crate::{Service, ServiceFault};
+use agent_talks::{Talk, serve_read};
+use fenced_agent::FencedAgent;
 use std::alloc::Global;
-use switch_agent::{Agent, ServeFault, Served, Talk, serve_read};
+use switch_agent::{Agent, ServeFault, Served};
 use wan_edge::{Fleet, Waited};
 
 /// Serves this many guests, or fewer where no more come and nobody sits: up to 64 at once, each read when
-/// something of it is there, by one agent that holds nothing at first. Their commands are carried out one by
-/// one in the order in which they were read, whoever sent them. A guest that isn't served to its end is
+/// something of it is there, by one agent that holds nothing at first and has heard of no term. Their commands
+/// are carried out one by one in the order in which they were read, whoever sent them, under one floor: a term
+/// that one guest named holds for all others. A guest that isn't served to its end is
 /// refused, and what it brought about stays; so is the one that has said nothing for longest where another
 /// one comes and all seats are taken. Only want of memory ends the service, for an item or for the seats,
 /// and none for more items than a document within the limits has is asked for. Each guest is given back,
@@ -40,7 +43,8 @@ pub fn serve_guests<F: Fleet>(
         → Rose (F.faults fleet.old) (F.faults fleet.new) }
     ensures count { F.faults fleet.old ≤ F.faults fleet.new }
 {
-    let mut agent = Agent::new(alloc);
+    let plain = Agent::new(alloc);
+    let mut agent = FencedAgent::new(plain);
     match Vec::with_capacity(alloc, MOST_SEATS) {
         Ok(mut talks) => serve_with(alloc, &mut agent, fleet, &mut talks, guests),
         Err(_) => Err(ServiceFault::Memory),
@@ -50,7 +54,7 @@ pub fn serve_guests<F: Fleet>(
 // The same with room for what is kept of those that sit.
 fn serve_with<F: Fleet>(
     alloc: Global,
-    agent: &mut Agent,
+    agent: &mut FencedAgent,
     fleet: &mut F,
     talks: &mut Vec<Talk>,
     guests: u32,
@@ -84,7 +88,7 @@ fn serve_with<F: Fleet>(
 
 // Serves guests from when nobody sits. Those that sit at its end are still there.
 fn serve_seated<F: Fleet>(
-    agent: &mut Agent,
+    agent: &mut FencedAgent,
     fleet: &mut F,
     seated: &mut Vec<F::Guest>,
     talks: &mut Vec<Talk>,
@@ -131,7 +135,7 @@ fn serve_seated<F: Fleet>(
 
 // Waits, and then a guest sits down, or one that sits is read once. None: no more come, and nobody sits.
 fn take_turn<F: Fleet>(
-    agent: &mut Agent,
+    agent: &mut FencedAgent,
     fleet: &mut F,
     seated: &mut Vec<F::Guest>,
     talks: &mut Vec<Talk>,
@@ -177,7 +181,7 @@ fn take_turn<F: Fleet>(
 
 // Does what a wait has ended for.
 fn wake<F: Fleet>(
-    agent: &mut Agent,
+    agent: &mut FencedAgent,
     fleet: &mut F,
     seated: &mut Vec<F::Guest>,
     talks: &mut Vec<Talk>,
@@ -226,7 +230,7 @@ fn wake<F: Fleet>(
 
 // The next guest sits down.
 fn seat_next<F: Fleet>(
-    _agent: &Agent,
+    _agent: &FencedAgent,
     fleet: &mut F,
     seated: &mut Vec<F::Guest>,
     talks: &mut Vec<Talk>,
@@ -273,7 +277,7 @@ fn seat_next<F: Fleet>(
 
 // Reads the guest at this place once.
 fn hear<F: Fleet>(
-    agent: &mut Agent,
+    agent: &mut FencedAgent,
     fleet: &mut F,
     seated: &mut Vec<F::Guest>,
     talks: &mut Vec<Talk>,

@@ -6,7 +6,7 @@ ghost use Rattle.agent_service.specs.Seats.{HasSeats};
 ghost use Rattle.agent_service.specs.Services.{back_behind, count_behind, guests_behind, most_seats, nothing_counted, table_of, talks_behind};
 ghost use Rattle.agent_service.specs.declared.keep_fault.KeepFault.TheVariants as stop;
 ghost use Rattle.disk_model.specs.Moments.{LeavesOnly};
-ghost use Rattle.switch_agent.specs.Items.{holding};
+ghost use Rattle.fenced_agent.specs.Agents.{fenced_holding};
 ghost use Rattle.switch_agent.specs.declared.serve_fault.ServeFault.TheVariants as fault;
 ghost use Rattle.wan_edge.specs.Fleets.{WaitsFor};
 ghost use Rattle.wan_edge.specs.Streams.{KeepsTelling};
@@ -16,14 +16,16 @@ use crate::keeping::serve_kept;
 use crate::seats::{MOST_SEATS, keep_seated, settle, sit_down};
 use crate::{KeepFault, Service};
 use agent_state::{Place, open_state};
+use agent_talks::{Heard, Talk};
 use disk_model::Disk;
+use fenced_agent::FencedAgent;
 use std::alloc::Global;
-use switch_agent::{Agent, Heard, Talk};
+use switch_agent::Agent;
 use wan_edge::{Fleet, Waited};
 
 /// Serves this many guests, or fewer where no more come, several at once as [`crate::serve_guests`] does, by
-/// an agent that holds what its file says. What a read of commands changes is on the disk as one batch before
-/// its answers go out; a crash at any moment leaves what was held before it or behind all of it.
+/// an agent that holds what its file says, under the floor that its file says. What a read of commands changes is on
+/// the disk as one batch before its answers go out, and so is the floor that it raised; a crash at any moment leaves what was held before it or behind all of it.
 #[tactic(auto, using(crate::proofs::KeptRows::stops_ends))]
 pub fn keep_guests<F: Fleet, D: Disk>(
     alloc: Global,
@@ -50,7 +52,8 @@ pub fn keep_guests<F: Fleet, D: Disk>(
         × (F.lent fleet.new ≡ F.lent fleet.old)
         × (F.named fleet.new ≡ F.named fleet.old) }
 {
-    let mut agent = Agent::new(alloc);
+    let plain = Agent::new(alloc);
+    let mut agent = FencedAgent::new(plain);
     let place = open_state(alloc, disk, &mut agent)?;
     let service = keep_all(alloc, fleet, disk, place, &mut agent, guests)?;
     Ok(service)
@@ -62,10 +65,10 @@ fn keep_all<F: Fleet, D: Disk>(
     fleet: &mut F,
     disk: &mut D,
     place: Place,
-    agent: &mut Agent,
+    agent: &mut FencedAgent,
     guests: u32,
 ) -> Result<Service, KeepFault>
-    requires { IsOnDisk (D.told disk.old) place (holding agent.old) }
+    requires { IsOnDisk (D.told disk.old) place (fenced_holding agent.old) }
     ensures keeps { IfOk result
         (λ service. KeepsFrom D.told (record {
           source = F.Guest.Source.told;
@@ -73,7 +76,7 @@ fn keep_all<F: Fleet, D: Disk>(
         }) agent.old disk.new
         (record { coming = F.coming fleet.old; served = F.served fleet.old })
         (record { coming = F.coming fleet.new; served = F.served fleet.new }) guests service) }
-    ensures any_moment { HasComeAlways D.told disk.old disk.new (holding agent.old) }
+    ensures any_moment { HasComeAlways D.told disk.old disk.new (fenced_holding agent.old) }
     ensures told { KeepsTelling (D.told disk.old).bytes (D.told disk.new).bytes }
     ensures visiting { F.visiting fleet.new ≡ F.visiting fleet.old }
     ensures ports { (F.waiting fleet.new ≡ F.waiting fleet.old)
@@ -98,13 +101,13 @@ fn keep_with<F: Fleet, D: Disk>(
     fleet: &mut F,
     disk: &mut D,
     place: Place,
-    agent: &mut Agent,
+    agent: &mut FencedAgent,
     talks: &mut Vec<Talk>,
     guests: u32,
 ) -> Result<Service, KeepFault>
     requires nobody { talks.old.items ≡ [] }
     requires places { most_seats ≤ vec_capacity talks.old }
-    requires kept { IsOnDisk (D.told disk.old) place (holding agent.old) }
+    requires kept { IsOnDisk (D.told disk.old) place (fenced_holding agent.old) }
     ensures keeps { IfOk result
         (λ service. KeepsFrom D.told (record {
           source = F.Guest.Source.told;
@@ -112,7 +115,7 @@ fn keep_with<F: Fleet, D: Disk>(
         }) agent.old disk.new
         (record { coming = F.coming fleet.old; served = F.served fleet.old })
         (record { coming = F.coming fleet.new; served = F.served fleet.new }) guests service) }
-    ensures any_moment { HasComeAlways D.told disk.old disk.new (holding agent.old) }
+    ensures any_moment { HasComeAlways D.told disk.old disk.new (fenced_holding agent.old) }
     ensures told { KeepsTelling (D.told disk.old).bytes (D.told disk.new).bytes }
     ensures visiting { F.visiting fleet.new ≡ F.visiting fleet.old }
     ensures ports { (F.waiting fleet.new ≡ F.waiting fleet.old)
@@ -142,7 +145,7 @@ fn keep_each<F: Fleet, D: Disk>(
     fleet: &mut F,
     disk: &mut D,
     place: Place,
-    agent: &mut Agent,
+    agent: &mut FencedAgent,
     seated: &mut Vec<F::Guest>,
     talks: &mut Vec<Talk>,
     guests: u32,
@@ -150,7 +153,7 @@ fn keep_each<F: Fleet, D: Disk>(
     requires nobody { (seated.old.items ≡ []) × (talks.old.items ≡ []) }
     requires places { (most_seats ≤ vec_capacity seated.old)
         × (most_seats ≤ vec_capacity talks.old) }
-    requires kept { IsOnDisk (D.told disk.old) place (holding agent.old) }
+    requires kept { IsOnDisk (D.told disk.old) place (fenced_holding agent.old) }
     ensures keeps { IfOk result
         (λ service. KeepsSeated (record {
           source = F.Guest.Source.told;
@@ -160,8 +163,8 @@ fn keep_each<F: Fleet, D: Disk>(
         (record { coming = F.coming fleet.old; served = F.served fleet.old }) nothing_counted)
         guests seated.new.items agent.new service
         (record { coming = F.coming fleet.new; served = F.served fleet.new })) }
-    ensures durable { IfOk result (λ _. IsHeldOnDisk (D.told disk.new) (holding agent.new)) }
-    ensures any_moment { HasComeAlways D.told disk.old disk.new (holding agent.old) }
+    ensures durable { IfOk result (λ _. IsHeldOnDisk (D.told disk.new) (fenced_holding agent.new)) }
+    ensures any_moment { HasComeAlways D.told disk.old disk.new (fenced_holding agent.old) }
     ensures told { KeepsTelling (D.told disk.old).bytes (D.told disk.new).bytes }
     ensures visiting { F.visiting fleet.new
         ≡ F.visiting fleet.old + length seated.new.items }
@@ -198,14 +201,14 @@ fn keep_turn<F: Fleet, D: Disk>(
     fleet: &mut F,
     disk: &mut D,
     place: Place,
-    agent: &mut Agent,
+    agent: &mut FencedAgent,
     seated: &mut Vec<F::Guest>,
     talks: &mut Vec<Talk>,
     service: Service,
 ) -> Result<Option<(Place, Service)>, KeepFault>
     requires seats { HasSeats seated.old.items talks.old.items service (vec_capacity seated.old)
         (vec_capacity talks.old) (F.visiting fleet.old) }
-    requires kept { IsOnDisk (D.told disk.old) place (holding agent.old) }
+    requires kept { IsOnDisk (D.told disk.old) place (fenced_holding agent.old) }
     ensures turn { IfOk result
         (λ found. KeepsTurn (record {
           source = F.Guest.Source.told;
@@ -216,8 +219,8 @@ fn keep_turn<F: Fleet, D: Disk>(
         (table_of agent.new seated.new.items talks.new.items
         (record { coming = F.coming fleet.new; served = F.served fleet.new }) service)) }
     ensures kept { IfOk result
-        (λ found. IsKeptBehind (D.told disk.new) place found (holding agent.new)) }
-    ensures any_moment { HasComeAlways D.told disk.old disk.new (holding agent.old) }
+        (λ found. IsKeptBehind (D.told disk.new) place found (fenced_holding agent.new)) }
+    ensures any_moment { HasComeAlways D.told disk.old disk.new (fenced_holding agent.old) }
     ensures told { KeepsTelling (D.told disk.old).bytes (D.told disk.new).bytes }
     ensures places { (vec_capacity seated.new ≡ vec_capacity seated.old)
         × (vec_capacity talks.new ≡ vec_capacity talks.old) }
@@ -247,7 +250,7 @@ fn keep_wake<F: Fleet, D: Disk>(
     fleet: &mut F,
     disk: &mut D,
     place: Place,
-    agent: &mut Agent,
+    agent: &mut FencedAgent,
     seated: &mut Vec<F::Guest>,
     talks: &mut Vec<Talk>,
     woken: Waited,
@@ -256,7 +259,7 @@ fn keep_wake<F: Fleet, D: Disk>(
     requires seats { HasSeats seated.old.items talks.old.items service (vec_capacity seated.old)
         (vec_capacity talks.old) (F.visiting fleet.old) }
     requires woken { WaitsFor (F.coming fleet.old) seated.old.items woken }
-    requires kept { IsOnDisk (D.told disk.old) place (holding agent.old) }
+    requires kept { IsOnDisk (D.told disk.old) place (fenced_holding agent.old) }
     ensures turn { IfOk result
         (λ found. KeepsTurn (record {
           source = F.Guest.Source.told;
@@ -267,8 +270,8 @@ fn keep_wake<F: Fleet, D: Disk>(
         (table_of agent.new seated.new.items talks.new.items
         (record { coming = F.coming fleet.new; served = F.served fleet.new }) service)) }
     ensures kept { IfOk result
-        (λ found. IsKeptBehind (D.told disk.new) place found (holding agent.new)) }
-    ensures any_moment { HasComeAlways D.told disk.old disk.new (holding agent.old) }
+        (λ found. IsKeptBehind (D.told disk.new) place found (fenced_holding agent.new)) }
+    ensures any_moment { HasComeAlways D.told disk.old disk.new (fenced_holding agent.old) }
     ensures told { KeepsTelling (D.told disk.old).bytes (D.told disk.new).bytes }
     ensures places { (vec_capacity seated.new ≡ vec_capacity seated.old)
         × (vec_capacity talks.new ≡ vec_capacity talks.old) }
@@ -298,14 +301,14 @@ fn keep_next<F: Fleet, D: Disk>(
     fleet: &mut F,
     disk: &mut D,
     place: Place,
-    agent: &mut Agent,
+    agent: &mut FencedAgent,
     seated: &mut Vec<F::Guest>,
     talks: &mut Vec<Talk>,
     service: Service,
 ) -> Result<Option<(Place, Service)>, KeepFault>
     requires seats { HasSeats seated.old.items talks.old.items service (vec_capacity seated.old)
         (vec_capacity talks.old) (F.visiting fleet.old) }
-    requires kept { IsOnDisk (D.told disk.old) place (holding agent.old) }
+    requires kept { IsOnDisk (D.told disk.old) place (fenced_holding agent.old) }
     requires comes { IfSome (F.coming fleet.old) (λ guests. 0 < length guests) }
     ensures turn { IfOk result
         (λ found. KeepsTurn (record {
@@ -317,8 +320,8 @@ fn keep_next<F: Fleet, D: Disk>(
         (table_of agent.new seated.new.items talks.new.items
         (record { coming = F.coming fleet.new; served = F.served fleet.new }) service)) }
     ensures kept { IfOk result
-        (λ found. IsKeptBehind (D.told disk.new) place found (holding agent.new)) }
-    ensures any_moment { HasComeAlways D.told disk.old disk.new (holding agent.old) }
+        (λ found. IsKeptBehind (D.told disk.new) place found (fenced_holding agent.new)) }
+    ensures any_moment { HasComeAlways D.told disk.old disk.new (fenced_holding agent.old) }
     ensures told { KeepsTelling (D.told disk.old).bytes (D.told disk.new).bytes }
     ensures places { (vec_capacity seated.new ≡ vec_capacity seated.old)
         × (vec_capacity talks.new ≡ vec_capacity talks.old) }
@@ -355,7 +358,7 @@ fn keep_heard<F: Fleet, D: Disk>(
     fleet: &mut F,
     disk: &mut D,
     place: Place,
-    agent: &mut Agent,
+    agent: &mut FencedAgent,
     seated: &mut Vec<F::Guest>,
     talks: &mut Vec<Talk>,
     at: usize,
@@ -365,7 +368,7 @@ fn keep_heard<F: Fleet, D: Disk>(
         (vec_capacity talks.old) (F.visiting fleet.old) }
     requires at { at < length seated.old.items }
     requires even { length talks.old.items ≡ length seated.old.items }
-    requires kept { IsOnDisk (D.told disk.old) place (holding agent.old) }
+    requires kept { IsOnDisk (D.told disk.old) place (fenced_holding agent.old) }
     ensures turn { IfOk result
         (λ found. KeepsTurn (record {
           source = F.Guest.Source.told;
@@ -376,8 +379,8 @@ fn keep_heard<F: Fleet, D: Disk>(
         (table_of agent.new seated.new.items talks.new.items
         (record { coming = F.coming fleet.new; served = F.served fleet.new }) service)) }
     ensures kept { IfOk result
-        (λ found. IsKeptBehind (D.told disk.new) place found (holding agent.new)) }
-    ensures any_moment { HasComeAlways D.told disk.old disk.new (holding agent.old) }
+        (λ found. IsKeptBehind (D.told disk.new) place found (fenced_holding agent.new)) }
+    ensures any_moment { HasComeAlways D.told disk.old disk.new (fenced_holding agent.old) }
     ensures told { KeepsTelling (D.told disk.old).bytes (D.told disk.new).bytes }
     ensures places { (vec_capacity seated.new ≡ vec_capacity seated.old)
         × (vec_capacity talks.new ≡ vec_capacity talks.old) }

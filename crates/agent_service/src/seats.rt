@@ -1,11 +1,11 @@
 //! The seats at which several guests are served at once: who sits down, who stays, and who leaves.
 ghost use Rattle.std.specs.Prelude.{◌≡◌, ◌+◌, ◌<◌, ◌≤◌, ◌^◌, false, length, true, vec_capacity, IfOk, OnErr};
 ghost use Rattle.agent_service.specs.Services.{LosesFirst, MakesRoom, SeatsNext, SitsFrom, after_leaving, back_behind, count_behind, guests_behind, most_seats, table_of, talks_behind};
-ghost use Rattle.switch_agent.specs.Items.{Items};
+ghost use Rattle.fenced_agent.specs.Agents.{FencedItems};
 ghost use Rattle.wan_edge.specs.Streams.{Rose};
 
 use crate::Service;
-use switch_agent::{Heard, Talk};
+use agent_talks::{Heard, Talk};
 use wan_edge::{Failed, Fleet};
 
 /// How many guests sit at once at most.
@@ -27,7 +27,7 @@ pub(crate) fn sit_down<F: Fleet>(
     requires refused { service.refused + 1 < 2 ^ 32 }
     requires visiting { length seated.old.items ≤ F.visiting fleet.old }
     ensures sits { IfOk result
-        (λ found. (items : Items)
+        (λ found. (items : FencedItems)
         → SeatsNext (record {
           source = F.Guest.Source.told;
           sink = F.Guest.Sink.told;
@@ -75,7 +75,7 @@ fn seat<F: Fleet>(
     requires guests { service.guests + 1 < 2 ^ 32 }
     requires refused { service.refused + 1 < 2 ^ 32 }
     requires visiting { length seated.old.items ≤ F.visiting fleet.old }
-    ensures sits { (items : Items)
+    ensures sits { (items : FencedItems)
         → SitsFrom
         (table_of items seated.old.items talks.old.items
         (record { coming = F.coming fleet.old; served = F.served fleet.old }) service) guest
@@ -111,7 +111,7 @@ fn make_room<F: Fleet>(
     requires guests { service.guests + 1 < 2 ^ 32 }
     requires refused { service.refused + 1 < 2 ^ 32 }
     requires visiting { length seated.old.items ≤ F.visiting fleet.old }
-    ensures room { (items : Items)
+    ensures room { (items : FencedItems)
         → MakesRoom
         (table_of items seated.old.items talks.old.items
         (record { coming = F.coming fleet.old; served = F.served fleet.old }) service)
@@ -159,7 +159,7 @@ fn lose_first<F: Fleet>(
     requires guests { service.guests + 1 < 2 ^ 32 }
     requires refused { service.refused + 1 < 2 ^ 32 }
     requires visiting { 0 < F.visiting fleet.old }
-    ensures lost { (items : Items)
+    ensures lost { (items : FencedItems)
         → LosesFirst
         (table_of items seated.old.items talks.old.items
         (record { coming = F.coming fleet.old; served = F.served fleet.old }) service)

@@ -8,6 +8,7 @@ use Rattle.wan_edge.specs.Frames.{CommandFrame}
 use Rattle.wan_edge.specs.Streams.{KeepsTelling}
 use Rattle.wan_edge.specs.Switches.{Holdings, holding_nothing}
 use Rattle.switch_agent.specs.Items.{Items, held_by, holding, last_command}
+use Rattle.fenced_agent.specs.Agents.{FencedHoldings, FencedItems, fenced_holding}
 use Rattle.disk_model.specs.Crashes.{Only}
 use Rattle.disk_model.specs.Moments.{LeavesOnly}
 use Rattle.disk_model.specs.Traces.{DiskTrace}
@@ -16,7 +17,7 @@ use Rattle.agent_state.specs.Batches.{IsBody}
 use Rattle.agent_state.specs.Disks.{Holds}
 use Rattle.agent_state.specs.Renewals.{new_gate, new_home}
 use Rattle.agent_state.specs.States.{Home, IsAtRest, IsCommitted, IsEither}
-use Rattle.agent_state.specs.Stored.{AreBytes, IsBeforeOrAfter, IsKept, IsReadAs, Leaves, home_of, last_commands, last_of, part_bytes, with_all}
+use Rattle.agent_state.specs.Stored.{IsBatch, IsBeforeOrAfter, IsKept, IsReadAs, Leaves, StoredBatch, floor_behind, home_of, kept_floor, last_batch, last_commands, last_of, nothing_yet, part_bytes, with_all, with_batch}
 use Rattle.agent_state.specs.declared.place.Place.{Place}
 use Rattle.agent_state.proofs.Heads.{rest_reads}
 use Rattle.agent_state.proofs.Walked.{Leaves-more, with_all-append}
@@ -69,69 +70,81 @@ or_nothing (Some c) = refl
 pub lasts_lead : (items : Items) → IsDistinct nat_eq (keys_of items) → holding items ≡ with_all holding_nothing (last_commands items)
 lasts_lead items apart i q = sym (lasts_at items holding_nothing q apart ∙ or_nothing (last_command items q)) i
 
+floor_kept : (floor : ℕ) → floor_behind (kept_floor floor) 0 ≡ floor
+floor_kept floor = elim (cases_eq floor 0) [
+  | inl none ↦
+      ap (λ (kept : Option ℕ). floor_behind kept 0) (cond-true (floor == 0) None (Some floor) (eq-eqb floor 0 none)) ∙ sym none
+  | inr some ↦
+      ap (λ (kept : Option ℕ). floor_behind kept 0) (cond-false (floor == 0) None (Some floor) (ne_eqb floor 0 some))
+]
+
+-- the last batch leads to what is held
+last_leads : (items : FencedItems) → IsDistinct nat_eq (keys_of items.items) → fenced_holding items ≡ with_batch nothing_yet (last_batch items)
+last_leads items apart i = record { floor = sym (floor_kept items.floor) i; held = lasts_lead items.items apart i }
+
 -- ---- what is read
 
-pub kept_reads : (place : Place) (held : Holdings) (image : List ℕ) → IsKept place held image → IsReadAs image held
+pub kept_reads : (place : Place) (held : FencedHoldings) (image : List ℕ) → IsKept place held image → IsReadAs image held
 kept_reads place held image is = record { kept = is.kept; read = rest_reads (home_of place) place.gate is.kept image is.rest; leaves = is.leaves }
 
 module _ {D : Type 0} (trace : D → DiskTrace) where
   -- a batch, done or not
-  pub add_run : (told : Option (List ℕ)) (left : List ℕ → Type 0) (old new : D) (place : Place) (before now : Holdings) (commands : List CommandFrame) (batch body : List ℕ)
-      → Holds (IsKept place before) told left → AreBytes commands batch → now ≡ with_all before commands → IsBody batch body
+  pub add_run : (told : Option (List ℕ)) (left : List ℕ → Type 0) (old new : D) (place : Place) (before now : FencedHoldings) (stored : StoredBatch) (batch body : List ℕ)
+      → Holds (IsKept place before) told left → IsBatch stored batch → now ≡ with_batch before stored → IsBody batch body
       → IfSome told (λ image. (home : Home) (kept : List (List ℕ)) (b : List ℕ) → IsAtRest home place.gate kept image → IsBody b body → Only image left
       → LeavesOnly trace old new (IsEither kept (kept ++ b ∷ [])))
       → IfSome told (λ _. LeavesOnly trace old new (IsBeforeOrAfter before now))
-  add_run None left old new place before now commands batch body holds are leads is_body says = tt
-  add_run (Some image) left old new place before now commands batch body holds are leads is_body says =
+  add_run None left old new place before now stored batch body holds are leads is_body says = tt
+  add_run (Some image) left old new place before now stored batch body holds are leads is_body says =
       let k = holds.0 in
-      let after = Leaves-more holding_nothing before now k.kept commands batch k.leaves are leads in
+      let after = Leaves-more nothing_yet before now k.kept stored batch k.leaves are leads in
       LeavesOnly-weaker trace old new (IsEither k.kept (k.kept ++ batch ∷ [])) (IsBeforeOrAfter before now) (says (home_of place) k.kept batch k.rest is_body holds.1)
       (λ c either. ⊎_elim (λ was. inl (record { kept = k.kept; read = was; leaves = k.leaves })) (λ is. inr (record { kept = k.kept ++ batch ∷ []; read = is; leaves = after })) either)
 
   -- a file that is written anew, done or not
-  pub anew_run : (told : Option (List ℕ)) (left : List ℕ → Type 0) (old new : D) (place : Place) (items : Items) (batch bytes : List ℕ)
-      → Holds (IsKept place (holding items)) told left → AreBytes (last_commands items) batch → IsDistinct nat_eq (keys_of items) → length batch < 2 ^ 32 → bytes ≡ part_bytes batch
+  pub anew_run : (told : Option (List ℕ)) (left : List ℕ → Type 0) (old new : D) (place : Place) (items : FencedItems) (batch bytes : List ℕ)
+      → Holds (IsKept place (fenced_holding items)) told left → IsBatch (last_batch items) batch → IsDistinct nat_eq (keys_of items.items) → length batch < 2 ^ 32 → bytes ≡ part_bytes batch
       → ((kept : List (List ℕ)) (b : List ℕ) → Holds (IsAtRest (home_of place) place.gate kept) told left → length b < 2 ^ 32 → bytes ≡ part_bytes b
       → IfSome told (λ _. LeavesOnly trace old new (IsEither kept (b ∷ []))))
-      → IfSome told (λ _. LeavesOnly trace old new (λ c. IsReadAs c (holding items)))
+      → IfSome told (λ _. LeavesOnly trace old new (λ c. IsReadAs c (fenced_holding items)))
   anew_run None left old new place items batch bytes holds are apart few is says = tt
   anew_run (Some image) left old new place items batch bytes holds are apart few is says =
       let k = holds.0 in
-      let after : Leaves holding_nothing (batch ∷ []) (holding items) = (last_commands items, are, lasts_lead items apart) in
-      LeavesOnly-weaker trace old new (IsEither k.kept (batch ∷ [])) (λ c. IsReadAs c (holding items)) (says k.kept batch (k.rest, holds.1) few is)
+      let after : Leaves nothing_yet (batch ∷ []) (fenced_holding items) = (last_batch items, are, last_leads items apart) in
+      LeavesOnly-weaker trace old new (IsEither k.kept (batch ∷ [])) (λ c. IsReadAs c (fenced_holding items)) (says k.kept batch (k.rest, holds.1) few is)
       (λ c either. ⊎_elim (λ was. record { kept = k.kept; read = was; leaves = k.leaves }) (λ new. record { kept = batch ∷ []; read = new; leaves = after }) either)
 
 -- where the file stands behind a batch
-pub added : (told told_new : Option (List ℕ)) (left left_new : List ℕ → Type 0) (place next : Place) (before now : Holdings) (commands : List CommandFrame) (batch body : List ℕ)
+pub added : (told told_new : Option (List ℕ)) (left left_new : List ℕ → Type 0) (place next : Place) (before now : FencedHoldings) (stored : StoredBatch) (batch body : List ℕ)
     → home_of next ≡ home_of place → next.gate ≡ place.gate + length body
-    → Holds (IsKept place before) told left → AreBytes commands batch → now ≡ with_all before commands → IsBody batch body → KeepsTelling told told_new
+    → Holds (IsKept place before) told left → IsBatch stored batch → now ≡ with_batch before stored → IsBody batch body → KeepsTelling told told_new
     → IfSome told (λ image. (home : Home) (kept : List (List ℕ)) (b : List ℕ) → IsAtRest home place.gate kept image → IsBody b body
     → IsCommitted home (place.gate + length body) (kept ++ b ∷ []) told_new left_new)
     → Holds (IsKept next now) told_new left_new
-added None None left left_new place next before now commands batch body same gate holds are leads is_body keeps says = tt
-added None (Some image) left left_new place next before now commands batch body same gate holds are leads is_body keeps says = absurd (cc keeps)
-added (Some image) told_new left left_new place next before now commands batch body same gate holds are leads is_body keeps says =
+added None None left left_new place next before now stored batch body same gate holds are leads is_body keeps says = tt
+added None (Some image) left left_new place next before now stored batch body same gate holds are leads is_body keeps says = absurd (cc keeps)
+added (Some image) told_new left left_new place next before now stored batch body same gate holds are leads is_body keeps says =
     let k = holds.0 in
     let done = says (home_of place) k.kept batch k.rest is_body in
-    let after = Leaves-more holding_nothing before now k.kept commands batch k.leaves are leads in
+    let after = Leaves-more nothing_yet before now k.kept stored batch k.leaves are leads in
     let rest : IsAtRest (home_of next) next.gate (k.kept ++ batch ∷ []) done.now =
     subst (λ (home : Home). IsAtRest home next.gate (k.kept ++ batch ∷ []) done.now) (sym same)
     (subst (λ (n : ℕ). IsAtRest (home_of place) n (k.kept ++ batch ∷ []) done.now) (sym gate) done.rest) in
     rw done.is_told (record { kept = k.kept ++ batch ∷ []; rest = rest; leaves = after }, done.durable)
 
 -- and where it is written anew
-pub renewed : (told told_new : Option (List ℕ)) (left left_new : List ℕ → Type 0) (place next : Place) (items : Items) (to : ℕ) (batch bytes : List ℕ)
+pub renewed : (told told_new : Option (List ℕ)) (left left_new : List ℕ → Type 0) (place next : Place) (items : FencedItems) (to : ℕ) (batch bytes : List ℕ)
     → home_of next ≡ new_home (home_of place) to → next.gate ≡ new_gate to batch
-    → Holds (IsKept place (holding items)) told left → AreBytes (last_commands items) batch → IsDistinct nat_eq (keys_of items) → length batch < 2 ^ 32 → bytes ≡ part_bytes batch → KeepsTelling told told_new
+    → Holds (IsKept place (fenced_holding items)) told left → IsBatch (last_batch items) batch → IsDistinct nat_eq (keys_of items.items) → length batch < 2 ^ 32 → bytes ≡ part_bytes batch → KeepsTelling told told_new
     → ((kept : List (List ℕ)) (b : List ℕ) → Holds (IsAtRest (home_of place) place.gate kept) told left → length b < 2 ^ 32 → bytes ≡ part_bytes b
     → Holds (IsAtRest (new_home (home_of place) to) (new_gate to b) (b ∷ [])) told_new left_new)
-    → Holds (IsKept next (holding items)) told_new left_new
+    → Holds (IsKept next (fenced_holding items)) told_new left_new
 renewed told None left left_new place next items to batch bytes same gate holds are apart few is keeps says = tt
 renewed None (Some image) left left_new place next items to batch bytes same gate holds are apart few is keeps says = absurd (cc keeps)
 renewed (Some image) (Some now) left left_new place next items to batch bytes same gate holds are apart few is keeps says =
     let k = holds.0 in
     let done = says k.kept batch (k.rest, holds.1) few is in
-    let after : Leaves holding_nothing (batch ∷ []) (holding items) = (last_commands items, are, lasts_lead items apart) in
+    let after : Leaves nothing_yet (batch ∷ []) (fenced_holding items) = (last_batch items, are, last_leads items apart) in
     let rest : IsAtRest (home_of next) next.gate (batch ∷ []) now =
     subst (λ (home : Home). IsAtRest home next.gate (batch ∷ []) now) (sym same)
     (subst (λ (n : ℕ). IsAtRest (new_home (home_of place) to) n (batch ∷ []) now) (sym gate) done.0) in

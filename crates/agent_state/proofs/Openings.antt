@@ -3,7 +3,7 @@ use Rattle.std.proofs.Common.{◌≡◌, ◌≢◌, inl, inr, ◌⊎◌, ◌==�
 use Rattle.std.proofs.lemmas.Bool.{cases_eq, eq-eqb, eqb-true}
 use Rattle.std.proofs.lemmas.Bool.Decides.{nat_tests}
 use Rattle.std.proofs.lemmas.List.{append-nil, get_or-drop, length-take-le}
-use Rattle.wan_edge.specs.Switches.{Holdings, holding_nothing}
+use Rattle.fenced_agent.specs.Agents.{FencedHoldings}
 use Rattle.disk_model.specs.Crashes.{IsDurable}
 use Rattle.disk_model.specs.Moments.{LeavesOnly}
 use Rattle.disk_model.specs.Traces.{DiskTrace}
@@ -17,7 +17,7 @@ use Rattle.agent_state.specs.Images.{batches_in, first_start, is_state, live_sta
 use Rattle.agent_state.specs.Numbers.{byte_at, number_4}
 use Rattle.agent_state.specs.Opened.{HasLive, IsBlank, IsFound, ReadsAlike, Walks, batch_at}
 use Rattle.agent_state.specs.States.{HasPart}
-use Rattle.agent_state.specs.Stored.{IsKept, IsReadAs, home_of}
+use Rattle.agent_state.specs.Stored.{IsKept, IsReadAs, home_of, nothing_yet}
 use Rattle.agent_state.specs.declared.place.Place.{Place}
 use Rattle.agent_state.proofs.Heads.{long_image, part_apart, part_reads, place_low}
 use Rattle.agent_state.proofs.Reading.{Stands-nothing, batches_closed}
@@ -73,7 +73,7 @@ first_number = refl
 abbrev pub first_place : Place
 first_place = record { second = false; start = 10; gate = 10; fresh = 1 }
 
-made_kept : IsKept first_place holding_nothing made
+made_kept : IsKept first_place nothing_yet made
 made_kept = record {
   kept = [];
   rest = record {
@@ -89,11 +89,11 @@ made_kept = record {
   leaves = refl;
 }
 
-pub made_done : (place : Place) (bytes image : List ℕ) → place ≡ first_place → bytes ≡ made → IsBlank image → IsKept place holding_nothing (written 0 bytes image)
+pub made_done : (place : Place) (bytes image : List ℕ) → place ≡ first_place → bytes ≡ made → IsBlank image → IsKept place nothing_yet (written 0 bytes image)
 made_done place bytes image is are few =
-    subst (λ (p : Place). IsKept p holding_nothing (written 0 bytes image)) (sym is)
-    (subst (λ (b : List ℕ). IsKept first_place holding_nothing (written 0 b image)) (sym are)
-    (subst (IsKept first_place holding_nothing) (sym (made_written image few)) made_kept))
+    subst (λ (p : Place). IsKept p nothing_yet (written 0 bytes image)) (sym is)
+    (subst (λ (b : List ℕ). IsKept first_place nothing_yet (written 0 b image)) (sym are)
+    (subst (IsKept first_place nothing_yet) (sym (made_written image few)) made_kept))
 
 -- ---- files with batches
 
@@ -106,7 +106,7 @@ other_kind image long other =
     ∙ ap (λ (b : Bool). if b && (nat_le first_start (live_start image) && nat_lt (live_start image) (length image)) then Some (batches_of (drop (live_start image) image)) else None) shut
 
 -- the image as it was walked through
-pub found : (place next : Place) (gate : ℕ) (cut : Bool) (held : Holdings) (image : List ℕ) → made_length < length image → HasLive place image → Walks (drop place.start image) gate held → batch_at (drop place.start image) gate ≡ None
+pub found : (place next : Place) (gate : ℕ) (cut : Bool) (held : FencedHoldings) (image : List ℕ) → made_length < length image → HasLive place image → Walks (drop place.start image) gate held → batch_at (drop place.start image) gate ≡ None
     → next ≡ record place { gate = place.start + gate } → cut ≡ (byte_at gate (drop place.start image) == open_gate) → IsFound next cut held image
 found place next gate cut held image long live walks none next_is cut_is =
     let part = drop place.start image in
@@ -132,16 +132,16 @@ found place next gate cut held image long live walks none next_is cut_is =
     } in
     subst (λ (p : Place). IsFound p cut held image) (sym next_is) there
 
-pub found_reads : (place : Place) (cut : Bool) (held : Holdings) (image : List ℕ) (is : IsFound place cut held image) → batches_in image ≡ Some is.kept
+pub found_reads : (place : Place) (cut : Bool) (held : FencedHoldings) (image : List ℕ) (is : IsFound place cut held image) → batches_in image ≡ Some is.kept
 found_reads place cut held image is =
     part_reads (home_of place) is.front (is.mark ∷ is.behind) image is.kept is.has is.stands (λ few. absurd (omega (arith, few, is.long)))
     ∙ ap Some (ap (λ (l : List (List ℕ)). is.kept ++ l) is.none ∙ append-nil is.kept)
 
-pub found_read : (place : Place) (cut : Bool) (held : Holdings) (image : List ℕ) → IsFound place cut held image → IsReadAs image held
+pub found_read : (place : Place) (cut : Bool) (held : FencedHoldings) (image : List ℕ) → IsFound place cut held image → IsReadAs image held
 found_read place cut held image is = record { kept = is.kept; read = found_reads place cut held image is; leaves = is.leaves }
 
 -- a gate that isn't open is closed
-pub found_kept : (place : Place) (held : Holdings) (image : List ℕ) → IsFound place false held image → IsKept place held image
+pub found_kept : (place : Place) (held : FencedHoldings) (image : List ℕ) → IsFound place false held image → IsKept place held image
 found_kept place held image is =
     let shut : is.mark ≢ open_gate = λ open_is. absurd (cc (is.is_cut, eq-eqb is.mark open_gate open_is)) in
     record {
@@ -166,7 +166,7 @@ byte_written place image order =
     let is : place.start + (place.gate - place.start) ≡ place.gate = omega (arith, order) in
     get_or-drop place.start now (place.gate - place.start) 0 ∙ ap (λ (i : ℕ). get_or now i 0) is ∙ written_one place.gate 0 image
 
-module _ (place : Place) (held : Holdings) (image : List ℕ) (is : IsFound place true held image) where
+module _ (place : Place) (held : FencedHoldings) (image : List ℕ) (is : IsFound place true held image) where
   was_open : is.mark ≡ open_gate
   was_open = eqb-true is.mark open_gate (sym is.is_cut)
 
@@ -218,7 +218,7 @@ module _ (place : Place) (held : Holdings) (image : List ℕ) (is : IsFound plac
       }
 
 -- nothing is read of a file without a batch
-pub nothing_read : (image : List ℕ) (held : Holdings) → IsBlank image → held ≡ holding_nothing → IsReadAs image held
+pub nothing_read : (image : List ℕ) (held : FencedHoldings) → IsBlank image → held ≡ nothing_yet → IsReadAs image held
 nothing_read image held few nothing = record { kept = []; read = blank_reads image few; leaves = nothing }
 
 module _ {D : Type 0} (trace : D → DiskTrace) where

@@ -1,5 +1,5 @@
 -- Batches that were read one behind the other, and the commands in them.
-use Rattle.std.proofs.Common.{◌≡◌, ◌==◌, ◌&&◌, nat_lt, if◌then◌else◌, Bool, true, false, ℕ, suc, ◌+◌, ◌-◌, ◌<◌, ◌≤◌, List, [], ◌∷◌, ◌++◌, length, take, drop, replicate, Some, None, refl, sym, subst, ◌∙◌, ap, arith, length-append, length-drop}
+use Rattle.std.proofs.Common.{◌≡◌, ◌==◌, ◌&&◌, nat_lt, if◌then◌else◌, Bool, true, false, ℕ, suc, ◌+◌, ◌-◌, ◌<◌, ◌≤◌, ◌^◌, List, [], ◌∷◌, ◌++◌, length, take, drop, replicate, Some, None, refl, sym, subst, ◌∙◌, ap, arith, length-append, length-drop}
 use Rattle.std.specs.List.{flat_map}
 use Rattle.std.specs.Int.{w32, from_be_bytes}
 use Rattle.std.proofs.Math.Seq.{drop-cons, take-add}
@@ -8,12 +8,14 @@ use Rattle.std.proofs.lemmas.Grind.{flat_map-append}
 use Rattle.std.proofs.lemmas.List.{append_assoc, append-nil, drop-append-le, drop-drop, drop-take, drop_at, length-take-le, take-append-drop, take-append-le, take_all, take_at}
 use Rattle.std.proofs.lemmas.List.Elements.{All-append, All-cons, All-nil}
 use Rattle.wan_edge.specs.Frames.{CommandFrame, IsCommand, command_bytes}
-use Rattle.wan_edge.specs.Switches.{Holdings, holding_nothing}
+use Rattle.wan_edge.specs.Switches.{Holdings}
+use Rattle.fenced_agent.specs.Agents.{FencedHoldings, restored}
+use Rattle.fenced_agent.specs.Frames.{fence_bytes, term_of}
 use Rattle.switch_agent.specs.Items.{with_stored}
 use Rattle.agent_state.specs.Batches.{Stands, batches_of, open_gate}
 use Rattle.agent_state.specs.Numbers.{byte_at, number_4}
-use Rattle.agent_state.specs.Opened.{Restores, Walks, batch_at}
-use Rattle.agent_state.specs.Stored.{AreBytes, Leaves, with_all}
+use Rattle.agent_state.specs.Opened.{HasFloor, Restores, RestoresBatch, Walks, batch_at}
+use Rattle.agent_state.specs.Stored.{AreBytes, IsBatch, Leaves, StoredBatch, nothing_yet, with_all, with_batch, with_commands}
 use Rattle.agent_state.proofs.Reading.{Stands-nothing, batches_step}
 
 -- ---- what commands leave
@@ -35,26 +37,60 @@ pub AreBytes-one : (c : CommandFrame) (bytes : List ℕ) → IsCommand c → com
 AreBytes-one c bytes fits is = record { fit = All-cons IsCommand c [] fits (All-nil IsCommand); is = sym is ∙ sym (append-nil (command_bytes c)) }
 
 -- a batch more
-pub Leaves-more : (a b now : Holdings) (kept : List (List ℕ)) (commands : List CommandFrame) (batch : List ℕ) → Leaves a kept b → AreBytes commands batch → now ≡ with_all b commands → Leaves a (kept ++ batch ∷ []) now
-Leaves-more a b now [] commands batch leaves are is = (commands, are, is ∙ ap (λ (h : Holdings). with_all h commands) leaves)
-Leaves-more a b now (first ∷ later) commands batch leaves are is = (leaves.0, leaves.1, Leaves-more (with_all a leaves.0) b now later commands batch leaves.2 are is)
+pub Leaves-more : (a b now : FencedHoldings) (kept : List (List ℕ)) (batch : StoredBatch) (bytes : List ℕ) → Leaves a kept b → IsBatch batch bytes → now ≡ with_batch b batch → Leaves a (kept ++ bytes ∷ []) now
+Leaves-more a b now [] batch bytes leaves is leads = (batch, is, leads ∙ ap (λ (h : FencedHoldings). with_batch h batch) leaves)
+Leaves-more a b now (first ∷ later) batch bytes leaves is leads = (leaves.0, leaves.1, Leaves-more (with_batch a leaves.0) b now later batch bytes leaves.2 is leads)
 
 -- ---- the commands of a batch
 
-pub restores_none : (held : Holdings) → Restores held held []
+pub restores_none : (held : FencedHoldings) → Restores held held []
 restores_none held = record { commands = []; are = AreBytes-none; holds = refl }
 
-pub Restores-more : (a b d : Holdings) (bytes more : List ℕ) (c : CommandFrame) → Restores a b bytes → IsCommand c → command_bytes c ≡ more → d ≡ with_stored b c → Restores a d (bytes ++ more)
+abbrev under : ℕ → Holdings → FencedHoldings
+under floor held = record { floor = floor; held = held }
+
+with_commands-more : (held : FencedHoldings) (xs : List CommandFrame) (c : CommandFrame) → restored (with_commands held xs) c ≡ with_commands held (xs ++ c ∷ [])
+with_commands-more held xs c = ap (under held.floor) (sym (with_all-append held.held xs (c ∷ [])))
+
+pub Restores-more : (a b d : FencedHoldings) (bytes more : List ℕ) (c : CommandFrame) → Restores a b bytes → IsCommand c → command_bytes c ≡ more → d ≡ restored b c → Restores a d (bytes ++ more)
 Restores-more a b d bytes more c so_far fits is holds = record {
   commands = so_far.commands ++ c ∷ [];
   are = AreBytes-append so_far.commands (c ∷ []) bytes more so_far.are (AreBytes-one c more fits is);
-  holds = holds ∙ ap (λ (h : Holdings). with_stored h c) so_far.holds ∙ sym (with_all-append a so_far.commands (c ∷ []));
+  holds = holds ∙ ap (λ (h : FencedHoldings). restored h c) so_far.holds ∙ with_commands-more a so_far.commands c;
 }
 
 -- nothing is left
-pub restores_all : (a b : Holdings) (bytes rest : List ℕ) → length rest ≡ 0 → Restores a b (take (length bytes - length rest) bytes) → Restores a b bytes
+pub restores_all : (a b : FencedHoldings) (bytes rest : List ℕ) → length rest ≡ 0 → Restores a b (take (length bytes - length rest) bytes) → Restores a b bytes
 restores_all a b bytes rest none so_far =
     subst (Restores a b) (take_all (length bytes - length rest) bytes (omega (arith, none))) so_far
+
+-- commands alone
+pub restores_plain : (a b : FencedHoldings) (bytes : List ℕ) → Restores a b bytes → RestoresBatch a b bytes
+restores_plain a b bytes restores = record {
+  batch = record { floor = None; commands = restores.commands };
+  is = record { in_floor = omega arith; behind = bytes; parts = refl; are = restores.are };
+  holds = restores.holds;
+}
+
+-- behind a floor
+pub restores_under : (a mid b : FencedHoldings) (floor : ℕ) (bytes behind : List ℕ) → HasFloor floor bytes → behind ≡ drop 5 bytes → mid ≡ record { floor = floor; held = a.held } → Restores mid b behind → RestoresBatch a b bytes
+restores_under a mid b floor bytes behind has behind_is mid_is restores = record {
+  batch = record { floor = Some floor; commands = restores.commands };
+  is = record {
+    in_floor = has.small;
+    behind = behind;
+    parts = has.parts ∙ ap (λ (xs : List ℕ). fence_bytes (Some floor) ++ xs) (sym behind_is);
+    are = restores.are;
+  };
+  holds = restores.holds ∙ ap (λ (h : FencedHoldings). with_commands h restores.commands) mid_is;
+}
+
+-- five bytes that are those of a floor
+pub has_floor : (floor : ℕ) (front bytes : List ℕ) → floor < 2 ^ 32 → front ≡ fence_bytes (Some floor) → take 5 bytes ≡ front → HasFloor floor bytes
+has_floor floor front bytes small is same = record {
+  small = small;
+  parts = sym (take-append-drop 5 bytes) ∙ ap (λ (xs : List ℕ). xs ++ drop 5 bytes) (same ∙ is);
+}
 
 -- ---- the batches of a part
 
@@ -114,7 +150,7 @@ has_batch part gate n is =
       whole = omega (arith, ltb-true (4 + number_4 rest) (length rest) tests.1, tests.2);
     }
 
-pub Walks-start : (part : List ℕ) (held : Holdings) → 0 < length part → held ≡ holding_nothing → Walks part 0 held
+pub Walks-start : (part : List ℕ) (held : FencedHoldings) → 0 < length part → held ≡ nothing_yet → Walks part 0 held
 Walks-start part held some nothing = record { within = some; kept = []; stands = Stands-nothing; leaves = nothing }
 
 -- the bytes of a batch, and those of its body
@@ -123,7 +159,7 @@ body_behind part gate n =
     let place : gate + 5 ≡ gate + 1 + 4 = omega arith in
     ap (λ (k : ℕ). take n (drop k part)) place ∙ ap (take n) (sym (drop-drop 4 (gate + 1) part)) ∙ sym (drop-take 4 n (drop (gate + 1) part))
 
-pub Walks-next : (part : List ℕ) (gate n : ℕ) (held now : Holdings) → Walks part gate held → batch_at part gate ≡ Some n → Restores held now (take n (drop (gate + 5) part)) → Walks part (gate + (5 + n)) now
+pub Walks-next : (part : List ℕ) (gate n : ℕ) (held now : FencedHoldings) → Walks part gate held → batch_at part gate ≡ Some n → RestoresBatch held now (take n (drop (gate + 5) part)) → Walks part (gate + (5 + n)) now
 Walks-next part gate n held now so_far is restores =
     let has = has_batch part gate n is in
     let rest = drop (gate + 1) part in
@@ -141,7 +177,7 @@ Walks-next part gate n held now so_far is restores =
       within = omega (arith, has.whole, long_rest);
       kept = so_far.kept ++ drop 4 body ∷ [];
       stands = subst (λ (l : List ℕ). Stands l (so_far.kept ++ drop 4 body ∷ [])) (sym front) (Stands-raw (take gate part) so_far.kept body n so_far.stands number long);
-      leaves = Leaves-more holding_nothing held now so_far.kept restores.commands (drop 4 body) so_far.leaves (subst (AreBytes restores.commands) batch restores.are) restores.holds;
+      leaves = Leaves-more nothing_yet held now so_far.kept restores.batch (drop 4 body) so_far.leaves (subst (IsBatch restores.batch) batch restores.is) restores.holds;
     }
 
 none_by : (ajar whole : Bool) (size : ℕ) (more : List (List ℕ)) → (if ajar && whole then Some size else None) ≡ None → (if ajar && whole then more else []) ≡ []

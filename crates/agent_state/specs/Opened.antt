@@ -1,12 +1,13 @@
 -- What is read of an agent's file as it is opened.
-use Rattle.std.specs.Prelude.{◌≡◌, ⊤, ℕ, ◌+◌, ◌<◌, ◌≤◌, ◌==◌, ◌&&◌, nat_lt, Bool, List, [], ◌∷◌, length, take, drop, Option, Some, None, if◌then◌else◌}
+use Rattle.std.specs.Prelude.{◌≡◌, ⊤, ℕ, ◌+◌, ◌<◌, ◌≤◌, ◌^◌, ◌==◌, ◌&&◌, nat_lt, Bool, List, [], ◌∷◌, ◌++◌, length, take, drop, Option, Some, None, if◌then◌else◌}
 use Rattle.wan_edge.specs.Frames.{CommandFrame, IsCommand, command_bytes}
-use Rattle.wan_edge.specs.Switches.{Holdings, holding_nothing}
+use Rattle.fenced_agent.specs.Agents.{FencedHoldings}
+use Rattle.fenced_agent.specs.Frames.{fence_bytes}
 use Rattle.agent_state.specs.Batches.{Stands, batches_of, open_gate}
 use Rattle.agent_state.specs.Images.{batches_in, first_start, is_second, made_length, start_at, state_kind}
 use Rattle.agent_state.specs.Numbers.{byte_at, number_4}
 use Rattle.agent_state.specs.States.{HasPart}
-use Rattle.agent_state.specs.Stored.{AreBytes, Leaves, home_of, with_all}
+use Rattle.agent_state.specs.Stored.{AreBytes, IsBatch, Leaves, StoredBatch, home_of, nothing_yet, with_batch, with_commands}
 use Rattle.agent_state.specs.declared.fault.StateFault.{StateFault}
 use Rattle.agent_state.specs.declared.fault.StateFault.TheVariants.{Damaged, Disk, Memory, NotState}
 use Rattle.agent_state.specs.declared.place.Place.{Place}
@@ -25,17 +26,28 @@ pub record BeginsWith (bytes : List ℕ) (count : ℕ) (command : CommandFrame) 
   pub is : command_bytes command ≡ take count bytes
 
 -- Commands with these bytes were put in the place of what was held.
-pub record Restores (before now : Holdings) (bytes : List ℕ) : Type 0 where
+pub record Restores (before now : FencedHoldings) (bytes : List ℕ) : Type 0 where
   pub commands : List CommandFrame
   pub are : AreBytes commands bytes
-  pub holds : now ≡ with_all before commands
+  pub holds : now ≡ with_commands before commands
+
+-- In front of the bytes stands this floor.
+pub record HasFloor (floor : ℕ) (bytes : List ℕ) : Type 0 where
+  pub small : floor < 2 ^ 32
+  pub parts : bytes ≡ fence_bytes (Some floor) ++ drop 5 bytes
+
+-- A batch with these bytes was put in the place of what was held.
+pub record RestoresBatch (before now : FencedHoldings) (bytes : List ℕ) : Type 0 where
+  pub batch : StoredBatch
+  pub is : IsBatch batch bytes
+  pub holds : now ≡ with_batch before batch
 
 -- The batches of a part up to this gate were read, and lead to this.
-pub record Walks (part : List ℕ) (gate : ℕ) (held : Holdings) : Type 0 where
+pub record Walks (part : List ℕ) (gate : ℕ) (held : FencedHoldings) : Type 0 where
   pub within : gate < length part
   pub kept : List (List ℕ)
   pub stands : Stands (take gate part) kept
-  pub leaves : Leaves holding_nothing kept held
+  pub leaves : Leaves nothing_yet kept held
 
 -- The image is an agent's, with a live part that starts here.
 pub record HasLive (place : Place) (image : List ℕ) : Type 0 where
@@ -46,7 +58,7 @@ pub record HasLive (place : Place) (image : List ℕ) : Type 0 where
   pub within : place.start < length image
 
 -- The image was read: at this place the last batch ends, and behind it no other counts, though its gate may be open, which is said too.
-pub record IsFound (place : Place) (cut : Bool) (held : Holdings) (image : List ℕ) : Type 0 where
+pub record IsFound (place : Place) (cut : Bool) (held : FencedHoldings) (image : List ℕ) : Type 0 where
   pub front : List ℕ
   pub mark : ℕ
   pub behind : List ℕ
@@ -56,7 +68,7 @@ pub record IsFound (place : Place) (cut : Bool) (held : Holdings) (image : List 
   pub none : batches_of (mark ∷ behind) ≡ []
   pub at : place.gate ≡ place.start + length front
   pub long : made_length < length image
-  pub leaves : Leaves holding_nothing kept held
+  pub leaves : Leaves nothing_yet kept held
   pub is_cut : cut ≡ (mark == open_gate)
 
 -- an image in which nothing stands yet

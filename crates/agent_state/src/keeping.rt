@@ -1,11 +1,9 @@
-ghost use Rattle.std.specs.Prelude.{◌≡◌, ◌+◌, ◌≤◌, ◌<◌, ◌^◌, List, length, IfErr, IfOk, IfSome, OnOk};
+ghost use Rattle.std.specs.Prelude.{◌≡◌, ◌+◌, ◌≤◌, ◌<◌, ◌^◌, length, IfErr, IfOk, IfSome, OnOk};
 ghost use Rattle.agent_state.specs.Disks.{Causes, Holds};
-ghost use Rattle.agent_state.specs.Stored.{AreBytes, IsAside, IsBeforeOrAfter, IsKept, IsReadAs, with_all};
+ghost use Rattle.agent_state.specs.Stored.{IsAside, IsBatch, IsBeforeOrAfter, IsKept, IsReadAs, StoredBatch, with_batch};
 ghost use Rattle.disk_model.specs.Moments.{LeavesOnly};
-ghost use Rattle.switch_agent.specs.Items.{holding};
-ghost use Rattle.wan_edge.specs.Frames.{CommandFrame};
+ghost use Rattle.fenced_agent.specs.Agents.{FencedHoldings, fenced_holding};
 ghost use Rattle.wan_edge.specs.Streams.{KeepsTelling};
-ghost use Rattle.wan_edge.specs.Switches.{Holdings};
 
 use crate::appending::commit;
 use crate::body::{body_of, part_of};
@@ -14,10 +12,10 @@ use crate::last::last_bytes;
 use crate::place::Place;
 use crate::renewing::renew;
 use disk_model::Disk;
+use fenced_agent::FencedAgent;
 use lists::Memory;
 use std::alloc::{AllocError, Global};
 use std::cmp::max;
-use switch_agent::Agent;
 
 // Where the first part starts.
 const FIRST_START: u64 = 10;
@@ -28,8 +26,9 @@ const MOST_GATE: u64 = 2_000_000_000;
 // How much longer than twice what it was when it was written anew a part becomes.
 const SLACK: u64 = 4_096;
 
-/// Adds a batch of commands to an agent's file that is at rest at this place: those that were carried out
-/// and changed something, in order. The agent holds what they left. A crash at any moment leaves a file
+/// Adds a batch to an agent's file that is at rest at this place: the floor, as [`fenced_wire::write_fence`]
+/// writes it, where it was raised, and the commands that were carried out and changed something, in order. The
+/// agent holds what they left. A crash at any moment leaves a file
 /// that is read as what was held before the batch or behind all of it; after `Ok` it is read as what is
 /// held behind it. A file that has grown to twice what was held when it was written anew is written anew.
 #[tactic(auto, using(crate::proofs::Quiet::causes_later))]
@@ -38,20 +37,20 @@ pub fn append<D: Disk>(
     disk: &mut D,
     place: Place,
     batch: &[u8],
-    agent: &Agent,
+    agent: &FencedAgent,
 ) -> Result<Place, StateFault>
-    ensures any_moment { (before : Holdings) (commands : List CommandFrame)
+    ensures any_moment { (before : FencedHoldings) (stored : StoredBatch)
         → Holds (IsKept place before) (D.told disk.old).bytes (D.told disk.old).may_leave
-        → AreBytes commands batch.now
-        → holding agent.now ≡ with_all before commands
+        → IsBatch stored batch.now
+        → fenced_holding agent.now ≡ with_batch before stored
         → IfSome (D.told disk.old).bytes
-        (λ _. LeavesOnly D.told disk.old disk.new (IsBeforeOrAfter before (holding agent.now))) }
+        (λ _. LeavesOnly D.told disk.old disk.new (IsBeforeOrAfter before (fenced_holding agent.now))) }
     ensures done { IfOk result
-        (λ now. (before : Holdings) (commands : List CommandFrame)
+        (λ now. (before : FencedHoldings) (stored : StoredBatch)
         → Holds (IsKept place before) (D.told disk.old).bytes (D.told disk.old).may_leave
-        → AreBytes commands batch.now
-        → holding agent.now ≡ with_all before commands
-        → Holds (IsKept now (holding agent.now)) (D.told disk.new).bytes
+        → IsBatch stored batch.now
+        → fenced_holding agent.now ≡ with_batch before stored
+        → Holds (IsKept now (fenced_holding agent.now)) (D.told disk.new).bytes
         (D.told disk.new).may_leave) }
     ensures told { KeepsTelling (D.told disk.old).bytes (D.told disk.new).bytes }
     ensures cause { IfErr result
@@ -73,17 +72,17 @@ fn add<D: Disk>(
     place: Place,
     batch: &[u8],
 ) -> Result<Place, StateFault>
-    ensures any_moment { (before now : Holdings) (commands : List CommandFrame)
+    ensures any_moment { (before now : FencedHoldings) (stored : StoredBatch)
         → Holds (IsKept place before) (D.told disk.old).bytes (D.told disk.old).may_leave
-        → AreBytes commands batch.now
-        → now ≡ with_all before commands
+        → IsBatch stored batch.now
+        → now ≡ with_batch before stored
         → IfSome (D.told disk.old).bytes
         (λ _. LeavesOnly D.told disk.old disk.new (IsBeforeOrAfter before now)) }
     ensures done { IfOk result
-        (λ next. (before now : Holdings) (commands : List CommandFrame)
+        (λ next. (before now : FencedHoldings) (stored : StoredBatch)
         → Holds (IsKept place before) (D.told disk.old).bytes (D.told disk.old).may_leave
-        → AreBytes commands batch.now
-        → now ≡ with_all before commands
+        → IsBatch stored batch.now
+        → now ≡ with_batch before stored
         → Holds (IsKept next now) (D.told disk.new).bytes (D.told disk.new).may_leave) }
     ensures told { KeepsTelling (D.told disk.old).bytes (D.told disk.new).bytes }
     ensures cause { IfErr result
@@ -115,22 +114,23 @@ fn has_grown(place: Place) -> bool {
     place.gate.saturating_sub(place.start) > place.fresh.saturating_mul(2).saturating_add(SLACK)
 }
 
-// Writes the file anew: its part has one batch, with the command of each item that was carried out last.
+// Writes the file anew: its part has one batch, with the floor and the command of each item that was carried
+// out last.
 #[tactic(auto, using(crate::proofs::Quiet::causes_later))]
 fn write_anew<D: Disk>(
     alloc: Global,
     disk: &mut D,
     place: Place,
-    agent: &Agent,
+    agent: &FencedAgent,
 ) -> Result<Place, StateFault>
-    ensures any_moment { Holds (IsKept place (holding agent.now)) (D.told disk.old).bytes
+    ensures any_moment { Holds (IsKept place (fenced_holding agent.now)) (D.told disk.old).bytes
         (D.told disk.old).may_leave
         → IfSome (D.told disk.old).bytes
-        (λ _. LeavesOnly D.told disk.old disk.new (λ c. IsReadAs c (holding agent.now))) }
+        (λ _. LeavesOnly D.told disk.old disk.new (λ c. IsReadAs c (fenced_holding agent.now))) }
     ensures done { IfOk result
-        (λ next. Holds (IsKept place (holding agent.now)) (D.told disk.old).bytes
+        (λ next. Holds (IsKept place (fenced_holding agent.now)) (D.told disk.old).bytes
         (D.told disk.old).may_leave
-        → Holds (IsKept next (holding agent.now)) (D.told disk.new).bytes
+        → Holds (IsKept next (fenced_holding agent.now)) (D.told disk.new).bytes
         (D.told disk.new).may_leave) }
     ensures told { KeepsTelling (D.told disk.old).bytes (D.told disk.new).bytes }
     ensures cause { IfErr result

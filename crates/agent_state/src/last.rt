@@ -1,28 +1,53 @@
-//! The commands that an agent carried out last, as bytes.
+//! The floor of an agent and the commands that it carried out last, as bytes.
 ghost use Rattle.std.specs.Prelude.{◌≡◌, ◌++◌, ◌<◌, ◌^◌, nat_eq, All, IfOk, OnOk};
 ghost use Rattle.std.specs.List.{IsDistinct, flat_map};
 ghost use Rattle.std.specs.Map.{keys_of};
-ghost use Rattle.agent_state.specs.Stored.{AreBytes, last_commands, last_of};
+ghost use Rattle.agent_state.specs.Stored.{AddsBytes, AreBytes, IsBatch, kept_floor, last_batch, last_commands, last_of};
+ghost use Rattle.fenced_agent.specs.Frames.{fence_bytes};
 ghost use Rattle.wan_edge.specs.Frames.{IsCommand, command_bytes};
 
+use fenced_agent::FencedAgent;
+use fenced_wire::write_fence;
 use lists::Memory;
 use std::alloc::Global;
 use switch_agent::Agent;
 use wire_frames::{COMMAND_LEN, Command, write_command};
 
-/// The bytes of the command of each item that was carried out last.
-pub(crate) fn last_bytes(alloc: Global, agent: &Agent) -> Result<Vec<u8>, Memory>
-    ensures bytes { IfOk result (λ bytes. AreBytes (last_commands agent.now) bytes.items) }
-    ensures apart { IsDistinct nat_eq (keys_of agent.now) }
+/// The bytes of the floor, where it isn't 0, and of the command of each item that was carried out last.
+pub(crate) fn last_bytes(alloc: Global, agent: &FencedAgent) -> Result<Vec<u8>, Memory>
+    ensures bytes { IfOk result (λ bytes. IsBatch (last_batch agent.now) bytes.items) }
+    ensures apart { IsDistinct nat_eq (keys_of agent.now.items) }
 {
     agent.keeps_few_items();
+    let mut bytes = floor_bytes(alloc, agent.floor())?;
+    add_lasts(&mut bytes, agent.agent())?;
+    Ok(bytes)
+}
+
+// The bytes of a floor that isn't 0.
+fn floor_bytes(alloc: Global, floor: u32) -> Result<Vec<u8>, Memory>
+    ensures bytes { IfOk result (λ bytes. bytes.items ≡ fence_bytes (kept_floor floor)) }
+    ensures small { floor < 2 ^ 32 }
+{
     let mut bytes = Vec::new(alloc);
+    if floor == 0 {
+        return Ok(bytes);
+    }
+    bytes.extend_from_slice(&write_fence(floor))?;
+    Ok(bytes)
+}
+
+// Adds the bytes of the command of each item that was carried out last.
+fn add_lasts(bytes: &mut Vec<u8>, agent: &Agent) -> Result<(), Memory>
+    ensures { OnOk result (AddsBytes (last_commands agent.now) bytes.old.items bytes.new.items) }
+{
+    agent.keeps_few_items();
     let mut place = 0;
     while let Some(entry) = agent.entry_at(place) {
-        add_last(&mut bytes, entry.0, &entry.1)?;
+        add_last(bytes, entry.0, &entry.1)?;
         place += 1;
     }
-    Ok(bytes)
+    Ok(())
 }
 
 // Adds the bytes of an item's command, where one was carried out.

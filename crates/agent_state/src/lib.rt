@@ -1,7 +1,8 @@
-//! The file of an agent, on a disk: what the agent holds, as the commands that it carried out.
+//! The file of an agent, on a disk: the floor that it has heard, and what it holds, as the commands that it carried
+//! out.
 //!
-//! An agent that answers a command promises to hold it from then on. So it adds what a read of commands
-//! changed to its file first, as one batch ([`append`]), and a start reads the file back into an agent
+//! An agent that answers a command promises to hold it from then on, and to hear no controller of a lower term. So
+//! it adds what a read of commands changed to its file first, as one batch ([`append`]), and a start reads the file back into an agent
 //! ([`open_state`]). A crash at any moment leaves a file that is read as what was held before a batch or behind
 //! all of it, and a file that has grown to twice what was held when it was written anew is written anew:
 //! beside what stands, which counts until the new part is whole.

@@ -3,12 +3,11 @@ ghost use Rattle.agent_state.specs.Disks.{Holds, RoseAtDisk};
 ghost use Rattle.agent_state.specs.Images as images;
 ghost use Rattle.agent_state.specs.Images.{made_length, number_place};
 ghost use Rattle.agent_state.specs.Opened.{HasLive, IsBlank, IsFound, IsMisread, IsRefused, ReadsAlike};
-ghost use Rattle.agent_state.specs.Stored.{IsKept, IsReadAs};
+ghost use Rattle.agent_state.specs.Stored.{IsKept, IsReadAs, nothing_yet};
 ghost use Rattle.agent_state.specs.declared.fault.StateFault.TheVariants as fault;
 ghost use Rattle.disk_model.specs.Moments.{LeavesOnly};
-ghost use Rattle.switch_agent.specs.Items.{holding};
+ghost use Rattle.fenced_agent.specs.Agents.{FencedHoldings, fenced_holding};
 ghost use Rattle.wan_edge.specs.Streams.{KeepsTelling, Rose};
-ghost use Rattle.wan_edge.specs.Switches.{Holdings, holding_nothing};
 
 use crate::bytes::{byte_in, from_place, number_of_4};
 use crate::fault::StateFault;
@@ -16,8 +15,8 @@ use crate::image::read_image;
 use crate::place::Place;
 use crate::walking::walk;
 use disk_model::{Disk, put};
+use fenced_agent::FencedAgent;
 use std::alloc::Global;
-use switch_agent::Agent;
 use wan_edge::Failed;
 
 // The first byte of an agent's file, and how long it is before its first batch.
@@ -35,13 +34,13 @@ const OPEN_GATE: u8 = 0x47;
 pub fn open_state<D: Disk>(
     alloc: Global,
     disk: &mut D,
-    agent: &mut Agent,
+    agent: &mut FencedAgent,
 ) -> Result<Place, StateFault>
-    requires { holding agent.old ≡ holding_nothing }
+    requires { fenced_holding agent.old ≡ nothing_yet }
     ensures found { IfOk result
-        (λ _. IfSome (D.told disk.old).bytes (λ image. IsReadAs image (holding agent.new))) }
+        (λ _. IfSome (D.told disk.old).bytes (λ image. IsReadAs image (fenced_holding agent.new))) }
     ensures done { IfOk result
-        (λ place. Holds (IsKept place (holding agent.new)) (D.told disk.new).bytes
+        (λ place. Holds (IsKept place (fenced_holding agent.new)) (D.told disk.new).bytes
         (D.told disk.new).may_leave) }
     ensures refused { IfErr result
         (λ fault. IfSome (D.told disk.old).bytes (IsRefused fault)) }
@@ -78,7 +77,7 @@ fn make<D: Disk>(disk: &mut D) -> Result<Place, Failed>
     ensures any_moment { IfSome (D.told disk.old).bytes
         (λ image. LeavesOnly D.told disk.old disk.new (ReadsAlike image)) }
     ensures done { IfOk result
-        (λ place. Holds (IsKept place holding_nothing) (D.told disk.new).bytes
+        (λ place. Holds (IsKept place nothing_yet) (D.told disk.new).bytes
         (D.told disk.new).may_leave) }
     ensures told { KeepsTelling (D.told disk.old).bytes (D.told disk.new).bytes }
     ensures cause { IfErr result
@@ -110,11 +109,11 @@ fn first_place() -> Place
 
 // Reads an image that is longer than that, and says whether the last batch was cut off.
 #[tactic(auto, using(crate::proofs::Refusals::midway_misread))]
-fn read_state(image: &[u8], agent: &mut Agent) -> Result<(Place, bool), StateFault>
+fn read_state(image: &[u8], agent: &mut FencedAgent) -> Result<(Place, bool), StateFault>
     requires long { made_length < length image.now }
-    requires nothing { holding agent.old ≡ holding_nothing }
+    requires nothing { fenced_holding agent.old ≡ nothing_yet }
     ensures found { IfOk result
-        (λ found. IsFound found.0 found.1 (holding agent.new) image.now) }
+        (λ found. IsFound found.0 found.1 (fenced_holding agent.new) image.now) }
     ensures refused { IfErr result (λ fault. IsMisread fault image.now) }
 {
     let place = live_part(image)?;
@@ -171,12 +170,12 @@ fn place_of(second: bool) -> usize
 // Closes the gate of a batch that was cut off. Another byte there stays, since a torn write over it could
 // open it.
 fn close_cut<D: Disk>(disk: &mut D, place: Place, cut: bool) -> Result<(), Failed>
-    ensures any_moment { (held : Holdings)
+    ensures any_moment { (held : FencedHoldings)
         → Holds (IsFound place cut held) (D.told disk.old).bytes (D.told disk.old).may_leave
         → IfSome (D.told disk.old).bytes
         (λ image. LeavesOnly D.told disk.old disk.new (ReadsAlike image)) }
     ensures done { OnOk result
-        ((held : Holdings)
+        ((held : FencedHoldings)
         → Holds (IsFound place cut held) (D.told disk.old).bytes (D.told disk.old).may_leave
         → Holds (IsKept place held) (D.told disk.new).bytes (D.told disk.new).may_leave) }
     ensures told { KeepsTelling (D.told disk.old).bytes (D.told disk.new).bytes }

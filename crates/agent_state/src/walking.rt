@@ -1,23 +1,24 @@
 //! The batches of a part that was read, put into an agent.
 ghost use Rattle.std.specs.Prelude.{◌≡◌, ◌<◌, ◌+◌, None, true, length, drop, take, IfErr, IfOk, IfSome, OnOk};
 ghost use Rattle.agent_state.specs.Opened as opened;
-ghost use Rattle.agent_state.specs.Opened.{BeginsWith, IsMidway, Restores, Walks};
-ghost use Rattle.switch_agent.specs.Items.{holding, with_stored};
-ghost use Rattle.wan_edge.specs.Switches.{holding_nothing};
+ghost use Rattle.agent_state.specs.Opened.{BeginsWith, HasFloor, IsMidway, Restores, RestoresBatch, Walks};
+ghost use Rattle.agent_state.specs.Stored.{nothing_yet};
+ghost use Rattle.fenced_agent.specs.Agents.{fenced_holding, restored};
 
 use crate::bytes::{byte_in, from_place, number_of_4};
 use crate::fault::StateFault;
+use fenced_agent::FencedAgent;
+use fenced_wire::{FENCE_LEN, write_fence};
 use lists::Memory;
-use switch_agent::Agent;
 use wire_frames::{Command, CommandReader};
 
 const OPEN_GATE: u8 = 0x47;
 
 /// Puts each batch of a part into an agent that holds nothing, and finds the gate behind them.
-pub(crate) fn walk(part: &[u8], agent: &mut Agent) -> Result<usize, StateFault>
+pub(crate) fn walk(part: &[u8], agent: &mut FencedAgent) -> Result<usize, StateFault>
     requires some { 0 < length part.now }
-    requires nothing { holding agent.old ≡ holding_nothing }
-    ensures walks { IfOk result (λ gate. Walks part.now gate (holding agent.new)) }
+    requires nothing { fenced_holding agent.old ≡ nothing_yet }
+    ensures walks { IfOk result (λ gate. Walks part.now gate (fenced_holding agent.new)) }
     ensures ends { IfOk result (λ gate. opened.batch_at part.now gate ≡ None) }
     ensures stops { IfErr result IsMidway }
 {
@@ -25,7 +26,7 @@ pub(crate) fn walk(part: &[u8], agent: &mut Agent) -> Result<usize, StateFault>
     let mut number = 0;
     while let Some(size) = batch_at(part, gate) {
         let batch = piece(part, gate + 5, size);
-        if !restore_all(batch, agent)? {
+        if !restore_batch(batch, agent)? {
             return Err(StateFault::Damaged(number));
         }
         gate += 5 + size;
@@ -61,11 +62,44 @@ fn next_number(number: u32) -> u32 {
     number.saturating_add(1)
 }
 
+// Puts a batch into an agent, and says whether its bytes are those of a floor and of commands.
+#[tactic(auto, using(crate::proofs::Walked::restores_plain, crate::proofs::Walked::restores_under))]
+fn restore_batch(bytes: &[u8], agent: &mut FencedAgent) -> Result<bool, Memory>
+    ensures { IfOk result
+        (λ whole. whole ≡ true
+        → RestoresBatch (fenced_holding agent.old) (fenced_holding agent.new) bytes.now) }
+{
+    let Some(floor) = floor_in(bytes) else {
+        let whole = restore_all(bytes, agent)?;
+        return Ok(whole);
+    };
+    agent.restore_floor(floor);
+    let behind = from_place(bytes, FENCE_LEN);
+    let whole = restore_all(behind, agent)?;
+    Ok(whole)
+}
+
+// The floor in front of these bytes, where one stands there.
+#[tactic(auto, using(crate::proofs::Walked::has_floor))]
+fn floor_in(bytes: &[u8]) -> Option<u32>
+    ensures { IfSome result (λ floor. HasFloor floor bytes.now) }
+{
+    let floor = number_of_4(from_place(bytes, 1));
+    let front = write_fence(floor);
+    if bytes.len() < FENCE_LEN {
+        return None;
+    }
+    if bytes[..FENCE_LEN] == front[..] {
+        return Some(floor);
+    }
+    None
+}
+
 // Puts the commands of a batch into an agent, and says whether its bytes are those of commands.
 #[tactic(auto, using(crate::proofs::Walked::restores_none, crate::proofs::Walked::restores_all))]
-fn restore_all(bytes: &[u8], agent: &mut Agent) -> Result<bool, Memory>
+fn restore_all(bytes: &[u8], agent: &mut FencedAgent) -> Result<bool, Memory>
     ensures { IfOk result
-        (λ whole. whole ≡ true → Restores (holding agent.old) (holding agent.new) bytes.now) }
+        (λ whole. whole ≡ true → Restores (fenced_holding agent.old) (fenced_holding agent.new) bytes.now) }
 {
     let mut rest = bytes;
     while !rest.is_empty() {
@@ -79,9 +113,9 @@ fn restore_all(bytes: &[u8], agent: &mut Agent) -> Result<bool, Memory>
 }
 
 // Puts a command that was found, of this migration, into an agent.
-fn restore_found(agent: &mut Agent, found: &(usize, u32, Command)) -> Result<(), Memory>
+fn restore_found(agent: &mut FencedAgent, found: &(usize, u32, Command)) -> Result<(), Memory>
     ensures { OnOk result
-        (holding agent.new ≡ with_stored (holding agent.old) (found.now.1, found.now.2)) }
+        (fenced_holding agent.new ≡ restored (fenced_holding agent.old) (found.now.1, found.now.2)) }
 {
     agent.restore(found.1, &found.2)?;
     Ok(())

@@ -2,7 +2,7 @@
 use Rattle.std.specs.Prelude.{ℕ, List, [], ◌∷◌, Option, Some, None, nat_lt, if◌then◌else◌}
 use Rattle.wan_edge.specs.Frames.{AnswerFrame, CommandFrame}
 use Rattle.wan_edge.specs.Switches.{Holdings, after_command, answer_of}
-use Rattle.switch_agent.specs.Items.{Items, holding}
+use Rattle.switch_agent.specs.Items.{Items, holding, with_stored}
 use Rattle.takeover_rules.specs.Terms.{Guarded}
 use Rattle.fenced_agent.specs.Frames.{TermedCommand, FlooredAnswer, term_of}
 
@@ -22,6 +22,10 @@ fenced_holding f = record { floor = f.floor; held = holding f.items }
 -- after a command of this term
 abbrev pub after_fenced : FencedHoldings → ℕ → CommandFrame → FencedHoldings
 after_fenced f term c = if nat_lt term f.floor then f else record { floor = term; held = after_command f.held c }
+
+-- with a command that was carried out before, whatever is held of its item
+abbrev pub restored : FencedHoldings → CommandFrame → FencedHoldings
+restored f c = record { floor = f.floor; held = with_stored f.held c }
 
 -- the answer to it: its item, and the pair held after it
 abbrev pub answer_fenced : FencedHoldings → ℕ → CommandFrame → AnswerFrame

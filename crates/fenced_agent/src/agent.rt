@@ -1,6 +1,8 @@
-ghost use Rattle.std.specs.Prelude.{◌≡◌, ◌≤◌, ℕ, ◌||◌, ◌&&◌, ◌==◌, not, nat_lt, false, IfOk, OnErr, OnOk};
-ghost use Rattle.fenced_agent.specs.Agents.{after_fenced, answer_fenced, fenced_holding};
-ghost use Rattle.switch_agent.specs.Items.{holding, seen};
+ghost use Rattle.std.specs.Prelude.{◌≡◌, ◌≤◌, ℕ, ◌||◌, ◌&&◌, ◌==◌, not, nat_eq, nat_lt, false, length, IfOk, OnErr, OnOk};
+ghost use Rattle.fenced_agent.specs.Agents.{after_fenced, answer_fenced, fenced_holding, restored};
+ghost use Rattle.std.specs.List.{IsDistinct};
+ghost use Rattle.std.specs.Map.{keys_of};
+ghost use Rattle.switch_agent.specs.Items.{holding, most_items, seen};
 
 use lists::Memory;
 use rollout_rules::Held;
@@ -70,11 +72,45 @@ impl FencedAgent {
         Ok((term, held, answer))
     }
 
+    /// Holds what a command of this migration left that was carried out before, whatever is held of its
+    /// item, as [`Agent::restore`] does. Want of memory changes nothing.
+    pub fn restore(&mut self, migration: u32, command: &Command) -> Result<(), Memory>
+        ensures restored { OnOk result
+            (fenced_holding self.new
+            ≡ restored (fenced_holding self.old) (migration, command.now)) }
+        ensures err { OnErr result (self.new ≡ self.old) }
+    {
+        self.agent.restore(migration, command)?;
+        Ok(())
+    }
+
+    /// Has heard this term as the highest, whatever it has heard.
+    pub fn restore_floor(&mut self, floor: u32)
+        ensures { self.new ≡ record { floor = floor; items = self.old.items } }
+    {
+        self.floor = floor;
+    }
+
     /// The highest term that it has heard.
     pub fn floor(&self) -> u32
         ensures { result ≡ self.now.floor }
     {
         self.floor
+    }
+
+    /// What is held of each item.
+    pub fn agent(&self) -> &Agent
+        ensures { result.now ≡ self.now.items }
+    {
+        &self.agent
+    }
+
+    /// It keeps no more items than a document within the limits has, each once.
+    pub fn keeps_few_items(&self)
+        ensures few { length self.now.items ≤ most_items }
+        ensures apart { IsDistinct nat_eq (keys_of self.now.items) }
+    {
+        self.agent.keeps_few_items();
     }
 
     /// The migration and the number that are held of an item, both 0 at first.

@@ -10,12 +10,20 @@ ghost use Rattle.fenced_ports.specs.Sieves.{after_bytes, first_sifting};
 /// floor 3 nothing is read.
 pub fn an_answer_is_handed_on_behind_its_own_floor()
     ensures own { after_bytes 2 first_sifting (floored_bytes (floored (Some 2) (first_answer 1)))
-        ≡ record { at = 0; floor = 2; plain = answer_bytes (first_answer 1); lows = 0; broken = false } }
+        ≡ record {
+          at = 0;
+          floor = 2;
+          plain = answer_bytes (first_answer 1);
+          lows = 0;
+          broken = false;
+        } }
     ensures lower { after_bytes 2 first_sifting (floored_bytes (floored (Some 1) (first_answer 1)))
         ≡ record { at = 0; floor = 1; plain = []; lows = 1; broken = false } }
-    ensures above { (after_bytes 2 first_sifting (floored_bytes (floored (Some 3) (first_answer 1)))).broken
+    ensures above { (after_bytes 2 first_sifting
+        (floored_bytes (floored (Some 3) (first_answer 1)))).broken
         ≡ true }
-    ensures none { (after_bytes 2 first_sifting (floored_bytes (floored None (first_answer 1)))).broken
+    ensures none { (after_bytes 2 first_sifting
+        (floored_bytes (floored None (first_answer 1)))).broken
         ≡ true }
 {}
 
@@ -29,8 +37,10 @@ pub fn a_late_answer_is_passed_over()
 
 /// Behind either floor a byte that begins no answer is handed on.
 pub fn a_byte_that_begins_no_answer_is_handed_on()
-    ensures own { (after_bytes 2 first_sifting (0x46 ∷ 0 ∷ 0 ∷ 0 ∷ 2 ∷ 0x46 ∷ [])).plain ≡ 0x46 ∷ [] }
-    ensures lower { (after_bytes 2 first_sifting (0x46 ∷ 0 ∷ 0 ∷ 0 ∷ 1 ∷ 0x46 ∷ [])).plain ≡ 0x46 ∷ [] }
+    ensures own { (after_bytes 2 first_sifting (0x46 ∷ 0 ∷ 0 ∷ 0 ∷ 2 ∷ 0x46 ∷ [])).plain
+        ≡ 0x46 ∷ [] }
+    ensures lower { (after_bytes 2 first_sifting (0x46 ∷ 0 ∷ 0 ∷ 0 ∷ 1 ∷ 0x46 ∷ [])).plain
+        ≡ 0x46 ∷ [] }
 {}
 
 /// The term stands in front of each command.

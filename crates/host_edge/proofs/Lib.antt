@@ -1,3 +1,4 @@
 pub mod Noting
+pub mod Fronting
 pub mod Sorting
 pub mod Waiting

@@ -20,28 +20,34 @@ use Rattle.wire_frames.specs.declared.fault.FrameFault.TheVariants.{Count, Kind}
 use Rattle.host_edge.proofs.Noting.{added_further}
 use Rattle.host_edge.specs.Connections.{HearsOver, IsFresh, OffersOver, came_over, inbox_of, outbox_of}
 use Rattle.host_edge.specs.Outboxes.{Offers}
-use Rattle.host_edge.specs.Inboxes.{GivesOn, Held, HoldsBack, is_empty_list, nothing_in}
+use Rattle.host_edge.specs.Inboxes.{BeginsNone, Fronted, Fronts, GivesOn, Held, HoldsBack, IsCutFronted, IsFronted, fronted_bytes, is_empty_list, nothing_in}
+use Rattle.host_edge.specs.declared.front.Front.{Front}
+use Rattle.host_edge.specs.declared.front.Front.TheVariants.{Cut, Other, Whole}
 use Rattle.host_edge.specs.declared.connection.Connection.{Connection}
 
 abbrev pub held : List ℕ → List ℕ → Held
 held ready cut = record { ready = ready; cut = cut }
 
+-- no byte is the front of an answer
+pub cut_none : IsCutFronted []
+cut_none = inl cut_no_answer
+
 -- bytes of whole answers alone
 pub record AreWhole (bytes : List ℕ) : Type 0 where
-  pub answers : List AnswerFrame
-  pub fit : All IsAnswer answers
-  pub parts : bytes ≡ flat_map answer_bytes answers
+  pub answers : List Fronted
+  pub fit : All IsFronted answers
+  pub parts : bytes ≡ flat_map fronted_bytes answers
 
 pub none_whole : AreWhole []
-none_whole = record { answers = []; fit = All-nil IsAnswer; parts = refl }
+none_whole = record { answers = []; fit = All-nil IsFronted; parts = refl }
 
-one_more : (bytes piece : List ℕ) (frame : AnswerFrame) → AreWhole bytes → IsAnswer frame → answer_bytes frame ≡ piece → AreWhole (bytes ++ piece)
+one_more : (bytes piece : List ℕ) (frame : Fronted) → AreWhole bytes → IsFronted frame → fronted_bytes frame ≡ piece → AreWhole (bytes ++ piece)
 one_more bytes piece frame w fits is = record {
   answers = w.answers ++ frame ∷ [];
-  fit = All-append IsAnswer w.answers (frame ∷ []) w.fit (All-cons IsAnswer frame [] fits (All-nil IsAnswer));
+  fit = All-append IsFronted w.answers (frame ∷ []) w.fit (All-cons IsFronted frame [] fits (All-nil IsFronted));
   parts =
-      ap (λ (xs : List ℕ). xs ++ piece) w.parts ∙ ap (λ (xs : List ℕ). flat_map answer_bytes w.answers ++ xs) (sym is ∙ sym (append-nil (answer_bytes frame)))
-      ∙ sym (flat_map-append answer_bytes w.answers (frame ∷ []));
+      ap (λ (xs : List ℕ). xs ++ piece) w.parts ∙ ap (λ (xs : List ℕ). flat_map fronted_bytes w.answers ++ xs) (sym is ∙ sym (append-nil (fronted_bytes frame)))
+      ∙ sym (flat_map-append fronted_bytes w.answers (frame ∷ []));
 }
 
 module _ (bytes : List ℕ) (done : ℕ) (within : done ≤ length bytes) (whole : AreWhole (take done bytes)) where
@@ -51,14 +57,9 @@ module _ (bytes : List ℕ) (done : ℕ) (within : done ≤ length bytes) (whole
   rest_is : rest ≡ drop done bytes
   rest_is = take_rest bytes done
 
-  -- an answer ends in what is left
-  pub one_further : (n : ℕ) (frame : AnswerFrame) (now : Reader) → Ends answer_bytes IsAnswer IsAnswerFault [] rest n frame now → AreWhole (take (done + n) bytes)
-  one_further n frame now ends =
-      subst AreWhole (ap (λ (xs : List ℕ). take done bytes ++ take n xs) rest_is ∙ sym (take-add done n bytes)) (one_more (take done bytes) (take n rest) frame whole ends.fits ends.whole)
-
-  -- a byte with which no answer begins stands first in what is left
-  pub stops_alien : (byte : ℕ) → HasOtherKind answer_kind rest byte → HoldsBack bytes (held (take (length bytes) bytes) (drop (length bytes) bytes))
-  stops_alien byte other = record {
+  -- something with which none begins stands first in what is left
+  pub stops_alien : BeginsNone rest → HoldsBack bytes (held (take (length bytes) bytes) (drop (length bytes) bytes))
+  stops_alien other = record {
     parts = sym (take-append-drop (length bytes) bytes);
     answers = whole.answers;
     behind = drop done bytes;
@@ -66,22 +67,27 @@ module _ (bytes : List ℕ) (done : ℕ) (within : done ≤ length bytes) (whole
       fit = whole.fit;
       parts = take_all (length bytes) bytes (omega arith) ∙ sym (take-append-drop done bytes) ∙ ap (λ (xs : List ℕ). xs ++ drop done bytes) whole.parts;
     };
-    begun = subst IsCutAnswer (sym (drop_all (length bytes) bytes (omega arith))) cut_no_answer;
-    all = inr (byte, subst (λ (xs : List ℕ). HasOtherKind answer_kind xs byte) rest_is other, drop_all (length bytes) bytes (omega arith));
+    begun = subst IsCutFronted (sym (drop_all (length bytes) bytes (omega arith))) cut_none;
+    all = inr (subst BeginsNone rest_is other, drop_all (length bytes) bytes (omega arith));
   }
 
-  -- what reading on from there says, where an answer was found
-  pub reads_answer : (kept : List ℕ) → kept ≡ [] → (n : ℕ) (found : Option AnswerFrame) (frame : AnswerFrame) (now : Reader) → found ≡ Some frame → ReadsAnswer kept rest (Ok (n, found)) now
-      → record { within : done + n ≤ length bytes; whole : AreWhole (take (done + n) bytes) }
-  reads_answer kept none n found frame now is read =
-      let ends : Ends answer_bytes IsAnswer IsAnswerFault [] rest n frame now =
-      subst (λ (given : Option AnswerFrame). ReadsAnswer [] rest (Ok (n, given)) now) is (subst (λ (front : List ℕ). ReadsAnswer front rest (Ok (n, found)) now) none read) in
-      record { within = omega (arith, within, ends.within, ap length rest_is, length-drop done bytes); whole = one_further n frame now ends }
+  -- an answer ends in what is left
+  pub reads_whole : (n : ℕ) → Fronts rest (Whole n) → record { within : done + n ≤ length bytes; whole : AreWhole (take (done + n) bytes) }
+  reads_whole n read = record {
+    within = omega (arith, within, read.3, ap length rest_is, length-drop done bytes);
+    whole = subst AreWhole (ap (λ (xs : List ℕ). take done bytes ++ take n xs) rest_is ∙ sym (take-add done n bytes)) (one_more (take done bytes) (take n rest) read.0 whole read.1 read.4);
+  }
 
-  -- where a byte was found with which no answer begins
-  pub reads_fault : (kept : List ℕ) → kept ≡ [] → (fault : FrameFault) (now : Reader) → ReadsAnswer kept rest (Err fault) now → HoldsBack bytes (held (take (length bytes) bytes) (drop (length bytes) bytes))
-  reads_fault kept none (Kind byte) now read = stops_alien byte (subst (λ (front : List ℕ). HasOtherKind answer_kind (front ++ rest) byte) none read.at_byte)
-  reads_fault kept none (Count byte) now read = absurd read.at_byte
+  -- the front of one is all that is left
+  pub stops_cut : IsCutFronted rest → HoldsBack bytes (held (take done bytes) (drop done bytes))
+  stops_cut cut = record {
+    parts = sym (take-append-drop done bytes);
+    answers = whole.answers;
+    behind = [];
+    whole = record { fit = whole.fit; parts = whole.parts ∙ sym (append-nil (flat_map fronted_bytes whole.answers)) };
+    begun = subst IsCutFronted rest_is cut;
+    all = inl refl;
+  }
 
   -- nothing is left
   pub stops_whole : length bytes ≤ done → HoldsBack bytes (held (take done bytes) (drop done bytes))
@@ -89,30 +95,30 @@ module _ (bytes : List ℕ) (done : ℕ) (within : done ≤ length bytes) (whole
     parts = sym (take-append-drop done bytes);
     answers = whole.answers;
     behind = [];
-    whole = record { fit = whole.fit; parts = whole.parts ∙ sym (append-nil (flat_map answer_bytes whole.answers)) };
-    begun = subst IsCutAnswer (sym (drop_all done bytes all)) cut_no_answer;
+    whole = record { fit = whole.fit; parts = whole.parts ∙ sym (append-nil (flat_map fronted_bytes whole.answers)) };
+    begun = subst IsCutFronted (sym (drop_all done bytes all)) cut_none;
     all = inl refl;
   }
 
 -- where nothing came, nothing more is ready
-pub holds_nothing : (before : Held) → before.ready ≡ [] → IsCutAnswer before.cut → HoldsBack (before.cut ++ []) before
+pub holds_nothing : (before : Held) → before.ready ≡ [] → IsCutFronted before.cut → HoldsBack (before.cut ++ []) before
 holds_nothing before empty cut = record {
   parts = append-nil before.cut ∙ ap (λ (xs : List ℕ). xs ++ before.cut) (sym empty);
   answers = [];
   behind = [];
-  whole = record { fit = All-nil IsAnswer; parts = empty };
+  whole = record { fit = All-nil IsFronted; parts = empty };
   begun = cut;
   all = inl refl;
 }
 
-pub gives_nothing : (before : Held) → IsCutAnswer before.cut → GivesOn before [] [] before
+pub gives_nothing : (before : Held) → IsCutFronted before.cut → GivesOn before [] [] before
 gives_nothing before cut = record {
   whole = [];
   sorted = record {
     parts = append-nil before.cut;
     answers = [];
     behind = [];
-    whole = record { fit = All-nil IsAnswer; parts = refl };
+    whole = record { fit = All-nil IsFronted; parts = refl };
     begun = cut;
     all = inl refl;
   };
@@ -171,13 +177,13 @@ pub Keeps-same : {X : Type 0} → (known : X → Option (List ℕ)) (before now 
 Keeps-same known before now same = subst (λ x. Keeps (known before) (known x)) (sym same) (Keeps-refl (known before))
 
 -- nothing came
-pub reads_nothing : (a b : Option (List ℕ)) (before now : Held) → Keeps a b → now ≡ before → before.ready ≡ [] → IsCutAnswer before.cut → Consumes a b [] × HoldsBack (before.cut ++ []) now
+pub reads_nothing : (a b : Option (List ℕ)) (before now : Held) → Keeps a b → now ≡ before → before.ready ≡ [] → IsCutFronted before.cut → Consumes a b [] × HoldsBack (before.cut ++ []) now
 reads_nothing a b before now kept same empty cut = (Keeps-consumes a b kept, subst (HoldsBack (before.cut ++ [])) (sym same) (holds_nothing before empty cut))
 
 -- the bytes that came, and were noted, were the front of an answer all the time
 pub record CutSoFar (a b : Option (List ℕ)) (before now : Held) (came came_now : List ℕ) : Type 0 where
   pub empty : now.ready ≡ []
-  pub begun : IsCutAnswer now.cut
+  pub begun : IsCutFronted now.cut
   pub piece : List ℕ
   pub consumed : Consumes a b piece
   pub cut : before.cut ++ piece ≡ now.cut
@@ -203,7 +209,7 @@ module _ (S : Type 0) where
     from = inr (refl, refl);
     piece = [];
     came = none.came;
-    given_on = subst (GivesOn nothing_in [] []) (sym none.inbox) (gives_nothing nothing_in cut_no_answer);
+    given_on = subst (GivesOn nothing_in [] []) (sym none.inbox) (gives_nothing nothing_in cut_none);
   }
 
   pub hears_nothing : (connection : Option (Connection S)) → connection ≡ None → HearsOver connection [] connection

@@ -1,11 +1,11 @@
 ghost use Rattle.std.specs.Prelude.{◌≡◌, ◌⊎◌, ◌<◌, ◌≤◌, ◌++◌, [], List, ℕ, length, take, IfOk, OnErr, OnOk, false};
 ghost use Rattle.std.specs.Bool.{OnTrue};
 ghost use Rattle.std.specs.Io.KnownBytes.{Appends, Consumes, Keeps};
-ghost use Rattle.wan_edge.specs.Frames.{IsCutAnswer};
 ghost use Rattle.host_edge.specs.Histories.{AddsFront, Carries};
-ghost use Rattle.host_edge.specs.Inboxes.{GivesOn, HoldsBack, nothing_in};
+ghost use Rattle.host_edge.specs.Inboxes.{GivesOn, HoldsBack, IsCutFronted, nothing_in};
 ghost use Rattle.host_edge.specs.Outboxes.{Offers, SendsAllOrNone, nothing_sent};
 
+use crate::front::FRONTED_LEN;
 use crate::history::History;
 use crate::inbox::Inbox;
 use crate::outbox::Outbox;
@@ -14,7 +14,6 @@ use crate::unbroken::{write_noted, write_whole};
 use std::io::{self, ErrorKind, Read, Write};
 use std::net::OpenStream;
 use std::time::{Clock, Duration, Instant};
-use wire_frames::ANSWER_LEN;
 
 /// A connection to a switch, from when it was begun to be made. What was read off its stream and what was
 /// written to it is noted.
@@ -193,14 +192,14 @@ impl<S: Read + Write + OpenStream> Connection<S> {
         since: Option<Instant>,
     ) -> io::Result<()>
         requires empty { self.old.inbox.ready ≡ [] }
-        requires begun { IsCutAnswer self.old.inbox.cut }
+        requires begun { IsCutFronted self.old.inbox.cut }
         ensures sorted { (piece : List ℕ)
             × Consumes (S.remaining self.old.stream) (S.remaining self.new.stream) piece
             × HoldsBack (self.old.inbox.cut ++ piece) self.new.inbox
             × (self.new.came ≡ self.old.came ++ piece) }
         ensures outbox { self.new.outbox ≡ self.old.outbox }
     {
-        for _ in 1..ANSWER_LEN {
+        for _ in 1..FRONTED_LEN {
             self.read(limit.left(rt, since))?;
             if !self.inbox.is_empty() {
                 return Ok(());
@@ -212,7 +211,7 @@ impl<S: Read + Write + OpenStream> Connection<S> {
     // Reads once, and waits so long for the first byte.
     fn read(&mut self, left: Duration) -> io::Result<()>
         requires empty { self.old.inbox.ready ≡ [] }
-        requires begun { IsCutAnswer self.old.inbox.cut }
+        requires begun { IsCutFronted self.old.inbox.cut }
         ensures sorted { (piece : List ℕ)
             × (OnOk result (0 < length piece))
             × Consumes (S.remaining self.old.stream) (S.remaining self.new.stream) piece

@@ -1,20 +1,19 @@
 ghost use Rattle.std.specs.Prelude.{◌≡◌, ◌+◌, ◌<◌, ◌≤◌, ◌++◌, [], List, ℕ, drop, length, take, IfOk, OnErr};
 ghost use Rattle.std.specs.Io.KnownBytes.{Consumes, Keeps};
-ghost use Rattle.wan_edge.specs.Frames.{IsCutAnswer};
-ghost use Rattle.host_edge.specs.Inboxes.{HoldsBack, is_empty_list, nothing_in};
+ghost use Rattle.host_edge.specs.Inboxes.{HoldsBack, IsCutFronted, is_empty_list, nothing_in};
 
+use crate::front::{Front, front_of};
 use crate::history::History;
 use crate::unbroken::read_noted;
 use std::cmp::min;
 use std::io::{self, Read};
 use std::marker::Model;
-use wire_frames::AnswerReader;
 
 /// How many bytes there is room for.
 const ROOM: usize = 4_096;
 
-/// What came over one connection and wasn't given on: the bytes of whole answers, and behind them the front
-/// of the answer that hasn't ended, which is held back.
+/// What came over one connection and wasn't given on: the bytes of whole answers, each with its floor where it has
+/// one, and behind them the front of the answer that hasn't ended, which is held back.
 #[derive(Drop)]
 pub(crate) struct Inbox {
     bytes: [u8; ROOM],
@@ -25,8 +24,7 @@ pub(crate) struct Inbox {
 
 impl Model for Inbox {
     ghost use Rattle.std.specs.Prelude.{◌≤◌, ◌-◌, drop, take};
-    ghost use Rattle.wan_edge.specs.Frames.{IsCutAnswer};
-    ghost use Rattle.host_edge.specs.Inboxes.{Held};
+    ghost use Rattle.host_edge.specs.Inboxes.{Held, IsCutFronted};
 
     ghost Value = { Held };
 
@@ -38,7 +36,7 @@ impl Model for Inbox {
     ghost invariant = { λ b. (b.given ≤ b.whole)
         × (b.whole ≤ b.end)
         × (b.end ≤ 4_096)
-        × IsCutAnswer (take (b.end - b.whole) (drop b.whole b.bytes)) };
+        × IsCutFronted (take (b.end - b.whole) (drop b.whole b.bytes)) };
 }
 
 impl Inbox {
@@ -56,7 +54,7 @@ impl Inbox {
     /// Whether no byte is to be given on.
     pub(crate) fn is_empty(&self) -> bool
         ensures empty { result ≡ is_empty_list self.now.ready }
-        ensures begun { IsCutAnswer self.now.cut }
+        ensures begun { IsCutFronted self.now.cut }
     {
         self.given == self.whole
     }
@@ -151,10 +149,10 @@ fn whole_len(bytes: &[u8]) -> usize
 {
     let mut done = 0;
     while done < bytes.len() {
-        match AnswerReader::new().feed(&bytes[done..]) {
-            Ok((n, Some(_))) => done += n,
-            Ok((_, None)) => return done,
-            Err(_) => return bytes.len(),
+        match front_of(&bytes[done..]) {
+            Front::Whole(n) => done += n,
+            Front::Cut => return done,
+            Front::Other => return bytes.len(),
         }
     }
     done

@@ -26,6 +26,7 @@ mod faults;
 mod file_disk;
 mod file_log;
 mod fleet_file;
+mod front;
 mod history;
 mod inbox;
 mod ledger;

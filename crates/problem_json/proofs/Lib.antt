@@ -15,6 +15,7 @@ mod ReadPaths
 mod ReadTunnels
 mod ReadPlans
 mod Rows
+mod Wholes
 mod Words
 mod ReadText
 mod ReadAgain

@@ -23,9 +23,9 @@ use Rattle.problem_json.proofs.ReadAgain.{problem_is_read}
 use Rattle.problem_json.proofs.ReadPlans.{plan_is_read}
 use Rattle.problem_json.proofs.ReadValues.{number_in-number, list_in-list}
 
--- the text of an act, as it was written
-pub act_told : (a b : Act) (old new said : List ℕ) → a ≡ b → compact_text (act_data b) ≡ said → new ≡ old ++ said → new ≡ old ++ compact_text (act_data a)
-act_told a b old new said is text e = e ∙ ap (λ l. old ++ l) (sym text ∙ sym (ap (λ x. compact_text (act_data x)) is))
+-- what was pushed for an act is pushed for its equal
+pub act_pushed : {S : Type 0} (R : S → List ℕ → S → Type 0) {old new : S} (a b : Act) → a ≡ b → R old (compact_text (act_data b)) new → R old (compact_text (act_data a)) new
+act_pushed R {old} {new} a b is = subst (λ x. R old (compact_text (act_data x)) new) (sym is)
 
 -- one act more that can be read
 pub one_within_more : (script : List Act) (k : ℕ) → AreActsWithin k script → IsActWithin (get_or script k Round) → AreActsWithin (k + 1) script

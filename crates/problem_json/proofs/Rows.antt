@@ -1,81 +1,74 @@
 -- The text of a list, an element at a time.
-use Rattle.std.proofs.Common.{◌≡◌, ◌⊎◌, inl, inr, ℕ, zero, suc, ◌+◌, ◌<◌, ◌≤◌, nat_lt, Bool, true, false, if◌then◌else◌, lt-ltb, codes, decimal, List, [], ◌∷◌, ◌++◌, map, length, drop, get_or, refl, sym, ap, ◌∙◌, drop-cons, append_assoc, arith}
+use Rattle.std.proofs.Common.{◌≡◌, ◌⊎◌, inl, inr, ℕ, zero, suc, ◌+◌, ◌<◌, ◌≤◌, nat_lt, Bool, true, false, if◌then◌else◌, lt-ltb, codes, decimal, List, [], ◌∷◌, ◌++◌, map, length, drop, get_or, refl, sym, ap, subst, ◌∙◌, drop-cons, arith}
 use Rattle.std.proofs.lemmas.List.{drop_all, drop-map, get_or-map, length-map, length_push}
 use Rattle.std.proofs.lemmas.Bool.{cases_lt}
 use Rattle.rollout_rules.specs.Sums.{list_below}
-use Rattle.rollout_rules.specs.Wan.{Problem, no_switch}
+use Rattle.rollout_rules.specs.Wan.{Problem, flow_at, no_flow, no_switch}
 use Rattle.json.specs.Print.{escape_byte}
-use Rattle.serde_json.specs.Data.{Data, Members, no_members, member}
+use Rattle.serde_json.specs.Data.{Data, Members, no_members, member, string}
 use Rattle.serde_json.specs.View.{items_of}
 use Rattle.serde_json.specs.Written.{comma_if, compact_text, items_text, members_text}
-use Rattle.problem_json.specs.Writing.{number_data, list_data, name_data, quoted_name}
+use Rattle.problem_json.specs.Writing.{number_data, list_data, name_data, quoted_flow, quoted_name}
 use Rattle.problem_json.proofs.Adding.{length-list_below}
 
 -- the text of the elements from number k on, with the closing bracket
 abbrev pub text_from : ℕ → List Data → List ℕ
 text_from k ds = items_text (nat_lt 0 k) (items_of (drop k ds))
 
--- what stands, with the text of what is left, is all
-abbrev pub Leads : List ℕ → ℕ → List Data → List ℕ → Type 0
-Leads text k ds all = text ++ text_from k ds ≡ all
+-- An object that is pushed into, by what it says of pushes: that bytes were pushed between two moments, and that two pushes are one.
+module _ {S : Type 0} (R : S → List ℕ → S → Type 0) where
+  -- Once the text of what is left is pushed, all was pushed since the start.
+  abbrev pub Leads : List ℕ → S → S → ℕ → List Data → Type 0
+  Leads all start text k ds = (end : S) → R text (text_from k ds) end → R start all end
 
-pub begins : (ds : List Data) (old text : List ℕ) → text ≡ old ++ 91 ∷ [] → Leads text 0 ds (old ++ compact_text (list_data ds))
-begins ds old text is = ap (λ t. t ++ text_from 0 ds) is ∙ append_assoc old (91 ∷ []) (text_from 0 ds)
+  -- what was pushed at a value was pushed at its equal
+  pub at_value : {X : Type 0} {a b : S} (f : X → List ℕ) {x y : X} → x ≡ y → R a (f x) b → R a (f y) b
+  at_value {X} {a} {b} f same is = subst (λ z. R a (f z) b) same is
 
-pub goes_on : (ds : List Data) (k : ℕ) (d : Data) (old comma new all : List ℕ)
-    → drop k ds ≡ d ∷ drop (k + 1) ds
-    → Leads old k ds all
-    → comma ≡ old ++ comma_if (nat_lt 0 k)
-    → new ≡ comma ++ compact_text d
-    → Leads new (k + 1) ds all
-goes_on ds k d old comma new all here so with is =
-    let rest = drop (k + 1) ds in
-    let later : nat_lt 0 (k + 1) ≡ true = lt-ltb 0 (k + 1) (omega arith) in
-    let split : text_from k ds ≡ comma_if (nat_lt 0 k) ++ (compact_text d ++ items_text (nat_lt 0 (k + 1)) (items_of rest)) =
-    ap (λ xs. items_text (nat_lt 0 k) (items_of xs)) here ∙ ap (λ b. comma_if (nat_lt 0 k) ++ (compact_text d ++ items_text b (items_of rest))) (sym later) in
-    ap (λ t. t ++ text_from (k + 1) ds) (is ∙ ap (λ t. t ++ compact_text d) with)
-    ∙ append_assoc (old ++ comma_if (nat_lt 0 k)) (compact_text d) (text_from (k + 1) ds)
-    ∙ append_assoc old (comma_if (nat_lt 0 k)) (compact_text d ++ text_from (k + 1) ds)
-    ∙ ap (λ t. old ++ t) (sym split) ∙ so
+  -- the same bytes, told otherwise
+  pub said_so : {a b : S} {xs ys : List ℕ} → xs ≡ ys → R a xs b → R a ys b
+  said_so {a} {b} same is = subst (λ zs. R a zs b) same is
 
-pub ends : (ds : List Data) (k : ℕ) (old new all : List ℕ) → length ds ≤ k → Leads old k ds all → new ≡ old ++ 93 ∷ [] → new ≡ all
-ends ds k old new all le so is = is ∙ sym (ap (λ xs. old ++ items_text (nat_lt 0 k) (items_of xs)) (drop_all k ds le)) ∙ so
+  pub ends : {start text end : S} (all : List ℕ) (ds : List Data) (k : ℕ) → length ds ≤ k → Leads all start text k ds → R text (93 ∷ []) end → R start all end
+  ends {start} {text} {end} all ds k le so is =
+      so end (said_so (sym (ap (λ xs. items_text (nat_lt 0 k) (items_of xs)) (drop_all k ds le))) is)
 
--- one member of an object
-pub one_member : (old head first t₁ t₂ t₃ : List ℕ)
-    → t₁ ≡ old ++ head → t₂ ≡ t₁ ++ first → t₃ ≡ t₂ ++ 125 ∷ []
-    → t₃ ≡ old ++ (head ++ (first ++ 125 ∷ []))
-one_member old head first t₁ t₂ t₃ e₁ e₂ e₃ = rw (e₃, e₂, e₁) (simp append_assoc)
+  -- by a law on pushes
+  module _ (further : (a b c : S) (first second : List ℕ) → R a first b → R b second c → R a (first ++ second) c) where
+    pub both : {a b c : S} {xs ys : List ℕ} → R a xs b → R b ys c → R a (xs ++ ys) c
+    both {a} {b} {c} {xs} {ys} e₁ e₂ = further a b c xs ys e₁ e₂
 
--- one number of a list, behind its front
-pub one_in_list : (old front number t₁ t₂ t₃ : List ℕ)
-    → t₁ ≡ old ++ front → t₂ ≡ t₁ ++ number → t₃ ≡ t₂ ++ 93 ∷ []
-    → t₃ ≡ old ++ (front ++ (number ++ 93 ∷ []))
-one_in_list old front number t₁ t₂ t₃ e₁ e₂ e₃ = rw (e₃, e₂, e₁) (simp append_assoc)
+    pub by_three : {a b c d : S} {xs₁ xs₂ xs₃ : List ℕ} → R a xs₁ b → R b xs₂ c → R c xs₃ d → R a (xs₁ ++ (xs₂ ++ xs₃)) d
+    by_three e₁ e₂ e₃ = both e₁ (both e₂ e₃)
 
--- two members of an object, behind one another
-pub two_members : (old head first mid second t₁ t₂ t₃ t₄ t₅ : List ℕ)
-    → t₁ ≡ old ++ head → t₂ ≡ t₁ ++ first → t₃ ≡ t₂ ++ mid → t₄ ≡ t₃ ++ second → t₅ ≡ t₄ ++ 125 ∷ []
-    → t₅ ≡ old ++ (head ++ (first ++ (mid ++ (second ++ 125 ∷ []))))
-two_members old head first mid second t₁ t₂ t₃ t₄ t₅ e₁ e₂ e₃ e₄ e₅ = rw (e₅, e₄, e₃, e₂, e₁) (simp append_assoc)
+    pub by_five : {a b c d e f : S} {xs₁ xs₂ xs₃ xs₄ xs₅ : List ℕ} → R a xs₁ b → R b xs₂ c → R c xs₃ d → R d xs₄ e → R e xs₅ f
+        → R a (xs₁ ++ (xs₂ ++ (xs₃ ++ (xs₄ ++ xs₅)))) f
+    by_five e₁ e₂ e₃ e₄ e₅ = both e₁ (both e₂ (by_three e₃ e₄ e₅))
 
--- three, the first of them with a piece behind it
-pub three_members : (old head first piece mid second next third t₁ t₂ t₃ t₄ t₅ t₆ t₇ t₈ : List ℕ)
-    → t₁ ≡ old ++ head → t₂ ≡ t₁ ++ first → t₃ ≡ t₂ ++ piece → t₄ ≡ t₃ ++ mid → t₅ ≡ t₄ ++ second → t₆ ≡ t₅ ++ next → t₇ ≡ t₆ ++ third → t₈ ≡ t₇ ++ 125 ∷ []
-    → t₈ ≡ old ++ (head ++ (first ++ (piece ++ (mid ++ (second ++ (next ++ (third ++ 125 ∷ [])))))))
-three_members old head first piece mid second next third t₁ t₂ t₃ t₄ t₅ t₆ t₇ t₈ e₁ e₂ e₃ e₄ e₅ e₆ e₇ e₈ = rw (e₈, e₇, e₆, e₅, e₄, e₃, e₂, e₁) (simp append_assoc)
+    pub by_seven : {a b c d e f g h : S} {xs₁ xs₂ xs₃ xs₄ xs₅ xs₆ xs₇ : List ℕ} → R a xs₁ b → R b xs₂ c → R c xs₃ d → R d xs₄ e → R e xs₅ f → R f xs₆ g → R g xs₇ h
+        → R a (xs₁ ++ (xs₂ ++ (xs₃ ++ (xs₄ ++ (xs₅ ++ (xs₆ ++ xs₇)))))) h
+    by_seven e₁ e₂ e₃ e₄ e₅ e₆ e₇ = both e₁ (both e₂ (by_five e₃ e₄ e₅ e₆ e₇))
 
--- three members alone
-pub three_alone : (old head first mid second next third t₁ t₂ t₃ t₄ t₅ t₆ t₇ : List ℕ)
-    → t₁ ≡ old ++ head → t₂ ≡ t₁ ++ first → t₃ ≡ t₂ ++ mid → t₄ ≡ t₃ ++ second → t₅ ≡ t₄ ++ next → t₆ ≡ t₅ ++ third → t₇ ≡ t₆ ++ 125 ∷ []
-    → t₇ ≡ old ++ (head ++ (first ++ (mid ++ (second ++ (next ++ (third ++ 125 ∷ []))))))
-three_alone old head first mid second next third t₁ t₂ t₃ t₄ t₅ t₆ t₇ e₁ e₂ e₃ e₄ e₅ e₆ e₇ = rw (e₇, e₆, e₅, e₄, e₃, e₂, e₁) (simp append_assoc)
+    pub by_eight : {a b c d e f g h i : S} {xs₁ xs₂ xs₃ xs₄ xs₅ xs₆ xs₇ xs₈ : List ℕ} → R a xs₁ b → R b xs₂ c → R c xs₃ d → R d xs₄ e → R e xs₅ f → R f xs₆ g → R g xs₇ h → R h xs₈ i
+        → R a (xs₁ ++ (xs₂ ++ (xs₃ ++ (xs₄ ++ (xs₅ ++ (xs₆ ++ (xs₇ ++ xs₈))))))) i
+    by_eight e₁ e₂ e₃ e₄ e₅ e₆ e₇ e₈ = both e₁ (by_seven e₂ e₃ e₄ e₅ e₆ e₇ e₈)
 
--- three, the last of them with a piece behind it
-pub three_and_piece : (old head first mid second next third piece t₁ t₂ t₃ t₄ t₅ t₆ t₇ t₈ : List ℕ)
-    → t₁ ≡ old ++ head → t₂ ≡ t₁ ++ first → t₃ ≡ t₂ ++ mid → t₄ ≡ t₃ ++ second → t₅ ≡ t₄ ++ next → t₆ ≡ t₅ ++ third → t₇ ≡ t₆ ++ piece → t₈ ≡ t₇ ++ 125 ∷ []
-    → t₈ ≡ old ++ (head ++ (first ++ (mid ++ (second ++ (next ++ (third ++ (piece ++ 125 ∷ [])))))))
-three_and_piece old head first mid second next third piece t₁ t₂ t₃ t₄ t₅ t₆ t₇ t₈ e₁ e₂ e₃ e₄ e₅ e₆ e₇ e₈ = rw (e₈, e₇, e₆, e₅, e₄, e₃, e₂, e₁) (simp append_assoc)
+    -- the front of a list was pushed, and none of its elements
+    pub begins : {start text : S} (ds : List Data) → R start (91 ∷ []) text → Leads (compact_text (list_data ds)) start text 0 ds
+    begins ds is end rest = both is rest
+
+    -- one element more
+    pub goes_on : {start old comma new : S} (all : List ℕ) (ds : List Data) (k : ℕ) (d : Data)
+        → drop k ds ≡ d ∷ drop (k + 1) ds
+        → Leads all start old k ds
+        → R old (comma_if (nat_lt 0 k)) comma
+        → R comma (compact_text d) new
+        → Leads all start new (k + 1) ds
+    goes_on all ds k d here so with is end rest =
+        let later : nat_lt 0 (k + 1) ≡ true = lt-ltb 0 (k + 1) (omega arith) in
+        let split : text_from k ds ≡ comma_if (nat_lt 0 k) ++ (compact_text d ++ text_from (k + 1) ds) =
+        ap (λ xs. items_text (nat_lt 0 k) (items_of xs)) here ∙ ap (λ b. comma_if (nat_lt 0 k) ++ (compact_text d ++ items_text b (items_of (drop (k + 1) ds)))) (sym later) in
+        so end (said_so (sym split) (by_three with is rest))
 
 pub width_of_member : (plain : Bool) (width : ℕ)
     → members_text true (if plain then no_members else member (codes "width") (number_data width) no_members) ≡ (if plain then [] else codes ",\"width\":" ++ decimal width) ++ 125 ∷ []
@@ -88,6 +81,11 @@ pub quoted_at : (names : List (List ℕ)) (p : Problem) (w : ℕ) (name : List �
 quoted_at names p w name is lt at =
     let many : length names ≡ length p.switches = ap length is ∙ length-map p.switches quoted_name in
     at ∙ ap (λ ns. get_or ns w name) is ∙ get_or-map quoted_name p.switches w no_switch name (omega (arith, lt, many))
+
+-- the quoted name of the flow with a number
+pub quoted_flow_at : (names : List (List ℕ)) (p : Problem) (f : ℕ) (name : List ℕ) → names ≡ map quoted_flow p.flows → f < length p.flows → name ≡ get_or names f name → name ≡ compact_text (string (flow_at p f).name)
+quoted_flow_at names p f name is lt at =
+    at ∙ ap (λ ns. get_or ns f name) is ∙ get_or-map quoted_flow p.flows f no_flow name lt
 
 pub format_member : (plain : Bool) (format : ℕ) (behind : Members)
     → members_text true (if plain then behind else member (codes "format") (number_data format) behind) ≡ (if plain then [] else codes ",\"format\":" ++ decimal format) ++ members_text true behind

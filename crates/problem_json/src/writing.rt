@@ -6,19 +6,21 @@ mod room;
 mod round_trip;
 mod script;
 
-ghost use Rattle.std.specs.Prelude.{◌≡◌, ◌≤◌, length, IfOk, Ok, Some};
+ghost use Rattle.std.specs.Prelude.{◌≡◌, ◌≤◌, length, IfOk, OnOk, Ok, Some};
 ghost use Rattle.rollout_rules.specs.Network.{IsNetwork};
 ghost use Rattle.rollout_rules.specs.declared.limits.TheConstants.{MOST_ACTS};
 ghost use Rattle.problem_json.specs.Grammar.{problem_in};
 ghost use Rattle.problem_json.specs.GrammarDocuments.{plan_in, document_in, scripted_in};
 ghost use Rattle.problem_json.specs.WithinLimits.{IsPlanWithin};
-ghost use Rattle.problem_json.specs.Writing.{problem_text, plan_text, document_text, HoldsProblem};
+ghost use Rattle.problem_json.specs.Writing.{problem_text, plan_text, document_text, HoldsProblem, IsPlanOfWords};
+ghost use Rattle.problem_json.specs.WritingNames.{AreNamesOf};
 ghost use Rattle.problem_json.specs.GrammarLeast.{claimed_in};
 ghost use Rattle.problem_json.specs.WithinClaims.{IsClaimWithin};
 ghost use Rattle.problem_json.specs.WritingLeast.{claimed_text};
-ghost use Rattle.problem_json.specs.WritingScripts.{scripted_text};
+ghost use Rattle.problem_json.specs.WritingScripts.{scripted_text, AreActsWithin};
 
 use crate::claim::Claim;
+use crate::names::Names;
 use least::push_claim;
 use lists::{Memory, Text};
 use pieces::finished;
@@ -31,6 +33,7 @@ pub use round_trip::{
 };
 use script::push_script;
 use std::alloc::Global;
+use text_writer::{Pieces, WholeText};
 use wan_model::{Plan, Problem};
 
 /// The text of a problem: JSON (RFC 8259) without blanks, the keys of each object in the order of their
@@ -40,9 +43,10 @@ pub fn write_problem(alloc: Global, problem: &Problem) -> Result<Text, Memory>
     ensures text { IfOk result (λ text. text ≡ problem_text problem.now) }
     ensures reads { IfOk result (λ text. problem_in text ≡ Ok problem.now) }
 {
-    let mut text = Text::with_capacity(alloc, problem_bytes(problem))?;
-    push_problem(alloc, &mut text, problem)?;
-    Ok(finished(text))
+    let names = Names::of(alloc, problem)?;
+    let mut text = WholeText::with_capacity(alloc, problem_bytes(problem))?;
+    push_problem(&mut text, &names, problem);
+    Ok(finished(text.finish()?))
 }
 
 /// The text of a plan, likewise. Rates are in units of 1/scale.
@@ -50,9 +54,9 @@ pub fn write_plan(alloc: Global, plan: &Plan) -> Result<Text, Memory>
     ensures text { IfOk result (λ text. text ≡ plan_text plan.now) }
     ensures reads { IfOk result (λ text. IsPlanWithin plan.now → plan_in text ≡ Ok plan.now) }
 {
-    let mut text = Text::with_capacity(alloc, plan_bytes(plan))?;
-    push_plan(&mut text, plan)?;
-    Ok(finished(text))
+    let mut text = WholeText::with_capacity(alloc, plan_bytes(plan))?;
+    push_plan(&mut text, plan);
+    Ok(finished(text.finish()?))
 }
 
 /// The text of a problem with a plan for it, likewise.
@@ -62,14 +66,25 @@ pub fn write_document(alloc: Global, problem: &Problem, plan: &Plan) -> Result<T
     ensures reads { IfOk result (λ text. IsPlanWithin plan.now
         → document_in text ≡ Ok (record { problem = problem.now; plan = plan.now })) }
 {
+    let names = Names::of(alloc, problem)?;
     let bytes = problem_bytes(problem).saturating_add(plan_bytes(plan));
-    let mut text = Text::with_capacity(alloc, bytes)?;
-    text.push_str(r#"{"plan":"#)?;
-    push_plan(&mut text, plan)?;
-    text.push_str(r#","problem":"#)?;
-    push_problem(alloc, &mut text, problem)?;
-    text.push_str("}")?;
-    Ok(finished(text))
+    let mut text = WholeText::with_capacity(alloc, bytes)?;
+    push_document(&mut text, &names, problem, plan);
+    Ok(finished(text.finish()?))
+}
+
+/// Pushes the same text, by the names of the problem. It takes no memory.
+pub fn push_document<P: Pieces>(text: &mut P, names: &Names, problem: &Problem, plan: &Plan)
+    requires { AreNamesOf names.now problem.now }
+    ensures text { P.pushes text.old (document_text problem.now plan.now) text.new }
+    ensures network { IsNetwork problem.now }
+    ensures words { IsPlanOfWords plan.now }
+{
+    text.push_str(r#"{"plan":"#);
+    push_plan(text, plan);
+    text.push_str(r#","problem":"#);
+    push_problem(text, names, problem);
+    text.push_str("}");
 }
 
 /// The text of a problem with a plan for it and what is said of fewer rate steps, likewise: the key `least`
@@ -89,16 +104,36 @@ pub fn write_claimed(
           claim = Some claim.now;
         })) }
 {
+    let names = Names::of(alloc, problem)?;
     let bytes = problem_bytes(problem).saturating_add(plan_bytes(plan));
-    let mut text = Text::with_capacity(alloc, bytes)?;
-    text.push_str(r#"{"least":"#)?;
-    push_claim(alloc, &mut text, claim.steps, &claim.proof)?;
-    text.push_str(r#","plan":"#)?;
-    push_plan(&mut text, plan)?;
-    text.push_str(r#","problem":"#)?;
-    push_problem(alloc, &mut text, problem)?;
-    text.push_str("}")?;
-    Ok(finished(text))
+    let mut text = WholeText::with_capacity(alloc, bytes)?;
+    push_claimed(alloc, &mut text, &names, problem, plan, claim)?;
+    Ok(finished(text.finish()?))
+}
+
+/// Pushes the same text. An Err is want of memory for a fraction.
+fn push_claimed<P: Pieces>(
+    alloc: Global,
+    text: &mut P,
+    names: &Names,
+    problem: &Problem,
+    plan: &Plan,
+    claim: &Claim,
+) -> Result<(), Memory>
+    requires { AreNamesOf names.now problem.now }
+    ensures text { OnOk result
+        (P.pushes text.old (claimed_text problem.now plan.now claim.now) text.new) }
+    ensures network { OnOk result (IsNetwork problem.now) }
+    ensures words { OnOk result (IsPlanOfWords plan.now) }
+{
+    text.push_str(r#"{"least":"#);
+    push_claim(alloc, text, claim.steps, &claim.proof)?;
+    text.push_str(r#","plan":"#);
+    push_plan(text, plan);
+    text.push_str(r#","problem":"#);
+    push_problem(text, names, problem);
+    text.push_str("}");
+    Ok(())
 }
 
 /// The text of a problem with a plan for it and a script, likewise: the key `script` stands last, a list of
@@ -118,16 +153,34 @@ pub fn write_scripted(
           script = script.now;
         })) }
 {
+    let names = Names::of(alloc, problem)?;
     let bytes = problem_bytes(problem)
         .saturating_add(plan_bytes(plan))
         .saturating_add(script_bytes(script));
-    let mut text = Text::with_capacity(alloc, bytes)?;
-    text.push_str(r#"{"plan":"#)?;
-    push_plan(&mut text, plan)?;
-    text.push_str(r#","problem":"#)?;
-    push_problem(alloc, &mut text, problem)?;
-    text.push_str(r#","script":"#)?;
-    push_script(&mut text, script)?;
-    text.push_str("}")?;
-    Ok(finished(text))
+    let mut text = WholeText::with_capacity(alloc, bytes)?;
+    push_scripted(&mut text, &names, problem, plan, script);
+    Ok(finished(text.finish()?))
+}
+
+/// Pushes the same text, by the names of the problem. It takes no memory.
+fn push_scripted<P: Pieces>(
+    text: &mut P,
+    names: &Names,
+    problem: &Problem,
+    plan: &Plan,
+    script: &[Act],
+)
+    requires { AreNamesOf names.now problem.now }
+    ensures text { P.pushes text.old (scripted_text problem.now plan.now script.now) text.new }
+    ensures network { IsNetwork problem.now }
+    ensures words { IsPlanOfWords plan.now }
+    ensures acts { AreActsWithin (length script.now) script.now }
+{
+    text.push_str(r#"{"plan":"#);
+    push_plan(text, plan);
+    text.push_str(r#","problem":"#);
+    push_problem(text, names, problem);
+    text.push_str(r#","script":"#);
+    push_script(text, script);
+    text.push_str("}");
 }

@@ -1,9 +1,8 @@
 -- What a valid plan of such a problem begins with.
-use Rattle.std.proofs.Common.{◌≡◌, ℕ, ◌*◌, ◌<◌, ◌≤◌, Bool, true, false, ◌&&◌, ◌==◌, nat_le, length, is_some, refl, sym, ap, ◌∙◌, arith, eqb-true}
+use Rattle.std.proofs.Common.{◌≡◌, ℕ, ◌*◌, ◌<◌, Bool, true, false, ◌&&◌, ◌==◌, length, is_some, refl, sym, ap, ◌∙◌, arith, eqb-true}
 use Rattle.std.proofs.lemmas.Bool.{and_parts}
-use Rattle.rollout_rules.specs.Wan.{Problem, Plan, tunnel_at, hops, old_rate, rate_at, mark_at}
+use Rattle.rollout_rules.specs.Wan.{Problem, Plan, tunnel_at, old_rate, rate_at, mark_at}
 use Rattle.rollout_rules.specs.History.{Places}
-use Rattle.rollout_rules.specs.Safe.{settled_rate, settled_mark}
 use Rattle.rollout_rules.specs.Valid.{is_valid_plan, has_shape, begins_at_old, ends_at_new, fits_each_step, carries_what_flows, keeps_totals, same_mark}
 use Rattle.rollout_rules.proofs.Below.{all_below-at}
 use Rattle.retarget_plan.specs.Standing.{GoesOnFrom, BeginsWithSettled}

@@ -1,5 +1,5 @@
 -- What the copy of a network with other capacities rests on.
-use Rattle.std.proofs.Common.{◌≡◌, ℕ, ◌+◌, ◌<◌, ◌≤◌, List, length, Option, sym, ap, ◌∙◌, arith}
+use Rattle.std.proofs.Common.{◌≡◌, ℕ, ◌+◌, ◌<◌, List, length, Option, sym, ap, ◌∙◌, arith}
 use Rattle.rollout_rules.specs.Wan.{Problem, Link, link_at}
 use Rattle.rollout_rules.specs.Network.{IsNetwork, IsFormat}
 use Rattle.rollout_rules.specs.Building.{no_problem, MayAddLink, with_link}

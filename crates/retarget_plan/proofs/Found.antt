@@ -1,5 +1,5 @@
 -- What is found first, one number more at a time, and the cause that it is.
-use Rattle.std.proofs.Common.{◌≡◌, ℕ, suc, ◌+◌, ◌<◌, ◌≤◌, Bool, true, false, nat_le, length, List, [], ◌∷◌, ◌++◌, slice_index, Option, Some, None, unwrap_or, Result, Ok, Err, refl, sym, ap, ap₂, ◌∙◌, subst, arith, leb-true}
+use Rattle.std.proofs.Common.{◌≡◌, ℕ, suc, ◌+◌, ◌<◌, ◌≤◌, Bool, true, false, nat_le, length, List, [], ◌∷◌, ◌++◌, slice_index, Option, Some, None, unwrap_or, Result, Err, refl, sym, ap, ap₂, ◌∙◌, subst, arith, leb-true}
 use Rattle.rollout_rules.specs.declared.limits.TheConstants.{LARGEST_CAPACITY, LARGEST_RATE}
 use Rattle.rollout_rules.specs.Sums.{list_below}
 use Rattle.rollout_rules.specs.Wan.{Problem, Rollout}

@@ -1,15 +1,14 @@
 -- The problem that is left goes on from what is settled.
-use Rattle.std.proofs.Common.{◌≡◌, ℕ, ◌*◌, ◌<◌, ◌≤◌, ◌⊎◌, Bool, true, false, List, length, slice_index, Option, Some, None, is_some, unwrap_or, if◌then◌else◌, inl, inr, refl, sym, ap, ◌∙◌, subst, arith}
+use Rattle.std.proofs.Common.{◌≡◌, ℕ, ◌*◌, ◌<◌, ◌⊎◌, Bool, true, false, List, length, Option, Some, None, is_some, unwrap_or, if◌then◌else◌, inl, inr, refl, sym, ap, ◌∙◌, arith}
 use Rattle.std.specs.Prelude.{◌/◌}
 use Rattle.std.proofs.lemmas.Bool.{cases_Bool, cases_lt}
-use Rattle.rollout_rules.specs.Sums.{list_below}
 use Rattle.rollout_rules.specs.Wan.{Problem, Plan, Tunnel, link_at, tunnel_at, hops, old_rate}
 use Rattle.rollout_rules.specs.History.{Places}
 use Rattle.rollout_rules.specs.Safe.{settled_rate, settled_mark, IsSafe}
 use Rattle.rollout_rules.specs.Valid.{same_mark}
 use Rattle.rollout_rules.proofs.Below.{all_below-at}
-use Rattle.wan_model.specs.Rates.{rate_in, rated}
-use Rattle.wan_model.proofs.Rated.{list_below-length, list_below-at, rated-count, rated-at}
+use Rattle.wan_model.specs.Rates.{rated}
+use Rattle.wan_model.proofs.Rated.{list_below-at, rated-count, rated-at}
 use Rattle.retarget_plan.specs.Left.{is_whole, divisor_of, factor_of, left_rate, left_rates, left_capacities, scaled_capacity, with_capacities, left_with}
 use Rattle.retarget_plan.specs.Standing.{unrated, GoesOnFrom}
 use Rattle.retarget_plan.proofs.Divisors.{divisor-pos, top-units, each-units}

@@ -1,5 +1,5 @@
 -- What is left goes on from what is settled, and its old side fits.
-use Rattle.std.proofs.Common.{◌≡◌, ℕ, ◌<◌, ◌≤◌, true, List, length, Option, None, Result, Ok, Err, IfOk, sym, ap, ◌∙◌, subst, arith}
+use Rattle.std.proofs.Common.{◌≡◌, ℕ, ◌<◌, true, List, length, Option, None, Result, Ok, Err, IfOk, sym, ap, ◌∙◌, subst, arith}
 use Rattle.rollout_rules.specs.Wan.{Problem, Plan}
 use Rattle.rollout_rules.specs.Network.{IsNetwork}
 use Rattle.rollout_rules.specs.Valid.{is_valid_plan}

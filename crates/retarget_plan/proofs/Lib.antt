@@ -8,4 +8,6 @@ pub mod Looked
 pub mod Found
 pub mod Copied
 pub mod Leavings
+mod Aimings
+mod AimedSheds
 pub mod Holdings

@@ -1,5 +1,5 @@
 -- What the looks at a graph rest on: where its items stand, by a plan that is its own.
-use Rattle.std.proofs.Common.{◌≡◌, ℕ, suc, ◌+◌, ◌<◌, ◌≤◌, Bool, true, ◌&&◌, ◌==◌, nat_le, length, refl, sym, ap, ap₂, ◌∙◌, subst, arith, leb-true}
+use Rattle.std.proofs.Common.{◌≡◌, ℕ, suc, ◌+◌, ◌<◌, ◌≤◌, Bool, true, ◌&&◌, ◌==◌, nat_le, length, sym, ap, ap₂, ◌∙◌, subst, arith, leb-true}
 use Rattle.std.proofs.lemmas.Bool.{and_parts, and_from}
 use Rattle.rollout_rules.specs.declared.limits.TheConstants.{LARGEST_SCALE, MOST_STAGES}
 use Rattle.rollout_rules.specs.Sums.{all_below}

@@ -1,5 +1,5 @@
 -- The old side of a problem that goes on from a safe place fits.
-use Rattle.std.proofs.Common.{◌≡◌, ℕ, zero, suc, ◌+◌, ◌*◌, ◌<◌, ◌≤◌, Bool, true, false, ◌&&◌, ◌==◌, if◌then◌else◌, List, length, get_or, is_some, inl, refl, sym, ap, ap₂, ◌∙◌, subst, arith}
+use Rattle.std.proofs.Common.{◌≡◌, ℕ, zero, suc, ◌+◌, ◌*◌, ◌<◌, ◌≤◌, Bool, true, false, ◌&&◌, ◌==◌, if◌then◌else◌, List, length, get_or, inl, refl, ap, ap₂, ◌∙◌, arith}
 use Rattle.std.specs.List.{list_any}
 use Rattle.std.proofs.Math.Nat.{le_of_mul-le-mul_left}
 use Rattle.rollout_rules.specs.Sums.{sum_below}
@@ -9,7 +9,7 @@ use Rattle.rollout_rules.specs.Slack.{old_load, was_installed}
 use Rattle.rollout_rules.specs.History.{Places}
 use Rattle.rollout_rules.specs.Safe.{settled_rate, settled_mark, IsSafe}
 use Rattle.rollout_rules.proofs.Below.{sum_below-same}
-use Rattle.retarget_plan.specs.Standing.{unrated, GoesOnFrom, OldSideFits}
+use Rattle.retarget_plan.specs.Standing.{GoesOnFrom, OldSideFits}
 
 -- a sum so many times
 times-sum : (n d : ℕ) (f : ℕ → ℕ) → d * sum_below n f ≡ sum_below n (λ k. d * f k)

@@ -1,5 +1,5 @@
 -- A network with other capacities is one still.
-use Rattle.std.proofs.Common.{◌≡◌, ℕ, ◌*◌, ◌<◌, ◌≤◌, List, length, slice_index, sym, ap, ◌∙◌, subst, arith}
+use Rattle.std.proofs.Common.{◌≡◌, ℕ, ◌<◌, ◌≤◌, List, length, slice_index, sym, ap, ◌∙◌, arith}
 use Rattle.rollout_rules.specs.declared.limits.TheConstants.{LARGEST_CAPACITY}
 use Rattle.rollout_rules.specs.Wan.{Problem, Link, no_link, link_at, tunnel_at}
 use Rattle.rollout_rules.specs.Network.{IsNetwork, IsPath, IsWidth, IsTunnel}

@@ -4,3 +4,5 @@ pub mod Standing
 pub mod Leaving
 pub mod Copies
 pub mod Shedding
+pub mod Targets
+pub mod Aiming

@@ -1,8 +1,8 @@
 -- Shedding: what is settled, but for what crosses a link, which carries nothing more.
-use Rattle.std.specs.Prelude.{◌≡◌, ℕ, ◌<◌, ◌≤◌, Bool, List, [], ◌∷◌, length, is_some, Option, option_map, if◌then◌else◌}
+use Rattle.std.specs.Prelude.{◌≡◌, ℕ, ◌<◌, ◌≤◌, [], ◌∷◌, length, is_some, Option, option_map, if◌then◌else◌}
 use Rattle.rollout_rules.specs.Sums.{list_below}
 use Rattle.rollout_rules.specs.Wan.{Problem, Plan, Stage, tunnel_at, old_rate, new_rate, crosses}
-use Rattle.wan_model.specs.Rates.{with_rates, rate_in}
+use Rattle.wan_model.specs.Rates.{with_rates}
 
 -- the old rate of tunnel t, or 0 where it crosses the link
 abbrev pub shed_rate : Problem → ℕ → ℕ → Option ℕ

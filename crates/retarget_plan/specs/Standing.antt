@@ -1,5 +1,5 @@
 -- A problem that goes on from where a rollout stands, and what that says of every rollout of it.
-use Rattle.std.specs.Prelude.{◌≡◌, ℕ, ◌*◌, ◌<◌, ◌≤◌, List, None, length, is_some}
+use Rattle.std.specs.Prelude.{◌≡◌, ℕ, ◌*◌, ◌<◌, ◌≤◌, None, length, is_some}
 use Rattle.rollout_rules.specs.Wan.{Problem, Plan, Tunnel, link_at, switch_at, tunnel_at, hops, old_rate, rate_at, mark_at}
 use Rattle.rollout_rules.specs.Items.{entries_at}
 use Rattle.rollout_rules.specs.Slack.{old_load, was_installed}

@@ -1,5 +1,5 @@
 //! The laws of a problem that goes on from where a rollout stands.
-ghost use Rattle.std.specs.Prelude.{◌≡◌, ℕ, ◌<◌, List, length, IsTrue};
+ghost use Rattle.std.specs.Prelude.{◌≡◌, ℕ, ◌<◌, List, Ok, length, IsTrue};
 ghost use Rattle.std.specs.Int.{◌∣◌};
 ghost use Rattle.rollout_rules.specs.Wan.{Problem, Plan, tunnel_at, crosses, new_rate};
 ghost use Rattle.rollout_rules.specs.Network.{IsNetwork};
@@ -13,9 +13,11 @@ ghost use Rattle.rollout_rules.specs.declared.event.Event.{Event};
 ghost use Rattle.rollout_rules.specs.declared.held.Held.{Held};
 ghost use Rattle.rollout_laws.specs.SafeWorlds.{EveryWorldIsSafe, IsSafeWorld};
 ghost use Rattle.rollout_laws.specs.Waiting.{NothingFlies};
+ghost use Rattle.retarget_plan.specs.Aiming.{IsAimed};
 ghost use Rattle.retarget_plan.specs.Units.{divisor_below};
 ghost use Rattle.retarget_plan.specs.Standing.{BeginsWithSettled, GoesOnFrom, OldSideFits};
 ghost use Rattle.retarget_plan.specs.Shedding.{OnlyGivesWay, one_step, shed};
+ghost use Rattle.retarget_plan.specs.declared.aim.Aim.TheVariants.{Shed};
 
 /// The greatest common divisor of several numbers divides each, and so does no greater one.
 pub fn a_unit_is_the_largest_in_which_all_are_whole()
@@ -83,4 +85,19 @@ pub fn shedding_takes_one_step()
         → t < length q.tunnels
         → IsTrue (crosses q t l)
         → new_rate (tunnel_at (shed q l) t) ≡ 0 }
+{}
+
+/// The problem that sheds a link from where a rollout stands has a plan of one step, where its old side fits, and
+/// then nothing crosses the link.
+pub fn shedding_from_a_stand_takes_one_step()
+    ensures planned { (p : Problem) (plan : Plan) (h : History) (link : ℕ) (q : Problem)
+        → IsAimed p plan h (Shed link) (Ok q)
+        → IsNetwork q
+        → OldSideFits q
+        → IsTrue (is_valid_plan q (one_step q)) }
+    ensures empty { (p : Problem) (plan : Plan) (h : History) (link : ℕ) (q : Problem) (t : ℕ)
+        → IsAimed p plan h (Shed link) (Ok q)
+        → t < length q.tunnels
+        → IsTrue (crosses q t link)
+        → new_rate (tunnel_at q t) ≡ 0 }
 {}

@@ -98,7 +98,7 @@ fn small_left(
 }
 
 // The network with these numbers, unless one of them is too large.
-fn made(
+pub(crate) fn made(
     alloc: Global,
     plan: &CheckedPlan,
     capacities: &[u64],
@@ -137,7 +137,7 @@ fn copied(
 }
 
 // The first item with an operation in flight.
-fn first_flying(graph: &Graph) -> Option<Unleft>
+pub(crate) fn first_flying(graph: &Graph) -> Option<Unleft>
     ensures { result
         ≡ leaving.first_flying graph.now.rollout.problem graph.now.history }
 {
@@ -153,7 +153,7 @@ fn first_flying(graph: &Graph) -> Option<Unleft>
 }
 
 // The first tunnel of which some entries are there alone.
-fn first_partly(plan: &CheckedPlan, graph: &Graph, index: &Index) -> Option<Unleft>
+pub(crate) fn first_partly(plan: &CheckedPlan, graph: &Graph, index: &Index) -> Option<Unleft>
     requires own { plan.now ≡ graph.now.rollout }
     requires index { index.now ≡ plan.now }
     ensures { result

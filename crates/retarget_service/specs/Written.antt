@@ -1,5 +1,5 @@
 -- What is written of a rollout that a journal tells of.
-use Rattle.std.specs.Prelude.{◌≡◌, ⊤, ℕ, List, [], ◌∷◌, ◌++◌, Option, Some, Result, Ok, Err}
+use Rattle.std.specs.Prelude.{◌≡◌, ⊤, ℕ, List, [], ◌∷◌, ◌++◌, Some, Result, Ok, Err}
 use Rattle.rollout_rules.specs.Wan.{Problem, Rollout}
 use Rattle.rollout_rules.specs.History.{History, places_of}
 use Rattle.problem_json.specs.Grammar.{problem_in}

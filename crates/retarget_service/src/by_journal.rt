@@ -72,7 +72,7 @@ fn followed(
 }
 
 // A disk in memory fails for want of it alone.
-fn refusal(cause: JournalFault) -> Unwritten
+pub(crate) fn refusal(cause: JournalFault) -> Unwritten
     ensures { result ≡ refusal_of cause }
 {
     match cause {
@@ -116,7 +116,7 @@ fn text_of(alloc: Global, problem: &Problem) -> Result<Text, Memory>
     Ok(text)
 }
 
-fn cause_told(cause: Unleft) -> Unwritten
+pub(crate) fn cause_told(cause: Unleft) -> Unwritten
     ensures { result ≡ unleft_of cause }
 {
     match cause {

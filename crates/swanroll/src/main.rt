@@ -1,17 +1,20 @@
 //! The program: hands the arguments, the standard streams, the journal's file with its log, the switches
 //! and guests behind sockets, the allocator and its policies to the call that does everything, and ends with
 //! its status. An agent for which the environment names a file is a call of its own, and so are a report of the
-//! journal as it stands and the problem that its rollout leaves.
+//! journal as it stands, the problem that its rollout leaves, another target for it, and what a controller does
+//! that has a term.
 #![tactic(auto)]
 
 ghost use Rattle.std.specs.Prelude.{◌≡◌};
 ghost use Rattle.named_policies.specs.Policies as spec;
 
 use devices::{ceiling, fleet, journal, sight, state};
+use fenced_ports::FencedFleet;
 use host_edge::{StdSink, StdSource};
 use lists::Memory;
 use named_policies::{critical, freeze, order, policies_of};
 use order_policy::{Policies, Policy};
+use retarget_top::{retarget, retarget_asked};
 use std::env;
 use std::process::ExitCode;
 use std::sync::Wait;
@@ -20,6 +23,7 @@ use swanroll_top::{
     LiveAsked, guests_asked, keep_agent, left_asked, live_asked, report_live, show_left,
     start_logged, watch,
 };
+use takeover_top::{run_asked, run_at_term, start_plain, take_over, takeover_asked};
 use text_commands::{Unread, why_unread};
 use wan_model::OpView;
 
@@ -86,8 +90,8 @@ fn run(
 }
 
 /// Does what the arguments ask for: an agent over the file that the environment names for it, where they ask
-/// for an agent and it names one; a report of the journal as it stands, or what the rollout leaves; and else all
-/// that there is.
+/// for an agent and it names one; a report of the journal as it stands, what the rollout leaves, or another target;
+/// a takeover, or a run of a term, over a fleet of that term; and else all that there is.
 fn begin(
     wait: &(impl Wait + Threads + Sync),
     rt: HostRuntime,
@@ -111,18 +115,78 @@ fn begin(
         drop(arguments);
         return show_left(rt.alloc(), migration, source, sink, notes, &mut sight(rt));
     }
-    start_logged(
-        wait,
-        rt.alloc(),
-        arguments,
-        source,
-        sink,
-        notes,
-        journal(rt),
-        &mut fleet(rt),
-        policies,
-    )
-    .status
+    if let Some(asked) = retarget_asked(&arguments) {
+        return retarget(
+            rt.alloc(),
+            asked.migration,
+            asked.planner,
+            asked.shed,
+            source,
+            sink,
+            notes,
+            journal(rt),
+        )
+        .status;
+    }
+    if let Some(term) = takeover_asked(&arguments, policies) {
+        let mut fenced = FencedFleet::new(rt.alloc(), fleet(rt), term);
+        return take_over(
+            wait,
+            rt.alloc(),
+            arguments,
+            source,
+            sink,
+            notes,
+            journal(rt),
+            &mut fenced,
+            policies,
+        )
+        .status;
+    }
+    run_by_term(wait, rt, arguments, source, sink, notes, policies)
+}
+
+/// A run over a fleet of the term that the words name, and else all that there is.
+fn run_by_term(
+    wait: &(impl Wait + Threads + Sync),
+    rt: HostRuntime,
+    arguments: Result<Vec<String>, Unread>,
+    source: &mut StdSource<HostRuntime>,
+    sink: &mut StdSink<HostRuntime>,
+    notes: &mut StdSink<HostRuntime>,
+    policies: &Policies<Policy>,
+) -> u8 {
+    match run_asked(&arguments) {
+        Some(term) if term > 0 => {
+            let mut fenced = FencedFleet::new(rt.alloc(), fleet(rt), term);
+            run_at_term(
+                wait,
+                rt.alloc(),
+                arguments,
+                source,
+                sink,
+                notes,
+                journal(rt),
+                &mut fenced,
+                policies,
+            )
+            .status
+        }
+        _ => {
+            start_plain(
+                wait,
+                rt.alloc(),
+                arguments,
+                source,
+                sink,
+                notes,
+                journal(rt),
+                &mut fleet(rt),
+                policies,
+            )
+            .status
+        }
+    }
 }
 
 /// Looks at the journal as it stands: once, or again and again.

@@ -47,7 +47,7 @@ abbrev pub IsServed : {D G : Type 0} → (D → DiskTrace) → Tells G → D →
 IsServed trace tells disk disk_now before now asked out out_now = (service : Service) × KeepsGuests trace tells disk disk_now before now asked service × Appends out (service_line service) out_now
 
 -- An agent with a file, by its status. It follows from the disk as it was opened: whenever a crash comes, it leaves what might have been left then, or what
--- is read alike, or what the agent rule makes of what was read; and where the line was written, guests were served turn by turn from what was read, and all that
+-- is read alike, or what the rule of terms makes of what was read; and where the line was written, guests were served turn by turn from what was read, and all that
 -- the agent holds is on the disk.
 pub record KeepsAgent {D G : Type 0} (trace : D → DiskTrace) (tells : Tells G) (disk disk_now : D) (before now : Guests G) (asked status : ℕ) (out out_now : Option (List ℕ)) : Type 0 where
   pub opened : D

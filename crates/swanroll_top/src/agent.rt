@@ -11,8 +11,9 @@ use std::alloc::Global;
 use text_commands::{Ending, write_text};
 use wan_edge::{Fleet, Sink};
 
-/// One agent serves this many guests of the fleet, up to 64 at once, or fewer where no more come, and a line
-/// says how many were served or refused, how many commands were carried out, and how many were refused.
+/// One agent serves this many guests of the fleet, up to 64 at once and under one floor, or fewer where no more
+/// come, and a line says how many were served or refused, how many commands were carried out, and how many were
+/// refused.
 pub fn agent<K: Sink, F: Fleet>(alloc: Global, guests: u32, fleet: &mut F, sink: &mut K) -> Ending
     ensures runs { RunsAgent (record { source = F.Guest.Source.told; sink = F.Guest.Sink.told })
         guests

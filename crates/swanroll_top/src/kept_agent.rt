@@ -46,8 +46,8 @@ fn guests_of(command: Option<Command<'_>>) -> Option<u32>
 }
 
 /// One agent, which holds what the file on this disk says, serves this many guests of the fleet, several at
-/// once, or fewer where no more come, and a line says what came of it, as without a file. What a read of commands changes
-/// is on the disk as one batch before its answers go out. The statuses are those of an agent without a
+/// once, or fewer where no more come, and a line says what came of it, as without a file. What a read of commands changes,
+/// and the floor that it raised, is on the disk as one batch before its answers go out. The statuses are those of an agent without a
 /// file, and two more: 8, the disk failed; 10, the file is none of an agent's, or is damaged.
 pub fn keep_agent<K: Sink, D: Openable, F: Fleet>(
     alloc: Global,

@@ -1,5 +1,4 @@
-//! Tests of a takeover: the two worlds in code, and an agent that hears two controllers, and a port for one of them, of which no command makes
-//! use. They stand apart, since a crate with tests is proved twice.
+//! Tests of a takeover: the two worlds in code, an agent that hears two controllers, its talk with guests, and a port for one of them. They stand apart, since a crate with tests is proved twice.
 #![tactic(auto)]
 
 #[cfg(test)]
@@ -8,3 +7,5 @@ mod agents;
 mod ports;
 #[cfg(test)]
 mod schedules;
+#[cfg(test)]
+mod talks;

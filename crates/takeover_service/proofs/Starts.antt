@@ -1,5 +1,5 @@
 -- What comes of placing the journal of a takeover, and of its beginning.
-use Rattle.std.proofs.Common.{◌≡◌, ◌<◌, ℕ, Bool, true, false, List, [], length, Result, Ok, Err, refl, sym, ap, ap₂, subst, ◌∙◌}
+use Rattle.std.proofs.Common.{◌≡◌, ◌<◌, ℕ, Bool, true, false, List, [], length, Result, Ok, Err, refl, sym, ap, ap₂, subst, inr, ◌∙◌}
 use Rattle.std.specs.Prelude.{IfErr, IfOk, IsErrOf}
 use Rattle.rollout_rules.specs.History.{History, places_of, settled, started}
 use Rattle.rollout_rules.specs.Items.{item_count}
@@ -8,6 +8,7 @@ use Rattle.rollout_rules.specs.Sums.{list_below}
 use Rattle.rollout_rules.specs.Wan.{Rollout}
 use Rattle.rollout_laws.proofs.Contents.{list_below-length}
 use Rattle.wan_edge.specs.Ports.{PortTrace}
+use Rattle.disk_mirror.specs.Openings.{IsTold, Opens, OpensWithin}
 use Rattle.disk_model.specs.Traces.{DiskTrace}
 use Rattle.dependency_graph.specs.FirstFault.{IsFirstFault, TellsSound}
 use Rattle.dependency_graph.specs.Graph.{Followed}
@@ -27,7 +28,7 @@ use Rattle.held_service.specs.Noting.{noted_at}
 use Rattle.fence_takeover.specs.Fences.{Fences, IsFencedOff}
 use Rattle.fence_takeover.specs.Starts.{number_in}
 use Rattle.fence_takeover.specs.declared.end.FenceEnd.{FenceEnd}
-use Rattle.takeover_service.specs.Beginnings.{AnswerOf, Begins, BeginsAt, PlacesAt, taken_kept}
+use Rattle.takeover_service.specs.Beginnings.{AnswerOf, Begins, BeginsAt, OpensAt, PlacesAt, taken_kept}
 use Rattle.takeover_service.specs.declared.begun.NotBegun.{NotBegun}
 use Rattle.takeover_service.specs.declared.begun.NotBegun.TheVariants as why
 
@@ -52,28 +53,37 @@ module _ {D : Type 0} (trace : D → DiskTrace) (r : Rollout) (migration : ℕ) 
   pub places-none : ((c : List ℕ) → (trace old).left_since (trace old).moment c → (trace old).may_leave c) → PlacesAt (Err (why.Journal Memory)) trace r migration start old old
   places-none now = record { may = never-placed trace (taken_kept r migration start) old now; cause_is = not-placed trace old }
 
-  -- one may begin there
-  pub begins-at : (answer : Result (Rollout × List ℕ) NotBegun) (new : D) → is_sound r.problem r.plan start ≡ true → PlacesAt answer trace r migration start old new → BeginsAt answer trace r migration start old new
-  begins-at (Ok taken) new sound places = record { sound = sound; places = places }
-  begins-at (Err (why.Fence end)) new sound places = places
-  begins-at (Err (why.Start f)) new sound places = absurd places
-  begins-at (Err (why.Journal cause)) new sound places = record { sound = sound; places = places }
+  module _ (room : ℕ) where
+    -- the disk was opened
+    pub opens-at : (opened : D) (answer : Result (Rollout × List ℕ) NotBegun) (new : D) → Opens (trace old) (trace opened) → IsTold (trace opened).bytes → OpensWithin room (trace old) (trace opened)
+        → PlacesAt answer trace r migration start opened new → OpensAt answer trace r migration start room old new
+    opens-at opened (Ok taken) new opens told within places = record { opened = opened; opens = opens; told = told; within = within; places = places }
+    opens-at opened (Err (why.Fence there end)) new opens told within places = absurd places
+    opens-at opened (Err (why.Start there f)) new opens told within places = absurd places
+    opens-at opened (Err (why.Journal cause)) new opens told within places = inr (record { opened = opened; opens = opens; told = told; within = within; places = places })
 
-  -- from a start on nothing is said of the switches
-  pub begun-fence : (answer : Result (Rollout × List ℕ) NotBegun) (new : D) (end : FenceEnd) → BeginsAt answer trace r migration start old new → IsErrOf answer (why.Fence end) → ⊥
-  begun-fence answer new end begins is = subst (λ (a : Result (Rollout × List ℕ) NotBegun). BeginsAt a trace r migration start old new) is begins
+    -- one may begin there
+    pub begins-at : (answer : Result (Rollout × List ℕ) NotBegun) (new : D) → is_sound r.problem r.plan start ≡ true → OpensAt answer trace r migration start room old new → BeginsAt answer trace r migration start room old new
+    begins-at (Ok taken) new sound tries = record { sound = sound; tries = tries }
+    begins-at (Err (why.Fence there end)) new sound tries = tries
+    begins-at (Err (why.Start there f)) new sound tries = absurd tries
+    begins-at (Err (why.Journal cause)) new sound tries = record { sound = sound; tries = tries }
 
-  -- all told
-  pub begins-told : {P : Type 0} (tell : P → PortTrace) (limit : ℕ) (before now : FleetPorts P) (answer : Result (Rollout × List ℕ) NotBegun) (new : D) → IsFencedOff tell r.problem r.plan migration limit before now start → BeginsAt answer trace r migration start old new
-      → Begins answer tell trace r migration limit before now old new
-  begins-told tell limit before now (Ok taken) new fenced begins = record { start = start; fenced = fenced; begins = begins }
-  begins-told tell limit before now (Err (why.Fence end)) new fenced begins = absurd begins
-  begins-told tell limit before now (Err (why.Start f)) new fenced begins = record { start = start; fenced = fenced; begins = begins }
-  begins-told tell limit before now (Err (why.Journal cause)) new fenced begins = record { start = start; fenced = fenced; begins = begins }
+    -- from a start on nothing is said of the switches
+    pub begun-fence : (answer : Result (Rollout × List ℕ) NotBegun) (new : D) (there : Rollout) (end : FenceEnd) → BeginsAt answer trace r migration start room old new → IsErrOf answer (why.Fence there end) → ⊥
+    begun-fence answer new there end begins is = subst (λ (a : Result (Rollout × List ℕ) NotBegun). BeginsAt a trace r migration start room old new) is begins
+
+    -- all told
+    pub begins-told : {P : Type 0} (tell : P → PortTrace) (limit : ℕ) (before now : FleetPorts P) (answer : Result (Rollout × List ℕ) NotBegun) (new : D) → IsFencedOff tell r.problem r.plan migration limit before now start → BeginsAt answer trace r migration start room old new
+        → Begins answer tell trace r migration limit room before now old new
+    begins-told tell limit before now (Ok taken) new fenced begins = record { start = start; fenced = fenced; begins = begins }
+    begins-told tell limit before now (Err (why.Fence there end)) new fenced begins = absurd begins
+    begins-told tell limit before now (Err (why.Start there f)) new fenced begins = record { start = start; fenced = fenced; begins = begins }
+    begins-told tell limit before now (Err (why.Journal cause)) new fenced begins = record { start = start; fenced = fenced; begins = begins }
 
 -- where not all told, that is the cause
-pub same-cause : {T U : Type 0} (end other : FenceEnd) → IsErrOf {T = T} (Err (why.Fence end)) (why.Fence other) → IsErrOf {T = U} (Err end) other
-same-cause end other is =
+pub same-cause : {T U : Type 0} (r there : Rollout) (end other : FenceEnd) → IsErrOf {T = T} (Err (why.Fence r end)) (why.Fence there other) → IsErrOf {T = U} (Err end) other
+same-cause r there end other is =
     let same : end ≡ other = cc is in
     ap (λ (e : FenceEnd). Err e) same
 

@@ -2,15 +2,17 @@ ghost use Rattle.std.specs.Prelude.{◌≡◌, ℕ, ◌≤◌, length, IfOk, IsE
 ghost use Rattle.rollout_rules.specs.History.{started};
 ghost use Rattle.rollout_rules.specs.Items.{item_count};
 ghost use Rattle.rollout_rules.specs.Legal.{is_sound};
+ghost use Rattle.rollout_rules.specs.Wan.{Rollout};
 ghost use Rattle.rollout_report.specs.Journals.{digest_for};
 ghost use Rattle.rollout_ports.specs.Berths.{ports_of};
 ghost use Rattle.wan_edge.specs.Streams.{Rose};
 ghost use Rattle.fence_takeover.specs.declared.end.FenceEnd.TheVariants as fenced;
 ghost use Rattle.takeover_service.specs.declared.begun.NotBegun.TheVariants as why;
-ghost use Rattle.takeover_service.specs.Beginnings.{AnswerOf, Begins, BeginsAt, PlacesAt};
+ghost use Rattle.takeover_service.specs.Beginnings.{AnswerOf, Begins, BeginsAt, OpensAt, PlacesAt};
 
 use crate::{Begun, NotBegun};
 use dependency_graph::sound;
+use disk_mirror::Openable;
 use disk_model::Disk;
 use fence_takeover::fence;
 use fenced_ports::OneTerm;
@@ -22,10 +24,10 @@ use std::alloc::Global;
 use wan_edge::Fleet;
 use wan_model::CheckedPlan;
 
-/// Asks the switches of a rollout what they hold, in so many rounds at the most, and puts a journal in the place of
-/// the one on the disk: it knows the rollout as this migration, begins at what the switches told of it, and has no
-/// entry. The disk is written only behind the last answer, and only where one may begin there: a crash at any moment
-/// leaves what stood or the new journal.
+/// Asks the switches of a rollout what they hold, in so many rounds at the most, opens the disk, with room for so
+/// many bytes, and puts a journal in the place of the one there: it knows the rollout as this migration, begins at
+/// what the switches told of it, and has no entry. The disk is opened only after the last answer, and only where one
+/// may begin there: a crash at any moment leaves what stood or the new journal.
 ///
 /// The fleet is one for a controller of one term, since over plain ports nobody would be fenced off.
 ///
@@ -38,57 +40,81 @@ use wan_model::CheckedPlan;
 /// # Errors
 ///
 /// `Fence` where not all switches told, or what one holds can't be taken over; `Start` with what the start breaks
-/// first; `Journal` where the journal wasn't placed.
-pub fn begin_takeover<F: Fleet + OneTerm, D: Disk>(
+/// first; `Journal` where the disk couldn't be opened, or the journal wasn't placed.
+pub fn begin_takeover<F: Fleet + OneTerm, D: Openable>(
     alloc: Global,
     fleet: &mut F,
     plan: CheckedPlan,
     migration: u32,
     rounds: u32,
+    room: u64,
     disk: D,
 ) -> Begun<D>
-    ensures begins { Begins result.answer F.Port.told D.told plan migration rounds
+    ensures begins { Begins result.answer F.Port.told D.told plan migration rounds room
         (ports_of F.waiting F.kept F.lent F.named fleet.old)
         (ports_of F.waiting F.kept F.lent F.named fleet.new) disk result.disk }
     ensures guests { (F.coming fleet.new ≡ F.coming fleet.old)
         × (F.served fleet.new ≡ F.served fleet.old)
         × (F.visiting fleet.new ≡ F.visiting fleet.old) }
-    ensures cause { (w : ℕ)
-        → IsErrOf result.answer (why.Fence (fenced.NoPort w))
+    ensures cause { (r : Rollout) (w : ℕ)
+        → IsErrOf result.answer (why.Fence r (fenced.NoPort w))
         → Rose (F.faults fleet.old) (F.faults fleet.new) }
     ensures count { F.faults fleet.old ≤ F.faults fleet.new }
 {
     match fence(alloc, fleet, &plan, migration, rounds) {
-        Ok(start) => begin_at(alloc, plan, migration, start, disk),
-        Err(end) => {
-            drop(plan);
+        Ok(start) => begin_at(alloc, plan, migration, start, room, disk),
+        Err(end) => Begun {
+            disk,
+            answer: Err(NotBegun::Fence(plan, end)),
+        },
+    }
+}
+
+// The same from a start on.
+fn begin_at<D: Openable>(
+    alloc: Global,
+    plan: CheckedPlan,
+    migration: u32,
+    start: Ids,
+    room: u64,
+    disk: D,
+) -> Begun<D>
+    requires { length start ≡ item_count plan.problem }
+    ensures { BeginsAt result.answer D.told plan migration start room disk result.disk }
+{
+    match sound(alloc, &plan, start.as_slice()) {
+        Ok(()) => open_at(alloc, plan, migration, start, room, disk),
+        Err(fault) => {
+            drop(start);
             Begun {
                 disk,
-                answer: Err(NotBegun::Fence(end)),
+                answer: Err(NotBegun::Start(plan, fault)),
             }
         }
     }
 }
 
-// The same from a start on.
-fn begin_at<D: Disk>(
+// The same from a start at which one may begin: opens the disk, and places the journal.
+fn open_at<D: Openable>(
     alloc: Global,
     plan: CheckedPlan,
     migration: u32,
     start: Ids,
-    disk: D,
+    room: u64,
+    mut disk: D,
 ) -> Begun<D>
-    requires { length start ≡ item_count plan.problem }
-    ensures { BeginsAt result.answer D.told plan migration start disk result.disk }
+    requires numbers { length start ≡ item_count plan.problem }
+    requires sound { IsTrue (is_sound plan.problem plan.plan start) }
+    ensures { OpensAt result.answer D.told plan migration start room disk result.disk }
 {
-    match sound(alloc, &plan, start.as_slice()) {
+    match disk.open(room) {
         Ok(()) => place_at(alloc, plan, migration, start, disk),
-        Err(fault) => {
+        Err(_) => {
             drop(plan);
             drop(start);
             Begun {
                 disk,
-                answer: Err(NotBegun::Start(fault)),
+                answer: Err(NotBegun::Journal(JournalFault::Disk)),
             }
         }
     }

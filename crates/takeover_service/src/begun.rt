@@ -4,14 +4,14 @@ use intent_journal::JournalFault;
 use lists::Ids;
 use wan_model::CheckedPlan;
 
-/// Why a takeover wasn't begun.
+/// Why a takeover wasn't begun. The plan comes back where what is told names something of its problem.
 #[derive(Drop)]
 pub enum NotBegun {
     /// Not all switches told what they hold, or what one holds can't be taken over.
-    Fence(FenceEnd),
+    Fence(CheckedPlan, FenceEnd),
     /// No rollout may begin at what they hold: this is what it breaks first.
-    Start(StartFault),
-    /// The journal wasn't placed.
+    Start(CheckedPlan, StartFault),
+    /// The disk couldn't be opened, or the journal wasn't placed.
     Journal(JournalFault),
 }
 

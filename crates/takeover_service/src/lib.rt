@@ -1,6 +1,6 @@
 //! A takeover up to its first command: [`begin_takeover`] asks the switches of a rollout what they hold, tests the
-//! start that follows, and puts a journal of the rollout from there in the place of the one on the disk. What comes
-//! behind it is a rollout like any other, over the same fleet: it opens that journal.
+//! start that follows, opens the disk, and puts a journal of the rollout from there in the place of the one on it.
+//! What comes after it is a rollout like any other, over the same fleet: it opens that journal.
 #![tactic(auto)]
 
 mod beginning;

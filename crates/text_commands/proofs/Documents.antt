@@ -67,9 +67,6 @@ sealed-loads d o sealed holds = record { valid = sealed.valid; holds = subst (λ
 abbrev pub back_text : Rollout → List ℕ
 back_text o = document_text (back_problem o.problem) (back_plan o.plan) ++ 10 ∷ []
 
-pub back-document : (o there : Rollout) (text : List ℕ) → there ≡ back o → text ≡ document_text there.problem there.plan ++ 10 ∷ [] → text ≡ back_text o
-back-document o there text turned is = is ∙ ap (λ (x : Rollout). document_text x.problem x.plan ++ 10 ∷ []) turned
-
 pub checked-turned : (d : DocumentRead) (o : Rollout) (text : List ℕ) → checked d ≡ Ok o → text ≡ back_text o → turned_back d ≡ Ok text
 unfolding turned_back
 checked-turned d o text e is = ap (λ r. r >>= λ o. Ok (back_text o)) e ∙ sym (ap Ok is)

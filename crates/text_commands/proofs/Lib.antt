@@ -14,3 +14,5 @@ pub mod KeptTexts
 pub mod Complete
 pub mod Digits
 pub mod Pairs
+pub mod Answered
+pub mod Pieces

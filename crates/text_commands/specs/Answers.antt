@@ -72,6 +72,15 @@ abbrev pub IsChosenBy : Planner → Problem → Result Chosen NotFound → Type 
 IsChosenBy planner p (Ok c) = (c.plan.problem ≡ p) × (chosen_by planner p ≡ Ok (record { plan = c.plan.plan; rate_steps = c.rate_steps }))
 IsChosenBy planner p (Err u) = (u.problem ≡ p) × Refuses u.cause (chosen_by planner p)
 
+-- the document of a rollout, and a line feed
+abbrev pub rollout_text : Rollout → List ℕ
+rollout_text o = document_text o.problem o.plan ++ 10 ∷ []
+
+-- the text of a rollout, or the ending without one
+abbrev pub documented : Result Rollout Ending → Result (List ℕ) Ending
+documented (Ok o) = Ok (rollout_text o)
+documented (Err e) = Err e
+
 -- the document of a problem with the plan chosen for it, and a line feed
 abbrev pub with_choice : Problem → Result Choice Cause → Result (List ℕ) Ending
 with_choice p (Ok choice) = Ok (document_text p choice.plan ++ 10 ∷ [])

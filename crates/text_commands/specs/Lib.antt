@@ -7,6 +7,7 @@ pub mod Endings
 pub mod Lines
 pub mod Words
 pub mod Answers
+pub mod Answered
 pub mod Safety
 pub mod Taken
 pub mod Runs

@@ -8,9 +8,9 @@ ghost use Rattle.text_commands.specs.Words.{text_asked};
 
 use crate::ending::Ending;
 use crate::reading::read_input;
-use crate::texts::text_of;
+use crate::texts::answer_of;
 use crate::words::TextCommand;
-use crate::writing::write_text;
+use crate::writing::write_told;
 use std::alloc::Global;
 use wan_edge::{Nums8, Sink, Source};
 
@@ -51,8 +51,8 @@ fn write_answer<K: Sink>(
         → Rose (K.told sink.old).faults (K.told sink.new).faults }
     ensures safe { result ≡ Ending.Done → DoesSafely (text_asked command.entry) input }
 {
-    match text_of(alloc, command, input) {
-        Ok(text) => write_text(sink, text.as_str()),
+    match answer_of(alloc, command, input) {
+        Ok(answer) => write_told(alloc, answer, sink),
         Err(ending) => ending,
     }
 }

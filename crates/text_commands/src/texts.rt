@@ -10,12 +10,14 @@ mod plan;
 mod rehearse;
 mod sim;
 
-ghost use Rattle.std.specs.Prelude.{IfOk};
-ghost use Rattle.text_commands.specs.Answers.{answer_in};
+ghost use Rattle.std.specs.Prelude.{◌≡◌, IfOk};
+ghost use Rattle.text_commands.specs.Answered.{told};
+ghost use Rattle.text_commands.specs.Answers.{answer_in, documented};
 ghost use Rattle.text_commands.specs.Runs.{Gives};
 ghost use Rattle.text_commands.specs.Safety.{DoesSafely};
 ghost use Rattle.text_commands.specs.Words.{text_asked};
 
+use crate::answer::Answer;
 use crate::ending::Ending;
 use crate::words::TextCommand;
 pub use checking::rollout_of;
@@ -23,21 +25,42 @@ use lists::Text;
 pub use plan::{by_slack, document_of};
 use std::alloc::Global;
 use wan_edge::Nums8;
+use wan_model::CheckedPlan;
 
-/// The text that a command makes of its input, or how the run ends without one. The bytes are given up as
-/// soon as they are read.
-pub fn text_of(alloc: Global, command: TextCommand<'_>, input: Nums8) -> Result<Text, Ending>
-    ensures gives { Gives result (answer_in (text_asked command.entry) input) }
-    ensures safe { IfOk result (λ text. DoesSafely (text_asked command.entry) input) }
+/// What a command answers to its input, or how the run ends without an answer. The bytes are given up as soon as they
+/// are read.
+pub fn answer_of(alloc: Global, command: TextCommand<'_>, input: Nums8) -> Result<Answer, Ending>
+    ensures gives { Gives (told result) (answer_in (text_asked command.entry) input) }
+    ensures safe { IfOk result (λ answer. DoesSafely (text_asked command.entry) input) }
 {
     match command {
-        TextCommand::Plan(planner) => plan::plan(alloc, planner, input),
-        TextCommand::Check => check::check(alloc, input),
-        TextCommand::Loads => loads::loads(alloc, input),
-        TextCommand::Back => back::back(alloc, input),
-        TextCommand::Explain => explain::explain(alloc, input),
-        TextCommand::Least => least::least(alloc, input),
-        TextCommand::Sim(policy) => sim::sim(alloc, policy, input),
-        TextCommand::Rehearse(shape, policy) => rehearse::rehearse(alloc, &shape, policy, input),
+        TextCommand::Plan(planner) => document(plan::plan(alloc, planner, input)),
+        TextCommand::Check => made(check::check(alloc, input)),
+        TextCommand::Loads => made(loads::loads(alloc, input)),
+        TextCommand::Back => document(back::back(alloc, input)),
+        TextCommand::Explain => made(explain::explain(alloc, input)),
+        TextCommand::Least => made(least::least(alloc, input)),
+        TextCommand::Sim(policy) => made(sim::sim(alloc, policy, input)),
+        TextCommand::Rehearse(shape, policy) => {
+            made(rehearse::rehearse(alloc, &shape, policy, input))
+        }
+    }
+}
+
+fn made(text: Result<Text, Ending>) -> Result<Answer, Ending>
+    ensures { told result ≡ text }
+{
+    match text {
+        Ok(text) => Ok(Answer::Made(text)),
+        Err(ending) => Err(ending),
+    }
+}
+
+fn document(plan: Result<CheckedPlan, Ending>) -> Result<Answer, Ending>
+    ensures { told result ≡ documented plan }
+{
+    match plan {
+        Ok(plan) => Ok(Answer::Document(plan)),
+        Err(ending) => Err(ending),
     }
 }

@@ -1,79 +1,95 @@
-ghost use Rattle.std.specs.Prelude.{◌≡◌, ◌++◌, IfOk, OnOk, map, string_bytes};
+ghost use Rattle.std.specs.Prelude.{◌≡◌, IfOk, OnOk, map, string_bytes};
 ghost use Rattle.serde_json.specs.Written.{compact_text};
 ghost use Rattle.step_proof.specs.declared.proof.Proof.TheVariants as said;
 ghost use Rattle.problem_json.specs.Writing.{list_data};
 ghost use Rattle.problem_json.specs.WritingLeast.{sign_text, fraction_text, fraction_data, claim_data};
 
-use crate::writing::pieces::{push_comma, push_name, push_number};
+use crate::names::quoted;
+use crate::writing::pieces::{push_comma, push_number};
 use fraction_lp::Fraction;
-use lists::{Memory, Text};
+use lists::Memory;
 use std::alloc::Global;
 use step_proof::Proof;
+use text_writer::Pieces;
 
-/// Adds that so many rate steps are impossible, and what shows it.
-pub fn push_claim(alloc: Global, text: &mut Text, steps: u32, proof: &Proof) -> Result<(), Memory>
-    ensures { OnOk result (text.new ≡ text.old ++ compact_text (claim_data steps proof.now)) }
+/// Adds that so many rate steps are impossible, and what shows it. An Err is want of memory for a fraction.
+pub fn push_claim<P: Pieces>(
+    alloc: Global,
+    text: &mut P,
+    steps: u32,
+    proof: &Proof,
+) -> Result<(), Memory>
+    ensures { OnOk result (P.pushes text.old (compact_text (claim_data steps proof.now)) text.new) }
 {
     match proof {
         Proof::Plain => push_plain(text, steps),
         Proof::Link(link) => push_with_link(text, *link, steps),
-        Proof::Rows(rows) => push_with_rows(alloc, text, rows.as_slice(), steps),
+        Proof::Rows(rows) => return push_with_rows(alloc, text, rows.as_slice(), steps),
     }
+    Ok(())
 }
 
-fn push_plain(text: &mut Text, steps: u32) -> Result<(), Memory>
-    ensures { OnOk result (text.new ≡ text.old ++ compact_text (claim_data steps said.Plain)) }
+fn push_plain<P: Pieces>(text: &mut P, steps: u32)
+    ensures { P.pushes text.old (compact_text (claim_data steps said.Plain)) text.new }
 {
-    text.push_str(r#"{"steps":"#)?;
-    push_number(text, u64::from(steps))?;
-    text.push_str("}")
+    text.push_str(r#"{"steps":"#);
+    push_number(text, u64::from(steps));
+    text.push_str("}");
 }
 
-fn push_with_link(text: &mut Text, link: u32, steps: u32) -> Result<(), Memory>
-    ensures { OnOk result
-        (text.new ≡ text.old ++ compact_text (claim_data steps (said.Link link))) }
+fn push_with_link<P: Pieces>(text: &mut P, link: u32, steps: u32)
+    ensures { P.pushes text.old (compact_text (claim_data steps (said.Link link))) text.new }
 {
-    text.push_str(r#"{"link":"#)?;
-    push_number(text, u64::from(link))?;
-    text.push_str(r#","steps":"#)?;
-    push_number(text, u64::from(steps))?;
-    text.push_str("}")
+    text.push_str(r#"{"link":"#);
+    push_number(text, u64::from(link));
+    text.push_str(r#","steps":"#);
+    push_number(text, u64::from(steps));
+    text.push_str("}");
 }
 
-fn push_with_rows(
+fn push_with_rows<P: Pieces>(
     alloc: Global,
-    text: &mut Text,
+    text: &mut P,
     rows: &[Fraction],
     steps: u32,
 ) -> Result<(), Memory>
     ensures { OnOk result
-        (text.new ≡ text.old ++ compact_text (claim_data steps (said.Rows rows.now))) }
+        (P.pushes text.old (compact_text (claim_data steps (said.Rows rows.now))) text.new) }
 {
-    text.push_str(r#"{"rows":"#)?;
+    text.push_str(r#"{"rows":"#);
     push_fractions(alloc, text, rows)?;
-    text.push_str(r#","steps":"#)?;
-    push_number(text, u64::from(steps))?;
-    text.push_str("}")
+    text.push_str(r#","steps":"#);
+    push_number(text, u64::from(steps));
+    text.push_str("}");
+    Ok(())
 }
 
-fn push_fractions(alloc: Global, text: &mut Text, fractions: &[Fraction]) -> Result<(), Memory>
+fn push_fractions<P: Pieces>(
+    alloc: Global,
+    text: &mut P,
+    fractions: &[Fraction],
+) -> Result<(), Memory>
     ensures { OnOk result
-        (text.new ≡ text.old ++ compact_text (list_data (map fraction_data fractions.now))) }
+        (P.pushes text.old (compact_text (list_data (map fraction_data fractions.now))) text.new) }
 {
-    text.push_str("[")?;
+    text.push_str("[");
     for (number, fraction) in fractions.iter().enumerate() {
-        push_comma(text, number)?;
+        push_comma(text, number);
         push_fraction(alloc, text, fraction)?;
     }
-    text.push_str("]")
+    text.push_str("]");
+    Ok(())
 }
 
 /// Adds a fraction between quotes.
-fn push_fraction(alloc: Global, text: &mut Text, fraction: &Fraction) -> Result<(), Memory>
-    ensures { OnOk result (text.new ≡ text.old ++ compact_text (fraction_data fraction.now)) }
+fn push_fraction<P: Pieces>(alloc: Global, text: &mut P, fraction: &Fraction) -> Result<(), Memory>
+    ensures { OnOk result
+        (P.pushes text.old (compact_text (fraction_data fraction.now)) text.new) }
 {
     let piece = fraction_piece(alloc, fraction)?;
-    push_name(alloc, text, &piece)
+    let name = quoted(alloc, &piece)?;
+    text.push_str(name.as_str());
+    Ok(())
 }
 
 fn fraction_piece(alloc: Global, fraction: &Fraction) -> Result<String, Memory>

@@ -1,35 +1,24 @@
-ghost use Rattle.std.specs.Prelude.{◌≡◌, ◌++◌, OnOk, decimal, nat_lt, IsUtf8};
-ghost use Rattle.serde_json.specs.Data.{string};
-ghost use Rattle.serde_json.specs.Written.{comma_if, compact_text};
+ghost use Rattle.std.specs.Prelude.{◌≡◌, decimal, nat_lt, IsUtf8};
+ghost use Rattle.serde_json.specs.Written.{comma_if};
 
 use itoa::Buffer;
-use lists::{Memory, Text};
-use serde_json::Value;
-use std::alloc::Global;
+use lists::Text;
+use text_writer::Pieces;
 
 /// Adds the comma before the element with a number: before the first there is none.
-pub fn push_comma(text: &mut Text, number: usize) -> Result<(), Memory>
-    ensures { OnOk result (text.new ≡ text.old ++ comma_if (nat_lt 0 number)) }
+pub fn push_comma<P: Pieces>(text: &mut P, number: usize)
+    ensures { P.pushes text.old (comma_if (nat_lt 0 number)) text.new }
 {
     if number > 0 {
-        return text.push_str(",");
+        text.push_str(",");
     }
-    Ok(())
 }
 
-pub fn push_number(text: &mut Text, number: u64) -> Result<(), Memory>
-    ensures { OnOk result (text.new ≡ text.old ++ decimal number) }
+pub fn push_number<P: Pieces>(text: &mut P, number: u64)
+    ensures { P.pushes text.old (decimal number) text.new }
 {
     let mut buffer = Buffer::new();
-    text.push_str(buffer.format(number))
-}
-
-/// Adds a name between quotes, as JSON escapes it (RFC 8259, section 7).
-pub fn push_name(alloc: Global, text: &mut Text, name: &str) -> Result<(), Memory>
-    ensures { OnOk result (text.new ≡ text.old ++ compact_text (string name.now)) }
-{
-    let piece = Value::try_from_str(alloc, name)?.to_string(alloc)?;
-    text.push_str(piece.as_str())
+    text.push_str(buffer.format(number));
 }
 
 /// The text as it is: UTF-8, as any `&str`.

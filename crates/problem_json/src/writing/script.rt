@@ -1,32 +1,30 @@
-ghost use Rattle.std.specs.Prelude.{◌≡◌, ◌≤◌, ◌++◌, OnOk, codes, decimal, length, map};
+ghost use Rattle.std.specs.Prelude.{◌≤◌, ◌++◌, codes, decimal, length, map};
 ghost use Rattle.serde_json.specs.Written.{compact_text};
 ghost use Rattle.problem_json.specs.GrammarScripts.{largest_number};
 ghost use Rattle.problem_json.specs.Writing.{list_data};
 ghost use Rattle.problem_json.specs.WritingScripts.{act_data, AreActsWithin, IsActWithin};
 
 use crate::writing::pieces::{push_comma, push_number};
-use lists::{Memory, Text};
 use rollout_rules::Act;
+use text_writer::Pieces;
 
 /// Adds a script, event by event.
-pub fn push_script(text: &mut Text, script: &[Act]) -> Result<(), Memory>
-    ensures text { OnOk result
-        (text.new ≡ text.old ++ compact_text (list_data (map act_data script.now))) }
-    ensures within { OnOk result (AreActsWithin (length script.now) script.now) }
+pub fn push_script<P: Pieces>(text: &mut P, script: &[Act])
+    ensures text { P.pushes text.old (compact_text (list_data (map act_data script.now))) text.new }
+    ensures within { AreActsWithin (length script.now) script.now }
 {
-    text.push_str("[")?;
+    text.push_str("[");
     for (number, act) in script.iter().enumerate() {
-        push_comma(text, number)?;
-        push_act(text, *act)?;
+        push_comma(text, number);
+        push_act(text, *act);
     }
-    text.push_str("]")
+    text.push_str("]");
 }
 
 /// Adds an event: a list of its name and of what the name asks for.
-#[tactic(auto, using(crate::proofs::ReadScripts::act_told), unfolding(json::specs::Print::escape_byte))]
-fn push_act(text: &mut Text, act: Act) -> Result<(), Memory>
-    ensures text { OnOk result (text.new ≡ text.old ++ compact_text (act_data act)) }
-    ensures within { OnOk result (IsActWithin act) }
+fn push_act<P: Pieces>(text: &mut P, act: Act)
+    ensures text { P.pushes text.old (compact_text (act_data act)) text.new }
+    ensures within { IsActWithin act }
 {
     match act {
         Act::Round => text.push_str(r#"["round"]"#),
@@ -42,12 +40,11 @@ fn push_act(text: &mut Text, act: Act) -> Result<(), Memory>
 }
 
 /// Adds the front of an event, its number and the end of the list.
-fn push_numbered(text: &mut Text, front: &str, number: u32) -> Result<(), Memory>
-    ensures text { OnOk result
-        (text.new ≡ text.old ++ (front.now ++ (decimal number ++ codes "]"))) }
-    ensures few { OnOk result (number ≤ largest_number) }
+fn push_numbered<P: Pieces>(text: &mut P, front: &str, number: u32)
+    ensures text { P.pushes text.old (front.now ++ (decimal number ++ codes "]")) text.new }
+    ensures few { number ≤ largest_number }
 {
-    text.push_str(front)?;
-    push_number(text, u64::from(number))?;
-    text.push_str("]")
+    text.push_str(front);
+    push_number(text, u64::from(number));
+    text.push_str("]");
 }

@@ -1,43 +1,42 @@
-ghost use Rattle.std.specs.Prelude.{◌≡◌, ℕ, ◌≤◌, [], ◌∷◌, ◌++◌, IfOk};
+ghost use Rattle.std.specs.Prelude.{◌≡◌, ℕ, ◌≤◌, IfOk};
 ghost use Rattle.rollout_rules.specs.Wan.{last_stage};
-ghost use Rattle.problem_json.specs.Writing.{document_text};
-ghost use Rattle.rollback_plan.specs.Turning.{back_problem, back_plan};
-ghost use Rattle.text_commands.specs.Answers.{answer_in, turned_back};
+ghost use Rattle.rollback_plan.specs.Turning.{back};
+ghost use Rattle.text_commands.specs.Answers.{answer_in, documented, turned_back};
 ghost use Rattle.text_commands.specs.Runs.{Gives};
 ghost use Rattle.text_commands.specs.Safety.{IsTurned, IsValid, MayBeginBack, TurnsSafely};
 ghost use Rattle.text_commands.specs.Words.{the_way_back};
 
 use crate::ending::Ending;
 use crate::texts::checking::{checked, given};
-use crate::texts::plan::{document_of, every_rollout_is_safe};
+use crate::texts::plan::every_rollout_is_safe;
 use dependency_graph::checked_plan_is_valid;
-use lists::{Memory, Text};
+use lists::Memory;
 use problem_json::Document;
 use rollback_plan::the_way_back_begins_at_each_stage;
 use std::alloc::Global;
 use wan_edge::Nums8;
 use wan_model::CheckedPlan;
 
-/// The command `back`: the document of the rollout back, to the old split of the valid document that the bytes
-/// are, and a line feed.
-pub fn back(alloc: Global, input: Nums8) -> Result<Text, Ending>
-    ensures gives { Gives result (answer_in the_way_back input) }
-    ensures safe { IfOk result (λ text. TurnsSafely input) }
+/// The command `back`: the rollout back, to the old split of the valid document that the bytes are. What is written is
+/// its document, and a line feed.
+pub fn back(alloc: Global, input: Nums8) -> Result<CheckedPlan, Ending>
+    ensures gives { Gives (documented result) (answer_in the_way_back input) }
+    ensures safe { IfOk result (λ rollout. TurnsSafely input) }
 {
     let document = given(alloc, input)?;
     turned_back(alloc, document)
 }
 
 #[tactic(auto, using(crate::proofs::Documents::turning))]
-fn turned_back(alloc: Global, document: Document) -> Result<Text, Ending>
-    ensures gives { Gives result (turned_back document) }
-    ensures safe { IfOk result (λ text. IsTurned document.problem document.plan) }
+fn turned_back(alloc: Global, document: Document) -> Result<CheckedPlan, Ending>
+    ensures gives { Gives (documented result) (turned_back document) }
+    ensures safe { IfOk result (λ rollout. IsTurned document.problem document.plan) }
 {
     let plan = checked(alloc, document)?;
     match way_back(alloc, &plan) {
-        Ok(text) => {
+        Ok(there) => {
             drop(plan);
-            Ok(text)
+            Ok(there)
         }
         Err(refused) => {
             drop(plan);
@@ -46,26 +45,15 @@ fn turned_back(alloc: Global, document: Document) -> Result<Text, Ending>
     }
 }
 
-/// The document of the rollout back, and a line feed.
-fn way_back(alloc: Global, plan: &CheckedPlan) -> Result<Text, Memory>
-    ensures text { IfOk result
-        (λ text. text
-        ≡ document_text (back_problem plan.now.problem) (back_plan plan.now.plan) ++ 10 ∷ []) }
-    ensures turned { IfOk result (λ text. IsTurned plan.now.problem plan.now.plan) }
+/// The rollout back.
+fn way_back(alloc: Global, plan: &CheckedPlan) -> Result<CheckedPlan, Memory>
+    ensures back { IfOk result (λ there. there ≡ back plan.now) }
+    ensures turned { IfOk result (λ there. IsTurned plan.now.problem plan.now.plan) }
 {
     it_may_begin_at_each_stage(plan);
     let there = rollback_plan::back(alloc, plan)?;
     every_rollout_is_safe(&there);
-    match document_of(alloc, &there) {
-        Ok(text) => {
-            drop(there);
-            Ok(text)
-        }
-        Err(refused) => {
-            drop(there);
-            Err(refused)
-        }
-    }
+    Ok(there)
 }
 
 /// What the plan's type keeps: it is valid, and each of its stages is a sound start of the way back, with what

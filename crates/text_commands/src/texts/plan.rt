@@ -2,7 +2,7 @@ ghost use Rattle.std.specs.Prelude.{◌≡◌, [], ◌∷◌, ◌++◌, IfOk};
 ghost use Rattle.problem_json.specs.Writing.{document_text};
 ghost use Rattle.problem_json.specs.Grammar.{problem_in};
 ghost use Rattle.problem_json.specs.GrammarResults.{Reads};
-ghost use Rattle.text_commands.specs.Answers.{answer_in, planned, IsChosenBy};
+ghost use Rattle.text_commands.specs.Answers.{answer_in, documented, planned, IsChosenBy};
 ghost use Rattle.text_commands.specs.Runs.{Gives};
 ghost use Rattle.text_commands.specs.Safety.{IsPlanned, IsSafePlan, IsValid, PlansSafely};
 ghost use Rattle.text_commands.specs.Words.{a_plan};
@@ -19,11 +19,11 @@ use std::alloc::Global;
 use wan_edge::Nums8;
 use wan_model::{CheckedPlan, Problem};
 
-/// The command `plan`: the document of the problem that the bytes are with the plan that the planner
-/// chooses for it, and a line feed.
-pub fn plan(alloc: Global, planner: Planner, input: Nums8) -> Result<Text, Ending>
-    ensures gives { Gives result (answer_in (a_plan planner) input) }
-    ensures safe { IfOk result (λ text. PlansSafely planner input) }
+/// The command `plan`: the plan that the planner chooses for the problem that the bytes are. What is written is its
+/// document, and a line feed.
+pub fn plan(alloc: Global, planner: Planner, input: Nums8) -> Result<CheckedPlan, Ending>
+    ensures gives { Gives (documented result) (answer_in (a_plan planner) input) }
+    ensures safe { IfOk result (λ rollout. PlansSafely planner input) }
 {
     let problem = given(alloc, input)?;
     planned(alloc, planner, problem)
@@ -36,22 +36,23 @@ pub fn given(alloc: Global, input: Nums8) -> Result<Problem, InputFault>
     read_problem(alloc, input.as_slice())
 }
 
-fn planned(alloc: Global, planner: Planner, problem: Problem) -> Result<Text, Ending>
-    ensures gives { Gives result (planned planner problem) }
-    ensures safe { IfOk result (λ text. IsPlanned planner problem) }
+fn planned(alloc: Global, planner: Planner, problem: Problem) -> Result<CheckedPlan, Ending>
+    ensures gives { Gives (documented result) (planned planner problem) }
+    ensures safe { IfOk result (λ rollout. IsPlanned planner problem) }
 {
     let chosen = chosen_by(alloc, planner, problem)?;
     every_rollout_is_safe(&chosen.plan);
-    match document_of(alloc, &chosen.plan) {
-        Ok(document) => {
-            drop(chosen);
-            Ok(document)
-        }
-        Err(refused) => {
-            drop(chosen);
-            Err(Ending::from(refused))
-        }
-    }
+    Ok(plan_of(chosen))
+}
+
+fn plan_of(chosen: Chosen) -> CheckedPlan
+    ensures { result ≡ chosen.plan }
+{
+    let Chosen {
+        plan,
+        rate_steps: _,
+    } = chosen;
+    plan
 }
 
 fn chosen_by(alloc: Global, planner: Planner, problem: Problem) -> Result<Chosen, NotFound>

@@ -1,5 +1,5 @@
 use Rattle.std.proofs.Common.{◌≡◌, ◌∙◌, None, length, vec_capacity, ap, refl, rules, arith}
-use Rattle.switch_agent.specs.Items.{holding}
+use Rattle.fenced_agent.specs.Agents.{fenced_holding}
 use Rattle.agent_service.specs.Services.{counted, first_table, table_of}
 use Rattle.agent_service.proofs.KeptRows.{all_kept, come_on, come_still, next_durable, none_durable, none_kept, turn_kept}
 use Rattle.agent_service.proofs.Rows.{no_turn, nobody_even, nobody_seated, seats_of, turn_lighter, turn_more}
@@ -13,7 +13,7 @@ loop-service-init g c = record {
   guest_room = c.requires.places.0;
   talk_room = c.requires.places.1;
   kept = c.requires.kept;
-  run = come_still g.D.Disk.told c.args.disk.now c.args.place (holding c.args.agent.now) (g.met.D.Disk.only_now c.args.disk.now) c.requires.kept;
+  run = come_still g.D.Disk.told c.args.disk.now c.args.place (fenced_holding c.args.agent.now) (g.met.D.Disk.only_now c.args.disk.now) c.requires.kept;
   told = refl;
   visiting = omega (arith, ap length c.requires.nobody.0);
   waiting = refl;
@@ -48,7 +48,7 @@ loop-service-preserved g c =
       within = omega (arith, lightens.one, c.loop-service-test);
       guest_room = omega (arith, i.guest_room, c.keep_turn.ensures.places.0);
       talk_room = omega (arith, i.talk_room, c.keep_turn.ensures.places.1);
-      kept = next_durable (g.D.Disk.told c.keep_turn.new.disk) c.loop-service.here found kept (holding c.keep_turn.new.agent) c.in-Some.is c.in_ok-next.ensures.kept;
+      kept = next_durable (g.D.Disk.told c.keep_turn.new.disk) c.loop-service.here found kept (fenced_holding c.keep_turn.new.agent) c.in-Some.is c.in_ok-next.ensures.kept;
       run = come_on g.D.Disk.told c.args.disk.now c.loop-service.disk c.keep_turn.new.disk (record { source = g.F.Guest.Source.told; sink = g.F.Guest.Sink.told }) (first_table c.args.agent.now (record { coming = g.F.Fleet.coming c.args.fleet.now; served = g.F.Fleet.served c.args.fleet.now })) before i.so_far i.told (g.met.D.Disk.shows_one c.loop-service.disk) (g.met.D.Disk.counts_now c.loop-service.disk) i.run c.keep_turn.ensures.any_moment;
       told = c.keep_turn.ensures.told ∙ i.told;
       visiting = omega (arith, i.visiting, c.keep_turn.ensures.visiting);
@@ -97,7 +97,7 @@ pub returns-in_default-clause-durable : goal.returns-in_default-clause-durable
 returns-in_default-clause-durable g c =
     let found = c.in_ok-next.next in
     let none : found ≡ None = search rules in
-    (c.loop-service.here, none_durable (g.D.Disk.told c.keep_turn.new.disk) c.loop-service.here found (holding c.keep_turn.new.agent) none c.in_ok-next.ensures.kept)
+    (c.loop-service.here, none_durable (g.D.Disk.told c.keep_turn.new.disk) c.loop-service.here found (fenced_holding c.keep_turn.new.agent) none c.in_ok-next.ensures.kept)
 
 pub returns-in_default-clause-visiting : goal.returns-in_default-clause-visiting
 returns-in_default-clause-visiting g c = omega (arith, c.loop-service.invariant.visiting, c.keep_turn.ensures.visiting)

@@ -1,5 +1,5 @@
 use Rattle.std.proofs.Common.{◌≡◌, ◌+◌, ◌≤◌, length, vec_capacity}
-use Rattle.switch_agent.specs.Items.{holding}
+use Rattle.fenced_agent.specs.Agents.{fenced_holding}
 use Rattle.wan_edge.specs.Streams.{KeepsTelling}
 use Rattle.agent_service.specs.Keeping.{IsOnDisk}
 use Rattle.agent_service.specs.KeptServices.{HasComeAlways}
@@ -17,8 +17,8 @@ invariant-loop-service g l = record {
   within : l.service.guests ≤ l.guests;
   guest_room : most_seats ≤ vec_capacity l.seated;
   talk_room : most_seats ≤ vec_capacity l.talks;
-  kept : IsOnDisk (g.D.Disk.told l.disk) l.here (holding l.agent);
-  run : HasComeAlways g.D.Disk.told l.fn.disk l.disk (holding l.fn.agent);
+  kept : IsOnDisk (g.D.Disk.told l.disk) l.here (fenced_holding l.agent);
+  run : HasComeAlways g.D.Disk.told l.fn.disk l.disk (fenced_holding l.fn.agent);
   told : KeepsTelling (g.D.Disk.told l.fn.disk).bytes (g.D.Disk.told l.disk).bytes;
   visiting : g.F.Fleet.visiting l.fleet ≡ g.F.Fleet.visiting l.fn.fleet + length l.seated.items;
   waiting : g.F.Fleet.waiting l.fleet ≡ g.F.Fleet.waiting l.fn.fleet;

@@ -1,5 +1,5 @@
 use Rattle.std.proofs.Common.{◌≢◌, Option, Some, inr, length, refl, ap, arith}
-use Rattle.switch_agent.specs.Items.{holding}
+use Rattle.fenced_agent.specs.Agents.{fenced_holding}
 use Rattle.switch_agent.specs.declared.serve_fault.ServeFault.TheVariants.{Memory}
 use Rattle.agent_state.specs.declared.place.Place.{Place}
 use Rattle.agent_service.specs.KeptServices.{IsKeptBehind, KeepsTurn}
@@ -62,7 +62,7 @@ returns-in-Ok-clause-turn g c =
 pub returns-in-Ok-clause-kept : goal.returns-in-Ok-clause-kept
 returns-in-Ok-clause-kept g c =
     let heard = c.in-Ok.read.1 in
-    settled_kept c.keep_settled.result c.in-Ok.read.0 (count_behind c.args.service heard.served heard.talk) (heard.served.fault ≢ Some Memory) (λ (found : Option (Place × Service)). IsKeptBehind (g.D.Disk.told c.serve_kept.new.disk) c.args.place found (holding c.serve_kept.new.agent))
+    settled_kept c.keep_settled.result c.in-Ok.read.0 (count_behind c.args.service heard.served heard.talk) (heard.served.fault ≢ Some Memory) (λ (found : Option (Place × Service)). IsKeptBehind (g.D.Disk.told c.serve_kept.new.disk) c.args.place found (fenced_holding c.serve_kept.new.agent))
     c.keep_settled.ensures.found (λ room. c.in-Ok.ensures.kept)
 
 pub returns-in-Ok-clause-visiting : goal.returns-in-Ok-clause-visiting

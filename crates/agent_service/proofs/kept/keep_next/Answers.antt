@@ -1,4 +1,4 @@
-use Rattle.switch_agent.specs.Items.{holding}
+use Rattle.fenced_agent.specs.Agents.{fenced_holding}
 use Rattle.agent_service.specs.Services.{table_of}
 use Rattle.agent_service.proofs.KeptRows.{come_still, seats_durable, seats_kept}
 use Rattle.agent_service.proofs.kept.keep_next.Goals as goal
@@ -28,11 +28,11 @@ returns-in-Ok-clause-turn g c =
     seats_kept (record { source = g.F.Guest.Source.told; sink = g.F.Guest.Sink.told }) before now c.args.place c.in-Ok.found c.with_place.result c.with_place.ensures c.requires.comes (c.in-Ok.ensures.sits c.args.agent.now)
 
 pub returns-in-Ok-clause-kept : goal.returns-in-Ok-clause-kept
-returns-in-Ok-clause-kept g c = seats_durable (g.D.Disk.told c.args.disk.now) c.args.place c.in-Ok.found c.with_place.result (holding c.args.agent.now) c.with_place.ensures c.requires.kept
+returns-in-Ok-clause-kept g c = seats_durable (g.D.Disk.told c.args.disk.now) c.args.place c.in-Ok.found c.with_place.result (fenced_holding c.args.agent.now) c.with_place.ensures c.requires.kept
 
 -- the disk is as it was
 pub returns-in-Ok-clause-any_moment : goal.returns-in-Ok-clause-any_moment
-returns-in-Ok-clause-any_moment g c = come_still g.D.Disk.told c.args.disk.now c.args.place (holding c.args.agent.now) (g.met.D.Disk.only_now c.args.disk.now) c.requires.kept
+returns-in-Ok-clause-any_moment g c = come_still g.D.Disk.told c.args.disk.now c.args.place (fenced_holding c.args.agent.now) (g.met.D.Disk.only_now c.args.disk.now) c.requires.kept
 
 pub returns-in-Err-clause-any_moment : goal.returns-in-Err-clause-any_moment
-returns-in-Err-clause-any_moment g c = come_still g.D.Disk.told c.args.disk.now c.args.place (holding c.args.agent.now) (g.met.D.Disk.only_now c.args.disk.now) c.requires.kept
+returns-in-Err-clause-any_moment g c = come_still g.D.Disk.told c.args.disk.now c.args.place (fenced_holding c.args.agent.now) (g.met.D.Disk.only_now c.args.disk.now) c.requires.kept

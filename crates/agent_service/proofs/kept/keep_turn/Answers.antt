@@ -1,5 +1,5 @@
 use Rattle.std.proofs.Common.{refl, vec_capacity, arith}
-use Rattle.switch_agent.specs.Items.{holding}
+use Rattle.fenced_agent.specs.Agents.{fenced_holding}
 use Rattle.agent_service.specs.Services.{table_of}
 use Rattle.agent_service.proofs.KeptRows.{come_still, kept_cause_since, kept_waited}
 use Rattle.agent_service.proofs.Rows.{same_table, seats_known, woken_behind}
@@ -31,7 +31,7 @@ returns-in-Ok-clause-cause g c =
 
 -- the fleet failed
 pub returns-in-Err-clause-any_moment : goal.returns-in-Err-clause-any_moment
-returns-in-Err-clause-any_moment g c = come_still g.D.Disk.told c.args.disk.now c.args.place (holding c.args.agent.now) (g.met.D.Disk.only_now c.args.disk.now) c.requires.kept
+returns-in-Err-clause-any_moment g c = come_still g.D.Disk.told c.args.disk.now c.args.place (fenced_holding c.args.agent.now) (g.met.D.Disk.only_now c.args.disk.now) c.requires.kept
 
 pub returns-in-Err-clause-visiting : goal.returns-in-Err-clause-visiting
 returns-in-Err-clause-visiting g c = omega (arith, c.wait.ensures.guests.2)

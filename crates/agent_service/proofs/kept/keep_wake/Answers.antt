@@ -1,5 +1,5 @@
 use Rattle.std.proofs.Common.{refl}
-use Rattle.switch_agent.specs.Items.{holding}
+use Rattle.fenced_agent.specs.Agents.{fenced_holding}
 use Rattle.agent_service.proofs.KeptRows.{come_still}
 use Rattle.agent_service.proofs.Rows.{came_waited, none_waited, seat_waited}
 use Rattle.agent_service.proofs.kept.keep_wake.Goals as goal
@@ -18,4 +18,4 @@ pub returns-in-NoMore-clause-turn : goal.returns-in-NoMore-clause-turn
 returns-in-NoMore-clause-turn g c = (refl, none_waited (g.F.Fleet.coming c.args.fleet.now) c.args.seated.now.items c.args.woken c.in-NoMore.is c.requires.woken)
 
 pub returns-in-NoMore-clause-any_moment : goal.returns-in-NoMore-clause-any_moment
-returns-in-NoMore-clause-any_moment g c = come_still g.D.Disk.told c.args.disk.now c.args.place (holding c.args.agent.now) (g.met.D.Disk.only_now c.args.disk.now) c.requires.kept
+returns-in-NoMore-clause-any_moment g c = come_still g.D.Disk.told c.args.disk.now c.args.place (fenced_holding c.args.agent.now) (g.met.D.Disk.only_now c.args.disk.now) c.requires.kept

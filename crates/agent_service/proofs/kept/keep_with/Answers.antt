@@ -1,5 +1,5 @@
 use Rattle.std.proofs.Common.{arith}
-use Rattle.switch_agent.specs.Items.{holding}
+use Rattle.fenced_agent.specs.Agents.{fenced_holding}
 use Rattle.agent_service.proofs.KeptRows.{come_still, kept_cause_until, seats_left}
 use Rattle.agent_service.proofs.kept.keep_with.Goals as goal
 
@@ -23,4 +23,4 @@ returns-in-Ok-clause-cause g c =
 
 -- no memory was found for the seats: the disk is as it was
 pub returns-in-Err-clause-any_moment : goal.returns-in-Err-clause-any_moment
-returns-in-Err-clause-any_moment g c = come_still g.D.Disk.told c.args.disk.now c.args.place (holding c.args.agent.now) (g.met.D.Disk.only_now c.args.disk.now) c.requires.kept
+returns-in-Err-clause-any_moment g c = come_still g.D.Disk.told c.args.disk.now c.args.place (fenced_holding c.args.agent.now) (g.met.D.Disk.only_now c.args.disk.now) c.requires.kept

@@ -1,6 +1,5 @@
 use Rattle.agent_state.specs.Opened.{IsBlank, ReadsAlike}
-use Rattle.agent_state.specs.Stored.{IsKept}
-use Rattle.wan_edge.specs.Switches.{holding_nothing}
+use Rattle.agent_state.specs.Stored.{IsKept, nothing_yet}
 use Rattle.std.proofs.Common.{ap, length, ◌≡◌, ℕ, subst}
 use Rattle.disk_model.specs.Writes.{Torn}
 use Rattle.agent_state.proofs.Openings.{blank_torn, made_done}
@@ -21,6 +20,6 @@ returns-clause-any_moment g c =
 
 pub returns-clause-done : goal.returns-clause-done
 returns-clause-done g c =
-    write_holds IsBlank (IsKept c.first_place.result holding_nothing) 0 c.made_bytes-bytes.result
+    write_holds IsBlank (IsKept c.first_place.result nothing_yet) 0 c.made_bytes-bytes.result
     (g.D.Disk.told c.args.disk.now).bytes (g.D.Disk.told c.put.new.disk).bytes (g.D.Disk.told c.args.disk.now).may_leave (g.D.Disk.told c.put.new.disk).may_leave
     (λ image blank. made_done c.first_place.result c.made_bytes-bytes.result image c.first_place.ensures c.made_bytes-bytes.ensures blank) c.requires c.in_ok-put.ensures.written c.in_ok-put.ensures.durable

@@ -1,6 +1,5 @@
 use Rattle.std.proofs.Common.{refl, sym, subst}
-use Rattle.switch_agent.specs.Items.{holding}
-use Rattle.wan_edge.specs.Switches.{Holdings}
+use Rattle.fenced_agent.specs.Agents.{FencedHoldings, fenced_holding}
 use Rattle.agent_state.specs.Disks.{Holds}
 use Rattle.agent_state.specs.Opened.{IsBlank, IsFound}
 use Rattle.agent_state.specs.Stored.{IsKept, IsReadAs}
@@ -29,36 +28,36 @@ returns-then-is_short-clause-any_moment g c =
 
 pub returns-then-is_short-clause-found : goal.returns-then-is_short-clause-found
 returns-then-is_short-clause-found g c =
-    read_told (λ image. IsReadAs image (holding c.args.agent.now)) (g.D.Disk.told c.args.disk.now).bytes c.in_ok-image.image.items c.in_ok-image.ensures.read
-    (nothing_read c.in_ok-image.image.items (holding c.args.agent.now) (subst IsBlank c.as_slice-bytes.ensures.value (c.is_short.ensures.short c.if-is_short.true)) c.requires)
+    read_told (λ image. IsReadAs image (fenced_holding c.args.agent.now)) (g.D.Disk.told c.args.disk.now).bytes c.in_ok-image.image.items c.in_ok-image.ensures.read
+    (nothing_read c.in_ok-image.image.items (fenced_holding c.args.agent.now) (subst IsBlank c.as_slice-bytes.ensures.value (c.is_short.ensures.short c.if-is_short.true)) c.requires)
 
 pub returns-then-is_short-clause-done : goal.returns-then-is_short-clause-done
 returns-then-is_short-clause-done g c =
-    subst (λ (h : Holdings). Holds (IsKept c.in_ok-made.made h) (g.D.Disk.told c.make.new.disk).bytes (g.D.Disk.told c.make.new.disk).may_leave) (sym c.requires) c.in_ok-made.ensures.done
+    subst (λ (h : FencedHoldings). Holds (IsKept c.in_ok-made.made h) (g.D.Disk.told c.make.new.disk).bytes (g.D.Disk.told c.make.new.disk).may_leave) (sym c.requires) c.in_ok-made.ensures.done
 
 -- the image was read
 pub returns-in_err-close_cut-clause-any_moment : goal.returns-in_err-close_cut-clause-any_moment
 returns-in_err-close_cut-clause-any_moment g c =
-    let held = holding c.read_state.new.agent in
+    let held = fenced_holding c.read_state.new.agent in
     let found = holds_read (IsFound c.in_ok-found.found.0 c.in_ok-found.found.1 held) (g.D.Disk.told c.args.disk.now).bytes (g.D.Disk.told c.read_image.new.disk).bytes (g.D.Disk.told c.read_image.new.disk).may_leave c.in_ok-image.image.items
     c.read_image.ensures.quiet.same c.in_ok-image.ensures.read c.in_ok-image.ensures.durable (subst (IsFound c.in_ok-found.found.0 c.in_ok-found.found.1 held) c.as_slice-bytes.ensures.value c.in_ok-found.ensures.found) in
     then_alike g.D.Disk.told (g.D.Disk.told c.args.disk.now).bytes (g.D.Disk.told c.read_image.new.disk).bytes c.args.disk.now c.read_image.new.disk c.close_cut.new.disk c.read_image.ensures.quiet refl refl (c.close_cut.ensures.any_moment held found)
 
 pub returns-clause-any_moment : goal.returns-clause-any_moment
 returns-clause-any_moment g c =
-    let held = holding c.read_state.new.agent in
+    let held = fenced_holding c.read_state.new.agent in
     let found = holds_read (IsFound c.in_ok-found.found.0 c.in_ok-found.found.1 held) (g.D.Disk.told c.args.disk.now).bytes (g.D.Disk.told c.read_image.new.disk).bytes (g.D.Disk.told c.read_image.new.disk).may_leave c.in_ok-image.image.items
     c.read_image.ensures.quiet.same c.in_ok-image.ensures.read c.in_ok-image.ensures.durable (subst (IsFound c.in_ok-found.found.0 c.in_ok-found.found.1 held) c.as_slice-bytes.ensures.value c.in_ok-found.ensures.found) in
     then_alike g.D.Disk.told (g.D.Disk.told c.args.disk.now).bytes (g.D.Disk.told c.read_image.new.disk).bytes c.args.disk.now c.read_image.new.disk c.close_cut.new.disk c.read_image.ensures.quiet refl refl (c.close_cut.ensures.any_moment held found)
 
 pub returns-clause-found : goal.returns-clause-found
 returns-clause-found g c =
-    read_told (λ image. IsReadAs image (holding c.read_state.new.agent)) (g.D.Disk.told c.args.disk.now).bytes c.in_ok-image.image.items c.in_ok-image.ensures.read
-    (found_read c.in_ok-found.found.0 c.in_ok-found.found.1 (holding c.read_state.new.agent) c.in_ok-image.image.items (subst (IsFound c.in_ok-found.found.0 c.in_ok-found.found.1 (holding c.read_state.new.agent)) c.as_slice-bytes.ensures.value c.in_ok-found.ensures.found))
+    read_told (λ image. IsReadAs image (fenced_holding c.read_state.new.agent)) (g.D.Disk.told c.args.disk.now).bytes c.in_ok-image.image.items c.in_ok-image.ensures.read
+    (found_read c.in_ok-found.found.0 c.in_ok-found.found.1 (fenced_holding c.read_state.new.agent) c.in_ok-image.image.items (subst (IsFound c.in_ok-found.found.0 c.in_ok-found.found.1 (fenced_holding c.read_state.new.agent)) c.as_slice-bytes.ensures.value c.in_ok-found.ensures.found))
 
 pub returns-clause-done : goal.returns-clause-done
 returns-clause-done g c =
-    let held = holding c.read_state.new.agent in
+    let held = fenced_holding c.read_state.new.agent in
     let found = holds_read (IsFound c.in_ok-found.found.0 c.in_ok-found.found.1 held) (g.D.Disk.told c.args.disk.now).bytes (g.D.Disk.told c.read_image.new.disk).bytes (g.D.Disk.told c.read_image.new.disk).may_leave c.in_ok-image.image.items
     c.read_image.ensures.quiet.same c.in_ok-image.ensures.read c.in_ok-image.ensures.durable (subst (IsFound c.in_ok-found.found.0 c.in_ok-found.found.1 held) c.as_slice-bytes.ensures.value c.in_ok-found.ensures.found) in
     c.in_ok-close_cut.ensures.done held found

@@ -1,5 +1,5 @@
 use Rattle.std.proofs.Common.{◌≡◌, ◌==◌, ◌∙◌, ℕ, List, None, ap, subst, arith, length, length-drop}
-use Rattle.switch_agent.specs.Items.{holding}
+use Rattle.fenced_agent.specs.Agents.{fenced_holding}
 use Rattle.agent_state.specs.Batches.{open_gate}
 use Rattle.agent_state.specs.Numbers.{byte_at}
 use Rattle.agent_state.specs.Opened.{Walks, batch_at}
@@ -17,7 +17,7 @@ pub returns-clause-found : goal.returns-clause-found
 returns-clause-found c =
     let part_is = c.from_place-part.ensures in
     let gate = c.in_ok-gate.gate in
-    found c.in_ok-place.place c.in_ok-next.next gate _ (holding c.walk.new.agent) c.args.image.now c.requires.long c.in_ok-place.ensures.live
-    (subst (λ (part : List ℕ). Walks part gate (holding c.walk.new.agent)) part_is c.in_ok-gate.ensures.walks)
+    found c.in_ok-place.place c.in_ok-next.next gate _ (fenced_holding c.walk.new.agent) c.args.image.now c.requires.long c.in_ok-place.ensures.live
+    (subst (λ (part : List ℕ). Walks part gate (fenced_holding c.walk.new.agent)) part_is c.in_ok-gate.ensures.walks)
     (subst (λ (part : List ℕ). batch_at part gate ≡ None) part_is c.in_ok-gate.ensures.ends)
     c.in_ok-next.ensures.next (ap (λ (byte : ℕ). byte == open_gate) (c.byte_in-cut.ensures ∙ ap (byte_at gate) part_is))

@@ -1,19 +1,22 @@
-use Rattle.std.proofs.Common.{ap, arith}
-use Rattle.wire_frames.specs.Reading.{Reader}
-use Rattle.host_edge.proofs.Sorting.{reads_answer, reads_fault, stops_whole}
+use Rattle.std.proofs.Common.{arith, subst}
+use Rattle.host_edge.specs.Inboxes.{Fronts}
+use Rattle.host_edge.proofs.Sorting.{reads_whole, stops_alien, stops_cut, stops_whole}
 use Rattle.host_edge.proofs.inbox.whole_len.Goals as goal
 
 pub loop-done-preserved : goal.loop-done-preserved
 loop-done-preserved c =
     let i = c.loop-done.invariant in
-    let kept = ap (λ (r : Reader). r.kept) c.new.ensures.new in
-    reads_answer c.args.bytes.now c.loop-done.done i.within i.whole c.new.result.kept kept c.in-Ok-default-Some.n _ _ _ c.in-Ok-default-Some.field-0-1-is c.in-Ok-default-Some.ensures.read
+    reads_whole c.args.bytes.now c.loop-done.done i.within i.whole c.in-Whole.n (subst (Fronts _) c.in-Whole.is c.front_of.ensures)
 
-pub returns-in-Err-clause-sorted : goal.returns-in-Err-clause-sorted
-returns-in-Err-clause-sorted c =
+pub returns-in-Cut-clause-sorted : goal.returns-in-Cut-clause-sorted
+returns-in-Cut-clause-sorted c =
     let i = c.loop-done.invariant in
-    let kept = ap (λ (r : Reader). r.kept) c.new.ensures.new in
-    reads_fault c.args.bytes.now c.loop-done.done i.within i.whole c.new.result.kept kept c.in-Err.field-0 _ c.in-Err.ensures.read
+    stops_cut c.args.bytes.now c.loop-done.done i.within i.whole (subst (Fronts _) c.in-Cut.is c.front_of.ensures)
+
+pub returns-in-Other-clause-sorted : goal.returns-in-Other-clause-sorted
+returns-in-Other-clause-sorted c =
+    let i = c.loop-done.invariant in
+    stops_alien c.args.bytes.now c.loop-done.done i.within i.whole (subst (Fronts _) c.in-Other.is c.front_of.ensures)
 
 pub returns-clause-sorted : goal.returns-clause-sorted
 returns-clause-sorted c =

@@ -6,3 +6,6 @@ returns-in-Err-clause-cause g c = λ e. absurd (no-write-fault _ _ (rw e at c.in
 
 pub returns-in-Err-clause-safe : goal.returns-in-Err-clause-safe
 returns-in-Err-clause-safe g c = λ e. absurd (no-done _ _ (rw e at c.in-Err.ensures.gives))
+
+pub returns-in-Ok-clause-follows : goal.returns-in-Ok-clause-follows
+returns-in-Ok-clause-follows g c = rw c.in-Ok.ensures.gives c.write_told.ensures.written

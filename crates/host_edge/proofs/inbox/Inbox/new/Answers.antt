@@ -1,6 +1,6 @@
 use Rattle.std.proofs.Common.{arith}
-use Rattle.wire_frames.proofs.Cuts.{cut_no_answer}
+use Rattle.host_edge.proofs.Sorting.{cut_none}
 use Rattle.host_edge.proofs.inbox.Inbox.new.Goals as goal
 
 pub invariant_of-result : goal.invariant_of-result
-invariant_of-result c = (omega arith, omega arith, omega arith, cut_no_answer)
+invariant_of-result c = (omega arith, omega arith, omega arith, cut_none)

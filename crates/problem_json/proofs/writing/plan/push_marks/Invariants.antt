@@ -1,4 +1,4 @@
-use Rattle.std.proofs.Common.{◌++◌, map}
+use Rattle.std.proofs.Common.{map}
 use Rattle.serde_json.specs.Data.{boolean}
 use Rattle.serde_json.specs.Written.{compact_text}
 use Rattle.problem_json.specs.Writing.{list_data}
@@ -6,5 +6,4 @@ use Rattle.problem_json.proofs.Rows.{Leads}
 use Rattle.problem_json.proofs.writing.plan.push_marks.Given as goal
 
 abbrev pub invariant-loop-number : goal.invariant-loop-number
-invariant-loop-number l =
-    let ds = map boolean l.marks in Leads l.text l.number ds (l.fn.text ++ compact_text (list_data ds))
+invariant-loop-number g l = let ds = map boolean l.marks in Leads g.P.Pieces.pushes (compact_text (list_data ds)) l.fn.text l.text l.number ds

@@ -1,13 +1,16 @@
-use Rattle.std.proofs.Common.{map}
-use Rattle.problem_json.specs.Writing.{stage_data}
+use Rattle.std.proofs.Common.{false, length, map, get_or, arith}
+use Rattle.std.proofs.lemmas.List.{length-map}
+use Rattle.serde_json.specs.Written.{compact_text}
+use Rattle.problem_json.specs.Writing.{list_data, stage_data}
 use Rattle.problem_json.proofs.Words.{one_stage_more}
-use Rattle.problem_json.proofs.Rows.{goes_on, of_element}
+use Rattle.problem_json.proofs.Rows.{begins, ends, goes_on, of_element}
 use Rattle.problem_json.proofs.writing.plan.push_stages.Goals as goal
 
+pub loop-number-init : goal.loop-number-init
+loop-number-init g c = (begins g.P.Pieces.pushes g.met.P.Pieces.pushed_further (map (stage_data) c.args.stages.now) c.push_str.ensures, λ s less. absurd (omega (arith, less)))
+
 pub loop-number-preserved : goal.loop-number-preserved
-loop-number-preserved c =
-    let k = c.loop-number.number in
-    let stages = c.args.stages.now in
-    let x = c.index-stages-number.result in
-    let pushed = goes_on (map stage_data stages) k (stage_data x) c.loop-number.text c.push_comma.new.text c.push_stage.new.text _ (of_element stage_data stages k x c.loop-number-test.true c.index-stages-number.is) c.loop-number.invariant.0 c.in_ok-push_comma.ensures c.in_ok-push_stage.ensures.text in
-    (pushed, one_stage_more stages k x c.loop-number-test.true c.index-stages-number.is c.loop-number.invariant.1 c.in_ok-push_stage.ensures.words)
+loop-number-preserved g c = (goes_on g.P.Pieces.pushes g.met.P.Pieces.pushed_further _ (map (stage_data) c.args.stages.now) c.loop-number.number ((stage_data) c.index-stages-number.result) (of_element stage_data c.args.stages.now c.loop-number.number c.index-stages-number.result c.loop-number-test.true c.index-stages-number.is) c.loop-number.invariant.0 c.push_comma.ensures c.push_stage.ensures.text, one_stage_more c.args.stages.now c.loop-number.number c.index-stages-number.result c.loop-number-test.true c.index-stages-number.is c.loop-number.invariant.1 c.push_stage.ensures.words)
+
+pub returns-clause-text : goal.returns-clause-text
+returns-clause-text g c = ends g.P.Pieces.pushes (compact_text (list_data (map (stage_data) c.args.stages.now))) (map (stage_data) c.args.stages.now) c.loop-number.number (omega (arith, length-map c.args.stages.now (stage_data), c.loop-number-test.false)) c.loop-number.invariant.0 c.push_str-2.ensures

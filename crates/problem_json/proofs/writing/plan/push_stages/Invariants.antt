@@ -1,10 +1,8 @@
-use Rattle.std.proofs.Common.{◌++◌, map}
+use Rattle.std.proofs.Common.{map}
 use Rattle.serde_json.specs.Written.{compact_text}
 use Rattle.problem_json.specs.Writing.{list_data, stage_data, AreStagesOfWords}
 use Rattle.problem_json.proofs.Rows.{Leads}
 use Rattle.problem_json.proofs.writing.plan.push_stages.Given as goal
 
 abbrev pub invariant-loop-number : goal.invariant-loop-number
-invariant-loop-number l =
-    let ds = map stage_data l.stages in
-    Leads l.text l.number ds (l.fn.text ++ compact_text (list_data ds)) × AreStagesOfWords l.number l.stages
+invariant-loop-number g l = let ds = map stage_data l.stages in (Leads g.P.Pieces.pushes (compact_text (list_data ds)) l.fn.text l.text l.number ds) × AreStagesOfWords l.number l.stages

@@ -1,15 +1,14 @@
-use Rattle.std.proofs.Common.{◌≡◌, ◌<◌, ◌++◌, codes, decimal, length, subst, sym, ap, ◌∙◌}
-use Rattle.std.proofs.lemmas.Result.{on_ok_weaker}
+use Rattle.std.proofs.Common.{◌≡◌, ◌<◌, codes, decimal, length, subst, sym, ap, ◌∙◌}
 use Rattle.json.specs.Print.{escape_byte}
 use Rattle.rollout_rules.specs.Wan.{Link}
 use Rattle.serde_json.specs.Written.{compact_text}
 use Rattle.problem_json.specs.Writing.{name_data}
-use Rattle.problem_json.proofs.Rows.{three_alone, quoted_at}
+use Rattle.problem_json.proofs.Rows.{at_value, by_seven, quoted_at}
 use Rattle.problem_json.proofs.writing.problem.push_link.Goals as goal
 
 pub returns : goal.returns
 unfolding escape_byte
-returns c p is =
+returns g c p is =
     let l = c.args.link.now in
     let names = c.args.names.now in
     let from : c.link.inside.from ≡ l.from = ap (λ (x : Link). x.from) c.link.view_is in
@@ -18,11 +17,8 @@ returns c p is =
     c.as_str.ensures ∙ quoted_at names p c.link.inside.from c.index-names-link.result is (subst (λ w. w < length names) (sym from) c.requires.begins) c.index-names-link.is ∙ ap (λ w. compact_text (name_data p w)) from in
     let last : c.as_str-2.result.now ≡ compact_text (name_data p l.to) =
     c.as_str-2.ensures ∙ quoted_at names p c.link.inside.to c.index-names-link-2.result is (subst (λ w. w < length names) (sym to) c.requires.ends) c.index-names-link-2.is ∙ ap (λ w. compact_text (name_data p w)) to in
-    on_ok_weaker c.push_str-6.result
-    (three_alone c.args.text.now (codes "{\"capacity\":") (decimal l.capacity) (codes ",\"from\":") (compact_text (name_data p l.from)) (codes ",\"to\":") (compact_text (name_data p l.to))
-    c.push_str.new.self c.push_number.new.text c.push_str-2.new.self c.push_str-3.new.self c.push_str-4.new.self c.push_str-5.new.self c.push_str-6.new.self
-    c.in_ok-push_str.ensures.ok
-    (c.in_ok-push_number.ensures ∙ ap (λ n. c.push_str.new.self ++ decimal n) (ap (λ (x : Link). x.capacity) c.link.view_is))
-    c.in_ok-push_str-2.ensures.ok (c.in_ok-push_str-3.ensures.ok ∙ ap (λ t. c.push_str-2.new.self ++ t) first)
-    c.in_ok-push_str-4.ensures.ok (c.in_ok-push_str-5.ensures.ok ∙ ap (λ t. c.push_str-4.new.self ++ t) last))
-    c.push_str-6.ensures.ok
+    by_seven g.P.Pieces.pushes g.met.P.Pieces.pushed_further
+    c.push_str.ensures (at_value g.P.Pieces.pushes decimal (ap (λ (x : Link). x.capacity) c.link.view_is) c.push_number.ensures)
+    c.push_str-2.ensures (at_value g.P.Pieces.pushes (λ t. t) first c.push_str-3.ensures)
+    c.push_str-4.ensures (at_value g.P.Pieces.pushes (λ t. t) last c.push_str-5.ensures)
+    c.push_str-6.ensures

@@ -1,21 +1,13 @@
-use Rattle.std.proofs.Common.{◌++◌, codes, decimal, ap, ◌∙◌}
-use Rattle.std.proofs.lemmas.Result.{on_ok_weaker}
+use Rattle.std.proofs.Common.{decimal, ap, ◌∙◌}
 use Rattle.json.specs.Print.{escape_byte}
 use Rattle.rollout_rules.specs.Wan.{Switch}
-use Rattle.serde_json.specs.Data.{string}
-use Rattle.serde_json.specs.Written.{compact_text}
-use Rattle.problem_json.proofs.Rows.{two_members}
+use Rattle.problem_json.proofs.Rows.{at_value, by_five}
 use Rattle.problem_json.proofs.writing.problem.push_switch.Goals as goal
 
 pub returns : goal.returns
 unfolding escape_byte
-returns c =
-    let s = c.args.switch.now in
-    on_ok_weaker c.push_str-3.result
-    (two_members c.args.text.now (codes "{\"name\":") (compact_text (string s.name)) (codes ",\"table\":") (decimal s.table)
-    c.push_str.new.self c.push_name.new.text c.push_str-2.new.self c.push_number.new.text c.push_str-3.new.self
-    c.in_ok-push_str.ensures.ok
-    (c.in_ok-push_name.ensures ∙ ap (λ n. c.push_str.new.self ++ compact_text (string n)) (c.as_str.ensures ∙ ap (λ (x : Switch). x.name) c.switch.view_is))
-    c.in_ok-push_str-2.ensures.ok
-    (c.in_ok-push_number.ensures ∙ ap (λ n. c.push_str-2.new.self ++ decimal n) (c.from.ensures ∙ ap (λ (x : Switch). x.table) c.switch.view_is)))
-    c.push_str-3.ensures.ok
+returns g c =
+    by_five g.P.Pieces.pushes g.met.P.Pieces.pushed_further
+    c.push_str.ensures (at_value g.P.Pieces.pushes (λ t. t) c.requires c.push_str-2.ensures)
+    c.push_str-3.ensures (at_value g.P.Pieces.pushes decimal (c.from.ensures ∙ ap (λ (x : Switch). x.table) c.switch.view_is) c.push_number.ensures)
+    c.push_str-4.ensures

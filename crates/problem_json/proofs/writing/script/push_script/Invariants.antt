@@ -1,4 +1,4 @@
-use Rattle.std.proofs.Common.{◌++◌, map}
+use Rattle.std.proofs.Common.{map}
 use Rattle.serde_json.specs.Written.{compact_text}
 use Rattle.problem_json.specs.Writing.{list_data}
 use Rattle.problem_json.specs.WritingScripts.{act_data, AreActsWithin}
@@ -6,6 +6,4 @@ use Rattle.problem_json.proofs.Rows.{Leads}
 use Rattle.problem_json.proofs.writing.script.push_script.Given as goal
 
 abbrev pub invariant-loop-number : goal.invariant-loop-number
-invariant-loop-number l =
-    let ds = map act_data l.script in
-    Leads l.text l.number ds (l.fn.text ++ compact_text (list_data ds)) × AreActsWithin l.number l.script
+invariant-loop-number g l = let ds = map act_data l.script in (Leads g.P.Pieces.pushes (compact_text (list_data ds)) l.fn.text l.text l.number ds) × AreActsWithin l.number l.script

@@ -1,0 +1,9 @@
+use Rattle.std.proofs.Common.{rules, [], ◌++◌, ◌==◌, codes, decimal, sym}
+use Rattle.std.proofs.lemmas.Bool.{cond-false, ne_eqb}
+use Rattle.problem_json.proofs.Rows.{at_value, both, said_so}
+use Rattle.problem_json.proofs.writing.problem.push_width.Goals as goal
+
+pub returns : goal.returns
+returns g c =
+    said_so g.P.Pieces.pushes (sym (cond-false (c.args.format == 1) [] (codes ",\"width\":" ++ decimal c.args.width) (ne_eqb c.args.format 1 (search rules))))
+    (both g.P.Pieces.pushes g.met.P.Pieces.pushed_further c.push_str.ensures (at_value g.P.Pieces.pushes decimal c.from.ensures c.push_number.ensures))

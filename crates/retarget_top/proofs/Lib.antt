@@ -1,0 +1,5 @@
+mod JournalRooms
+mod FirstWords
+mod Placings
+mod Aiming
+mod Elsewhere

@@ -1,0 +1,8 @@
+pub mod Endings
+pub mod JournalRoom
+pub mod Lines
+pub mod Aims
+pub mod Retargets
+pub mod RetargetPromise
+pub mod Elsewhere
+pub mod Words

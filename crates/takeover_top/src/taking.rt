@@ -1,0 +1,241 @@
+//! The command `takeover`, from its input to its line.
+ghost use Rattle.std.specs.Prelude.{◌≡◌, length};
+ghost use Rattle.rollout_rules.specs.Items.{item_count};
+ghost use Rattle.order_policy.specs.Answers.{rank_by};
+ghost use Rattle.wan_edge.specs.Streams.{Rose};
+ghost use Rattle.text_commands.specs.Runs.{Follows, Gives};
+ghost use Rattle.swanroll_top.specs.Rollouts.{IsDiskFault, ending_of_stop, fleet_of};
+ghost use Rattle.takeover_top.specs.Endings.{taken_or_ending};
+ghost use Rattle.takeover_top.specs.Takings.{RunsOn, Takes, TakesInput, TakesRollout};
+
+use crate::ending::{TakeoverEnding, ending_of_not_begun};
+use crate::journal_room::journal_room;
+use crate::lines::taken_line;
+use crate::start_total::start_total;
+use dependency_graph::checked_plan_is_valid;
+use disk_mirror::Openable;
+use fenced_ports::OneTerm;
+use lists::{Ids, Text};
+use order_policy::Policy;
+use rollout_run::Limits;
+use rollout_service::{Outcome, RunAnswer, run_rollout};
+use shared_history::Cause;
+use std::alloc::Global;
+use std::sync::Wait;
+use std::thread::Threads;
+use takeover_service::{Begun, begin_takeover};
+use text_commands::{Ending, Unfinished, read_input, rollout_of, write_text};
+use wan_edge::{Fleet, Nums8, Sink, Source};
+use wan_model::{CheckedPlan, item_count};
+
+/// How a takeover ended, and the disk.
+#[derive(Drop)]
+pub(crate) struct Taken<D> {
+    pub ending: TakeoverEnding,
+    pub disk: D,
+}
+
+/// Reads all of the source, asks the switches of its rollout what they hold, places a journal from there, and runs
+/// the rollout from that. A line says how many operations there are, and how many of them the start had settled.
+pub(crate) fn take<
+    R: Wait + Threads + Sync,
+    S: Source,
+    K: Sink,
+    D: Openable + Drop + Send,
+    F: Fleet + OneTerm,
+>(
+    rt: &R,
+    alloc: Global,
+    limits: Limits,
+    policy: &Policy,
+    source: &mut S,
+    sink: &mut K,
+    disk: D,
+    fleet: &mut F,
+) -> Taken<D>
+where
+    F::Port: Drop + Send,
+    ensures takes { Takes D.told F.Port.told (S.told source.old) (S.told source.new) limits
+        (rank_by policy.now.answers) disk result.disk
+        (fleet_of F.waiting F.kept F.lent F.named F.faults fleet.old)
+        (fleet_of F.waiting F.kept F.lent F.named F.faults fleet.new) result.ending
+        (K.told sink.old) (K.told sink.new) }
+    ensures guests { (F.coming fleet.new ≡ F.coming fleet.old)
+        × (F.served fleet.new ≡ F.served fleet.old)
+        × (F.visiting fleet.new ≡ F.visiting fleet.old) }
+{
+    match read_input(alloc, source) {
+        Ok(input) => take_input(rt, alloc, limits, policy, input, sink, disk, fleet),
+        Err(ending) => Taken {
+            ending: TakeoverEnding::Ended(ending),
+            disk,
+        },
+    }
+}
+
+fn take_input<R: Wait + Threads + Sync, K: Sink, D: Openable + Drop + Send, F: Fleet + OneTerm>(
+    rt: &R,
+    alloc: Global,
+    limits: Limits,
+    policy: &Policy,
+    input: Nums8,
+    sink: &mut K,
+    disk: D,
+    fleet: &mut F,
+) -> Taken<D>
+where
+    F::Port: Drop + Send,
+    ensures takes { TakesInput D.told F.Port.told input limits (rank_by policy.now.answers) disk
+        result.disk (fleet_of F.waiting F.kept F.lent F.named F.faults fleet.old)
+        (fleet_of F.waiting F.kept F.lent F.named F.faults fleet.new) result.ending
+        (K.told sink.old) (K.told sink.new) }
+    ensures guests { (F.coming fleet.new ≡ F.coming fleet.old)
+        × (F.served fleet.new ≡ F.served fleet.old)
+        × (F.visiting fleet.new ≡ F.visiting fleet.old) }
+{
+    match rollout_of(alloc, input) {
+        Ok(plan) => take_plan(rt, alloc, limits, policy, plan, sink, disk, fleet),
+        Err(ending) => Taken {
+            ending: TakeoverEnding::Ended(ending),
+            disk,
+        },
+    }
+}
+
+// Asks the switches, and goes on from what they told.
+fn take_plan<R: Wait + Threads + Sync, K: Sink, D: Openable + Drop + Send, F: Fleet + OneTerm>(
+    rt: &R,
+    alloc: Global,
+    limits: Limits,
+    policy: &Policy,
+    plan: CheckedPlan,
+    sink: &mut K,
+    disk: D,
+    fleet: &mut F,
+) -> Taken<D>
+where
+    F::Port: Drop + Send,
+    ensures takes { TakesRollout D.told F.Port.told plan limits (rank_by policy.now.answers) disk
+        result.disk (fleet_of F.waiting F.kept F.lent F.named F.faults fleet.old)
+        (fleet_of F.waiting F.kept F.lent F.named F.faults fleet.new) result.ending
+        (K.told sink.old) (K.told sink.new) }
+    ensures guests { (F.coming fleet.new ≡ F.coming fleet.old)
+        × (F.served fleet.new ≡ F.served fleet.old)
+        × (F.visiting fleet.new ≡ F.visiting fleet.old) }
+{
+    let room = journal_room(&plan);
+    let Begun { disk, answer } = begin_takeover(
+        alloc,
+        fleet,
+        plan,
+        limits.migration,
+        limits.rounds,
+        room,
+        disk,
+    );
+    match answer {
+        Ok((plan, start)) => run_on(rt, alloc, limits, policy, plan, start, sink, disk, fleet),
+        Err(why) => Taken {
+            ending: ending_of_not_begun(why),
+            disk,
+        },
+    }
+}
+
+// Runs the rollout from the journal that was placed.
+fn run_on<R: Wait + Threads + Sync, K: Sink, D: Openable + Drop + Send, F: Fleet + OneTerm>(
+    rt: &R,
+    alloc: Global,
+    limits: Limits,
+    policy: &Policy,
+    plan: CheckedPlan,
+    start: Ids,
+    sink: &mut K,
+    disk: D,
+    fleet: &mut F,
+) -> Taken<D>
+where
+    F::Port: Drop + Send,
+    requires numbers { length start ≡ item_count plan.problem }
+    ensures runs { RunsOn D.told F.Port.told plan limits (rank_by policy.now.answers) start disk
+        result.disk (fleet_of F.waiting F.kept F.lent F.named F.faults fleet.old)
+        (fleet_of F.waiting F.kept F.lent F.named F.faults fleet.new) result.ending
+        (K.told sink.old) (K.told sink.new) }
+    ensures guests { (F.coming fleet.new ≡ F.coming fleet.old)
+        × (F.served fleet.new ≡ F.served fleet.old)
+        × (F.visiting fleet.new ≡ F.visiting fleet.old) }
+{
+    checked_plan_is_valid(&plan);
+    let total = start_total(start.as_slice(), item_count(plan.problem()));
+    drop(start);
+    let Outcome { disk, answer } = run_rollout(rt, alloc, plan, policy, limits, disk, fleet);
+    Taken {
+        ending: TakeoverEnding::Ended(write_outcome(alloc, total, answer, sink)),
+        disk,
+    }
+}
+
+// Writes the line of a takeover that is finished, or says how it ends without one.
+fn write_outcome<K: Sink>(alloc: Global, total: u64, answer: RunAnswer, sink: &mut K) -> Ending
+    ensures follows { Follows (taken_or_ending total answer) result (K.told sink.old).written
+        (K.told sink.new).written }
+    ensures disk { result ≡ Ending.DiskFault → IsDiskFault answer }
+    ensures write_fault { result ≡ Ending.WriteFault
+        → Rose (K.told sink.old).faults (K.told sink.new).faults }
+{
+    match line_of(alloc, total, answer) {
+        Ok(line) => write_text(sink, line.as_str()),
+        Err(ending) => ending,
+    }
+}
+
+fn line_of(alloc: Global, total: u64, answer: RunAnswer) -> Result<Text, Ending>
+    ensures { Gives result (taken_or_ending total answer) }
+{
+    match answer {
+        RunAnswer::Finished { operations, .. } => Ok(taken_line(alloc, operations, total)?),
+        RunAnswer::Held { left } => Err(Ending::NotFinished(Unfinished::Held(left))),
+        RunAnswer::Stopped(plan, halt) => Err(ending_of_stop(plan, halt.cause)),
+        RunAnswer::NoPort(plan, switch) => {
+            Err(Ending::NotFinished(Unfinished::PortFault(plan, switch)))
+        }
+        RunAnswer::Memory => Err(Ending::OutOfMemory),
+        RunAnswer::Unopened(cause) => Err(Ending::from(cause)),
+    }
+}
+
+// How it ends where the rollout was stopped for this cause.
+fn ending_of_stop(plan: CheckedPlan, cause: Cause) -> Ending
+    ensures { result ≡ ending_of_stop plan cause }
+{
+    match cause {
+        Cause::Spent {
+            rounds,
+            item,
+            number,
+        } => {
+            drop(plan);
+            Ending::NotFinished(Unfinished::RoundsSpent {
+                rounds,
+                item,
+                number,
+            })
+        }
+        Cause::Port(switch) => Ending::NotFinished(Unfinished::PortFault(plan, switch)),
+        Cause::Above { item, held, begun } => {
+            drop(plan);
+            Ending::NotFinished(Unfinished::Above { item, held, begun })
+        }
+        Cause::NotMine { switch, item } => {
+            Ending::NotFinished(Unfinished::NotMine(plan, switch, item))
+        }
+        Cause::NoAnswer { switch, byte } => {
+            Ending::NotFinished(Unfinished::NoAnswer(plan, switch, byte))
+        }
+        Cause::Disk => Ending::DiskFault,
+        Cause::Memory => {
+            drop(plan);
+            Ending::OutOfMemory
+        }
+    }
+}
