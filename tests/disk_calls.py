@@ -14,7 +14,7 @@ import threading
 
 from carried import Items
 from journal_files import BEGIN, entries_in
-from named import EXCHANGE, ONE, TWO
+from named import EXCHANGE, FULL_TABLES, ONE, TWO
 from outcomes import report
 from rolling import finished, planned, rollout, same, stopped
 from syncs import NUMBERS, SYNCS, Calls
@@ -122,6 +122,8 @@ def turns(program, name, document):
                     one.put(turn.durable())
                 yield case, None if end in ends | {finished(operations, 0)} else f"{end}"
                 yield f"{case}, what was sent", unbegun(one)
+                if fate == "fails":
+                    yield f"{case}, the calls after it", None if turn.count <= number + 1 else f"{turn.count - number - 1} calls"
                 found = len(entries_in(one.image() or b""))
                 status, out, notes = one.report()
                 yield f"{case}, the report", None if (status, notes) == (0, "") and out.startswith(f"entries {found},") else f"{found} entries: {status}, {out!r}, {notes!r}"
@@ -132,6 +134,7 @@ def outcomes(program):
     yield from turns(program, "one", json.loads(ONE))
     yield from turns(program, "two", TWO)
     yield from turns(program, "exchange", planned(program, EXCHANGE))
+    yield from turns(program, "full tables", planned(program, FULL_TABLES))
 
 
 if __name__ == "__main__":

@@ -6,6 +6,7 @@ Of a run over switches that the tests play: a line for each entry of the list be
 are killed, files that are none, and a picture that is drawn of a log.
 """
 
+import errno
 import os
 import re
 import subprocess
@@ -17,6 +18,7 @@ from journal_files import BEGIN, DONE, entries_in
 from named import ONE, read
 from outcomes import report
 from rolling import finished, rollout, same
+from syncs import Calls
 
 LINE = re.compile(r"(\d+) (?:(begin|done) (\d+) (\d+)|start (\d+))")
 KINDS = {"begin": BEGIN, "done": DONE}
@@ -124,6 +126,40 @@ def ends_of_logs(program, folder):
     yield "a file that is only read", same(os.path.getsize(kept), 0) if os.geteuid() else None
 
 
+class Failing:
+    """The write of this number, from 0, fails, and no other."""
+
+    def __init__(self, number):
+        self.number, self.count = number, 0
+
+    def __call__(self, name, process):
+        self.count += 1
+        return errno.EIO if self.count == self.number + 1 else None
+
+
+def cut_off(program, folder):
+    """A write of the log that fails is its last one, though a further one would be made; and the run comes to its end."""
+    for number in range(4):
+        path = os.path.join(folder, f"cut-{number}.log")
+        with open(path, "w", encoding="ascii"):
+            failing = Failing(number)
+        with rollout(program, read("networks/nsfnet.out")) as one:
+            calls = Calls(path, ("write", "pwrite"), failing)
+            started = one.start("run", one.having(SWANROLL_LOG=path), preexec_fn=calls.in_child)
+            seen = calls.attach()
+            end = one.ended(started)
+            for switch in one.switches.values():
+                switch.settle()
+            calls.close()
+            if not seen:
+                yield "calls can't be seen on this machine", None
+                return
+            entries, logged = [tuple(entry) for entry in entries_in(one.image())], Log(path).entries()
+            yield f"write {number} fails, the run", same(end, finished(len(entries) // 2, 0)) or one.misses()
+            yield f"write {number} fails, its writes", same(failing.count, number + 1)
+            yield f"write {number} fails, its lines", same(logged, entries[:len(logged)]) or same(len(logged) < len(entries) and bool(logged) == bool(number), True)
+
+
 def refused(program, folder):
     """Where nothing is begun, no file is made."""
     path = os.path.join(folder, "refused.log")
@@ -148,7 +184,7 @@ def drawn(program, folder):
 
 def outcomes(program):
     with tempfile.TemporaryDirectory() as folder:
-        for part in (whole, behind_others, killed, ends_of_logs, refused, drawn):
+        for part in (whole, behind_others, killed, ends_of_logs, cut_off, refused, drawn):
             yield from part(program, folder)
 
 

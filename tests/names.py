@@ -86,7 +86,7 @@ def crates():
 
 def statuses():
     """The exit statuses of the code."""
-    bodies = [re.search(r"pub fn status\(.*?\n    }\n", text(f"crates/text_commands/src/{name}.rt"), re.S).group() for name in ("ending", "unfinished")]
+    bodies = [re.search(r"pub fn status\(.*?\n    }\n", text(f"crates/text_commands/src/{name}.rt"), re.S).group() for name in ("command_end", "unfinished")]
     left = re.findall(r"^            (\d+)$", text("crates/swanroll_top/src/left.rt") + text("crates/takeover_top/src/telling.rt"), re.M)
     return sorted(set(map(int, re.findall(r"=> (\d+),", "".join(bodies)) + left)))
 

@@ -16,6 +16,7 @@ import subprocess
 import sys
 import tempfile
 import threading
+import time
 
 from carried import Items, backwards
 from journal_files import BEGIN, DONE, PARTS, SLOT, digest_of, entries_in, part, size_of, slot, text_of
@@ -268,6 +269,16 @@ def no_journal(program):
         yield "a journal that another process holds, its bytes", same((one.image(), one.guests()), (SECOND_FORMAT, set()))
         fcntl.flock(held, fcntl.LOCK_UN)
         yield "a journal that no process holds any more", same(one.run(), finished(1, 1))
+    with rollout(program, ONE, None, silent) as one:
+        holding = one.fed()
+        until = time.monotonic() + PATIENCE
+        while not one.commands() and time.monotonic() < until:
+            time.sleep(0.01)
+        yield "a journal that a controller holds", same(one.ended(one.start()), fault) or same(one.ended(one.start("report")), fault)
+        holding.kill()
+        one.ended(holding)
+        one.switches["A"].fate = plain
+        yield "a journal that a controller held", same(one.run(), finished(1, 1)) or one.misses()
 
 
 def cut_off(switch, guest, command):

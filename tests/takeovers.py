@@ -80,6 +80,10 @@ class Taken(Rollout):
         """Which commands came that may be carried out."""
         return [command for switch in self.switches.values() for command in switch.commands if command.number]
 
+    def questions(self):
+        """Migration, scale and rates of the commands that came and can't be carried out."""
+        return {(command.migration, command.scale, command.rates) for switch in self.switches.values() for command in switch.commands if not command.number}
+
     def beside(self, words, environment):
         """How a command ends while another controller may be connected."""
         return self.ended(self.start(words, environment))
@@ -132,24 +136,38 @@ def row_ahead(program):
         return first(same(end, line(6, 1)), one.misses(), placed(one, start), same(len(entries_in(one.image())), 10), None if one.terms() == {1} else f"terms {one.terms()}")
 
 
-def row_late(program):
-    """What is held is no start: a link is too full at a stage."""
-    with taken(program, LATE) as one:
-        one.begin({1: 1})
+MEETS, TABLE_A, TABLE_B = 'room at stage 1, link "A">"L": 4 against 2', 'room at stage 0, table "A": 3 against 2', 'room at stage 0, table "B": 3 against 2'
+# How many operations of some items are held, and what such a start breaks first; None where it is one. An item of which more is held than it has is told of before any start.
+# The flows of the first network have three operations and one, and would meet at a link.
+STARTS_OF_LATE = (
+    ({}, None), ({1: 1}, MEETS), ({0: 1, 1: 1}, MEETS), ({0: 3, 1: 1}, None), ({1: 2}, (1, 2, 1)), ({0: 4, 1: 2}, (0, 4, 3)),
+)
+# The flow of the second needs the entries 7, 8 and 9, and the tables of A and B have no place for 7 and 9 before 4 and 6 are gone.
+STARTS_OF_TABLES = (
+    ({4: 1}, None), ({0: 1}, "item 0 operation 1 lacks its needs"), ({7: 1}, TABLE_A), ({7: 1, 9: 1}, TABLE_A), ({4: 1, 9: 1}, TABLE_B),
+    ({0: 1, 7: 1}, "item 0 operation 1 lacks its needs"), ({0: 1, 4: 2}, (4, 2, 1)), ({7: 1, 8: 3}, (8, 3, 1)),
+)
+
+
+def start_of(program, value, numbers, broken):
+    """A takeover where so much is held."""
+    with taken(program, value) as one:
+        items = Items(value)
+        one.begin({item: number for item, number in numbers.items() if items.has(item, number)})
+        for item, number in numbers.items():
+            one.switches[items.homes[item]].held[item] = 0, number
         end = one.run("takeover --term 1")
-        return first(same(end, stopped(13, 'start: room at stage 1, link "A">"L": 4 against 2')), only_asked(one, 1), untouched(one))
+        if broken is None:
+            return first(same(end, line(items.operations, sum(numbers.values()))), one.misses(), placed(one, [numbers.get(item, 0) for item in range(items.count)]))
+        wanted = stopped(13, f"start: {broken}") if isinstance(broken, str) else stopped(11, "alien: item %d held %d above %d" % broken)
+        return first(same(end, wanted), only_asked(one, 1), untouched(one))
 
 
-def needs(program):
-    """And a flow has come to tunnels of which an entry is missing; or a table is too full, where an entry is there without the room for it."""
-    value = planned(program, FULL_TABLES)
-    for numbers, what in (({0: 1}, "item 0 operation 1 lacks its needs"), ({7: 1}, 'room at stage 0, table "A": 3 against 2')):
-        with taken(program, value) as one:
-            one.begin(numbers)
-            wrong = first(same(one.run("takeover --term 1"), stopped(13, f"start: {what}")), only_asked(one, 1), untouched(one))
-            if wrong:
-                return wrong
-    return None
+def starts(program):
+    """What is held is a start, or breaks a need, or has no room at a link or a table."""
+    for name, value, rows in (("late", LATE, STARTS_OF_LATE), ("full tables", planned(program, FULL_TABLES), STARTS_OF_TABLES)):
+        for numbers, broken in rows:
+            yield f"a start of {name} with {numbers}", start_of(program, value, numbers, broken)
 
 
 def anew(program):
@@ -336,6 +354,11 @@ def lower(switch, guest, command):
     plain(switch, guest, command)
 
 
+def above(switch, guest, command):
+    """More is told of the migration that was asked for than a plan may have."""
+    switch.tell(guest, struct.pack(">BI", FENCED, 1) + struct.pack(">BIII", 0x4E, command.migration, command.item, 1000000))
+
+
 def ends(program):
     """Why a takeover isn't begun."""
     port = stopped(9, 'port fault at "A"')
@@ -346,6 +369,8 @@ def ends(program):
         ("an answer without a floor", with_fate(program, ONE, other_kind, port)),
         ("a floor above the term", with_fate(program, ONE, higher, port)),
         ("more than there is", with_fate(program, ONE, plain, stopped(11, "alien: item 0 held 2 above 1"), numbers={0: 2})),
+        ("above what there may be", with_fate(program, ONE, above, stopped(11, "alien: item 0 held 1000000 above 1"))),
+        ("above it in a later migration", with_fate(program, ONE, above, stopped(11, "alien: item 0 held 1000000 above 1"), "takeover --term 1 --migration 5")),
         ("a later migration", with_fate(program, ONE, plain, stopped(11, "alien: item 0 held of migration 3"), numbers={0: 1}, migration=3)),
     ):
         if wrong:
@@ -355,11 +380,11 @@ def ends(program):
 
 
 def earlier(program):
-    """What is held of an earlier migration is no part of the start."""
+    """What is held of an earlier migration is no part of the start. The questions name the one that is taken over."""
     with taken(program, ONE) as one:
         one.hold({0: (2, 1)})
         count = operations_of(one.document)
-        return first(same(one.run("takeover --term 1 --migration 5"), line(count, 0)), one.misses(5), placed(one, [0] * Items(one.document).count, 5))
+        return first(same(one.run("takeover --term 1 --migration 5"), line(count, 0)), one.misses(5), placed(one, [0] * Items(one.document).count, 5), same(one.questions(), {(5, 1, (0,))}))
 
 
 def devices(program):
@@ -413,8 +438,7 @@ def fails_at_each_call(program, value):
 
 def cases(program):
     yield "a row of ahead", row_ahead(program)
-    yield "a row of late", row_late(program)
-    yield "needs", needs(program)
+    yield from starts(program)
     yield "anew", anew(program)
     yield "an earlier migration", earlier(program)
     yield "words", words(program)

@@ -1,4 +1,4 @@
--- Reads of commands that were kept, one behind the other, and guests that were served turn by turn by an agent with a file.
+-- Reads of commands that were kept, one after the other, and guests that were served turn by turn by an agent with a file.
 use Rattle.std.proofs.Common.{◌≡◌, ◌≢◌, ◌⊎◌, ◌∙◌, inl, inr, ⊎_elim, ℕ, ◌+◌, ◌≤◌, ◌<◌, List, [], ◌∷◌, ◌++◌, length, take, Option, Some, None, IfErr, IfOk, IfSome, IsErr, Result, Ok, Err, OnErr, OnOk, unwrap_or, refl, sym, ap, ap₂, subst, arith, length-append}
 use Rattle.std.specs.List.{All, flat_map}
 use Rattle.std.proofs.lemmas.List.Elements.{All-append, All-nil}
@@ -11,7 +11,7 @@ use Rattle.disk_model.specs.Moments.{LeavesOnly}
 use Rattle.disk_model.specs.Traces.{DiskTrace}
 use Rattle.disk_model.proofs.Running.{LeavesOnly-chain, LeavesOnly-weaker}
 use Rattle.agent_talks.specs.Serving.{CarriesOut, Ends, HearsBytes, HearsGuest, answered}
-use Rattle.switch_agent.specs.Talks.{Talking}
+use Rattle.switch_agent.specs.ReadStates.{ReadSoFar}
 use Rattle.agent_talks.specs.declared.heard.Heard.{Heard}
 use Rattle.switch_agent.specs.declared.serve_fault.ServeFault.{ServeFault}
 use Rattle.switch_agent.specs.declared.serve_fault.ServeFault.TheVariants.{Frame, Long, Memory, Read, Write}
@@ -80,7 +80,7 @@ module _ {D : Type 0} (trace : D → DiskTrace) where
   come_kept old new a b commands fit reached run =
       weaker_run trace (λ image. IsBeforeOrAfter a b) (λ image. HasCome a) (trace old).bytes old new (λ image c either. come_either a b commands c fit reached either) run
 
-  -- one run behind another
+  -- one run after another
   pub come_then : (old mid new : D) (a b : FencedHoldings) (commands : List TermedCommand) → All IsTermedCommand commands → b ≡ after_all_termed a commands → KeepsTelling (trace old).bytes (trace mid).bytes
       → IfSome (trace mid).bytes (trace mid).may_leave → ((t : ℕ) (c : List ℕ) → t ≤ (trace mid).moment → (trace mid).may_leave c → (trace mid).left_since t c)
       → HasComeAlways trace old mid a → HasComeAlways trace mid new b → HasComeAlways trace old new a
@@ -149,7 +149,7 @@ went_out a b bytes served now P none answers out (Err e) w w' empty is unwritten
 
 -- ---- one read
 
-pub kept_heard : {E : Type 0} (result : Result (Place × Heard) E) (a b : FencedItems) (talk : Talking) (kept : List ℕ) (room n : ℕ) (buffer : List ℕ) (source mid now : SourceTrace) (sink mid_sink : SinkTrace) (w' : Option (List ℕ))
+pub kept_heard : {E : Type 0} (result : Result (Place × Heard) E) (a b : FencedItems) (talk : ReadSoFar) (kept : List ℕ) (room n : ℕ) (buffer : List ℕ) (source mid now : SourceTrace) (sink mid_sink : SinkTrace) (w' : Option (List ℕ))
     → kept ≡ talk.kept → room ≡ talk.room → OnOk result (now ≡ mid) → mid_sink ≡ sink → Reads n buffer source mid → n ≤ room → n ≤ length buffer
     → IfOk result (λ k. HearsBytes a b (record { kept = kept; room = room }) (take n buffer) k.1 mid.left mid_sink.written w') → IfOk result (λ k. HearsGuest a b talk source now k.1 sink.written w')
 kept_heard (Ok k) a b talk kept room n buffer source mid now sink mid_sink w' kept_is room_is unread unwritten reads few inside hears =
@@ -172,7 +172,7 @@ at_err (Err e) P is holds = holds
 
 -- ---- one turn
 
--- what follows from behind a wait follows from before it
+-- what follows from after a wait follows from before it
 pub kept_waited : {G E : Type 0} (tells : Tells G) (before waited now : Table G) (result : Result (Option (Place × Service)) E) → waited ≡ before → IfOk result (λ found. KeepsTurn tells waited found now) → IfOk result (λ found. KeepsTurn tells before found now)
 kept_waited tells before waited now result is turn = subst (λ (t : Table _). IfOk result (λ found. KeepsTurn tells t found now)) is turn
 
@@ -255,7 +255,7 @@ module _ {D : Type 0} (trace : D → DiskTrace) where
   pub opened_run : (told : Option (List ℕ)) (old new : D) (left : List ℕ → Type 0) → IfSome told (λ image. LeavesOnly trace old new (λ c. left c ⊎ ReadsAlike image c)) → IfSome told (λ image. LeavesOnly trace old new (MayBeLeft left image))
   opened_run told old new left run = weaker_run trace (λ image c. left c ⊎ ReadsAlike image c) (MayBeLeft left) told old new (λ image c is. ⊎_elim inl (λ alike. inr (inl alike)) is) run
 
-  -- and the guests behind it
+  -- and the guests after it
   pub served_run : (told between : Option (List ℕ)) (old mid new : D) (left : List ℕ → Type 0) (held : FencedHoldings) → KeepsTelling told between
       → IfSome between (trace mid).may_leave → ((t : ℕ) (c : List ℕ) → t ≤ (trace mid).moment → (trace mid).may_leave c → (trace mid).left_since t c)
       → IfSome told (λ image. IsReadAs image held) → IfSome told (λ image. LeavesOnly trace old mid (λ c. left c ⊎ ReadsAlike image c)) → IfSome between (λ _. LeavesOnly trace mid new (HasCome held))
@@ -276,7 +276,7 @@ stops_later Fleet fleet fleet_mid fleet_now before mid now (inr most) no_less al
 stops_later NoRoom fleet fleet_mid fleet_now before mid now stops no_less also = tt
 stops_later (State why) fleet fleet_mid fleet_now before mid now stops no_less also = causes_later why before mid now stops also
 
--- and one of the whole, behind the opening
+-- and one of the whole, after the opening
 pub stops_ends : (why : KeepFault) (fleet fleet_now before mid now : ℕ) → StopsService why fleet fleet_now mid now → before ≤ mid → EndsService why fleet fleet_now before now
 stops_ends Fleet fleet fleet_now before mid now stops no_less = stops
 stops_ends NoRoom fleet fleet_now before mid now stops no_less = tt
@@ -311,7 +311,7 @@ sat_items tells a b sits =
     let sat = sits.sits in
     ap (λ (t : Table _). t.items) sat.sits ∙ room_items (record a { coming = sits.coming }) sat.between sat.room
 
--- ---- turns, one behind the other
+-- ---- turns, one after the other
 
 -- turns bring what was held on by commands alone
 pub record Reached (before now : FencedHoldings) : Type 0 where

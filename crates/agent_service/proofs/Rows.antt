@@ -10,7 +10,7 @@ use Rattle.wan_edge.specs.declared.waited.Waited.{Waited}
 use Rattle.wan_edge.specs.declared.waited.Waited.TheVariants.{Came, NoMore, Seat}
 use Rattle.fenced_agent.specs.Agents.{FencedItems}
 use Rattle.agent_talks.specs.Serving.{GoesFurther}
-use Rattle.switch_agent.specs.Talks.{Talking, most, new_talk, room_of}
+use Rattle.switch_agent.specs.ReadStates.{ReadSoFar, most, new_read_state, room_of}
 use Rattle.agent_talks.specs.declared.heard.Heard.{Heard}
 use Rattle.switch_agent.specs.declared.serve_fault.ServeFault.{ServeFault}
 use Rattle.switch_agent.specs.declared.serve_fault.ServeFault.TheVariants.{Frame, Long, Memory, Read, Write}
@@ -33,16 +33,16 @@ length_removed [] n lt = absurd (omega (arith, lt))
 length_removed (x ∷ xs) zero lt = omega arith
 length_removed (x ∷ xs) (suc n) lt = omega (arith, length_removed xs n (omega (arith, lt)))
 
-rooms_push : (talks : List Talking) (talk : Talking) → rooms_of (talks ++ talk ∷ []) ≡ rooms_of talks + talk.room
+rooms_push : (talks : List ReadSoFar) (talk : ReadSoFar) → rooms_of (talks ++ talk ∷ []) ≡ rooms_of talks + talk.room
 rooms_push [] talk = omega arith
 rooms_push (t ∷ ts) talk = omega (arith, rooms_push ts talk)
 
-pub rooms_removed : (talks : List Talking) (n : ℕ) (talk : Talking) → n < length talks → talk ≡ slice_index_or talks n talk → rooms_of (remove talks n) + talk.room ≡ rooms_of talks
+pub rooms_removed : (talks : List ReadSoFar) (n : ℕ) (talk : ReadSoFar) → n < length talks → talk ≡ slice_index_or talks n talk → rooms_of (remove talks n) + talk.room ≡ rooms_of talks
 rooms_removed [] n talk lt is = absurd (omega (arith, lt))
-rooms_removed (t ∷ ts) zero talk lt is = omega (arith, ap (λ (one : Talking). one.room) is)
+rooms_removed (t ∷ ts) zero talk lt is = omega (arith, ap (λ (one : ReadSoFar). one.room) is)
 rooms_removed (t ∷ ts) (suc n) talk lt is = omega (arith, rooms_removed ts n talk (omega (arith, lt)) is)
 
-rooms_less : (talks : List Talking) (n : ℕ) → rooms_of (remove talks n) ≤ rooms_of talks
+rooms_less : (talks : List ReadSoFar) (n : ℕ) → rooms_of (remove talks n) ≤ rooms_of talks
 rooms_less [] zero = omega arith
 rooms_less [] (suc n) = omega arith
 rooms_less (t ∷ ts) zero = omega arith
@@ -71,7 +71,7 @@ pub turn_more : {G : Type 0} (tells : Tells G) (first a b : Table G) → TurnsSo
 turn_more tells first a b so_far next = record { course = so_far.course ++ b ∷ []; goes = TurnByTurn-more tells first a b so_far.course so_far.goes next }
 
 -- nobody sits at first
-pub nobody_seated : {G : Type 0} (items : FencedItems) (guests : List G) (talks : List Talking) (fleet : Guests G) → guests ≡ [] → talks ≡ [] → table_of items guests talks fleet nothing_counted ≡ first_table items fleet
+pub nobody_seated : {G : Type 0} (items : FencedItems) (guests : List G) (talks : List ReadSoFar) (fleet : Guests G) → guests ≡ [] → talks ≡ [] → table_of items guests talks fleet nothing_counted ≡ first_table items fleet
 nobody_seated items guests talks fleet none no_talks = λ i. table_of items (none i) (no_talks i) fleet nothing_counted
 
 -- ---- what stays within its bounds
@@ -94,7 +94,7 @@ pub record Lightens {G : Type 0} (a b : Table G) : Type 0 where
   pub one : b.count.guests ≤ a.count.guests + 1
   pub lighter : (asked : ℕ) → a.count.guests < asked → weight asked b < weight asked a
 
-pub nobody_even : {G : Type 0} (items : FencedItems) (guests : List G) (talks : List Talking) (fleet : Guests G) → guests ≡ [] → talks ≡ [] → IsEven (table_of items guests talks fleet nothing_counted)
+pub nobody_even : {G : Type 0} (items : FencedItems) (guests : List G) (talks : List ReadSoFar) (fleet : Guests G) → guests ≡ [] → talks ≡ [] → IsEven (table_of items guests talks fleet nothing_counted)
 nobody_even items guests talks fleet none no_talks = record {
   even = omega (arith, ap length none, ap length no_talks);
   few = omega (arith, ap length none);
@@ -141,8 +141,8 @@ frees a b even (inr loses) =
 sits_lighter : {G : Type 0} (a b c : Table G) (guest : G) → length a.guests ≤ most_seats → Frees a b → c ≡ with_seat b guest → Lightens a c
 sits_lighter a b c guest few freed is =
     let more = length_push b.guests guest in
-    let more_talks = length_push b.talks new_talk in
-    let rooms = rooms_push b.talks new_talk in
+    let more_talks = length_push b.talks new_read_state in
+    let rooms = rooms_push b.talks new_read_state in
     subst (λ (t : Table _). Lightens a t) (sym is) (record {
       keeps = record {
         even = omega (arith, freed.keeps.even, more, more_talks);
@@ -160,11 +160,11 @@ one_at_most None = omega arith
 one_at_most (Some fault) = omega arith
 
 -- what a read leaves of what may be read, besides its commands
-spent_by : (fault : Option ServeFault) (talk : Option Talking) (bytes rest : List ℕ) (room commands : ℕ) (left : Option (List ℕ)) → GoesFurther fault talk bytes rest (room - length bytes) left → length bytes ≤ room → 0 < room
+spent_by : (fault : Option ServeFault) (talk : Option ReadSoFar) (bytes rest : List ℕ) (room commands : ℕ) (left : Option (List ℕ)) → GoesFurther fault talk bytes rest (room - length bytes) left → length bytes ≤ room → 0 < room
     → commands ≤ length bytes → (commands + room_of talk ≤ room) × (room_of talk < room)
 spent_by None None bytes rest room commands left further within some few = (omega (arith, within, few), some)
 spent_by None (Some talk) bytes rest room commands left further within some few =
-    let is : talk.room ≡ room - length bytes = ap (λ (t : Talking). t.room) further.2 in
+    let is : talk.room ≡ room - length bytes = ap (λ (t : ReadSoFar). t.room) further.2 in
     (omega (arith, is, within, few), omega (arith, is, within, further.0))
 spent_by (Some (Frame fault)) talk bytes rest room commands left further within some few = (omega (arith, ap room_of further, within, few), omega (arith, ap room_of further, some))
 spent_by (Some Read) talk bytes rest room commands left further within some few = (omega (arith, ap room_of further.0, within, few), omega (arith, ap room_of further.0, some))
@@ -172,7 +172,7 @@ spent_by (Some Write) talk bytes rest room commands left further within some few
 spent_by (Some Long) talk bytes rest room commands left further within some few = (omega (arith, ap room_of further.0, within, few), omega (arith, ap room_of further.0, some))
 spent_by (Some Memory) talk bytes rest room commands left further within some few = (omega (arith, ap room_of further, within, few), omega (arith, ap room_of further, some))
 
-settled_lighter : {G : Type 0} (a : Table G) (place : ℕ) (items : FencedItems) (guest : G) (talk : Talking) (served : Served) (kept : Option Talking) → IsEven a → place < length a.guests → talk ≡ slice_index_or a.talks place talk
+settled_lighter : {G : Type 0} (a : Table G) (place : ℕ) (items : FencedItems) (guest : G) (talk : ReadSoFar) (served : Served) (kept : Option ReadSoFar) → IsEven a → place < length a.guests → talk ≡ slice_index_or a.talks place talk
     → served.commands + room_of kept ≤ talk.room → room_of kept < talk.room → Lightens a (settled a place items guest (record { served = served; talk = kept }))
 settled_lighter a place items guest talk served None even inside is spent less =
     let fewer = length_removed a.guests place inside in
@@ -247,35 +247,35 @@ seats_of table guest_places talk_places visiting asked even guests talks known m
   commands_more = omega (arith, even.bound, even.few, more, small);
 }
 
-pub seats_known : {G : Type 0} (guests : List G) (talks : List Talking) (count : Service) (guest_places talk_places visiting now : ℕ) → now ≡ visiting → HasSeats guests talks count guest_places talk_places visiting → HasSeats guests talks count guest_places talk_places now
+pub seats_known : {G : Type 0} (guests : List G) (talks : List ReadSoFar) (count : Service) (guest_places talk_places visiting now : ℕ) → now ≡ visiting → HasSeats guests talks count guest_places talk_places visiting → HasSeats guests talks count guest_places talk_places now
 seats_known guests talks count guest_places talk_places visiting now is seats = subst (λ (v : ℕ). HasSeats guests talks count guest_places talk_places v) (sym is) seats
 
 -- ---- the tables of a turn
 
 -- where a guest is that was read
-pub settled_is : {G : Type 0} (before : Table G) (place : ℕ) (items : FencedItems) (guest : G) (heard : Heard) (left guests : List G) (left_talks talks : List Talking) (coming : Option (List G)) (back : List G) (count : Service)
+pub settled_is : {G : Type 0} (before : Table G) (place : ℕ) (items : FencedItems) (guest : G) (heard : Heard) (left guests : List G) (left_talks talks : List ReadSoFar) (coming : Option (List G)) (back : List G) (count : Service)
     → left ≡ remove before.guests place → left_talks ≡ remove before.talks place → guests ≡ guests_behind left guest heard.talk → talks ≡ talks_behind left_talks heard.talk → coming ≡ before.coming
     → back ≡ back_behind before.back guest heard.talk → count ≡ count_behind before.count heard.served heard.talk → table_of items guests talks (record { coming = coming; served = back }) count ≡ settled before place items guest heard
 settled_is before place items guest heard left guests left_talks talks coming back count out out_talks guests_are talks_are coming_is back_is count_is =
     let all_guests = guests_are ∙ ap (λ (xs : List _). guests_behind xs guest heard.talk) out in
-    let all_talks = talks_are ∙ ap (λ (xs : List Talking). talks_behind xs heard.talk) out_talks in
+    let all_talks = talks_are ∙ ap (λ (xs : List ReadSoFar). talks_behind xs heard.talk) out_talks in
     λ i. record { items = items; guests = all_guests i; talks = all_talks i; coming = coming_is i; back = back_is i; count = count_is i }
 
 -- a guest that sat down
-pub seated_is : {G : Type 0} (between : Table G) (guest : G) (items : FencedItems) (guests : List G) (talks : List Talking) (coming : Option (List G)) (back : List G) (count : Service)
-    → items ≡ between.items → guests ≡ between.guests ++ guest ∷ [] → talks ≡ between.talks ++ new_talk ∷ [] → coming ≡ between.coming → back ≡ between.back → count ≡ between.count
+pub seated_is : {G : Type 0} (between : Table G) (guest : G) (items : FencedItems) (guests : List G) (talks : List ReadSoFar) (coming : Option (List G)) (back : List G) (count : Service)
+    → items ≡ between.items → guests ≡ between.guests ++ guest ∷ [] → talks ≡ between.talks ++ new_read_state ∷ [] → coming ≡ between.coming → back ≡ between.back → count ≡ between.count
     → table_of items guests talks (record { coming = coming; served = back }) count ≡ with_seat between guest
 seated_is between guest items guests talks coming back count items_are guests_are talks_are coming_is back_is count_is =
     λ i. record { items = items_are i; guests = guests_are i; talks = talks_are i; coming = coming_is i; back = back_is i; count = count_is i }
 
 -- a table in which nothing has changed but in name
-pub same_table : {G : Type 0} (items : FencedItems) (guests guests' : List G) (talks talks' : List Talking) (coming coming' : Option (List G)) (back back' : List G) (count : Service)
+pub same_table : {G : Type 0} (items : FencedItems) (guests guests' : List G) (talks talks' : List ReadSoFar) (coming coming' : Option (List G)) (back back' : List G) (count : Service)
     → guests' ≡ guests → talks' ≡ talks → coming' ≡ coming → back' ≡ back
     → table_of items guests' talks' (record { coming = coming'; served = back' }) count ≡ table_of items guests talks (record { coming = coming; served = back }) count
 same_table items guests guests' talks talks' coming coming' back back' count guests_are talks_are coming_is back_is =
     λ i. record { items = items; guests = guests_are i; talks = talks_are i; coming = coming_is i; back = back_is i; count = count }
 
--- what follows from behind a wait follows from before it
+-- what follows from after a wait follows from before it
 pub turn_waited : {G : Type 0} (tells : Tells G) (before waited now : Table G) (found : Option Service) → waited ≡ before → TakesTurn tells waited found now → TakesTurn tells before found now
 turn_waited tells before waited now found is turn = subst (λ (t : Table _). TakesTurn tells t found now) is turn
 

@@ -44,7 +44,7 @@ abbrev pub KeepsTurn : {G : Type 0} → Tells G → Table G → Option (Place ×
 KeepsTurn tells before (Some kept) now = Turns tells before (counted now kept.1)
 KeepsTurn tells before None now = (now ≡ before) × IfSome before.coming (λ later. (length later ≡ 0) × (length before.guests ≡ 0))
 
--- what is held behind a turn is on the disk, or nothing has changed there
+-- what is held after a turn is on the disk, or nothing has changed there
 abbrev pub IsKeptBehind : DiskTrace → Place → Option (Place × Service) → FencedHoldings → Type 0
 IsKeptBehind disk place (Some kept) held = IsOnDisk disk kept.0 held
 IsKeptBehind disk place None held = IsOnDisk disk place held
@@ -74,7 +74,7 @@ EndsService Fleet fleet fleet_now disk disk_now = Rose fleet fleet_now
 EndsService NoRoom fleet fleet_now disk disk_now = ⊤
 EndsService (State why) fleet fleet_now disk disk_now = RoseAtDisk why disk disk_now
 
--- From this on guests were served turn by turn, and behind that all that the agent holds is on the disk.
+-- From this on guests were served turn by turn, and after that all that the agent holds is on the disk.
 pub record KeepsFrom {D G : Type 0} (trace : D → DiskTrace) (tells : Tells G) (items : FencedItems) (new : D) (before now : Guests G) (asked : ℕ) (service : Service) : Type 0 where
   pub items_now : FencedItems
   pub serves : ServesFrom tells items before now asked items_now service

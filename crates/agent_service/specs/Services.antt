@@ -6,7 +6,7 @@ use Rattle.wan_edge.specs.Streams.{Rose, SinkTrace, SourceTrace}
 use Rattle.fenced_agent.specs.Agents.{FencedItems}
 use Rattle.switch_agent.specs.Items.{most_items}
 use Rattle.agent_talks.specs.Serving.{HearsGuest}
-use Rattle.switch_agent.specs.Talks.{Talking, new_talk}
+use Rattle.switch_agent.specs.ReadStates.{ReadSoFar, new_read_state}
 use Rattle.agent_talks.specs.declared.heard.Heard.{Heard}
 use Rattle.switch_agent.specs.declared.serve_fault.ServeFault.TheVariants.{Memory as NoRoom, Read, Write}
 use Rattle.switch_agent.specs.declared.serve_fault.Served.{Served}
@@ -33,12 +33,12 @@ pub record Guests (G : Type 0) : Type 0 where
 pub record Table (G : Type 0) : Type 0 where
   pub items : FencedItems
   pub guests : List G
-  pub talks : List Talking
+  pub talks : List ReadSoFar
   pub coming : Option (List G)
   pub back : List G
   pub count : Service
 
-abbrev pub table_of : {G : Type 0} → FencedItems → List G → List Talking → Guests G → Service → Table G
+abbrev pub table_of : {G : Type 0} → FencedItems → List G → List ReadSoFar → Guests G → Service → Table G
 table_of items guests talks fleet count = record { items = items; guests = guests; talks = talks; coming = fleet.coming; back = fleet.served; count = count }
 
 -- the same with another count
@@ -84,9 +84,9 @@ pub record LosesFirst {G : Type 0} (before now : Table G) : Type 0 where
 abbrev pub MakesRoom : {G : Type 0} → Table G → Table G → Type 0
 MakesRoom before now = ((length before.guests < most_seats) × (now ≡ before)) ⊎ LosesFirst before now
 
--- this guest sits behind all others, and nothing of it was read
+-- this guest sits after all others, and nothing of it was read
 abbrev pub with_seat : {G : Type 0} → Table G → G → Table G
-with_seat table guest = record table { guests = table.guests ++ guest ∷ []; talks = table.talks ++ new_talk ∷ [] }
+with_seat table guest = record table { guests = table.guests ++ guest ∷ []; talks = table.talks ++ new_read_state ∷ [] }
 
 -- A guest sat down where there was room, or room was made: only then does one leave that is silent.
 pub record SitsFrom {G : Type 0} (before : Table G) (guest : G) (now : Table G) : Type 0 where
@@ -101,22 +101,22 @@ pub record SitsDown {G : Type 0} (tells : Tells G) (before now : Table G) : Type
   pub given : GivesGuest tells.source tells.sink before.coming guest coming
   pub sits : SitsFrom (record before { coming = coming }) guest now
 
--- a guest that is read further sits behind all others then: it spoke last
-abbrev pub guests_behind : {G : Type 0} → List G → G → Option Talking → List G
+-- a guest that is read further sits after all others then: it spoke last
+abbrev pub guests_behind : {G : Type 0} → List G → G → Option ReadSoFar → List G
 guests_behind guests guest None = guests
 guests_behind guests guest (Some talk) = guests ++ guest ∷ []
 
-abbrev pub talks_behind : List Talking → Option Talking → List Talking
+abbrev pub talks_behind : List ReadSoFar → Option ReadSoFar → List ReadSoFar
 talks_behind talks None = talks
 talks_behind talks (Some talk) = talks ++ talk ∷ []
 
 -- one that isn't was given back
-abbrev pub back_behind : {G : Type 0} → List G → G → Option Talking → List G
+abbrev pub back_behind : {G : Type 0} → List G → G → Option ReadSoFar → List G
 back_behind back guest None = back ++ guest ∷ []
 back_behind back guest (Some talk) = back
 
 -- and counts then, while its commands count as they are carried out
-abbrev pub count_behind : Service → Served → Option Talking → Service
+abbrev pub count_behind : Service → Served → Option ReadSoFar → Service
 count_behind count served None = with_guest count served
 count_behind count served (Some talk) = with_commands count served.commands
 
@@ -137,7 +137,7 @@ settled table place items guest heard = record {
 pub record HearsOne {G : Type 0} (tells : Tells G) (before : Table G) (heard : Heard) (now : Table G) : Type 0 where
   pub place : ℕ
   pub guest : G
-  pub talk : Talking
+  pub talk : ReadSoFar
   pub sits : IsAt before.guests place guest
   pub kept : IsAt before.talks place talk
   pub some : 0 < talk.room
@@ -159,7 +159,7 @@ pub record HearsWell {G : Type 0} (tells : Tells G) (before now : Table G) : Typ
 abbrev pub Turns : {G : Type 0} → Tells G → Table G → Table G → Type 0
 Turns tells before now = SitsDown tells before now ⊎ HearsWell tells before now
 
--- one turn behind the other, each with what stands behind it
+-- one turn after the other, each with what stands after it
 abbrev pub TurnByTurn : {G : Type 0} → Tells G → Table G → List (Table G) → Table G → Type 0
 TurnByTurn tells before [] now = now ≡ before
 TurnByTurn tells before (table ∷ later) now = Turns tells before table × TurnByTurn tells table later now
@@ -185,7 +185,7 @@ EndsSo tells asked course end (Ok service) last =
 EndsSo tells asked course end (Err Fleet) last = (last ≡ end) × (end.count.guests < asked)
 EndsSo tells asked course end (Err Memory) last = ((length course ≡ 0) × (last ≡ end)) ⊎ WantsMemory tells asked end last
 
--- those given back, and these behind them, from the last on: a service that ends gives all back that sit
+-- those given back, and these after them, from the last on: a service that ends gives all back that sit
 abbrev pub after_leaving : {G : Type 0} → List G → List G → List G
 after_leaving back [] = back
 after_leaving back (guest ∷ guests) = after_leaving back guests ++ guest ∷ []
@@ -243,6 +243,6 @@ SeatsNext tells before None now = (now ≡ before) × IfSome before.coming (λ l
 -- ---- what a service keeps to
 
 -- how many bytes may still be read of all of these
-abbrev pub rooms_of : List Talking → ℕ
+abbrev pub rooms_of : List ReadSoFar → ℕ
 rooms_of [] = 0
 rooms_of (talk ∷ talks) = talk.room + rooms_of talks

@@ -20,7 +20,7 @@ use wan_edge::{Fleet, Waited};
 /// are carried out one by one in the order in which they were read, whoever sent them, under one floor: a term
 /// that one guest named holds for all others. A guest that isn't served to its end is
 /// refused, and what it brought about stays; so is the one that has said nothing for longest where another
-/// one comes and all seats are taken. Only want of memory ends the service, for an item or for the seats,
+/// one comes and all seats are taken. Only lack of memory ends the service, for an item or for the seats,
 /// and none for more items than a document within the limits has is asked for. Each guest is given back,
 /// at the end also those that still sit, which count no further.
 pub fn serve_guests<F: Fleet>(
@@ -329,7 +329,7 @@ fn hear<F: Fleet>(
     Ok(Some(now))
 }
 
-// Whether a read ended for want of memory for an item.
+// Whether a read ended for lack of memory for an item.
 pub(crate) fn wants_room(served: &Served) -> bool
     ensures yes { result ≡ true → served.now.fault ≡ Some fault.Memory }
     ensures no { result ≡ false → served.now.fault ≢ Some fault.Memory }

@@ -8,7 +8,7 @@ ghost use Rattle.fenced_agent.specs.Agents.{FencedHoldings, fenced_holding};
 ghost use Rattle.fenced_wire.specs.Reading.{all_kept};
 ghost use Rattle.agent_talks.specs.Serving.{CarriesOut, HearsBytes, HearsGuest, IsCutTermed};
 ghost use Rattle.switch_agent.specs.Serving.{IsOwnFault};
-ghost use Rattle.switch_agent.specs.Talks.{most};
+ghost use Rattle.switch_agent.specs.ReadStates.{most};
 ghost use Rattle.switch_agent.specs.declared.serve_fault.ServeFault.TheVariants as fault;
 ghost use Rattle.wan_edge.specs.Streams.{Appends, AppendsPart, IsAtEnd, KeepsTelling, Rose, SinkSteps};
 

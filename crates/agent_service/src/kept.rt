@@ -25,7 +25,7 @@ use wan_edge::{Fleet, Waited};
 
 /// Serves this many guests, or fewer where no more come, several at once as [`crate::serve_guests`] does, by
 /// an agent that holds what its file says, under the floor that its file says. What a read of commands changes is on
-/// the disk as one batch before its answers go out, and so is the floor that it raised; a crash at any moment leaves what was held before it or behind all of it.
+/// the disk as one batch before its answers go out, and so is the floor that it raised; a crash at any moment leaves what was held before it or after all of it.
 #[tactic(auto, using(crate::proofs::KeptRows::stops_ends))]
 pub fn keep_guests<F: Fleet, D: Disk>(
     alloc: Global,

@@ -10,7 +10,10 @@ use wan_edge::Fleet;
 
 /// An image is read as one thing alone: so what the next start holds is determined by what a crash has left.
 pub fn an_image_is_read_as_one_thing()
-    ensures { (image : List ℕ) (a b : FencedHoldings) → IsReadAs image a → IsReadAs image b → a ≡ b }
+    ensures { (image : List ℕ) (a b : FencedHoldings)
+        → IsReadAs image a
+        → IsReadAs image b
+        → a ≡ b }
 {}
 
 /// Whatever a crash leaves of an agent that held this, the next start holds what the rule of terms makes of it by

@@ -11,7 +11,7 @@ use wan_edge::{Failed, Fleet};
 /// How many guests sit at once at most.
 pub(crate) const MOST_SEATS: usize = 64;
 
-/// The next guest sits down behind all others, or no more come. Where all seats are taken, the guest that
+/// The next guest sits down after all others, or no more come. Where all seats are taken, the guest that
 /// has said nothing for longest leaves its own before.
 pub(crate) fn sit_down<F: Fleet>(
     fleet: &mut F,
@@ -60,7 +60,7 @@ pub(crate) fn sit_down<F: Fleet>(
     Ok(Some(now))
 }
 
-// A guest that came sits down behind all others.
+// A guest that came sits down after all others.
 fn seat<F: Fleet>(
     fleet: &mut F,
     seated: &mut Vec<F::Guest>,
@@ -184,7 +184,7 @@ fn lose_first<F: Fleet>(
     service.with_refused()
 }
 
-/// A guest that was read sits behind all others, where it is read further; else it is given back.
+/// A guest that was read sits after all others, where it is read further; else it is given back.
 pub(crate) fn settle<F: Fleet>(
     fleet: &mut F,
     seated: &mut Vec<F::Guest>,

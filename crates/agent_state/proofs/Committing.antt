@@ -17,7 +17,7 @@ use Rattle.agent_state.proofs.Heads.{long_image, part_apart, place_low, rest_rea
 use Rattle.agent_state.proofs.Reading.{Stands-more, length-body, length-longer, longer}
 
 module _ (home : Home) (gate : ℕ) (kept : List (List ℕ)) (image : List ℕ) (rest : IsAtRest home gate kept image) where
-  -- the front, the gate and what stands behind it
+  -- the front, the gate and what stands after it
   abbrev head : List ℕ
   head = rest.front ++ rest.mark ∷ []
 
@@ -27,7 +27,7 @@ module _ (home : Home) (gate : ℕ) (kept : List (List ℕ)) (image : List ℕ) 
   parted : drop home.start image ≡ head ++ rest.behind
   parted = rest.has.part ∙ sym (append_assoc rest.front (rest.mark ∷ []) rest.behind)
 
-  -- a write behind the gate leaves the file at rest, with the batches that it has
+  -- a write after the gate leaves the file at rest, with the batches that it has
   pub torn_rest : (n : ℕ) (new : List ℕ) → Torn (gate + 1) n image new → IsAtRest home gate kept new
   torn_rest n new torn =
       let long = long_image home rest.front (rest.mark ∷ rest.behind) image rest.has in
@@ -94,7 +94,7 @@ module _ (home : Home) (gate : ℕ) (kept : List (List ℕ)) (batch body : List 
         long = omega (arith, stage.long, torn.no_shorter);
       }
 
-  -- behind an open gate the batch counts, and the file is at rest behind it
+  -- after an open gate the batch counts, and the file is at rest after it
   pub opened_rest : stage.mark ≡ open_gate → IsAtRest home (gate + length body) (kept ++ batch ∷ []) image
   opened_rest is_open =
       let has = stage.has in
@@ -138,7 +138,7 @@ second_crash home gate kept batch body image c rest is_body torn =
     let stage = staged home gate kept image rest batch body is_body in
     stage_reads home gate kept batch body is_body c (torn_stage home gate kept batch body is_body (written (gate + 1) body image) stage c torn)
 
--- with both the file is at rest behind the new one
+-- with both the file is at rest after the new one
 pub both_done : (home : Home) (gate : ℕ) (kept : List (List ℕ)) (batch body image : List ℕ) → IsAtRest home gate kept image → IsBody batch body
     → IsAtRest home (gate + length body) (kept ++ batch ∷ []) (written gate (open_gate ∷ []) (written (gate + 1) body image))
 both_done home gate kept batch body image rest is_body =

@@ -60,7 +60,7 @@ part_apart home front rest rest_now image new at n has torn behind apart some pa
       part = part;
     }
 
--- a write in front of the part, behind the head
+-- a write in front of the part, after the head
 pub part_before : (home : Home) (front rest image new : List ℕ) (at n : ℕ) → HasPart home front rest image → Torn at n image new → 10 ≤ at → at + n ≤ home.start → HasPart home front rest new
 part_before home front rest image new at n has torn behind before =
     part_apart home front rest rest image new at n has torn (omega (arith, behind)) (inl (omega (arith, behind, place_low home.second))) has.some

@@ -114,7 +114,7 @@ module _ {D : Type 0} (trace : D → DiskTrace) where
       LeavesOnly-weaker trace old new (IsEither k.kept (batch ∷ [])) (λ c. IsReadAs c (fenced_holding items)) (says k.kept batch (k.rest, holds.1) few is)
       (λ c either. ⊎_elim (λ was. record { kept = k.kept; read = was; leaves = k.leaves }) (λ new. record { kept = batch ∷ []; read = new; leaves = after }) either)
 
--- where the file stands behind a batch
+-- where the file stands after a batch
 pub added : (told told_new : Option (List ℕ)) (left left_new : List ℕ → Type 0) (place next : Place) (before now : FencedHoldings) (stored : StoredBatch) (batch body : List ℕ)
     → home_of next ≡ home_of place → next.gate ≡ place.gate + length body
     → Holds (IsKept place before) told left → IsBatch stored batch → now ≡ with_batch before stored → IsBody batch body → KeepsTelling told told_new

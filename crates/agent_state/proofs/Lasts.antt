@@ -44,11 +44,11 @@ none_there [] place is = omega arith
 none_there (e ∷ es) zero is = absurd (cc is)
 none_there (e ∷ es) (suc place) is = omega (arith, none_there es place is)
 
--- behind the last item
+-- after the last item
 pub lasts-all : (items : Items) (place : ℕ) (before bytes : List ℕ) → slice_get items place ≡ None → AddsBytes (last_commands (take place items)) before bytes → AddsBytes (last_commands items) before bytes
 lasts-all items place before bytes none so_far = subst (λ (l : Items). AddsBytes (last_commands l) before bytes) (take_all place items (none_there items place none)) so_far
 
--- the floor, and they behind it
+-- the floor, and they after it
 pub last-whole : (f : FencedItems) (floor : ℕ) (items : Items) (first bytes : List ℕ) → floor ≡ f.floor → items ≡ f.items → floor < 2 ^ 32 → first ≡ fence_bytes (kept_floor floor) → AddsBytes (last_commands items) first bytes → IsBatch (last_batch f) bytes
 last-whole f floor items first bytes floor_is items_are small first_is adds =
     subst (λ (l : Items). IsBatch (record { floor = kept_floor f.floor; commands = last_commands l }) bytes) items_are

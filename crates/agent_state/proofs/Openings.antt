@@ -222,7 +222,7 @@ pub nothing_read : (image : List ℕ) (held : FencedHoldings) → IsBlank image 
 nothing_read image held few nothing = record { kept = []; read = blank_reads image few; leaves = nothing }
 
 module _ {D : Type 0} (trace : D → DiskTrace) where
-  -- reading, and then writes behind which the file is read as before
+  -- reading, and then writes after which the file is read as before
   pub then_alike : (told between : Option (List ℕ)) (old mid new : D) → IsQuiet trace old mid → (trace old).bytes ≡ told → (trace mid).bytes ≡ between → IfSome between (λ image. LeavesOnly trace mid new (ReadsAlike image))
       → IfSome told (λ image. LeavesOnly trace old new (λ c. (trace old).may_leave c ⊎ ReadsAlike image c))
   then_alike None between old mid new quiet was is run = tt

@@ -40,13 +40,13 @@ batches_fuel (suc f) (suc g) (gate ∷ rest) few also =
     ap (λ (l : List (List ℕ)). if (gate == open_gate) && nat_lt (4 + n) (length rest) then take n (drop 4 rest) ∷ l else [])
     (batches_fuel f g behind (omega (arith, few, length-drop (4 + n) rest)) (omega (arith, also, length-drop (4 + n) rest)))
 
--- none behind a closed gate
+-- none after a closed gate
 pub batches_closed : (mark : ℕ) (tail : List ℕ) → mark ≢ open_gate → batches_of (mark ∷ tail) ≡ []
 batches_closed mark tail closed =
     let shut : (mark == open_gate) ≡ false = grind (arith, nat_tests, closed) in
     rw shut refl
 
--- a batch that is whole, with a byte behind it, and then those behind
+-- a batch that is whole, with a byte after it, and then those after
 pub batches_step : (rest : List ℕ) → 4 + number_4 rest < length rest
     → batches_of (open_gate ∷ rest) ≡ take (number_4 rest) (drop 4 rest) ∷ batches_of (drop (4 + number_4 rest) rest)
 batches_step rest whole =
@@ -54,7 +54,7 @@ batches_step rest whole =
     let test : nat_lt (4 + number_4 rest) (length rest) ≡ true = lt-ltb _ _ whole in
     rw test (ap (λ (l : List (List ℕ)). take (number_4 rest) (drop 4 rest) ∷ l) (batches_fuel (length rest) (length behind) behind (omega (arith, length-drop (4 + number_4 rest) rest)) (omega arith)))
 
--- a batch that was written behind an open gate counts
+-- a batch that was written after an open gate counts
 pub batches_open : (batch tail : List ℕ) → length batch < 2 ^ 32 → 0 < length tail → batches_of (open_gate ∷ (batch_body batch ++ tail)) ≡ batch ∷ batches_of tail
 batches_open batch tail few some =
     let n = length batch in
@@ -86,7 +86,7 @@ length-longer front batch = omega (arith, length-append front (open_gate ∷ bat
 pub Stands-nothing : Stands [] []
 Stands-nothing = record { counts = λ tail some. refl }
 
--- a batch behind a front joins the front
+-- a batch after a front joins the front
 pub Stands-more : (front : List ℕ) (kept : List (List ℕ)) (batch : List ℕ) → Stands front kept → length batch < 2 ^ 32 → Stands (longer front batch) (kept ++ batch ∷ [])
 Stands-more front kept batch stands few = record {
   counts = λ tail some.
@@ -96,7 +96,7 @@ Stands-more front kept batch stands few = record {
       ∙ sym (append_assoc kept (batch ∷ []) (batches_of tail));
 }
 
--- what stands behind the front counts with what stands in it
+-- what stands after the front counts with what stands in it
 pub Stands-all : (front : List ℕ) (kept : List (List ℕ)) (mark : ℕ) (behind : List ℕ) → Stands front kept → mark ≢ open_gate → batches_of (front ++ (mark ∷ behind)) ≡ kept
 Stands-all front kept mark behind stands closed =
     stands.counts (mark ∷ behind) (omega arith) ∙ ap (λ (l : List (List ℕ)). kept ++ l) (batches_closed mark behind closed) ∙ append-nil kept

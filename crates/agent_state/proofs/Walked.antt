@@ -1,4 +1,4 @@
--- Batches that were read one behind the other, and the commands in them.
+-- Batches that were read one after the other, and the commands in them.
 use Rattle.std.proofs.Common.{◌≡◌, ◌==◌, ◌&&◌, nat_lt, if◌then◌else◌, Bool, true, false, ℕ, suc, ◌+◌, ◌-◌, ◌<◌, ◌≤◌, ◌^◌, List, [], ◌∷◌, ◌++◌, length, take, drop, replicate, Some, None, refl, sym, subst, ◌∙◌, ap, arith, length-append, length-drop}
 use Rattle.std.specs.List.{flat_map}
 use Rattle.std.specs.Int.{w32, from_be_bytes}
@@ -72,7 +72,7 @@ restores_plain a b bytes restores = record {
   holds = restores.holds;
 }
 
--- behind a floor
+-- after a floor
 pub restores_under : (a mid b : FencedHoldings) (floor : ℕ) (bytes behind : List ℕ) → HasFloor floor bytes → behind ≡ drop 5 bytes → mid ≡ record { floor = floor; held = a.held } → Restores mid b behind → RestoresBatch a b bytes
 restores_under a mid b floor bytes behind has behind_is mid_is restores = record {
   batch = record { floor = Some floor; commands = restores.commands };
@@ -100,7 +100,7 @@ number_4-front front tail long =
     ap (λ (l : List ℕ). from_be_bytes w32 (take 4 l)) (append_assoc front tail (replicate 4 0))
     ∙ ap (from_be_bytes w32) (take-append-le 4 front (tail ++ replicate 4 0) long ∙ sym (take-append-le 4 front (replicate 4 0) long))
 
--- a body as it stands behind an open gate
+-- a body as it stands after an open gate
 pub batches_raw : (body tail : List ℕ) (n : ℕ) → number_4 body ≡ n → length body ≡ 4 + n → 0 < length tail → batches_of (open_gate ∷ (body ++ tail)) ≡ drop 4 body ∷ batches_of tail
 batches_raw body tail n is long some =
     let number : number_4 (body ++ tail) ≡ n = number_4-front body tail (omega (arith, long)) ∙ is in
@@ -185,7 +185,7 @@ none_by true true size more is = absurd (cc is)
 none_by true false size more is = refl
 none_by false whole size more is = refl
 
--- no batch counts behind the last gate
+-- no batch counts after the last gate
 pub none_behind : (part : List ℕ) (gate : ℕ) → batch_at part gate ≡ None → batches_of (byte_at gate part ∷ drop (gate + 1) part) ≡ []
 none_behind part gate none =
     none_by (byte_at gate part == open_gate) (nat_lt (4 + number_4 (drop (gate + 1) part)) (length (drop (gate + 1) part))) (number_4 (drop (gate + 1) part)) _ none

@@ -1,4 +1,4 @@
--- The batches of a part of an agent's file. Each stands behind a gate: how many bytes it has, and these, and behind it the next gate.
+-- The batches of a part of an agent's file. Each stands after a gate: how many bytes it has, and these, and after it the next gate.
 use Rattle.std.specs.Prelude.{◌≡◌, ℕ, zero, suc, ◌+◌, ◌<◌, ◌^◌, ◌==◌, ◌&&◌, nat_lt, List, [], ◌∷◌, ◌++◌, length, take, drop, if◌then◌else◌}
 use Rattle.agent_state.specs.Numbers.{bytes_4, number_4}
 
@@ -6,7 +6,7 @@ use Rattle.agent_state.specs.Numbers.{bytes_4, number_4}
 abbrev pub open_gate : ℕ
 open_gate = 0x47
 
--- the batches from this gate on, up to the first gate that is closed or whose batch has no whole body with a byte behind it
+-- the batches from this gate on, up to the first gate that is closed or whose batch has no whole body with a byte after it
 abbrev pub batches : ℕ → List ℕ → List (List ℕ)
 batches zero bytes = []
 batches (suc fuel) [] = []
@@ -18,15 +18,15 @@ batches (suc fuel) (gate ∷ rest) =
 abbrev pub batches_of : List ℕ → List (List ℕ)
 batches_of bytes = batches (length bytes) bytes
 
--- the bytes of a batch behind its gate
+-- the bytes of a batch after its gate
 abbrev pub batch_body : List ℕ → List ℕ
 batch_body batch = bytes_4 (length batch) ++ batch
 
--- These bytes are those of a batch and of a closed gate behind it.
+-- These bytes are those of a batch and of a closed gate after it.
 pub record IsBody (batch body : List ℕ) : Type 0 where
   pub few : length batch < 2 ^ 32
   pub is : body ≡ batch_body batch ++ 0 ∷ []
 
--- Whatever stands behind this front of a part, these batches stand in it.
+-- Whatever stands after this front of a part, these batches stand in it.
 pub record Stands (front : List ℕ) (kept : List (List ℕ)) : Type 0 where
   pub counts : (tail : List ℕ) → 0 < length tail → batches_of (front ++ tail) ≡ kept ++ batches_of tail

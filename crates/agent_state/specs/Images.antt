@@ -1,5 +1,5 @@
 -- What the bytes of an agent's file are read as. At its head stand the kind of the file, a byte that says which of two numbers names the live part, and these
--- numbers; behind the head stand parts.
+-- numbers; after the head stand parts.
 use Rattle.std.specs.Prelude.{ℕ, ◌==◌, ◌&&◌, nat_le, nat_lt, Bool, List, [], ◌∷◌, length, drop, Option, Some, None, if◌then◌else◌}
 use Rattle.agent_state.specs.Batches.{batches_of}
 use Rattle.agent_state.specs.Numbers.{byte_at, number_4}
@@ -15,7 +15,7 @@ first_start = 10
 abbrev pub made_length : ℕ
 made_length = 11
 
--- the bytes of such a file: both numbers name the part behind the head, in which a closed gate stands
+-- the bytes of such a file: both numbers name the part after the head, in which a closed gate stands
 abbrev pub made : List ℕ
 made = state_kind ∷ 0 ∷ 0 ∷ 0 ∷ 0 ∷ 10 ∷ 0 ∷ 0 ∷ 0 ∷ 10 ∷ 0 ∷ []
 
@@ -34,7 +34,7 @@ start_at second image = number_4 (drop (number_place second) image)
 abbrev pub live_start : List ℕ → ℕ
 live_start image = start_at (is_second image) image
 
--- whether the image is an agent's: it has the kind, and its live part starts behind the head and within it
+-- whether the image is an agent's: it has the kind, and its live part starts after the head and within it
 abbrev pub is_state : List ℕ → Bool
 is_state image = (byte_at 0 image == state_kind) && (nat_le first_start (live_start image) && nat_lt (live_start image) (length image))
 

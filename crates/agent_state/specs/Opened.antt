@@ -12,7 +12,7 @@ use Rattle.agent_state.specs.declared.fault.StateFault.{StateFault}
 use Rattle.agent_state.specs.declared.fault.StateFault.TheVariants.{Damaged, Disk, Memory, NotState}
 use Rattle.agent_state.specs.declared.place.Place.{Place}
 
--- how many bytes the batch behind a gate has, where the gate is open, the batch is whole and a byte stands behind it
+-- how many bytes the batch after a gate has, where the gate is open, the batch is whole and a byte stands after it
 abbrev pub batch_at : List ℕ → ℕ → Option ℕ
 batch_at bytes gate =
     if (byte_at gate bytes == open_gate) && nat_lt (4 + number_4 (drop (gate + 1) bytes)) (length (drop (gate + 1) bytes))
@@ -57,7 +57,7 @@ pub record HasLive (place : Place) (image : List ℕ) : Type 0 where
   pub low : first_start ≤ place.start
   pub within : place.start < length image
 
--- The image was read: at this place the last batch ends, and behind it no other counts, though its gate may be open, which is said too.
+-- The image was read: at this place the last batch ends, and after it no other counts, though its gate may be open, which is said too.
 pub record IsFound (place : Place) (cut : Bool) (held : FencedHoldings) (image : List ℕ) : Type 0 where
   pub front : List ℕ
   pub mark : ℕ

@@ -12,7 +12,7 @@ other_of second = not second
 abbrev pub side_byte : Bool → ℕ
 side_byte second = if second then 0 else 1
 
--- the home of the new part, and the gate behind its batch
+-- the home of the new part, and the gate after its batch
 abbrev pub new_home : Home → ℕ → Home
 new_home home to = record { second = other_of home.second; start = to }
 

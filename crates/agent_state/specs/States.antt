@@ -19,7 +19,7 @@ pub record HasPart (home : Home) (front rest image : List ℕ) : Type 0 where
   pub some : 0 < length rest
   pub part : drop home.start image ≡ front ++ rest
 
--- At this gate the live part ends: it is closed, and behind it stands anything. In front of it stand these batches.
+-- At this gate the live part ends: it is closed, and after it stands anything. In front of it stand these batches.
 pub record IsAtRest (home : Home) (gate : ℕ) (kept : List (List ℕ)) (image : List ℕ) : Type 0 where
   pub front : List ℕ
   pub mark : ℕ
@@ -30,7 +30,7 @@ pub record IsAtRest (home : Home) (gate : ℕ) (kept : List (List ℕ)) (image :
   pub at : gate ≡ home.start + length front
   pub short : length image ≤ made_length → kept ≡ []
 
--- A batch and a closed gate were written behind this gate, which may be anything.
+-- A batch and a closed gate were written after this gate, which may be anything.
 pub record IsStaged (home : Home) (gate : ℕ) (kept : List (List ℕ)) (batch image : List ℕ) : Type 0 where
   pub front : List ℕ
   pub mark : ℕ

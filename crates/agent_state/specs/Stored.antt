@@ -1,5 +1,5 @@
 -- What an agent's file keeps: a row of batches, each with the floor that it raised, where it did, and a row of the commands that changed something, and what
--- is held behind them.
+-- is held after them.
 use Rattle.std.specs.Prelude.{◌≡◌, ◌⊎◌, ℕ, ◌+◌, ◌<◌, ◌≤◌, ◌^◌, ◌==◌, List, [], ◌∷◌, ◌++◌, All, Option, Some, None, if◌then◌else◌}
 use Rattle.std.specs.List.{flat_map}
 use Rattle.rollout_rules.specs.Agent.{is_next_command}
@@ -39,7 +39,7 @@ last_commands (e ∷ es) = last_of e.0 e.1 ++ last_commands es
 
 -- ---- what is stored
 
--- the bytes are those of these commands, one behind the other
+-- the bytes are those of these commands, one after the other
 pub record AreBytes (commands : List CommandFrame) (bytes : List ℕ) : Type 0 where
   pub fit : All IsCommand commands
   pub is : bytes ≡ flat_map command_bytes commands
@@ -55,7 +55,7 @@ pub record StoredBatch : Type 0 where
   pub floor : Option ℕ
   pub commands : List CommandFrame
 
--- The bytes are those of a batch: its floor, as it stands in front of a frame, and its commands behind it.
+-- The bytes are those of a batch: its floor, as it stands in front of a frame, and its commands after it.
 pub record IsBatch (batch : StoredBatch) (bytes : List ℕ) : Type 0 where
   pub in_floor : term_of batch.floor < 2 ^ 32
   pub behind : List ℕ
@@ -70,7 +70,7 @@ floor_behind (Some raised) floor = raised
 abbrev pub with_commands : FencedHoldings → List CommandFrame → FencedHoldings
 with_commands held commands = record { floor = held.floor; held = with_all held.held commands }
 
--- behind a batch
+-- after a batch
 abbrev pub with_batch : FencedHoldings → StoredBatch → FencedHoldings
 with_batch held batch = record { floor = floor_behind batch.floor held.floor; held = with_all held.held batch.commands }
 
@@ -112,11 +112,11 @@ pub record IsKept (place : Place) (held : FencedHoldings) (image : List ℕ) : T
   pub rest : IsAtRest (home_of place) place.gate kept image
   pub leaves : Leaves nothing_yet kept held
 
--- the bytes of a part with this one batch, behind which stands a closed gate
+-- the bytes of a part with this one batch, after which stands a closed gate
 abbrev pub part_bytes : List ℕ → List ℕ
 part_bytes batch = open_gate ∷ (batch_body batch ++ 0 ∷ [])
 
--- A part of so many bytes fits there, behind the head and aside of the live part.
+-- A part of so many bytes fits there, after the head and aside of the live part.
 pub record IsAside (place : Place) (to n : ℕ) : Type 0 where
   pub low : first_start ≤ to
   pub apart : (to + n ≤ place.start) ⊎ (place.gate + 1 ≤ to)

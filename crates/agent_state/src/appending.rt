@@ -8,10 +8,10 @@ ghost use Rattle.wan_edge.specs.Streams.{KeepsTelling, Rose};
 use disk_model::{Disk, put};
 use wan_edge::Failed;
 
-// A gate behind which a batch stands.
+// A gate after which a batch stands.
 const OPEN_GATE: u8 = 0x47;
 
-/// Puts a batch behind a closed gate, with a closed gate behind it, and then opens the gate. A crash at
+/// Puts a batch after a closed gate, with a closed gate after it, and then opens the gate. A crash at
 /// any moment leaves the batches that there were, or these with the new one; after `Ok` it is there.
 pub(crate) fn commit<D: Disk>(disk: &mut D, gate: u64, body: &[u8]) -> Result<(), Failed>
     requires { gate < 2 ^ 63 }

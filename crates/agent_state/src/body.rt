@@ -1,4 +1,4 @@
-//! The bytes of a batch behind its gate, and of a part with one batch.
+//! The bytes of a batch after its gate, and of a part with one batch.
 ghost use Rattle.std.specs.Prelude.{◌≡◌, ◌<◌, ◌^◌, ◌∷◌, ◌++◌, [], length, IfOk};
 ghost use Rattle.agent_state.specs.Batches.{batch_body};
 ghost use Rattle.agent_state.specs.Numbers.{bytes_4};
@@ -12,7 +12,7 @@ const OPEN_GATE: u8 = 0x47;
 // How many bytes a batch has at most.
 const MOST_BATCH: usize = 1_000_000_000;
 
-/// A batch and a closed gate behind it.
+/// A batch and a closed gate after it.
 #[tactic(auto, unfolding(crate::specs::Numbers::bytes_4))]
 pub(crate) fn body_of(alloc: Global, batch: &[u8]) -> Result<Vec<u8>, Memory>
     ensures few { IfOk result (λ _. length batch.now < 2 ^ 32) }
@@ -28,7 +28,7 @@ pub(crate) fn body_of(alloc: Global, batch: &[u8]) -> Result<Vec<u8>, Memory>
     Ok(body)
 }
 
-/// A part with this one batch, and a closed gate behind it.
+/// A part with this one batch, and a closed gate after it.
 pub(crate) fn part_of(alloc: Global, batch: &[u8]) -> Result<Vec<u8>, Memory>
     ensures few { IfOk result (λ _. length batch.now < 2 ^ 32) }
     ensures is { IfOk result (λ part. part.items ≡ part_bytes batch.now) }

@@ -29,8 +29,8 @@ const SLACK: u64 = 4_096;
 /// Adds a batch to an agent's file that is at rest at this place: the floor, as [`fenced_wire::write_fence`]
 /// writes it, where it was raised, and the commands that were carried out and changed something, in order. The
 /// agent holds what they left. A crash at any moment leaves a file
-/// that is read as what was held before the batch or behind all of it; after `Ok` it is read as what is
-/// held behind it. A file that has grown to twice what was held when it was written anew is written anew.
+/// that is read as what was held before the batch or after all of it; after `Ok` it is read as what is
+/// held after it. A file that has grown to twice what was held when it was written anew is written anew.
 #[tactic(auto, using(crate::proofs::Quiet::causes_later))]
 pub fn append<D: Disk>(
     alloc: Global,
@@ -65,7 +65,7 @@ pub fn append<D: Disk>(
     Ok(anew)
 }
 
-// Adds a batch behind the last gate.
+// Adds a batch after the last gate.
 fn add<D: Disk>(
     alloc: Global,
     disk: &mut D,

@@ -54,7 +54,8 @@ fn add_lasts(bytes: &mut Vec<u8>, agent: &Agent) -> Result<(), Memory>
 fn add_last(bytes: &mut Vec<u8>, item: u32, last: &Option<(u32, Command)>) -> Result<(), Memory>
     ensures bytes { OnOk result
         (bytes.new.items ≡ bytes.old.items ++ flat_map command_bytes (last_of item last.now)) }
-    ensures fit { AreBytes (last_of item last.now) (flat_map command_bytes (last_of item last.now)) }
+    ensures fit { AreBytes (last_of item last.now)
+        (flat_map command_bytes (last_of item last.now)) }
 {
     match last {
         Some((migration, command)) => add_command(bytes, *migration, &of_item(item, command)),

@@ -3,7 +3,7 @@
 //!
 //! An agent that answers a command promises to hold it from then on, and to hear no controller of a lower term. So
 //! it adds what a read of commands changed to its file first, as one batch ([`append`]), and a start reads the file back into an agent
-//! ([`open_state`]). A crash at any moment leaves a file that is read as what was held before a batch or behind
+//! ([`open_state`]). A crash at any moment leaves a file that is read as what was held before a batch or after
 //! all of it, and a file that has grown to twice what was held when it was written anew is written anew:
 //! beside what stands, which counts until the new part is whole.
 //!

@@ -1,5 +1,5 @@
 /// Where the live part of an agent's file stands: which number of the head names it, where it starts, the
-/// closed gate behind its last batch, and how long it was when it was written anew.
+/// closed gate after its last batch, and how long it was when it was written anew.
 #[derive(Clone, Copy, Debug, PartialEq, Eq)]
 pub struct Place {
     pub second: bool,

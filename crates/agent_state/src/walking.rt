@@ -14,7 +14,7 @@ use wire_frames::{Command, CommandReader};
 
 const OPEN_GATE: u8 = 0x47;
 
-/// Puts each batch of a part into an agent that holds nothing, and finds the gate behind them.
+/// Puts each batch of a part into an agent that holds nothing, and finds the gate after them.
 pub(crate) fn walk(part: &[u8], agent: &mut FencedAgent) -> Result<usize, StateFault>
     requires some { 0 < length part.now }
     requires nothing { fenced_holding agent.old ≡ nothing_yet }
@@ -35,7 +35,7 @@ pub(crate) fn walk(part: &[u8], agent: &mut FencedAgent) -> Result<usize, StateF
     Ok(gate)
 }
 
-// How many bytes the batch behind a gate has, where the gate is open and the batch whole.
+// How many bytes the batch after a gate has, where the gate is open and the batch whole.
 fn batch_at(part: &[u8], gate: usize) -> Option<usize>
     requires { gate < length part.now }
     ensures size { result ≡ opened.batch_at part.now gate }

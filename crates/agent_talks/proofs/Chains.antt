@@ -154,7 +154,7 @@ ends_with_more Memory P Q items rest more a c xs own ends = (
   ends.1,
 )
 
--- a serving that ended in a fault of its own, with more bytes behind it
+-- a serving that ended in a fault of its own, with more bytes after it
 pub carried_with_more : (a b : FencedItems) (bytes more : List ℕ) (n : ℕ) (fault : ServeFault) (P Q : List ℕ → Type 0) (w w' : Option (List ℕ)) → IsOwnFault fault
     → CarriesOut a b bytes (record { commands = n; fault = Some fault }) P w w' → CarriesOut a b (bytes ++ more) (record { commands = n; fault = Some fault }) Q w w'
 carried_with_more a b bytes more n fault P Q w w' own carried = record {

@@ -7,7 +7,7 @@ use Rattle.wan_edge.specs.Streams.{Appends, FailsToRead, IsAtEnd, Reads, SinkTra
 use Rattle.wan_edge.proofs.Chains.{Appends-nothing, TakesFrom-nothing}
 use Rattle.wire_frames.specs.declared.fault.FrameFault.{FrameFault}
 use Rattle.switch_agent.specs.Serving.{IsOwnFault}
-use Rattle.switch_agent.specs.Talks.{Talking}
+use Rattle.switch_agent.specs.ReadStates.{ReadSoFar}
 use Rattle.switch_agent.specs.declared.serve_fault.ServeFault.{ServeFault}
 use Rattle.switch_agent.specs.declared.serve_fault.ServeFault.TheVariants.{Frame, Long, Memory, Read, Write}
 use Rattle.switch_agent.specs.declared.serve_fault.Served.{Served}
@@ -23,7 +23,7 @@ no_bytes (x ∷ xs) none = absurd (omega (arith, none))
 
 -- ---- what came of it
 
--- a serving with another end, where what stands behind its commands allows it
+-- a serving with another end, where what stands after its commands allows it
 recast : (a b : FencedItems) (bytes : List ℕ) (commands : ℕ) (fault fault_now : Option ServeFault) (P Q : List ℕ → Type 0) (w w' : Option (List ℕ))
     → ((rest xs : List ℕ) → Ends fault P b rest w xs w' → Ends fault_now Q b rest w xs w') → CarriesOut a b bytes (record { commands = commands; fault = fault }) P w w'
     → CarriesOut a b bytes (record { commands = commands; fault = fault_now }) Q w w'
@@ -41,7 +41,7 @@ some_left : (n : ℕ) → (n == 0) ≡ false → 0 < n
 some_left zero isnt = absurd (true≢false isnt)
 some_left (suc n) isnt = omega arith
 
-abbrev pub talk_of : List ℕ → ℕ → Talking
+abbrev pub talk_of : List ℕ → ℕ → ReadSoFar
 talk_of kept room = record { kept = kept; room = room }
 
 module _ (a b : FencedItems) (kept piece kept_now : List ℕ) (room : ℕ) (left w w' : Option (List ℕ)) where
@@ -143,20 +143,20 @@ was_write commands (Some fault) kept room is = is
 -- ---- one read of a guest
 
 -- bytes came, or its end
-pub guest_heard : (a b : FencedItems) (talk : Talking) (kept : List ℕ) (room n : ℕ) (buffer : List ℕ) (source mid now : SourceTrace) (heard : Heard) (sink mid_sink : SinkTrace) (w' : Option (List ℕ))
+pub guest_heard : (a b : FencedItems) (talk : ReadSoFar) (kept : List ℕ) (room n : ℕ) (buffer : List ℕ) (source mid now : SourceTrace) (heard : Heard) (sink mid_sink : SinkTrace) (w' : Option (List ℕ))
     → kept ≡ talk.kept → room ≡ talk.room → now ≡ mid → mid_sink ≡ sink → Reads n buffer source mid → n ≤ room → n ≤ length buffer
     → HearsBytes a b (talk_of kept room) (take n buffer) heard mid.left mid_sink.written w' → HearsGuest a b talk source now heard sink.written w'
 guest_heard a b talk kept room n buffer source mid now heard sink mid_sink w' kept_is room_is unread unwritten reads few inside hears = record {
   bytes = take n buffer;
   takes = subst (λ (s : SourceTrace). Takes (take n buffer) source s) (sym unread) reads.takes;
   within = omega (arith, length-take-le n buffer inside, few, room_is);
-  hears = subst (λ (t : Talking). HearsBytes a b t (take n buffer) heard now.left sink.written w') (ap₂ talk_of kept_is room_is)
+  hears = subst (λ (t : ReadSoFar). HearsBytes a b t (take n buffer) heard now.left sink.written w') (ap₂ talk_of kept_is room_is)
       (subst (λ (s : SourceTrace). HearsBytes a b (talk_of kept room) (take n buffer) heard s.left sink.written w') (sym unread)
       (subst (λ (s : SinkTrace). HearsBytes a b (talk_of kept room) (take n buffer) heard mid.left s.written w') unwritten hears));
 }
 
 -- the read failed
-pub guest_failed : (items : FencedItems) (talk : Talking) (kept : List ℕ) (source now : SourceTrace) (heard : Heard) (sink sink_now : SinkTrace)
+pub guest_failed : (items : FencedItems) (talk : ReadSoFar) (kept : List ℕ) (source now : SourceTrace) (heard : Heard) (sink sink_now : SinkTrace)
     → kept ≡ talk.kept → IsCutTermed kept → sink_now ≡ sink → FailsToRead source now → heard ≡ record { served = record { commands = 0; fault = Some Read }; talk = None }
     → HearsGuest items items talk source now heard sink.written sink_now.written
 guest_failed items talk kept source now heard sink sink_now kept_is cut unwritten failed is =

@@ -44,7 +44,7 @@ plain_asked : (held : Holdings) (cs : List CommandFrame) (item : ℕ) → asked 
 plain_asked held [] item = refl
 plain_asked held (c ∷ cs) item = ap (λ (b : Bool). item == c.1.item || b) (plain_asked (after_command held c) cs item)
 
--- ---- what stands behind them
+-- ---- what stands after them
 
 other_first : (term : ℕ) (rest more : List ℕ) → rest ≡ fence_bytes (Some term) ++ more → slice_index rest 0 ≢ fence_kind → ⊥
 other_first term rest more parts other = other (ap (λ (xs : List ℕ). slice_index xs 0) parts)

@@ -34,7 +34,7 @@ none_carried items before piece n found now written is read =
     let on : GoesOn before piece n now = subst (λ (f : Option TermedCommand). ReadsTermed before piece (Ok (n, f)) now) is read in
     nothing_carried items (all_kept before ++ take n piece) None (λ rest. rest ≡ all_kept now) written (sym on.longer, appends_nothing written)
 
--- behind a whole command nothing is kept
+-- after a whole command nothing is kept
 pub ends_cut : (before : Termed) (piece : List ℕ) (n : ℕ) (found : Option TermedCommand) (c : TermedCommand) (now : Termed) → found ≡ Some c → ReadsTermed before piece (Ok (n, found)) now → IsCutTermed (all_kept now)
 ends_cut before piece n found c now is read =
     let ends : EndsCommand before piece n c now = subst (λ (f : Option TermedCommand). ReadsTermed before piece (Ok (n, f)) now) is read in
@@ -46,7 +46,7 @@ pub fault_carried : (items : FencedItems) (kept piece : List ℕ) (fault : Frame
 fault_carried items kept piece fault P written at_byte =
     nothing_carried items (kept ++ take (length piece) piece) (Some (Frame fault)) P written (subst (λ (xs : List ℕ). IsTermedFault (kept ++ xs) fault) (sym (take_all (length piece) piece (omega arith))) at_byte, appends_nothing written)
 
--- a command that wasn't carried out, for want of memory
+-- a command that wasn't carried out, for lack of memory
 pub no_room : (a b : FencedItems) (c : TermedCommand) (written : Option (List ℕ)) → IsTermedCommand c → b ≡ a → seen a.items c.command.1.item ≡ false → a.floor ≤ term_of c.term
     → CarriesOut a b (termed_bytes c) (record { commands = 0; fault = Some Memory }) (λ rest. rest ≡ []) written written
 no_room a b c written fits same unseen above = record {

@@ -1,7 +1,7 @@
 -- What is kept between two reads of a guest whose commands may name a term.
 use Rattle.std.specs.Prelude.{ℕ, ◌<◌, ◌≤◌, IsTrue}
 use Rattle.wan_edge.specs.Frames.{IsCut}
-use Rattle.switch_agent.specs.Talks.{most}
+use Rattle.switch_agent.specs.ReadStates.{most}
 use Rattle.fenced_agent.specs.Frames.{IsTermedCommand, termed_bytes}
 use Rattle.fenced_wire.specs.Reading.{Termed, all_kept}
 

@@ -1,7 +1,7 @@
 ghost use Rattle.std.specs.Prelude.{◌≡◌, ◌≤◌, None, IsTrue};
 ghost use Rattle.agent_talks.specs.Serving.{IsCutTermed, heard_by};
 ghost use Rattle.fenced_wire.specs.Reading.{all_kept};
-ghost use Rattle.switch_agent.specs.Talks.{most};
+ghost use Rattle.switch_agent.specs.ReadStates.{most};
 
 use crate::Talk;
 use fenced_wire::TermedReader;
@@ -24,7 +24,7 @@ impl Heard {
         Heard { served, talk: None }
     }
 
-    /// Behind a read by which this was carried out: the guest is read further where there was no fault, and
+    /// After a read by which this was carried out: the guest is read further where there was no fault, and
     /// more may be read of it.
     pub fn behind(served: Served, reader: TermedReader, room: usize) -> Self
         requires live { served.fault ≡ None → IsTrue reader.live }
@@ -43,7 +43,7 @@ impl Heard {
         }
     }
 
-    // Behind a read without a fault.
+    // After a read without a fault.
     fn on(commands: u64, reader: TermedReader, room: usize) -> Self
         requires live { IsTrue reader.live }
         requires cut { IsCutTermed (all_kept reader) }

@@ -2,7 +2,7 @@
 ghost use Rattle.std.specs.Prelude.{◌≡◌, ◌≢◌, ◌<◌, ◌≤◌, length, Some, IsTrue};
 ghost use Rattle.agent_talks.specs.Serving.{HearsBytes, HearsGuest, IsCutTermed};
 ghost use Rattle.fenced_wire.specs.Reading.{all_kept};
-ghost use Rattle.switch_agent.specs.Talks.{most};
+ghost use Rattle.switch_agent.specs.ReadStates.{most};
 ghost use Rattle.switch_agent.specs.declared.serve_fault.ServeFault.TheVariants as fault;
 ghost use Rattle.wan_edge.specs.Streams.{IsAtEnd, Rose};
 

@@ -8,7 +8,7 @@ ghost use Rattle.switch_agent.specs.Serving.{CarriesOut};
 ghost use Rattle.switch_agent.specs.declared.serve_fault.Served.{Served};
 ghost use Rattle.wan_edge.specs.Frames.{CommandFrame, IsCutCommand};
 
-/// Where no term was heard, and none of the commands that were carried out names one, nor what stands behind
+/// Where no term was heard, and none of the commands that were carried out names one, nor what stands after
 /// them begins with one, all is as it is by the agent rule without terms: what was carried out, what is held,
 /// what was answered, and why it ended. The floor stays 0.
 pub fn without_terms_a_read_is_the_plain_one()

@@ -28,7 +28,7 @@ impl Reply {
     }
 }
 
-/// Carries a command out by the rule of terms, and gives the answer to it. Want of memory changes nothing;
+/// Carries a command out by the rule of terms, and gives the answer to it. Lack of memory changes nothing;
 /// there is none for an item that was seen before, and none below the floor.
 pub fn carry_out(agent: &mut FencedAgent, frame: &TermedFrame) -> Result<Reply, Memory>
     ensures applied { OnOk result

@@ -1,7 +1,7 @@
 ghost use Rattle.std.specs.Prelude.{◌≡◌, ◌<◌, ◌≤◌, IsTrue};
 ghost use Rattle.agent_talks.specs.Serving.{IsCutTermed};
 ghost use Rattle.fenced_wire.specs.Reading.{all_kept};
-ghost use Rattle.switch_agent.specs.Talks.{most, new_talk};
+ghost use Rattle.switch_agent.specs.ReadStates.{most, new_read_state};
 
 use fenced_wire::TermedReader;
 use std::marker::Model;
@@ -20,9 +20,9 @@ pub struct Talk {
 impl Model for Talk {
     ghost use Rattle.agent_talks.specs.Talks.{IsTalk};
     ghost use Rattle.fenced_wire.specs.Reading.{all_kept};
-    ghost use Rattle.switch_agent.specs.Talks.{Talking};
+    ghost use Rattle.switch_agent.specs.ReadStates.{ReadSoFar};
 
-    ghost Value = { Talking };
+    ghost Value = { ReadSoFar };
 
     ghost view = { λ t. record { kept = all_kept t.reader; room = t.room } };
 
@@ -32,7 +32,7 @@ impl Model for Talk {
 impl Talk {
     /// With a guest of which nothing was read.
     pub fn new() -> Self
-        ensures { result ≡ new_talk }
+        ensures { result ≡ new_read_state }
     {
         let reader = TermedReader::new();
         Talk { reader, room: MOST }

@@ -5,7 +5,7 @@ use Rattle.turn_lock.specs.declared.counted.Counted.{Ghosts}
 use Rattle.turn_lock.specs.declared.lock.TurnLock.{TurnLock}
 use Rattle.turn_lock.specs.declared.pass.Pass.{Pass}
 use Rattle.turn_lock.specs.Passes.{IsPassOf, IsSamePass, out_of, seat_of_pass}
-use Rattle.shared_history.specs.declared.note.Written.{Written}
+use Rattle.shared_book.specs.declared.note.Written.{Written}
 use Rattle.shared_book.specs.Calls.{IsCounted}
 
 -- every answer counts as heard, since no port is asked
@@ -17,7 +17,7 @@ module _ {V : Type 0} {C : Ghosts V Written} where
   abbrev pub MayCall : TurnLock V Written → ℕ → Pass V Written C → ℕ → Type 0
   MayCall lock seats pass calls = IsPassOf lock pass × IsCounted calls pass × (seat_of_pass pass < seats)
 
-  -- behind its calls the seat's pass is this one, with so many calls
+  -- after its calls the seat's pass is this one, with so many calls
   abbrev pub HasCalled : TurnLock V Written → Pass V Written C → Pass V Written C → ℕ → Type 0
   HasCalled lock before after calls = IsPassOf lock after × IsCounted calls after × IsSamePass before after
 

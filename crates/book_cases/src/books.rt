@@ -48,7 +48,7 @@ pub fn disk_of(alloc: Global, fails: &[u64]) -> Result<MemoryDisk, Memory> {
 }
 
 /// The plan of a document. Fails where the document or its plan is refused.
-pub fn planned(alloc: Global, text: &str) -> Result<CheckedPlan, Fail> {
+pub fn plan_of_document(alloc: Global, text: &str) -> Result<CheckedPlan, Fail> {
     let document = read_document(alloc, text.as_bytes())?;
     match check_plan(alloc, &document.problem, &document.plan) {
         Ok(()) => Ok(CheckedPlan::seal(document.problem, document.plan)),
@@ -63,7 +63,7 @@ pub fn planned(alloc: Global, text: &str) -> Result<CheckedPlan, Fail> {
 pub fn graph_of(alloc: Global, text: &str) -> Result<Graph, Fail>
     ensures { IfOk result (λ graph. graph.history ≡ from_nothing graph.rollout.problem []) }
 {
-    match Graph::new(alloc, planned(alloc, text)?) {
+    match Graph::new(alloc, plan_of_document(alloc, text)?) {
         Ok(graph) => Ok(graph),
         Err(plan) => {
             drop(plan);
@@ -78,7 +78,7 @@ pub fn digest() -> Digest {
 }
 
 /// The book of a rollout, opened on a disk.
-pub fn opened<'d, D: Disk>(
+pub fn open_book<'d, D: Disk>(
     alloc: Global,
     graph: Graph,
     digest: &Digest,

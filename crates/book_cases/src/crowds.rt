@@ -3,7 +3,7 @@ ghost use Rattle.std.specs.Prelude.{◌≡◌, []};
 ghost use Rattle.rollout_rules.specs.History.{from_nothing};
 
 use crate::books::{
-    CALLS_TO_OPEN, digest, disk_behind, disk_of, graph_of, late, one, opened, tables,
+    CALLS_TO_OPEN, digest, disk_behind, disk_of, graph_of, late, one, open_book, tables,
 };
 use crate::histories::{are_answered, are_stopped, are_told, before_the_fault, counts_up};
 use crate::many::CALLS;
@@ -15,7 +15,7 @@ use lists::Memory;
 use order_policy::Policy;
 use rollout_book::Book;
 use rollout_rules::OpView;
-use shared_history::{Cause, Halt, Note};
+use shared_book::{Cause, Halt, Note};
 use std::alloc::Global;
 use std::process::Abort;
 use std::sync::Wait;
@@ -32,7 +32,7 @@ fn answers_alike<D: Disk + Drop>(
 ) -> bool
     requires empty { graph.history ≡ from_nothing graph.rollout.problem [] }
 {
-    match opened(alloc, graph, &digest(), policy, disk) {
+    match open_book(alloc, graph, &digest(), policy, disk) {
         Ok(book) => book_answers_alike(alloc, book, notes),
         Err(unopened) => {
             drop(unopened);
@@ -87,7 +87,7 @@ fn are_all(done: &Done<MemoryDisk>) -> bool {
     notes.len() == done.told.as_slice().len() && are_told(notes, done.told.as_slice())
 }
 
-// Whether a disk that failed once stopped all behind that, as the first stop; or none failed, and all is
+// Whether a disk that failed once stopped all after that, as the first stop; or none failed, and all is
 // settled.
 fn ends_by_the_rule(done: &Done<MemoryDisk>) -> bool {
     let notes = done.notes.as_slice();

@@ -6,8 +6,7 @@ use crate::books::{SWITCHES, answers_to};
 use disk_model::Disk;
 use lists::Memory;
 use rollout_book::{Book, BookFault, CommandList, Turn};
-use shared_book::RoundReply;
-use shared_history::{ListReply, Note, Wake, What};
+use shared_book::{ListReply, Note, RoundReply, Wake, What};
 use std::alloc::Global;
 use wire_frames::Answer;
 
@@ -116,6 +115,19 @@ pub fn are_answered<D: Disk>(
     notes: &[Note],
 ) -> Result<bool, Memory> {
     let mut kept = Vec::new(alloc);
+    let answered = are_answered_with(alloc, book, seats, notes, &mut kept);
+    drop(kept);
+    answered
+}
+
+// The same with a row for the answers that each seat has.
+fn are_answered_with<D: Disk>(
+    alloc: Global,
+    book: &mut Book<'_, D>,
+    seats: u32,
+    notes: &[Note],
+    kept: &mut Vec<Vec<Answer>>,
+) -> Result<bool, Memory> {
     for _seat in 0..seats {
         kept.push(Vec::new(alloc))?;
     }
@@ -139,22 +151,22 @@ fn answer<D: Disk>(
 ) -> Result<Option<What>, Memory> {
     Ok(match kind_of(call) {
         Kind::List => {
-            *answers = listed(alloc, book)?;
+            *answers = list_answers(alloc, book)?;
             Some(What::Listed)
         }
-        Kind::Round => said_of_round(turned(book, answers.as_slice())),
+        Kind::Round => said_of_round(make_round(book, answers.as_slice())),
         Kind::Look => Some(seen(book)),
     })
 }
 
 /// The answers to all commands of a book.
-pub fn listed<D: Disk>(alloc: Global, book: &Book<'_, D>) -> Result<Vec<Answer>, Memory> {
+pub fn list_answers<D: Disk>(alloc: Global, book: &Book<'_, D>) -> Result<Vec<Answer>, Memory> {
     let mut commands = CommandList::new(alloc);
     book.commands(alloc, &SWITCHES, &mut commands)?;
     answers_to(alloc, commands.as_slice())
 }
 
-fn turned<D: Disk>(book: &mut Book<'_, D>, answers: &[Answer]) -> RoundReply {
+fn make_round<D: Disk>(book: &mut Book<'_, D>, answers: &[Answer]) -> RoundReply {
     if !book.live() {
         return RoundReply::Memory;
     }

@@ -1,11 +1,9 @@
-//! Tests of a rollout's book over disks in memory, by one worker and by several, and of its graph at a start: what no
-//! clause says. They stand apart, since a crate with tests is proved twice.
+//! Tests of a rollout's book over disks in memory, by two seats call by call and by four threads: what no clause says.
+//! They stand apart, since a crate with tests is proved twice.
 #![tactic(auto)]
 
 #[cfg(test)]
 mod books;
-#[cfg(test)]
-mod crashes;
 #[cfg(test)]
 mod crowds;
 #[cfg(test)]
@@ -22,8 +20,6 @@ mod rows;
 mod seats;
 #[cfg(test)]
 mod sharing;
-#[cfg(test)]
-mod starts;
 #[cfg(test)]
 mod threads;
 #[cfg(test)]

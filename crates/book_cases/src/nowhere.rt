@@ -2,7 +2,7 @@
 ghost use Rattle.std.specs.Prelude.{◌≡◌, IfOk};
 
 use lists::Memory;
-use port_session::Heard;
+use port_session::PortAnswers;
 use std::alloc::Global;
 use wan_edge::{Failed, Port};
 use wire_frames::Answer;
@@ -45,10 +45,10 @@ impl Port for Nowhere {
 }
 
 /// These answers, as heard over such a port in migration 0.
-pub fn as_heard(alloc: Global, answers: &[Answer]) -> Result<Heard<Nowhere>, Memory>
+pub fn as_heard(alloc: Global, answers: &[Answer]) -> Result<PortAnswers<Nowhere>, Memory>
     ensures { IfOk result (λ heard. heard.migration ≡ 0) }
 {
-    let mut heard = Heard::new(alloc, 0);
+    let mut heard = PortAnswers::new(alloc, 0);
     for answer in answers {
         heard.add(&Nowhere, *answer)?;
     }

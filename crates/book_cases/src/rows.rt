@@ -6,13 +6,15 @@ ghost use Rattle.shared_book.specs.Homes.{homes_of};
 ghost use Rattle.book_cases.specs.Seats.{AllAreIn, HasCalled, MayCall, TakesAny};
 
 use crate::books::{CALLS_TO_OPEN, one};
-use crate::seats::{Call, Told, make_call};
+use crate::seats::{Call, SeatReply, make_call};
 use crate::sharing::{ALIKE, HELD, Task, notes_over};
 use disk_model::Disk;
 use rollout_book::{BookFault, Turn};
 use rollout_rules::Op;
-use shared_book::{BookPass, CallPass, Kept, Marker, RoundReply, SharedBook};
-use shared_history::{Cause, Halt, ListReply, Note, NoteList, Wake, What};
+use shared_book::{
+    BookPass, CallPass, Cause, Halt, ListReply, Marker, Note, NoteList, NotedBook, RoundReply,
+    SharedBook, Wake, What,
+};
 use std::alloc::Global;
 use std::process::Abort;
 use std::sync::Wait;
@@ -26,7 +28,7 @@ use wire_frames::Answer;
 pub struct Row {
     pub seat: u32,
     pub call: Call,
-    pub told: Told,
+    pub told: SeatReply,
 }
 
 /// The passes of two seats.
@@ -62,9 +64,9 @@ fn one_call<D: Disk, M: Marker, R: Wait>(
     rt: &R,
     alloc: Global,
     book: &SharedBook<'_, D, M>,
-    seats: Seats<Kept<D, M>>,
+    seats: Seats<NotedBook<D, M>>,
     row: Row,
-) -> (Seats<Kept<D, M>>, Told)
+) -> (Seats<NotedBook<D, M>>, SeatReply)
     requires homes { book.now.homes ≡ homes_of M.opening.rollout.problem }
     requires policy { M.opening.policy ≡ rank_by book.now.policy.now.answers }
     requires any { TakesAny M.heard }
@@ -90,9 +92,9 @@ pub fn all_calls<D: Disk, M: Marker, R: Abort + Wait>(
     rt: &R,
     alloc: Global,
     book: &SharedBook<'_, D, M>,
-    mut seats: Seats<Kept<D, M>>,
+    mut seats: Seats<NotedBook<D, M>>,
     rows: &[Row],
-) -> Seats<Kept<D, M>>
+) -> Seats<NotedBook<D, M>>
     requires homes { book.now.homes ≡ homes_of M.opening.rollout.problem }
     requires policy { M.opening.policy ≡ rank_by book.now.policy.now.answers }
     requires any { TakesAny M.heard }
@@ -122,7 +124,7 @@ fn a_stop() -> [Row; 5] {
         Row {
             seat: 0,
             call: Call::Round(None),
-            told: Told::Round(RoundReply::Turned(Turn {
+            told: SeatReply::Round(RoundReply::Turned(Turn {
                 dones: 0,
                 begins: 1,
             })),
@@ -130,22 +132,22 @@ fn a_stop() -> [Row; 5] {
         Row {
             seat: 1,
             call: Call::List(0),
-            told: Told::List(ListReply::Listed, 1),
+            told: SeatReply::List(ListReply::Listed, 1),
         },
         Row {
             seat: 1,
             call: Call::Stop(Cause::Port(0)),
-            told: Told::Halt(STOPPED),
+            told: SeatReply::Halt(STOPPED),
         },
         Row {
             seat: 0,
             call: Call::Round(None),
-            told: Told::Round(RoundReply::Stopped(STOPPED)),
+            told: SeatReply::Round(RoundReply::Stopped(STOPPED)),
         },
         Row {
             seat: 1,
             call: Call::Stop(Cause::Memory),
-            told: Told::Halt(STOPPED),
+            told: SeatReply::Halt(STOPPED),
         },
     ]
 }
@@ -203,27 +205,27 @@ fn a_failure() -> [Row; 5] {
         Row {
             seat: 0,
             call: Call::Round(None),
-            told: Told::Round(RoundReply::Refused(BookFault::Disk)),
+            told: SeatReply::Round(RoundReply::Refused(BookFault::Disk)),
         },
         Row {
             seat: 1,
             call: Call::List(0),
-            told: Told::List(ListReply::Stopped(FAILED), 0),
+            told: SeatReply::List(ListReply::Stopped(FAILED), 0),
         },
         Row {
             seat: 1,
             call: Call::Await(0),
-            told: Told::Awake(Wake::Stopped(FAILED)),
+            told: SeatReply::Awake(Wake::Stopped(FAILED)),
         },
         Row {
             seat: 1,
             call: Call::Stop(Cause::Port(0)),
-            told: Told::Halt(FAILED),
+            told: SeatReply::Halt(FAILED),
         },
         Row {
             seat: 0,
             call: Call::Round(None),
-            told: Told::Round(RoundReply::Stopped(FAILED)),
+            told: SeatReply::Round(RoundReply::Stopped(FAILED)),
         },
     ]
 }
@@ -234,7 +236,7 @@ fn an_end() -> [Row; 5] {
         Row {
             seat: 1,
             call: Call::Round(None),
-            told: Told::Round(RoundReply::Turned(Turn {
+            told: SeatReply::Round(RoundReply::Turned(Turn {
                 dones: 0,
                 begins: 1,
             })),
@@ -242,12 +244,12 @@ fn an_end() -> [Row; 5] {
         Row {
             seat: 0,
             call: Call::Await(0),
-            told: Told::Awake(Wake::Work(Op { item: 0, number: 1 })),
+            told: SeatReply::Awake(Wake::Work(Op { item: 0, number: 1 })),
         },
         Row {
             seat: 0,
             call: Call::Round(Some(Answer { item: 0, held: 1 })),
-            told: Told::Round(RoundReply::Turned(Turn {
+            told: SeatReply::Round(RoundReply::Turned(Turn {
                 dones: 1,
                 begins: 0,
             })),
@@ -255,12 +257,12 @@ fn an_end() -> [Row; 5] {
         Row {
             seat: 0,
             call: Call::Await(0),
-            told: Told::Awake(Wake::Finished),
+            told: SeatReply::Awake(Wake::Finished),
         },
         Row {
             seat: 1,
             call: Call::Await(2),
-            told: Told::Awake(Wake::Finished),
+            told: SeatReply::Awake(Wake::Finished),
         },
     ]
 }
@@ -281,7 +283,7 @@ fn a_hold() -> [Row; 5] {
         Row {
             seat: 0,
             call: Call::Round(None),
-            told: Told::Round(RoundReply::Turned(Turn {
+            told: SeatReply::Round(RoundReply::Turned(Turn {
                 dones: 0,
                 begins: 0,
             })),
@@ -289,12 +291,12 @@ fn a_hold() -> [Row; 5] {
         Row {
             seat: 0,
             call: Call::Await(0),
-            told: Told::Awake(Wake::Held),
+            told: SeatReply::Awake(Wake::Held),
         },
         Row {
             seat: 0,
             call: Call::Round(Some(Answer { item: 0, held: 1 })),
-            told: Told::Round(RoundReply::Refused(BookFault::Alien {
+            told: SeatReply::Round(RoundReply::Refused(BookFault::Alien {
                 item: 0,
                 held: 1,
                 begun: 0,
@@ -303,12 +305,12 @@ fn a_hold() -> [Row; 5] {
         Row {
             seat: 0,
             call: Call::Await(0),
-            told: Told::Awake(Wake::Stopped(ALIEN)),
+            told: SeatReply::Awake(Wake::Stopped(ALIEN)),
         },
         Row {
             seat: 1,
             call: Call::List(0),
-            told: Told::List(ListReply::Stopped(ALIEN), 0),
+            told: SeatReply::List(ListReply::Stopped(ALIEN), 0),
         },
     ]
 }
@@ -318,7 +320,7 @@ fn asks(item: u32, switch: Option<u32>) -> Row {
     Row {
         seat: 0,
         call: Call::Home(item),
-        told: Told::Home(switch),
+        told: SeatReply::Home(switch),
     }
 }
 

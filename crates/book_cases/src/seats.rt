@@ -6,8 +6,7 @@ ghost use Rattle.book_cases.specs.Seats.{HasCalled, MayCall, TakesAny};
 
 use crate::nowhere::as_heard;
 use disk_model::Disk;
-use shared_book::{BookPass, Listed, Marker, RoundReply, SharedBook};
-use shared_history::{Cause, Halt, ListReply, Wake};
+use shared_book::{BookPass, Cause, Halt, ListReply, Listed, Marker, RoundReply, SharedBook, Wake};
 use std::alloc::Global;
 use std::sync::Wait;
 use wire_frames::Answer;
@@ -25,7 +24,7 @@ pub enum Call {
 
 /// What a call was told, and of a listing how many commands came.
 #[derive(Clone, Copy, PartialEq, Eq)]
-pub enum Told {
+pub enum SeatReply {
     Round(RoundReply),
     List(ListReply, usize),
     Awake(Wake),
@@ -40,7 +39,7 @@ pub fn make_call<D: Disk, M: Marker, R: Wait>(
     book: &SharedBook<'_, D, M>,
     pass: BookPass<D, M>,
     call: Call,
-) -> (BookPass<D, M>, Told)
+) -> (BookPass<D, M>, SeatReply)
     requires homes { book.now.homes ≡ homes_of M.opening.rollout.problem }
     requires policy { M.opening.policy ≡ rank_by book.now.policy.now.answers }
     requires any { TakesAny M.heard }
@@ -63,7 +62,7 @@ fn round<D: Disk, M: Marker, R: Wait>(
     book: &SharedBook<'_, D, M>,
     pass: BookPass<D, M>,
     answer: Option<Answer>,
-) -> (BookPass<D, M>, Told)
+) -> (BookPass<D, M>, SeatReply)
     requires policy { M.opening.policy ≡ rank_by book.now.policy.now.answers }
     requires any { TakesAny M.heard }
     requires may { MayCall book.now.lock M.seats pass.pass pass.calls }
@@ -76,9 +75,9 @@ fn round<D: Disk, M: Marker, R: Wait>(
     match heard {
         Ok(heard) => {
             let (pass, reply) = book.round(rt, pass, heard);
-            (pass, Told::Round(reply))
+            (pass, SeatReply::Round(reply))
         }
-        Err(_) => (pass, Told::Round(RoundReply::Memory)),
+        Err(_) => (pass, SeatReply::Round(RoundReply::Memory)),
     }
 }
 
@@ -88,13 +87,13 @@ fn list<D: Disk, M: Marker, R: Wait>(
     book: &SharedBook<'_, D, M>,
     pass: BookPass<D, M>,
     switch: u32,
-) -> (BookPass<D, M>, Told)
+) -> (BookPass<D, M>, SeatReply)
     requires may { MayCall book.now.lock M.seats pass.pass pass.calls }
     ensures called { HasCalled book.now.lock pass.pass result.0.pass result.0.calls }
 {
     let mut commands = Listed::new(alloc);
     let (pass, reply) = book.commands(rt, alloc, pass, &[switch], &mut commands);
-    (pass, Told::List(reply, commands.commands().len()))
+    (pass, SeatReply::List(reply, commands.commands().len()))
 }
 
 fn await_work<D: Disk, M: Marker, R: Wait>(
@@ -102,13 +101,13 @@ fn await_work<D: Disk, M: Marker, R: Wait>(
     book: &SharedBook<'_, D, M>,
     pass: BookPass<D, M>,
     switch: u32,
-) -> (BookPass<D, M>, Told)
+) -> (BookPass<D, M>, SeatReply)
     requires homes { book.now.homes ≡ homes_of M.opening.rollout.problem }
     requires may { MayCall book.now.lock M.seats pass.pass pass.calls }
     ensures called { HasCalled book.now.lock pass.pass result.0.pass result.0.calls }
 {
     let (pass, wake) = book.wait_work(rt, pass, &[switch]);
-    (pass, Told::Awake(wake))
+    (pass, SeatReply::Awake(wake))
 }
 
 fn stop<D: Disk, M: Marker, R: Wait>(
@@ -116,23 +115,23 @@ fn stop<D: Disk, M: Marker, R: Wait>(
     book: &SharedBook<'_, D, M>,
     pass: BookPass<D, M>,
     cause: Cause,
-) -> (BookPass<D, M>, Told)
+) -> (BookPass<D, M>, SeatReply)
     requires may { MayCall book.now.lock M.seats pass.pass pass.calls }
     ensures called { HasCalled book.now.lock pass.pass result.0.pass result.0.calls }
 {
     let (pass, halt) = book.stop(rt, pass, cause);
-    (pass, Told::Halt(halt))
+    (pass, SeatReply::Halt(halt))
 }
 
 fn home<D: Disk, M: Marker>(
     book: &SharedBook<'_, D, M>,
     pass: BookPass<D, M>,
     item: u32,
-) -> (BookPass<D, M>, Told)
+) -> (BookPass<D, M>, SeatReply)
     requires homes { book.now.homes ≡ homes_of M.opening.rollout.problem }
     requires may { MayCall book.now.lock M.seats pass.pass pass.calls }
     ensures called { HasCalled book.now.lock pass.pass result.0.pass result.0.calls }
 {
     let switch = book.home(item);
-    (pass, Told::Home(switch))
+    (pass, SeatReply::Home(switch))
 }

@@ -9,7 +9,7 @@ ghost use Rattle.shared_book.specs.Images.{StandsSo};
 ghost use Rattle.shared_book.specs.Opened.{IsOpened, IsOpenedOn, opening_of};
 ghost use Rattle.book_cases.specs.Seats.{AllAreIn, MayCall, TakesAny};
 
-use crate::books::{digest, disk_behind, disk_of, graph_of, opened};
+use crate::books::{digest, disk_behind, disk_of, graph_of, open_book};
 use crate::rows::{Row, two_seats};
 use crate::threads::{Part, four_threads};
 use dependency_graph::Graph;
@@ -18,8 +18,7 @@ use intent_journal::Unopened;
 use order_policy::Policy;
 use rollout_book::Book;
 use rollout_rules::OpView;
-use shared_book::{BookPass, Marker, SharedBook};
-use shared_history::{Halt, NoteList};
+use shared_book::{BookPass, Halt, Marker, NoteList, SharedBook};
 use std::alloc::Global;
 use std::marker::Brand;
 use std::process::Abort;
@@ -40,7 +39,7 @@ pub const SEATS: u32 = 4;
 pub enum Task<'a> {
     /// Two seats make these calls in one thread.
     Rows(&'a [Row]),
-    /// Behind these calls each of four seats does its part in a thread of its own: the first one this, the
+    /// After these calls each of four seats does its part in a thread of its own: the first one this, the
     /// others that.
     Threads(&'a [Row], Part, Part),
 }
@@ -189,7 +188,7 @@ fn share_from<R: Abort + Threads + Wait + Sync, D: Disk + Drop + Send>(
 ) -> Done<D>
     requires empty { graph.history ≡ from_nothing graph.rollout.problem [] }
 {
-    match opened(alloc, graph, &digest(), policy, disk) {
+    match open_book(alloc, graph, &digest(), policy, disk) {
         Ok(book) => taken_apart(share_opened(rt, alloc, book, task)),
         Err(unopened) => unopened_of(alloc, unopened),
     }

@@ -8,12 +8,11 @@ ghost use Rattle.book_cases.specs.Seats.{AllAreIn, HasCalled, MayCall, TakesAny}
 use crate::jobs::{Job, four_jobs};
 use crate::many::many_calls;
 use crate::rows::{Row, Seats, all_calls};
-use crate::seats::{Call, Told, make_call};
+use crate::seats::{Call, SeatReply, make_call};
 use disk_model::Disk;
 use rollout_book::Turn;
 use rollout_rules::Op;
-use shared_book::{BookPass, CallPass, Kept, Marker, RoundReply, SharedBook};
-use shared_history::{NoteList, Wake};
+use shared_book::{BookPass, CallPass, Marker, NoteList, NotedBook, RoundReply, SharedBook, Wake};
 use std::alloc::Global;
 use std::process::Abort;
 use std::sync::Wait;
@@ -34,7 +33,7 @@ pub enum Part {
 
 /// A seat with its part.
 #[derive(Drop)]
-struct Duty<'s, R, B, V: Counted> {
+struct SeatJob<'s, R, B, V: Counted> {
     rt: &'s R,
     alloc: Global,
     book: &'s B,
@@ -50,8 +49,8 @@ struct Back<V: Counted> {
 }
 
 impl<'s, 'd, R: Abort + Wait, D: Disk, M: Marker> Job
-    for Duty<'s, R, SharedBook<'d, D, M>, Kept<D, M>> {
-    type Output = Back<Kept<D, M>>;
+    for SeatJob<'s, R, SharedBook<'d, D, M>, NotedBook<D, M>> {
+    type Output = Back<NotedBook<D, M>>;
 
     ghost may_begin = { λ d. (d.book.now.homes ≡ homes_of M.opening.rollout.problem)
         × (M.opening.policy ≡ rank_by d.book.now.policy.now.answers)
@@ -61,8 +60,8 @@ impl<'s, 'd, R: Abort + Wait, D: Disk, M: Marker> Job
     ghost may_leave = { λ d back. HasCalled d.book.now.lock d.pass.pass back.pass.pass
         back.pass.calls };
 
-    fn run(self) -> Back<Kept<D, M>> {
-        let Duty {
+    fn run(self) -> Back<NotedBook<D, M>> {
+        let SeatJob {
             rt,
             alloc,
             book,
@@ -71,8 +70,8 @@ impl<'s, 'd, R: Abort + Wait, D: Disk, M: Marker> Job
         } = self;
         match part {
             Part::Calls => called_often(rt, alloc, book, pass),
-            Part::Waits => woken(rt, alloc, book, pass),
-            Part::Begins => begun(rt, alloc, book, pass),
+            Part::Waits => await_work(rt, alloc, book, pass),
+            Part::Begins => begin_work(rt, alloc, book, pass),
         }
     }
 }
@@ -82,7 +81,7 @@ fn called_often<R: Abort + Wait, D: Disk, M: Marker>(
     alloc: Global,
     book: &SharedBook<'_, D, M>,
     pass: BookPass<D, M>,
-) -> Back<Kept<D, M>>
+) -> Back<NotedBook<D, M>>
     requires homes { book.now.homes ≡ homes_of M.opening.rollout.problem }
     requires policy { M.opening.policy ≡ rank_by book.now.policy.now.answers }
     requires any { TakesAny M.heard }
@@ -93,12 +92,12 @@ fn called_often<R: Abort + Wait, D: Disk, M: Marker>(
     Back { pass, told }
 }
 
-fn woken<R: Abort + Wait, D: Disk, M: Marker>(
+fn await_work<R: Abort + Wait, D: Disk, M: Marker>(
     rt: &R,
     alloc: Global,
     book: &SharedBook<'_, D, M>,
     pass: BookPass<D, M>,
-) -> Back<Kept<D, M>>
+) -> Back<NotedBook<D, M>>
     requires homes { book.now.homes ≡ homes_of M.opening.rollout.problem }
     requires policy { M.opening.policy ≡ rank_by book.now.policy.now.answers }
     requires any { TakesAny M.heard }
@@ -106,7 +105,7 @@ fn woken<R: Abort + Wait, D: Disk, M: Marker>(
     ensures called { HasCalled book.now.lock pass.pass result.pass.pass result.pass.calls }
 {
     let (pass, told) = make_call(rt, alloc, book, pass, Call::Await(0));
-    assert!(rt; told == Told::Awake(Wake::Work(Op { item: 0, number: 1 })));
+    assert!(rt; told == SeatReply::Awake(Wake::Work(Op { item: 0, number: 1 })));
     let told = NoteList::new(alloc);
     Back { pass, told }
 }
@@ -119,12 +118,12 @@ const BEGAN: Turn = Turn {
     begins: 1,
 };
 
-fn begun<R: Abort + Wait, D: Disk, M: Marker>(
+fn begin_work<R: Abort + Wait, D: Disk, M: Marker>(
     rt: &R,
     alloc: Global,
     book: &SharedBook<'_, D, M>,
     pass: BookPass<D, M>,
-) -> Back<Kept<D, M>>
+) -> Back<NotedBook<D, M>>
     requires homes { book.now.homes ≡ homes_of M.opening.rollout.problem }
     requires policy { M.opening.policy ≡ rank_by book.now.policy.now.answers }
     requires any { TakesAny M.heard }
@@ -132,12 +131,12 @@ fn begun<R: Abort + Wait, D: Disk, M: Marker>(
     ensures called { HasCalled book.now.lock pass.pass result.pass.pass result.pass.calls }
 {
     let (pass, told) = make_call(rt, alloc, book, pass, Call::Round(Some(LACKED)));
-    assert!(rt; told == Told::Round(RoundReply::Turned(BEGAN)));
+    assert!(rt; told == SeatReply::Round(RoundReply::Turned(BEGAN)));
     let told = NoteList::new(alloc);
     Back { pass, told }
 }
 
-/// Two seats make these calls. Behind them four seats do their parts, each in a thread of its own: the first one
+/// Two seats make these calls. After them four seats do their parts, each in a thread of its own: the first one
 /// this, the others that. All notes on many calls come back.
 pub fn four_threads<R: Abort + Threads + Wait + Sync, D: Disk + Drop + Send, M: Marker + Send>(
     rt: &R,
@@ -184,8 +183,8 @@ fn four_parts<R: Abort + Threads + Wait + Sync, D: Disk + Drop + Send, M: Marker
     own: Part,
     others: Part,
 ) -> (
-    (Back<Kept<D, M>>, Back<Kept<D, M>>),
-    (Back<Kept<D, M>>, Back<Kept<D, M>>),
+    (Back<NotedBook<D, M>>, Back<NotedBook<D, M>>),
+    (Back<NotedBook<D, M>>, Back<NotedBook<D, M>>),
 )
     requires homes { book.now.homes ≡ homes_of M.opening.rollout.problem }
     requires policy { M.opening.policy ≡ rank_by book.now.policy.now.answers }
@@ -201,28 +200,28 @@ fn four_parts<R: Abort + Threads + Wait + Sync, D: Disk + Drop + Send, M: Marker
     ensures fourth { HasCalled book.now.lock fourth.pass result.1.1.pass.pass
         result.1.1.pass.calls }
 {
-    let first = Duty {
+    let first = SeatJob {
         rt,
         alloc,
         book,
         pass: first,
         part: own,
     };
-    let second = Duty {
+    let second = SeatJob {
         rt,
         alloc,
         book,
         pass: second,
         part: others,
     };
-    let third = Duty {
+    let third = SeatJob {
         rt,
         alloc,
         book,
         pass: third,
         part: others,
     };
-    let fourth = Duty {
+    let fourth = SeatJob {
         rt,
         alloc,
         book,

@@ -2,22 +2,21 @@
 
 use crate::books::tables;
 use crate::rows::Row;
-use crate::seats::{Call, Told};
+use crate::seats::{Call, SeatReply};
 use crate::sharing::{ALIKE, Task, notes_over};
 use crate::threads::Part;
 use rollout_book::Turn;
-use shared_book::RoundReply;
-use shared_history::{Note, What};
+use shared_book::{Note, RoundReply, What};
 use std::test::Fail;
 use wire_frames::Answer;
 
-// Behind these rounds only the entry at the second switch is in flight, which the flow at the first waits for.
+// After these rounds only the entry at the second switch is in flight, which the flow at the first waits for.
 fn before() -> [Row; 6] {
     [
         Row {
             seat: 0,
             call: Call::Round(None),
-            told: Told::Round(RoundReply::Turned(Turn {
+            told: SeatReply::Round(RoundReply::Turned(Turn {
                 dones: 0,
                 begins: 4,
             })),
@@ -25,7 +24,7 @@ fn before() -> [Row; 6] {
         Row {
             seat: 0,
             call: Call::Round(Some(Answer { item: 4, held: 1 })),
-            told: Told::Round(RoundReply::Turned(Turn {
+            told: SeatReply::Round(RoundReply::Turned(Turn {
                 dones: 1,
                 begins: 1,
             })),
@@ -33,7 +32,7 @@ fn before() -> [Row; 6] {
         Row {
             seat: 0,
             call: Call::Round(Some(Answer { item: 6, held: 1 })),
-            told: Told::Round(RoundReply::Turned(Turn {
+            told: SeatReply::Round(RoundReply::Turned(Turn {
                 dones: 1,
                 begins: 1,
             })),
@@ -41,7 +40,7 @@ fn before() -> [Row; 6] {
         Row {
             seat: 0,
             call: Call::Round(Some(Answer { item: 5, held: 1 })),
-            told: Told::Round(RoundReply::Turned(Turn {
+            told: SeatReply::Round(RoundReply::Turned(Turn {
                 dones: 1,
                 begins: 0,
             })),
@@ -49,7 +48,7 @@ fn before() -> [Row; 6] {
         Row {
             seat: 0,
             call: Call::Round(Some(Answer { item: 8, held: 1 })),
-            told: Told::Round(RoundReply::Turned(Turn {
+            told: SeatReply::Round(RoundReply::Turned(Turn {
                 dones: 1,
                 begins: 0,
             })),
@@ -57,7 +56,7 @@ fn before() -> [Row; 6] {
         Row {
             seat: 0,
             call: Call::Round(Some(Answer { item: 7, held: 1 })),
-            told: Told::Round(RoundReply::Turned(Turn {
+            told: SeatReply::Round(RoundReply::Turned(Turn {
                 dones: 1,
                 begins: 0,
             })),
@@ -65,7 +64,7 @@ fn before() -> [Row; 6] {
     ]
 }
 
-// What lies behind so many notes.
+// What lies after so many notes.
 fn behind(notes: &[Note], count: usize) -> &[Note] {
     if count <= notes.len() {
         &notes[count..]
@@ -99,7 +98,7 @@ fn are_woken(notes: &[Note]) -> bool {
     notes.len() == 3
 }
 
-// Whether a waiting thread looks ahead of the first one's round, and sleeps, or behind it: it is told of the work.
+// Whether a waiting thread looks ahead of the first one's round, and sleeps, or after it: it is told of the work.
 #[test]
 fn all_that_wait_are_woken_by_the_round_of_another(rt: HostRuntime) -> Result<(), Fail> {
     let before = before();

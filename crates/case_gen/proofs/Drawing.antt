@@ -1,4 +1,4 @@
--- What several calls draw one behind the other.
+-- What several calls draw one after the other.
 use Rattle.std.proofs.Common.{◌≡◌, ℕ, ◌+◌, ◌*◌, List, [], ◌∷◌, ◌++◌, sym, ap, ap₂, ◌∙◌, add-one, arith}
 use Rattle.rand_pcg.specs.Lcg.{Lcg}
 use Rattle.case_gen.specs.Draws.{after_draws, drawn}

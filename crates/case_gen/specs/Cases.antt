@@ -37,6 +37,6 @@ fitted_ring k switches trips =
 unfoldable pub case : ℕ → ℕ → ℕ → Lcg → Problem
 case k switches flows draws = fitted_ring k switches (trips_drawn draws switches flows)
 
--- what is left to draw behind a case: its events
+-- what is left to draw after a case: its events
 abbrev pub after_case : ℕ → Lcg → Lcg
 after_case flows draws = after_draws draws (6 * flows)

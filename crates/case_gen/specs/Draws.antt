@@ -8,7 +8,7 @@ use Rattle.rand_pcg.specs.Pcg.{multiplier_64, output_xsh_rr, pcg32_of_seed}
 unfoldable pub seeded : ℕ → Lcg
 seeded seed = pcg32_of_seed (pcg32_seed 16 seed)
 
--- behind so many draws
+-- after so many draws
 unfoldable pub after_draws : Lcg → ℕ → Lcg
 after_draws draws count = advance 64 multiplier_64 count draws
 

@@ -1,4 +1,4 @@
--- A network whose switches stand in a ring, each with a link to the next one and a link to the one behind that, and whose flows
+-- A network whose switches stand in a ring, each with a link to the next one and a link to the one after that, and whose flows
 -- have two tunnels each between the same ends: one in steps of one switch, and one in steps of two.
 use Rattle.std.specs.Prelude.{ℕ, zero, suc, ◌+◌, ◌-◌, ◌*◌, ◌/◌, ◌%◌, List, [], ◌∷◌, ◌++◌, length, codes, decimal, slice_index, slice_index_or}
 use Rattle.rollout_rules.specs.Sums.{list_below}

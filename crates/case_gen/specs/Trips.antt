@@ -42,6 +42,6 @@ trip_drawn draws switches = record {
   second = rates_drawn (after_draws draws 4);
 }
 
--- so many trips, one drawn behind the other
+-- so many trips, one drawn after the other
 abbrev pub trips_drawn : Lcg → ℕ → ℕ → List Trip
 trips_drawn draws switches flows = list_below flows (λ f. trip_drawn (after_draws draws (6 * f)) switches)

@@ -23,7 +23,7 @@ pub fn a_case_has_a_plan()
         → IsOk (chosen (case k switches flows draws)) }
 {}
 
-/// Draws stand in a row: behind some of them, a place is that many places further on.
+/// Draws stand in a row: after some of them, a place is that many places further on.
 pub fn draws_stand_in_a_row()
     ensures draws { (draws : Lcg) (count place below : ℕ)
         → drawn (after_draws draws count) place below ≡ drawn draws (count + place) below }

@@ -13,7 +13,7 @@ use lists::{Memory, Nums};
 use std::alloc::Global;
 use wan_model::Problem;
 
-/// The case of a trial, made of the next draws, with slack 1/k and table room. An Err is want of memory, and
+/// The case of a trial, made of the next draws, with slack 1/k and table room. An Err is lack of memory, and
 /// leaves the draws as they were. Time: the switches, and the lengths of the tunnels.
 pub fn make_case(
     alloc: Global,

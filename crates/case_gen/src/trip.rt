@@ -58,7 +58,7 @@ impl Trip {
     }
 }
 
-/// Draws the trips of so many flows, one behind the other.
+/// Draws the trips of so many flows, one after the other.
 pub(crate) fn draw_trips(
     alloc: Global,
     switches: u32,

@@ -5,13 +5,13 @@ use Rattle.std.specs.List.{Contains, IsDistinct}
 use Rattle.std.proofs.lemmas.Bool.{both_ways}
 use Rattle.std.proofs.lemmas.List.Elements.{All-contains, All-from_recursion, Contains-append_left, Contains-append_right}
 use Rattle.std.proofs.lemmas.Map.Keys.{IsDistinct-head, IsDistinct-tail}
-use Rattle.port_session.specs.Sessions.{Talk}
+use Rattle.port_session.specs.Sessions.{SessionView}
 use Rattle.controller_run.specs.Promises.{switches_of}
-use Rattle.rollout_run.specs.Shifts.{Shift}
-use Rattle.rollout_run.specs.Together.{given_ports}
-use Rattle.rollout_run.proofs.Crews.{distinct_front}
-use Rattle.rollout_run.proofs.Rows.{map_both}
-use Rattle.rollout_run.proofs.Taking.{apart_in_any_order}
+use Rattle.controller_run.specs.Shifts.{Shift}
+use Rattle.controller_run.specs.Together.{given_ports}
+use Rattle.controller_run.proofs.Crews.{distinct_front}
+use Rattle.controller_run.proofs.Rows.{map_both}
+use Rattle.controller_run.proofs.Taking.{apart_in_any_order}
 use Rattle.completion_laws.specs.Finishing.{AreServedApart}
 
 -- in a row without repeats no number is in both parts
@@ -30,7 +30,7 @@ module _ {P : Type 0} where
   all shifts = switches_of (given_ports shifts)
 
   ahead : (s : Shift P) (shifts : List (Shift P)) → all (s ∷ shifts) ≡ own s ++ all shifts
-  ahead s shifts = map_both (λ (t : Talk P). t.switch) s.given.before.ports (given_ports shifts)
+  ahead s shifts = map_both (λ (t : SessionView P). t.switch) s.given.before.ports (given_ports shifts)
 
   -- a worker's switch is one of all
   one-of-all : (shifts : List (Shift P)) (s : Shift P) → Contains shifts s → (n : ℕ) → Contains (own s) n → Contains (all shifts) n
@@ -60,5 +60,5 @@ module _ {P : Type 0} where
       behind : IsDistinct nat_eq (all (s ∷ shifts)) → IsDistinct nat_eq (all shifts)
       behind distinct = drop (own s) (all shifts) (subst (λ (l : List ℕ). IsDistinct nat_eq l) (ahead s shifts) distinct)
 
-  pub served-apart : (shifts : List (Shift P)) (spare opened : List (Talk P)) → IsPermutation opened (given_ports shifts ++ spare) → IsDistinct nat_eq (switches_of opened) → AreServedApart shifts
+  pub served-apart : (shifts : List (Shift P)) (spare opened : List (SessionView P)) → IsPermutation opened (given_ports shifts ++ spare) → IsDistinct nat_eq (switches_of opened) → AreServedApart shifts
   served-apart shifts spare opened same distinct = serve-apart shifts (distinct_front (given_ports shifts) spare (apart_in_any_order opened (given_ports shifts ++ spare) same distinct))

@@ -1,4 +1,4 @@
--- What a shared history counts behind further notes.
+-- What a shared history counts after further notes.
 use Rattle.std.proofs.Common.{◌≡◌, ℕ, zero, suc, ◌+◌, ◌-◌, ◌<◌, ◌≤◌, true, ◌==◌, List, [], ◌∷◌, ◌++◌, Option, Some, refl, ap, ◌∙◌, subst, ⊎_elim, arith, eqb-true}
 use Rattle.std.proofs.lemmas.Bool.{cases_lt, cond_both}
 use Rattle.std.proofs.lemmas.List.Elements.{All-head, All-tail}
@@ -14,11 +14,11 @@ use Rattle.rollout_rules.specs.declared.op.Entry.{Entry}
 use Rattle.rollout_rules.specs.declared.op.Entry.TheVariants.{Begin, Done}
 use Rattle.rollout_rules.proofs.Below.{sum_below-mono}
 use Rattle.rollout_laws.proofs.Histories.{dones_in-append, is_counted}
-use Rattle.shared_history.specs.declared.note.What.{What}
-use Rattle.shared_history.specs.declared.note.What.TheVariants as what
-use Rattle.shared_history.specs.declared.note.Written.{Written}
-use Rattle.shared_history.specs.Histories.{Opening, added, history_of, segment_of}
-use Rattle.worker_ports.specs.Lots.{home_at}
+use Rattle.shared_book.specs.declared.note.What.{What}
+use Rattle.shared_book.specs.declared.note.What.TheVariants as what
+use Rattle.shared_book.specs.declared.note.Written.{Written}
+use Rattle.shared_book.specs.Histories.{Opening, added, history_of, segment_of}
+use Rattle.switch_ports.specs.Outboxes.{home_at}
 use Rattle.controller_run.proofs.Behind.{settled-behind}
 use Rattle.controller_run.proofs.Elements.{inside-later}
 use Rattle.completion_laws.specs.Turns.{EndsNoneAt}

@@ -10,12 +10,12 @@ use Rattle.rollout_rules.specs.Operations.{operations}
 use Rattle.rollout_rules.proofs.Below.{all_below-at, all_below-from}
 use Rattle.rollout_laws.specs.Waiting.{HoldsNothing}
 use Rattle.rollout_laws.proofs.Histories.{is_counted, settled-with, with_both}
-use Rattle.shared_history.specs.declared.note.Written.{Written}
-use Rattle.shared_history.specs.Histories.{Opening, added, history_of}
-use Rattle.shared_history.specs.Legal.{is_legal_shared, is_still}
-use Rattle.shared_history.proofs.Going.{front_is_legal}
-use Rattle.shared_history.proofs.Lists.{list-is_legal}
-use Rattle.shared_history.proofs.Stops.{added-append}
+use Rattle.shared_book.specs.declared.note.Written.{Written}
+use Rattle.shared_book.specs.Histories.{Opening, added, history_of}
+use Rattle.shared_book.specs.Legal.{is_legal_shared, is_still}
+use Rattle.shared_book.proofs.Going.{front_is_legal}
+use Rattle.shared_book.proofs.Lists.{list-is_legal}
+use Rattle.shared_book.proofs.Stops.{added-append}
 use Rattle.completion_laws.specs.Finishing.{HasEnded}
 use Rattle.completion_laws.proofs.InFlight.{AllHeld, rested-stays, still-flies, turned-leaves, turned-rests}
 

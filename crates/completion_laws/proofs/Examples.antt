@@ -11,11 +11,11 @@ use Rattle.wan_edge.specs.Frames.{AnswerFrame, CommandFrame, IsCommand, Splits, 
 use Rattle.wan_edge.specs.Ports.{AllAnswered, BeginsNoCommand}
 use Rattle.wan_edge.specs.Switches.{answers_to, holding_nothing}
 use Rattle.port_session.specs.Offers.{frames_of}
-use Rattle.shared_history.specs.declared.note.What.{What}
-use Rattle.shared_history.specs.declared.note.What.TheVariants as what
-use Rattle.shared_history.specs.declared.note.Written.{Written}
-use Rattle.shared_history.specs.Worked.{says}
-use Rattle.worker_ports.specs.Lots.{home_at}
+use Rattle.shared_book.specs.declared.note.What.{What}
+use Rattle.shared_book.specs.declared.note.What.TheVariants as what
+use Rattle.shared_book.specs.declared.note.Written.{Written}
+use Rattle.shared_book.specs.Worked.{says}
+use Rattle.switch_ports.specs.Outboxes.{home_at}
 use Rattle.switch_laws.specs.Worked.{answering, both_at_first, first_answer, first_command, silent, two_flows, unused}
 use Rattle.switch_laws.proofs.SmallRuns.{unused_starts}
 use Rattle.completion_laws.specs.Answering.{HasAnswered, IsReady}

@@ -1,23 +1,23 @@
--- A run over ports that are ready finishes, or ends for want of memory.
+-- A run over ports that are ready finishes, or ends for lack of memory.
 use Rattle.std.proofs.Common.{◌≡◌, ℕ, true, List, Option}
-use Rattle.port_session.specs.Sessions.{Talk}
-use Rattle.shared_history.specs.declared.note.Cause.{Cause}
-use Rattle.shared_history.specs.declared.note.Cause.TheVariants as cause
-use Rattle.shared_history.specs.declared.note.Written.{Written}
-use Rattle.shared_history.specs.Histories.{Opening}
-use Rattle.shared_history.specs.Legal.{is_legal_shared}
+use Rattle.port_session.specs.Sessions.{SessionView}
+use Rattle.shared_book.specs.declared.note.Cause.{Cause}
+use Rattle.shared_book.specs.declared.note.Cause.TheVariants as cause
+use Rattle.shared_book.specs.declared.note.Written.{Written}
+use Rattle.shared_book.specs.Histories.{Opening}
+use Rattle.shared_book.specs.Legal.{is_legal_shared}
 use Rattle.shared_book.specs.Homes.{homes_of}
 use Rattle.wan_edge.specs.Ports.{PortTrace}
-use Rattle.rollout_run.specs.Causes.{HasCause, IfStopped}
-use Rattle.rollout_run.specs.Runs.{IsRunEnd}
-use Rattle.rollout_run.specs.declared.end.RunEnd.{RunEnd}
-use Rattle.rollout_run.specs.declared.end.RunEnd.TheVariants as run
+use Rattle.controller_run.specs.Causes.{HasCause, IfStopped}
+use Rattle.controller_run.specs.Runs.{IsRunEnd}
+use Rattle.controller_run.specs.declared.end.RunEnd.{RunEnd}
+use Rattle.controller_run.specs.declared.end.RunEnd.TheVariants as run
 use Rattle.completion_laws.specs.Faults.{IsExcused, IsNoFault, IsWithoutFault}
 use Rattle.completion_laws.specs.Finishing.{FinishesOrIsExcused, FinishesOrWants, IsOfWorkers, IsSure, IsWant}
 use Rattle.completion_laws.proofs.Excused.{ends-excused}
 use Rattle.completion_laws.proofs.NoFaults.{no-fault}
 
--- an excuse that is no fault is want of memory
+-- an excuse that is no fault is lack of memory
 pub only-want : (why : Cause) → IsExcused why → IsNoFault why → IsWant why
 only-want (cause.Spent given item number) excused no_fault = excused
 only-want (cause.Port switch) excused no_fault = no_fault
@@ -27,7 +27,7 @@ only-want (cause.NoAnswer switch byte) excused no_fault = excused
 only-want cause.Disk excused no_fault = no_fault
 only-want cause.Memory excused no_fault = tt
 
-module _ {P : Type 0} (tell : P → PortTrace) (o : Opening) (migration rounds : ℕ) (failed : Type 0) (opened : List (Talk P)) (kept : ℕ → Option P) (log : List Written) (without : IsWithoutFault tell failed opened kept) where
+module _ {P : Type 0} (tell : P → PortTrace) (o : Opening) (migration rounds : ℕ) (failed : Type 0) (opened : List (SessionView P)) (kept : ℕ → Option P) (log : List Written) (without : IsWithoutFault tell failed opened kept) where
   -- an end that is excused, where no fault stopped the run
   pub wants : (end : RunEnd) → FinishesOrIsExcused end → IfStopped end (λ halt. HasCause tell o migration (homes_of o.rollout.problem) rounds failed log opened kept halt.cause) → FinishesOrWants end
   wants run.Finished excused reason = tt

@@ -1,4 +1,4 @@
--- Behind a round of the book all that may begin is held back by the policy, where nothing is in flight.
+-- After a round of the book all that may begin is held back by the policy, where nothing is in flight.
 use Rattle.std.proofs.Common.{◌≡◌, ℕ, suc, ◌+◌, ◌<◌, Bool, true, false, not, ◌&&◌, ◌==◌, inl, inr, List, [], ◌∷◌, ◌++◌, length, map, filter, refl, sym, ap, ap₂, ◌∙◌, subst, arith, append_assoc, append-nil, eqb-true, eq-eqb, lt-ltb}
 use Rattle.std.proofs.lemmas.Bool.{and_parts, both_ways, cases_Bool}
 use Rattle.std.proofs.lemmas.List.Elements.{All-head}
@@ -20,19 +20,19 @@ use Rattle.rollout_laws.specs.Waiting.{HoldsNothing, NothingFlies}
 use Rattle.rollout_laws.proofs.Histories.{begun-with, is_counted, is_legal-append, front_is_legal, settled-with, with_both, with_none}
 use Rattle.rollout_laws.proofs.Released.{held-none, none-held, release-goes_on}
 use Rattle.rollout_laws.proofs.Rounds.{release_begins_next}
-use Rattle.rollout_rounds.specs.Rows.{bit, numbers, times}
-use Rattle.rollout_rounds.proofs.Batches.{begins-end}
-use Rattle.rollout_rounds.proofs.Rows.{times-filtered}
-use Rattle.shared_history.specs.declared.note.What.{What}
-use Rattle.shared_history.specs.declared.note.What.TheVariants as what
-use Rattle.shared_history.specs.declared.note.Written.{Written}
-use Rattle.shared_history.specs.Batches.{behind_dones, dones_ahead, ends, is_batch, items_rise, same_entries, same_entry, same_op}
-use Rattle.shared_history.specs.Histories.{Opening, history_of, segment_of}
-use Rattle.shared_history.specs.Legal.{is_legal_shared, is_still, is_turn, may_say}
-use Rattle.shared_history.specs.Notes.{calls_by, is_stopped}
-use Rattle.shared_history.proofs.Going.{next_may_be, front_is_legal as front_goes}
-use Rattle.shared_history.proofs.Lists.{history-next, list-is_legal}
-use Rattle.rollout_run.specs.Shifts.{HasTurned}
+use Rattle.update_scheduler.specs.Rows.{bit, numbers, times}
+use Rattle.update_scheduler.proofs.Batches.{begins-end}
+use Rattle.update_scheduler.proofs.Rows.{times-filtered}
+use Rattle.shared_book.specs.declared.note.What.{What}
+use Rattle.shared_book.specs.declared.note.What.TheVariants as what
+use Rattle.shared_book.specs.declared.note.Written.{Written}
+use Rattle.shared_book.specs.Batches.{behind_dones, dones_ahead, ends, is_batch, items_rise, same_entries, same_entry, same_op}
+use Rattle.shared_book.specs.Histories.{Opening, history_of, segment_of}
+use Rattle.shared_book.specs.Legal.{is_legal_shared, is_still, is_turn, may_say}
+use Rattle.shared_book.specs.Notes.{calls_by, is_stopped}
+use Rattle.shared_book.proofs.Going.{next_may_be, front_is_legal as front_goes}
+use Rattle.shared_book.proofs.Lists.{history-next, list-is_legal}
+use Rattle.controller_run.specs.Shifts.{HasTurned}
 
 -- ---- lists of entries that are the same
 one-op : (a b : Op) → same_op a b ≡ true → a ≡ b
@@ -54,7 +54,7 @@ one-list (e ∷ es) (f ∷ fs) same =
     let parts = and_parts (same_entry e f) (same_entries es fs) same in
     ap₂ (λ (x : Entry) (xs : List Entry). x ∷ xs) (one-entry e f parts.0) (one-list es fs parts.1)
 
--- a list is its Dones ahead, and what comes behind them
+-- a list is its Dones ahead, and what comes after them
 two-parts : (es : List Entry) → es ≡ ends (dones_ahead es) ++ behind_dones es
 two-parts [] = refl
 two-parts (Begin op ∷ es) = refl
@@ -79,7 +79,7 @@ still-flies p h still n low =
       | inr idle ↦ idle
     ]
 
--- ---- behind a batch
+-- ---- after a batch
 module _ (p : Problem) (plan : Plan) (policy : OpView → ℕ) where
   -- each operation that may begin is held back
   abbrev pub AllHeld : History → Type 0

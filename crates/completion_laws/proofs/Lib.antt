@@ -1,3 +1,7 @@
+pub mod Imagined
+pub mod Each
+pub mod Next
+pub mod SmallHoldings
 pub mod NoFaults
 pub mod InFlight
 pub mod Ended

@@ -1,21 +1,21 @@
 -- A run without a fault has no failure as its cause.
 use Rattle.std.proofs.Common.{◌≡◌, ℕ, List, [], ◌∷◌, Option, Some, inl, inr, refl, arith}
 use Rattle.std.specs.List.{AllZip, Contains}
-use Rattle.port_session.specs.Sessions.{Talk}
-use Rattle.shared_history.specs.declared.note.Cause.{Cause}
-use Rattle.shared_history.specs.declared.note.Cause.TheVariants as cause
-use Rattle.shared_history.specs.declared.note.Written.{Written}
-use Rattle.shared_history.specs.Histories.{Opening}
-use Rattle.worker_ports.specs.Rows.{AtOne}
+use Rattle.port_session.specs.Sessions.{SessionView}
+use Rattle.shared_book.specs.declared.note.Cause.{Cause}
+use Rattle.shared_book.specs.declared.note.Cause.TheVariants as cause
+use Rattle.shared_book.specs.declared.note.Written.{Written}
+use Rattle.shared_book.specs.Histories.{Opening}
+use Rattle.switch_ports.specs.Rows.{AtOne}
 use Rattle.wan_edge.specs.Ports.{PortTrace}
-use Rattle.worker_ports.specs.Views.{view}
+use Rattle.switch_ports.specs.Views.{view}
 use Rattle.controller_run.specs.Reasons.{FailedAt}
 use Rattle.controller_run.proofs.Elements.{inside-later}
-use Rattle.rollout_run.specs.Causes.{HasCause}
+use Rattle.controller_run.specs.Causes.{HasCause}
 use Rattle.completion_laws.specs.Faults.{IsNoFault, IsWithoutFault}
 
-module _ {P : Type 0} (tell : P → PortTrace) (failed : Type 0) (opened : List (Talk P)) (kept : ℕ → Option P) (without : IsWithoutFault tell failed opened kept) where
-  none-failed : (switch : ℕ) (first now : List (Talk P)) → ((t : Talk P) → Contains first t → Contains opened t) → AllZip (λ before after. kept before.switch ≡ Some after.port) first now
+module _ {P : Type 0} (tell : P → PortTrace) (failed : Type 0) (opened : List (SessionView P)) (kept : ℕ → Option P) (without : IsWithoutFault tell failed opened kept) where
+  none-failed : (switch : ℕ) (first now : List (SessionView P)) → ((t : SessionView P) → Contains first t → Contains opened t) → AllZip (λ before after. kept before.switch ≡ Some after.port) first now
       → AtOne (λ before after. FailedAt switch (view tell before) (view tell after)) first now → ⊥
   none-failed switch [] [] among back one = one
   none-failed switch [] (n ∷ ns) among back one = one

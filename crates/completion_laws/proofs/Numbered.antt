@@ -70,7 +70,7 @@ module _ (migration : ℕ) (next : ℕ → ℕ) where
   all-on holdings c cs is takes all = All-weaker (Takes holdings) (Takes (after_command holdings (migration, c))) (λ d was. takes-on holdings c d is takes was) cs all
 
   module _ (R : ℕ → Held → Type 0) where
-    -- what holds of the items and of each next operation holds behind all
+    -- what holds of the items and of each next operation holds after all
     pub on-all : (cs : List Command) (holdings : Holdings) → All IsNext cs → All (Takes holdings) cs → All (λ c. R c.item (pair_of migration (next c.item))) cs → (n : ℕ) → R n (holdings n).held → R n (after_commands holdings (framed migration cs) n).held
     on-all [] holdings are take next_is n was = was
     on-all (c ∷ cs) holdings are take next_is n was =

@@ -5,27 +5,27 @@ use Rattle.std.proofs.lemmas.List.Elements.{All-contains}
 use Rattle.std.specs.List.{All, IsDistinct}
 use Rattle.std.specs.Prelude.{IsTrue, nat_eq}
 use Rattle.rollout_rules.specs.Legal.{is_finished}
-use Rattle.port_session.specs.Sessions.{Talk}
-use Rattle.shared_history.specs.declared.note.Written.{Written}
-use Rattle.shared_history.specs.declared.reply.Halt.{Halt}
-use Rattle.shared_history.specs.declared.reply.Wake.{Wake}
-use Rattle.shared_history.specs.declared.reply.Wake.TheVariants as wake
-use Rattle.shared_history.specs.Histories.{Opening, history_of}
-use Rattle.shared_history.specs.Legal.{is_still}
-use Rattle.shared_history.specs.Notes.{first_stop}
-use Rattle.shared_history.proofs.Stops.{first_stop-stays}
+use Rattle.port_session.specs.Sessions.{SessionView}
+use Rattle.shared_book.specs.declared.note.Written.{Written}
+use Rattle.shared_book.specs.declared.call_reply.Halt.{Halt}
+use Rattle.shared_book.specs.declared.call_reply.Wake.{Wake}
+use Rattle.shared_book.specs.declared.call_reply.Wake.TheVariants as wake
+use Rattle.shared_book.specs.Histories.{Opening, history_of}
+use Rattle.shared_book.specs.Legal.{is_still}
+use Rattle.shared_book.specs.Notes.{first_stop}
+use Rattle.shared_book.proofs.Stops.{first_stop-stays}
 use Rattle.shared_book.specs.Calls.{seat_of}
 use Rattle.wan_edge.specs.Ports.{PortTrace}
-use Rattle.worker_ports.specs.declared.ports.Berth.{Berth}
-use Rattle.rollout_ports.specs.Berths.{AreApart}
-use Rattle.rollout_ports.specs.Hands.{first_talks}
+use Rattle.switch_ports.specs.declared.ports.Berth.{Berth}
+use Rattle.switch_ports.specs.Berths.{AreApart}
+use Rattle.switch_ports.specs.Hands.{first_sessions}
 use Rattle.controller_run.specs.Promises.{IsEndAt, Promises}
 use Rattle.controller_run.proofs.Keeps.{serves-keeps}
-use Rattle.rollout_run.specs.Shifts.{HasTurned, IsHalted, IsRelieved, IsShift, Returns, Shift}
-use Rattle.rollout_run.specs.Together.{HasWorked}
-use Rattle.rollout_run.proofs.Kept.{distinct_of}
-use Rattle.rollout_run.proofs.Over.{talks_switches}
-use Rattle.rollout_run.proofs.Ports.{of_one}
+use Rattle.controller_run.specs.Shifts.{HasTurned, IsHalted, IsRelieved, IsShift, Returns, Shift}
+use Rattle.controller_run.specs.Together.{HasWorked}
+use Rattle.controller_run.proofs.Kept.{distinct_of}
+use Rattle.controller_run.proofs.Over.{talks_switches}
+use Rattle.controller_run.proofs.RunPorts.{of_one}
 use Rattle.completion_laws.specs.Finishing.{HasEnded, IsOfWorkers}
 use Rattle.completion_laws.proofs.Apart.{served-apart}
 
@@ -55,7 +55,7 @@ module _ {P : Type 0} (tell : P → PortTrace) (o : Opening) (migration : ℕ) (
 
   promised : (end : Wake) → Returns tell o s.given.seat migration homes rounds s.given.before (Some end) s.now → Promises tell o s.given.seat migration homes rounds s.given.before end s.now
   promised end returns =
-      serves-keeps tell o s.given.seat [] migration homes rounds s.given.before returns.0 end s.now (λ k d inside. subst (λ (t : Talk P). IsTrue t.stream.live) (sym (shift.fresh k d inside)) refl) returns.1
+      serves-keeps tell o s.given.seat [] migration homes rounds s.given.before returns.0 end s.now (λ k d inside. subst (λ (t : SessionView P). IsTrue t.stream.live) (sym (shift.fresh k d inside)) refl) returns.1
 
   by-wake : (end : Wake) → IsEndAt o s.now.seen end → Idles
   by-wake (wake.Work op) ends unfinished = absurd ends
@@ -81,8 +81,8 @@ module _ {P : Type 0} (tell : P → PortTrace) (o : Opening) (migration : ℕ) (
         idle = by-wake end promises.ends;
       }
 
-module _ {P : Type 0} (tell : P → PortTrace) (o : Opening) (migration : ℕ) (homes : List (Option ℕ)) (rounds : ℕ) (berths : List (Berth P)) (apart : AreApart berths) (log : List Written) (seats : ℕ) (made : All (λ w. seat_of w < seats) log) (left : List (Talk P)) (worked : HasWorked tell o migration homes rounds (first_talks berths) seats log left) where
-  distinct : IsDistinct nat_eq (map (λ (t : Talk P). t.switch) (first_talks berths))
+module _ {P : Type 0} (tell : P → PortTrace) (o : Opening) (migration : ℕ) (homes : List (Option ℕ)) (rounds : ℕ) (berths : List (Berth P)) (apart : AreApart berths) (log : List Written) (seats : ℕ) (made : All (λ w. seat_of w < seats) log) (left : List (SessionView P)) (worked : HasWorked tell o migration homes rounds (first_sessions berths) seats log left) where
+  distinct : IsDistinct nat_eq (map (λ (t : SessionView P). t.switch) (first_sessions berths))
   distinct = subst (λ (l : List ℕ). IsDistinct nat_eq l) (sym (talks_switches berths)) (distinct_of berths apart)
 
   -- the worker of seat 0 has come to its end
@@ -92,12 +92,12 @@ module _ {P : Type 0} (tell : P → PortTrace) (o : Opening) (migration : ℕ) (
       let shift = All-contains (IsShift tell o migration homes rounds log) worked.shifts caller.0 worked.whole_shifts caller.1 in
       ended-by tell o migration homes rounds log none caller.0 shift caller.0.end shift.returns caller.2
 
-  pub of-workers : IsOfWorkers tell o migration homes rounds (first_talks berths) log
+  pub of-workers : IsOfWorkers tell o migration homes rounds (first_sessions berths) log
   of-workers = record {
     seats = seats;
     made = made;
     left = left;
     worked = worked;
-    apart = served-apart worked.shifts worked.spare (first_talks berths) worked.same distinct;
+    apart = served-apart worked.shifts worked.spare (first_sessions berths) worked.same distinct;
     ended = ended;
   }

@@ -24,16 +24,16 @@ use Rattle.wan_edge.specs.Frames.{Answer, Command}
 use Rattle.wan_edge.specs.Switches.{after_commands}
 use Rattle.rollout_book.specs.Aliens.{op_of, told_by}
 use Rattle.rollout_book.specs.Commands.{asked, command_of, is_among, is_asked}
-use Rattle.shared_history.specs.declared.note.What.{What}
-use Rattle.shared_history.specs.declared.note.Written.{Written}
-use Rattle.shared_history.specs.Histories.{Opening, history_of}
-use Rattle.shared_history.specs.Knows.{next_note}
-use Rattle.shared_history.specs.Replies.{batch_at}
+use Rattle.shared_book.specs.declared.note.What.{What}
+use Rattle.shared_book.specs.declared.note.Written.{Written}
+use Rattle.shared_book.specs.Histories.{Opening, history_of}
+use Rattle.shared_book.specs.Knows.{next_note}
+use Rattle.shared_book.specs.Replies.{batch_at}
 use Rattle.shared_book.specs.Calls.{seat_of}
 use Rattle.shared_book.specs.Homes.{homes_of}
 use Rattle.shared_book.proofs.HomeRows.{home-is}
-use Rattle.worker_ports.specs.Lots.{home_at, home_in}
-use Rattle.worker_ports.specs.Views.{PortView}
+use Rattle.switch_ports.specs.Outboxes.{home_at, home_in}
+use Rattle.switch_ports.specs.Views.{SessionTrace}
 use Rattle.switch_laws.proofs.Begun.{settled_told}
 use Rattle.switch_laws.proofs.Fitting.{has_frame}
 use Rattle.switch_laws.proofs.Listed.{listed_are_begun}
@@ -147,14 +147,14 @@ module _ (o : Opening) (homes : List (Option ℕ)) (switches : List ℕ) where
     way-on migration n switch held home among (inl way) = inl (way.0, omega (arith, way.1, passes-settled n switch home among), omega (arith, way.2, passes-begun n))
     way-on migration n switch held home among (inr earlier) = inr earlier
 
-    pub passes-up : (migration : ℕ) (now : PortView) → Contains switches now.switch → IsUpToDate o.rollout migration homes (history_of o a) now → IsUpToDate o.rollout migration homes (history_of o b) now
+    pub passes-up : (migration : ℕ) (now : SessionTrace) → Contains switches now.switch → IsUpToDate o.rollout migration homes (history_of o a) now → IsUpToDate o.rollout migration homes (history_of o b) now
     passes-up migration now among up = record {
       commands = up.commands;
       answered = up.answered;
       held = λ n low home. way-on migration n now.switch (after_commands now.port.start up.commands n).held home among (up.held n low home);
     }
 
--- ---- the batch of a round behind which such a row of ports is
+-- ---- the batch of a round after which such a row of ports is
 module _ (o : Opening) (migration : ℕ) (homes : List (Option ℕ)) (h g : History) (commands : List Command) (told : List Answer) (each_for : All (IsFor o.rollout migration homes h commands) told) (legal : is_legal o.rollout.problem o.rollout.plan g ≡ true) where
   abbrev pub added_by : List Entry
   added_by = batch_at o g (told_by told)
@@ -172,7 +172,7 @@ module _ (o : Opening) (migration : ℕ) (homes : List (Option ℕ)) (h g : Hist
       let number : for.command.number ≡ covered.answer.number = ap (λ (a : Answer). a.held) (sym for.is) ∙ ap (λ (x : Op). x.number) found.2 in
       (for.command, for.among, item, omega (arith, covered.number, number))
 
-  module _ (now : PortView) (through : IsThrough o.rollout migration homes h commands now) (same : (n : ℕ) → home_at homes n ≡ Some now.switch → (settled g n ≡ settled h n) × (begun h n ≤ begun g n)) where
+  module _ (now : SessionTrace) (through : IsThrough o.rollout migration homes h commands now) (same : (n : ℕ) → home_at homes n ≡ Some now.switch → (settled g n ≡ settled h n) × (begun h n ≤ begun g n)) where
     abbrev held_of : ℕ → Held
     held_of n = (after_commands now.port.start through.up.commands n).held
 

@@ -14,10 +14,10 @@ use Rattle.wan_edge.specs.Switches.{Holdings, after_commands, answers_to}
 use Rattle.port_session.specs.Reading.{answers_of}
 use Rattle.port_session.specs.declared.fault.SessionFault.{SessionFault}
 use Rattle.port_session.proofs.Awaited.{awaited_none, awaited_some}
-use Rattle.worker_ports.specs.Hearing.{HearsOut, IsOwn, Listens, Reads}
-use Rattle.worker_ports.specs.Lots.{home_at, is_switch, own}
-use Rattle.worker_ports.specs.Offering.{OffersAll}
-use Rattle.worker_ports.specs.Views.{PortView}
+use Rattle.switch_ports.specs.Hearing.{HearsOut, IsOwn, Listens, Reads}
+use Rattle.switch_ports.specs.Outboxes.{home_at, is_switch, own}
+use Rattle.switch_ports.specs.Offering.{OffersAll}
+use Rattle.switch_ports.specs.Views.{SessionTrace}
 use Rattle.switch_laws.proofs.Answered.{some_at}
 use Rattle.switch_laws.proofs.Offered.{framed}
 use Rattle.controller_run.proofs.Chains.{is-home}
@@ -73,13 +73,13 @@ module _ (r : Rollout) (migration : ℕ) (homes : List (Option ℕ)) (h : Histor
     pub fits : IsCommand (migration, c)
 
   -- what a round makes of a port: it is up to date again, has told just the answers to its own commands, and holds their operations
-  pub record TurnsPort (commands : List Command) (before : PortView) (told : List Answer) (now : PortView) : Type 0 where
+  pub record TurnsPort (commands : List Command) (before : SessionTrace) (told : List Answer) (now : SessionTrace) : Type 0 where
     pub switch : now.switch ≡ before.switch
     pub up : IsUpToDate r migration homes h now
     pub told_is : told ≡ map answer_for (own homes before.switch commands)
     pub holds : (c : Command) → Contains (own homes before.switch commands) c → (after_commands now.port.start up.commands c.item).held ≡ pair_of migration c.number
 
-  module _ (commands : List Command) (flying : All IsFlying commands) (before : PortView) (up : IsUpToDate r migration homes h before) where
+  module _ (commands : List Command) (flying : All IsFlying commands) (before : SessionTrace) (up : IsUpToDate r migration homes h before) where
     abbrev pub mine : List Command
     mine = own homes before.switch commands
 
@@ -119,7 +119,7 @@ module _ (r : Rollout) (migration : ℕ) (homes : List (Option ℕ)) (h : Histor
     pub own-answers_of : answers_of migration (answers_to holdings (framed migration mine)) ≡ map answer_for mine
     own-answers_of = ap (answers_of migration) own-told ∙ answers-told migration next mine
 
-    module _ (mid now : PortView) (told : List Answer) (out : OffersAll migration mine before mid) (hears : HearsOut migration homes mid told now) where
+    module _ (mid now : SessionTrace) (told : List Answer) (out : OffersAll migration mine before mid) (hears : HearsOut migration homes mid told now) where
       abbrev bytes : List ℕ
       bytes = hears.reads.bytes
 
@@ -219,7 +219,7 @@ module _ (r : Rollout) (migration : ℕ) (homes : List (Option ℕ)) (h : Histor
           }
 
     -- ---- a round that ends while it hears
-    module _ (mid now : PortView) (out : OffersAll migration mine before mid) (listens : Listens mid now) (why : Option SessionFault) (told : List Answer) (reads : Reads migration why mid told now) where
+    module _ (mid now : SessionTrace) (out : OffersAll migration mine before mid) (listens : Listens mid now) (why : Option SessionFault) (told : List Answer) (reads : Reads migration why mid told now) where
       -- what was read is a front of the answers to its own commands
       read-front : (later : List AnswerFrame) × (behind : List ℕ) × (answers_to holdings (framed migration mine) ≡ reads.reads.answers ++ later) × (reads.reads.rest ++ behind ≡ flat_map answer_bytes later)
       read-front =
@@ -240,6 +240,6 @@ module _ (r : Rollout) (migration : ℕ) (homes : List (Option ℕ)) (h : Histor
           = sym own-answers_of ∙ ap (answers_of migration) read-front.2 ∙ answers_of-append migration reads.reads.answers read-front.0 ∙ ap (λ (us : List Answer). us ++ answers_of migration read-front.0) (sym reads.reads.told_more) in
           All-front (IsOwn homes before.switch) told (answers_of migration read-front.0) (subst (All (IsOwn homes before.switch)) parts all)
 
-      -- and behind the answers read no other byte stands than one that begins an answer
+      -- and after the answers read no other byte stands than one that begins an answer
       pub no-other-kind : (byte : ℕ) → HasOtherKind answer_kind reads.reads.rest byte → ⊥
       no-other-kind byte has = other-first read-front.0 byte (has.behind ++ read-front.1) has.other (ap (λ (bs : List ℕ). bs ++ read-front.1) (sym has.parts) ∙ read-front.3)

@@ -11,8 +11,8 @@ use Rattle.wan_edge.specs.Streams.{Appends}
 use Rattle.wan_edge.specs.Switches.{Holdings, after_command, after_commands, answer_to, answers_to}
 use Rattle.wire_frames.proofs.OneSpelling.{one_answer, one_command, same_parts}
 use Rattle.port_session.specs.Offers.{frames_of}
-use Rattle.worker_ports.specs.Offering.{OffersAll}
-use Rattle.worker_ports.specs.Views.{PortView}
+use Rattle.switch_ports.specs.Offering.{OffersAll}
+use Rattle.switch_ports.specs.Views.{SessionTrace}
 use Rattle.switch_laws.proofs.Offered.{all_framed, frames-framed, framed}
 use Rattle.switch_laws.proofs.Answered.{some_at}
 use Rattle.completion_laws.specs.Answering.{HasAnswered}
@@ -22,7 +22,7 @@ some_bytes : (c : CommandFrame) → 0 < length (command_bytes c)
 unfolding command_bytes command_head
 some_bytes c = omega arith
 
--- whole commands with no whole command behind them are one row
+-- whole commands with no whole command after them are one row
 one_row : (xs cs : List CommandFrame) (rest : List ℕ) → All IsCommand xs → All IsCommand cs → BeginsNoCommand rest → flat_map command_bytes cs ≡ flat_map command_bytes xs ++ rest → xs ≡ cs
 one_row [] [] rest xs_fit cs_fit none e = refl
 one_row [] (c ∷ cs) rest xs_fit cs_fit none e = absurd (none c (flat_map command_bytes cs) (All-head IsCommand c cs cs_fit) (sym e))
@@ -100,7 +100,7 @@ module _ (start now : Holdings) (cs : List CommandFrame) (heard : List ℕ) (fit
       holds ∙ ap (after_commands start) (take-whole state.carried_out cs many)
 
 -- ---- a round at a port
-module _ (migration : ℕ) (mine : List Command) (cs : List CommandFrame) (before mid now : PortView) (was : HasAnswered cs before) (fit : All (λ c. IsCommand (migration, c)) mine) (out : OffersAll migration mine before mid) where
+module _ (migration : ℕ) (mine : List Command) (cs : List CommandFrame) (before mid now : SessionTrace) (was : HasAnswered cs before) (fit : All (λ c. IsCommand (migration, c)) mine) (out : OffersAll migration mine before mid) where
   abbrev pub fs : List CommandFrame
   fs = framed migration mine
 

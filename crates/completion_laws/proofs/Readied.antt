@@ -8,7 +8,7 @@ use Rattle.rollout_rules.specs.Agent.{Holding}
 use Rattle.wan_edge.specs.Frames.{CommandFrame, answer_bytes, command_bytes}
 use Rattle.wan_edge.specs.Ports.{AllAnswered, AnswersInOrder}
 use Rattle.wan_edge.specs.Switches.{Holdings, after_commands, answers_to}
-use Rattle.worker_ports.specs.Views.{PortView}
+use Rattle.switch_ports.specs.Views.{SessionTrace}
 use Rattle.switch_laws.specs.Holdings.{AreHeldAt, IsHeldAt}
 use Rattle.switch_laws.specs.Runs.{AreCommands}
 use Rattle.switch_laws.proofs.Answered.{some_at}
@@ -20,7 +20,7 @@ told : {A : Type 0} (x : Option A) → is_some x ≡ true → (a : A) × (x ≡ 
 told None some = absurd (false≢true some)
 told (Some a) some = (a, refl)
 
-module _ (r : Rollout) (migration : ℕ) (homes : List (Option ℕ)) (found : History) (first : PortView) (ready : IsReady r migration homes found first) where
+module _ (r : Rollout) (migration : ℕ) (homes : List (Option ℕ)) (found : History) (first : SessionTrace) (ready : IsReady r migration homes found first) where
   abbrev offered : List ℕ
   offered = (told first.port.offered ready.offered).0
 

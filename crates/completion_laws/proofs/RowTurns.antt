@@ -9,15 +9,15 @@ use Rattle.rollout_rules.specs.Agent.{pair_of}
 use Rattle.wan_edge.specs.Frames.{Answer, Command}
 use Rattle.wan_edge.specs.Ports.{PortTrace}
 use Rattle.wan_edge.specs.Switches.{after_commands}
-use Rattle.port_session.specs.Sessions.{Talk}
+use Rattle.port_session.specs.Sessions.{SessionView}
 use Rattle.port_session.specs.declared.fault.SessionFault.TheVariants as fault
-use Rattle.shared_history.specs.declared.note.Cause.{Cause}
-use Rattle.shared_history.specs.declared.note.Cause.TheVariants as cause
-use Rattle.worker_ports.specs.Hearing.{HasAlien, IsHearCause, IsOwn, Listens}
-use Rattle.worker_ports.specs.Lots.{home_at, is_switch, own}
-use Rattle.worker_ports.specs.Offering.{IsOfferCause, OffersAll}
-use Rattle.worker_ports.specs.Rows.{AtOne, HearsEach, IsCauseOfOffer, ListensEach, OffersAllEach}
-use Rattle.worker_ports.specs.Views.{PortView, view}
+use Rattle.shared_book.specs.declared.note.Cause.{Cause}
+use Rattle.shared_book.specs.declared.note.Cause.TheVariants as cause
+use Rattle.switch_ports.specs.Hearing.{HasAlien, IsHearCause, IsOwn, Listens}
+use Rattle.switch_ports.specs.Outboxes.{home_at, is_switch, own}
+use Rattle.switch_ports.specs.Offering.{IsOfferCause, OffersAll}
+use Rattle.switch_ports.specs.Rows.{AtOne, HearsEach, IsCauseOfOffer, ListensEach, OffersAllEach}
+use Rattle.switch_ports.specs.Views.{SessionTrace, view}
 use Rattle.controller_run.specs.Exchanging.{StopsInHear}
 use Rattle.controller_run.proofs.Keeps.{no-one}
 use Rattle.controller_run.proofs.Elements.{filter-has, inside-cons, map-has, none-inside}
@@ -33,11 +33,11 @@ module _ (r : Rollout) (migration : ℕ) (homes : List (Option ℕ)) (h : Histor
     pub is : a ≡ answer_for command
 
   -- a port is up to date, and its switch holds the operations of its own among these commands
-  pub record IsThrough (commands : List Command) (now : PortView) : Type 0 where
+  pub record IsThrough (commands : List Command) (now : SessionTrace) : Type 0 where
     pub up : IsUpToDate r migration homes h now
     pub holds : (c : Command) → Contains (own homes now.switch commands) c → (after_commands now.port.start up.commands c.item).held ≡ pair_of migration c.number
 
-  of-turn : (commands : List Command) (before now : PortView) (told : List Answer) → TurnsPort r migration homes h commands before told now → IsThrough commands now
+  of-turn : (commands : List Command) (before now : SessionTrace) (told : List Answer) → TurnsPort r migration homes h commands before told now → IsThrough commands now
   of-turn commands before now told turn =
       record { up = turn.up; holds = λ c at. turn.holds c (subst (λ (w : ℕ). Contains (own homes w commands) c) turn.switch at) }
 
@@ -52,20 +52,20 @@ module _ (r : Rollout) (migration : ℕ) (homes : List (Option ℕ)) (h : Histor
       filter-has (λ d. is_switch switch (home_at homes d.item)) commands c (ap (is_switch switch) home ∙ eq-eqb switch switch refl) at
 
   module _ {P : Type 0} (tell : P → PortTrace) (commands : List Command) (flying : All (IsFlying r migration homes h) commands) where
-    abbrev pub Up : Talk P → Type 0
+    abbrev pub Up : SessionView P → Type 0
     Up t = IsUpToDate r migration homes h (view tell t)
 
-    abbrev pub Turned : Talk P → Type 0
+    abbrev pub Turned : SessionView P → Type 0
     Turned t = IsThrough commands (view tell t)
 
     -- what a round makes of the row
-    pub record TurnsRow (bs : List (Talk P)) (told : List Answer) (ns : List (Talk P)) : Type 0 where
+    pub record TurnsRow (bs : List (SessionView P)) (told : List Answer) (ns : List (SessionView P)) : Type 0 where
       pub switches : map (λ t. t.switch) ns ≡ map (λ t. t.switch) bs
       pub ports : All Turned ns
       pub each_for : All (IsFor commands) told
       pub each_told : (c : Command) → Contains commands c → (switch : ℕ) → home_at homes c.item ≡ Some switch → Contains (map (λ t. t.switch) bs) switch → Contains told (answer_for c)
 
-    one-more : (b n : Talk P) (bs ns : List (Talk P)) (mine later told : List Answer) → TurnsPort r migration homes h commands (view tell b) mine (view tell n) → TurnsRow bs later ns → told ≡ mine ++ later → TurnsRow (b ∷ bs) told (n ∷ ns)
+    one-more : (b n : SessionView P) (bs ns : List (SessionView P)) (mine later told : List Answer) → TurnsPort r migration homes h commands (view tell b) mine (view tell n) → TurnsRow bs later ns → told ≡ mine ++ later → TurnsRow (b ∷ bs) told (n ∷ ns)
     one-more b n bs ns mine later told turn rest is = record {
       switches = ap₂ (λ (w : ℕ) (ws : List ℕ). w ∷ ws) turn.switch rest.switches;
       ports = All-cons Turned n ns (of-turn commands (view tell b) (view tell n) mine turn) rest.ports;
@@ -80,7 +80,7 @@ module _ (r : Rollout) (migration : ℕ) (homes : List (Option ℕ)) (h : Histor
           (inside-cons b.switch switch (map (λ t. t.switch) bs) among));
     }
 
-    pub turns-row : (bs os ns : List (Talk P)) (told : List Answer) → All Up bs → OffersAllEach tell migration homes commands bs os → HearsEach tell migration homes os ns told → TurnsRow bs told ns
+    pub turns-row : (bs os ns : List (SessionView P)) (told : List Answer) → All Up bs → OffersAllEach tell migration homes commands bs os → HearsEach tell migration homes os ns told → TurnsRow bs told ns
     turns-row [] [] [] told ups offers hears = record { switches = refl; ports = All-nil Turned; each_for = subst (All (IsFor commands)) (sym hears) (All-nil (IsFor commands)); each_told = λ c at switch home among. absurd (none-inside switch among) }
     turns-row [] [] (n ∷ ns) told ups offers hears = absurd hears
     turns-row [] (o ∷ os) ns told ups offers hears = absurd offers
@@ -98,7 +98,7 @@ module _ (r : Rollout) (migration : ℕ) (homes : List (Option ℕ)) (h : Histor
         let at : Contains told one = subst (λ (us : List Answer). Contains us one) (sym has.among) (Contains-append_right has.earlier (one ∷ has.later) one (0, omega arith, refl)) in
         both_ways (is_switch switch (home_at homes item)) has.alien (All-contains (IsOwn homes switch) told one own at)
 
-    none-amiss : (why : Cause) (b o n : Talk P) → Up b → OffersAll migration (own homes b.switch commands) (view tell b) (view tell o) → Listens (view tell o) (view tell n) → IsHearCause migration homes why (view tell o) (view tell n) → IsExcused why
+    none-amiss : (why : Cause) (b o n : SessionView P) → Up b → OffersAll migration (own homes b.switch commands) (view tell b) (view tell o) → Listens (view tell o) (view tell n) → IsHearCause migration homes why (view tell o) (view tell n) → IsExcused why
     none-amiss (cause.Spent given item number) b o n up offers listens is = is
     none-amiss (cause.Port switch) b o n up offers listens is = tt
     none-amiss (cause.Above item held begun) b o n up offers listens is = is
@@ -110,7 +110,7 @@ module _ (r : Rollout) (migration : ℕ) (homes : List (Option ℕ)) (h : Histor
     none-amiss cause.Disk b o n up offers listens is = tt
     none-amiss cause.Memory b o n up offers listens is = tt
 
-    one-amiss : (why : Cause) (bs os ns : List (Talk P)) → All Up bs → OffersAllEach tell migration homes commands bs os → ListensEach tell os ns → AtOne (λ before now. IsHearCause migration homes why (view tell before) (view tell now)) os ns → IsExcused why
+    one-amiss : (why : Cause) (bs os ns : List (SessionView P)) → All Up bs → OffersAllEach tell migration homes commands bs os → ListensEach tell os ns → AtOne (λ before now. IsHearCause migration homes why (view tell before) (view tell now)) os ns → IsExcused why
     one-amiss why [] [] [] ups offers listens at = absurd at
     one-amiss why [] [] (n ∷ ns) ups offers listens at = absurd at
     one-amiss why [] (o ∷ os) ns ups offers listens at = absurd offers
@@ -119,7 +119,7 @@ module _ (r : Rollout) (migration : ℕ) (homes : List (Option ℕ)) (h : Histor
     one-amiss why (b ∷ bs) (o ∷ os) (n ∷ ns) ups offers listens (inl here) = none-amiss why b o n (All-head Up b bs ups) offers.0 listens.0 here
     one-amiss why (b ∷ bs) (o ∷ os) (n ∷ ns) ups offers listens (inr later) = one-amiss why bs os ns (All-tail Up b bs ups) offers.1 listens.1 later
 
-    pub hear-excused : (why : Cause) (bs ns : List (Talk P)) → All Up bs → StopsInHear tell migration homes why bs commands ns → IsExcused why
+    pub hear-excused : (why : Cause) (bs ns : List (SessionView P)) → All Up bs → StopsInHear tell migration homes why bs commands ns → IsExcused why
     hear-excused (cause.Spent given item number) bs ns ups stops = one-amiss (cause.Spent given item number) bs stops.offered ns ups stops.offers stops.listens stops.cause
     hear-excused (cause.Port switch) bs ns ups stops = tt
     hear-excused (cause.Above item held begun) bs ns ups stops = one-amiss (cause.Above item held begun) bs stops.offered ns ups stops.offers stops.listens stops.cause
@@ -129,7 +129,7 @@ module _ (r : Rollout) (migration : ℕ) (homes : List (Option ℕ)) (h : Histor
     hear-excused cause.Memory bs ns ups stops = tt
 
 -- a cause that comes of offering
-pub offer-excused : {P : Type 0} (tell : P → PortTrace) (why : Cause) (bs ns : List (Talk P)) → IsCauseOfOffer tell why bs ns → IsExcused why
+pub offer-excused : {P : Type 0} (tell : P → PortTrace) (why : Cause) (bs ns : List (SessionView P)) → IsCauseOfOffer tell why bs ns → IsExcused why
 offer-excused tell (cause.Spent given item number) bs ns is = no-one (λ b n. IsOfferCause (cause.Spent given item number) (view tell b) (view tell n)) (λ b n none. none) bs ns is
 offer-excused tell (cause.Port switch) bs ns is = tt
 offer-excused tell (cause.Above item held begun) bs ns is = no-one (λ b n. IsOfferCause (cause.Above item held begun) (view tell b) (view tell n)) (λ b n none. none) bs ns is

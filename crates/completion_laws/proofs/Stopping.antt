@@ -3,12 +3,12 @@ use Rattle.std.proofs.Common.{◌≡◌, ℕ, List, [], ◌∷◌, ◌++◌, All
 use Rattle.std.proofs.lemmas.List.Elements.{All-append, All-cons, All-head, All-nil, All-tail}
 use Rattle.std.specs.Option.{option_or}
 use Rattle.turn_lock.specs.Histories.{Follows}
-use Rattle.shared_history.specs.declared.note.Cause.{Cause}
-use Rattle.shared_history.specs.declared.note.Written.{Written}
-use Rattle.shared_history.specs.declared.reply.Halt.{Halt}
-use Rattle.shared_history.specs.Histories.{Opening}
-use Rattle.shared_history.specs.Notes.{calls_by, cause_of, first_stop, halt_by}
-use Rattle.shared_history.specs.Replies.{halt_or}
+use Rattle.shared_book.specs.declared.note.Cause.{Cause}
+use Rattle.shared_book.specs.declared.note.Written.{Written}
+use Rattle.shared_book.specs.declared.call_reply.Halt.{Halt}
+use Rattle.shared_book.specs.Histories.{Opening}
+use Rattle.shared_book.specs.Notes.{calls_by, cause_of, first_stop, halt_by}
+use Rattle.shared_book.specs.Replies.{halt_or}
 use Rattle.shared_book.specs.Calls.{IsStopCall, seat_of}
 use Rattle.controller_run.specs.Promises.{StopsNothing}
 use Rattle.completion_laws.specs.Faults.{IsExcused}

@@ -20,35 +20,35 @@ use Rattle.wan_edge.specs.Frames.{Answer, Command}
 use Rattle.wan_edge.specs.Ports.{PortTrace}
 use Rattle.rollout_book.specs.Aliens.{op_of, told_by}
 use Rattle.rollout_book.specs.Commands.{asked}
-use Rattle.port_session.specs.Sessions.{Talk}
-use Rattle.shared_history.specs.declared.note.Cause.{Cause}
-use Rattle.shared_history.specs.declared.note.Cause.TheVariants as cause
-use Rattle.shared_history.specs.declared.note.What.TheVariants as what
-use Rattle.shared_history.specs.declared.note.Written.{Written}
-use Rattle.shared_history.specs.declared.reply.Halt.{Halt}
-use Rattle.shared_history.specs.declared.reply.ListReply.TheVariants as list
-use Rattle.shared_history.specs.declared.reply.Wake.TheVariants as wake
-use Rattle.shared_history.specs.Histories.{Opening, history_of}
-use Rattle.shared_history.specs.Knows.{next_note}
-use Rattle.shared_history.specs.Legal.{is_alien, is_legal_shared}
-use Rattle.shared_history.specs.Notes.{first_stop, has_asked}
-use Rattle.shared_history.specs.Replies.{asked_at, batch_at, is_asked}
-use Rattle.shared_history.proofs.Going.{front_is_legal}
-use Rattle.shared_history.proofs.Lists.{history-next, list-is_legal}
+use Rattle.port_session.specs.Sessions.{SessionView}
+use Rattle.shared_book.specs.declared.note.Cause.{Cause}
+use Rattle.shared_book.specs.declared.note.Cause.TheVariants as cause
+use Rattle.shared_book.specs.declared.note.What.TheVariants as what
+use Rattle.shared_book.specs.declared.note.Written.{Written}
+use Rattle.shared_book.specs.declared.call_reply.Halt.{Halt}
+use Rattle.shared_book.specs.declared.call_reply.ListReply.TheVariants as list
+use Rattle.shared_book.specs.declared.call_reply.Wake.TheVariants as wake
+use Rattle.shared_book.specs.Histories.{Opening, history_of}
+use Rattle.shared_book.specs.Knows.{next_note}
+use Rattle.shared_book.specs.Legal.{is_alien, is_legal_shared}
+use Rattle.shared_book.specs.Notes.{first_stop, has_asked}
+use Rattle.shared_book.specs.Replies.{asked_at, batch_at, is_asked}
+use Rattle.shared_book.proofs.Going.{front_is_legal}
+use Rattle.shared_book.proofs.Lists.{history-next, list-is_legal}
 use Rattle.shared_book.specs.Calls.{IsStopCall, seat_of}
 use Rattle.shared_book.specs.Homes.{homes_of}
 use Rattle.shared_book.specs.Told.{commands_at}
-use Rattle.worker_ports.specs.Due.{any_late, due_of, late_count}
-use Rattle.worker_ports.specs.Lots.{home_at}
-use Rattle.worker_ports.proofs.Lateness.{all_due, bit_none, none_late}
-use Rattle.worker_ports.specs.Views.{view}
+use Rattle.switch_ports.specs.Due.{any_late, due_of, late_count}
+use Rattle.switch_ports.specs.Outboxes.{home_at}
+use Rattle.switch_ports.proofs.Lateness.{all_due, bit_none, none_late}
+use Rattle.switch_ports.specs.Views.{view}
 use Rattle.controller_run.specs.Exchanging.{Exchanges}
 use Rattle.controller_run.specs.Finding.{Lists, Looks}
 use Rattle.controller_run.specs.Promises.{switches_of}
 use Rattle.controller_run.specs.Serving.{AreWhole, IsLast, Moment, Served, Whole, Worked, caller_of}
 use Rattle.controller_run.specs.Settling.{StopsRound}
 use Rattle.controller_run.specs.Working.{ListsNone, ListsSome, RestsFor, Settles, Standing, Untold, Works, is_some_command}
-use Rattle.controller_run.specs.declared.outcome.Outcome.TheVariants as outcome
+use Rattle.controller_run.specs.declared.round_end.RoundEnd.TheVariants as outcome
 use Rattle.controller_run.proofs.Answered.{told-answer}
 use Rattle.controller_run.proofs.Elements.{map-has}
 use Rattle.controller_run.proofs.Endings.{list-stopped, look-stopped, look-works}
@@ -72,7 +72,7 @@ goes-back final a more goes = (more ++ goes.0, goes.1 ∙ append_assoc a more go
 goes-before : (final a b more : List Written) → b ≡ a ++ more → GoesTo final b → GoesTo final a
 goes-before final a b more is goes = goes-back final a more (subst (GoesTo final) is goes)
 
-has-switch : {P : Type 0} (ps : List (Talk P)) (k : ℕ) (d : Talk P) → k < length ps → Contains (switches_of ps) (slice_index_or ps k d).switch
+has-switch : {P : Type 0} (ps : List (SessionView P)) (k : ℕ) (d : SessionView P) → k < length ps → Contains (switches_of ps) (slice_index_or ps k d).switch
 has-switch ps k d inside = map-has (λ t. t.switch) ps (slice_index_or ps k d) (Contains-get_or ps k d inside)
 
 module _ {P : Type 0} (tell : P → PortTrace) (o : Opening) (seat : ℕ) (joined : List ℕ) (migration : ℕ) (homes : List (Option ℕ)) (switches : List ℕ) (rounds : ℕ) (net : IsNetwork o.rollout.problem) (valid : is_valid_plan o.rollout.problem o.rollout.plan ≡ true) (small : migration < 2 ^ 32)
@@ -83,7 +83,7 @@ module _ {P : Type 0} (tell : P → PortTrace) (o : Opening) (seat : ℕ) (joine
   abbrev left_at : List Written → ℕ
   left_at ws = unsettled o.rollout.problem o.rollout.plan (hist ws)
 
-  abbrev pub AreUp : List Written → List (Talk P) → Type 0
+  abbrev pub AreUp : List Written → List (SessionView P) → Type 0
   AreUp ws ports = All (λ t. IsUpToDate o.rollout migration homes (hist ws) (view tell t)) ports
 
   abbrev Past : List Written → List Written → Type 0
@@ -92,24 +92,24 @@ module _ {P : Type 0} (tell : P → PortTrace) (o : Opening) (seat : ℕ) (joine
   past-others : (seen log : List Written) → GoesTo final log → Follows seat_of (seat ∷ joined) seen log → Past seen log
   past-others seen log goes follows = passes-others o homes switches seat joined final seen log goes.0 others goes.1 follows
 
-  up-past : (a b : List Written) (ports : List (Talk P)) → switches_of ports ≡ switches → Past a b → AreUp a ports → AreUp b ports
+  up-past : (a b : List Written) (ports : List (SessionView P)) → switches_of ports ≡ switches → Past a b → AreUp a ports → AreUp b ports
   up-past a b ports same past ups = λ k d inside.
       passes-up o homes switches a b past migration (view tell (slice_index_or ports k d)) (subst (λ (ws : List ℕ). Contains ws (slice_index_or ports k d).switch) same (has-switch ports k d inside)) (ups k d inside)
 
   -- no such port's switch is late
-  up-none : (ws : List Written) (ports : List (Talk P)) → AreUp ws ports → late_count ports ≡ 0
+  up-none : (ws : List Written) (ports : List (SessionView P)) → AreUp ws ports → late_count ports ≡ 0
   up-none ws [] ups = refl
   up-none ws (t ∷ ports) ups =
-      let Up : Talk P → Type 0 = λ u. IsUpToDate o.rollout migration homes (hist ws) (view tell u) in
+      let Up : SessionView P → Type 0 = λ u. IsUpToDate o.rollout migration homes (hist ws) (view tell u) in
       let own = bit_none t.stream.awaited (All-head Up t ports ups).answered.none_owed in
       let others = up-none ws ports (All-tail Up t ports ups) in
       omega (arith, own, others)
 
-  up-due : (ws : List Written) (ports : List (Talk P)) → AreUp ws ports → due_of ports ≡ switches_of ports
+  up-due : (ws : List Written) (ports : List (SessionView P)) → AreUp ws ports → due_of ports ≡ switches_of ports
   up-due ws ports ups = (all_due ports (none_late ports (up-none ws ports ups))).due
 
   -- so work was found where something was
-  work-found : (ws : List Written) (ports : List (Talk P)) (left : ℕ) (seen : List Written) (commands : List Command) (log : List Written) → AreUp ws ports
+  work-found : (ws : List Written) (ports : List (SessionView P)) (left : ℕ) (seen : List Written) (commands : List Command) (log : List Written) → AreUp ws ports
       → ListsSome (caller_of o (seat ∷ joined) seat ports) left seen commands log ⊎ ListsNone (caller_of o (seat ∷ joined) seat ports) left seen commands log → ListsSome (caller_of o (seat ∷ joined) seat ports) left seen commands log
   work-found ws ports left seen commands log ups (inl found) = found
   work-found ws ports left seen commands log ups (inr found) = absurd (false≢true (sym (none_late ports (up-none ws ports ups)) ∙ found.late))
@@ -123,7 +123,7 @@ module _ {P : Type 0} (tell : P → PortTrace) (o : Opening) (seat : ℕ) (joine
     legal : is_legal_shared o at ≡ true
     excused : AreExcused seat log
 
-  looked : (seen after : List Written) (op : Op) (ports : List (Talk P)) → due_of ports ≡ switches → GoesTo final after → AreExcused seat seen → Looks (caller_of o (seat ∷ joined) seat ports) seen (wake.Work op) after → Past seen after × AreExcused seat after
+  looked : (seen after : List Written) (op : Op) (ports : List (SessionView P)) → due_of ports ≡ switches → GoesTo final after → AreExcused seat seen → Looks (caller_of o (seat ∷ joined) seat ports) seen (wake.Work op) after → Past seen after × AreExcused seat after
   looked seen after op ports same goes excused call =
       let w = next_note seat call.log what.Work [] in
       let noted = passes-note o homes switches seat call.log after what.Work call.noted in (
@@ -131,7 +131,7 @@ module _ {P : Type 0} (tell : P → PortTrace) (o : Opening) (seat : ℕ) (joine
         excused-note seat call.log after w (excused-past seat joined seen call.log excused call.past) call.noted (plain w refl),
       )
 
-  listed : (seen log : List Written) (op : Op) (commands : List Command) (ports : List (Talk P)) → due_of ports ≡ switches → GoesTo final log → AreExcused seat seen → Lists (caller_of o (seat ∷ joined) seat ports) op seen commands list.Listed log → Listed seen log commands
+  listed : (seen log : List Written) (op : Op) (commands : List Command) (ports : List (SessionView P)) → due_of ports ≡ switches → GoesTo final log → AreExcused seat seen → Lists (caller_of o (seat ∷ joined) seat ports) op seen commands list.Listed log → Listed seen log commands
   listed seen log op commands ports same goes excused lists =
       let call = lists.listed in
       let w = next_note seat call.log what.Listed [] in
@@ -149,7 +149,7 @@ module _ {P : Type 0} (tell : P → PortTrace) (o : Opening) (seat : ℕ) (joine
       }
 
   -- ---- a round between the ports, up to where the book judges it
-  module _ (seen log : List Written) (commands : List Command) (bs : List (Talk P)) (same : switches_of bs ≡ switches) (ups : AreUp seen bs) (lists : Listed seen log commands) where
+  module _ (seen log : List Written) (commands : List Command) (bs : List (SessionView P)) (same : switches_of bs ≡ switches) (ups : AreUp seen bs) (lists : Listed seen log commands) where
     abbrev h : History
     h = hist lists.at
 
@@ -168,7 +168,7 @@ module _ {P : Type 0} (tell : P → PortTrace) (o : Opening) (seat : ℕ) (joine
         let is = All-contains (IsFlying o.rollout migration homes h) commands c fly at in
         (homed.0, home-here o.rollout.problem homes c.item same_homes is.within ∙ homed.1, homed.2)
 
-    module _ (told : List Answer) (ns : List (Talk P)) (went : Exchanges tell migration homes bs commands told ns) where
+    module _ (told : List Answer) (ns : List (SessionView P)) (went : Exchanges tell migration homes bs commands told ns) where
       row : TurnsRow o.rollout migration homes h tell commands fly bs told ns
       row = turns-row o.rollout migration homes h tell commands fly bs went.offered ns told ups-at went.offers went.hears
 
@@ -201,7 +201,7 @@ module _ {P : Type 0} (tell : P → PortTrace) (o : Opening) (seat : ℕ) (joine
                 let here : nat_lt n (item_count o.rollout.problem) ≡ true = lt-ltb n (item_count o.rollout.problem) low in
                 rw here (not_from_true (nat_le k (begun g n)) (le-leb k (begun g n) few))
 
-        -- behind the batch each port is up to date, and where a command was listed less is unsettled
+        -- after the batch each port is up to date, and where a command was listed less is unsettled
         abbrev entries : List Entry
         entries = batch_at o g (told_by told)
 
@@ -269,10 +269,10 @@ module _ {P : Type 0} (tell : P → PortTrace) (o : Opening) (seat : ℕ) (joine
     goes-chain : (a b c : List Written) → GoesTo b a → GoesTo c b → GoesTo c a
     goes-chain a b c first second = goes-before c a b first.0 first.1 second
 
-    goes-look : (seen after : List Written) (op : Op) (ports : List (Talk P)) → Looks (caller_of o (seat ∷ joined) seat ports) seen (wake.Work op) after → GoesTo after seen
+    goes-look : (seen after : List Written) (op : Op) (ports : List (SessionView P)) → Looks (caller_of o (seat ∷ joined) seat ports) seen (wake.Work op) after → GoesTo after seen
     goes-look seen after op ports call = goes-before after seen call.log call.past.past call.past.is (next_note seat call.log what.Work [] ∷ [], call.noted)
 
-    goes-lists : (seen log : List Written) (op : Op) (commands : List Command) (ports : List (Talk P)) → Lists (caller_of o (seat ∷ joined) seat ports) op seen commands list.Listed log → GoesTo log seen
+    goes-lists : (seen log : List Written) (op : Op) (commands : List Command) (ports : List (SessionView P)) → Lists (caller_of o (seat ∷ joined) seat ports) op seen commands list.Listed log → GoesTo log seen
     goes-lists seen log op commands ports lists =
         let call = lists.listed in
         goes-chain seen lists.awake log (goes-look seen lists.awake op ports lists.looks) (goes-before log lists.awake call.log call.past.past call.past.is (next_note seat call.log what.Listed [] ∷ [], call.noted))
@@ -291,7 +291,7 @@ module _ {P : Type 0} (tell : P → PortTrace) (o : Opening) (seat : ℕ) (joine
         ⊎_elim (λ rests. absurd rests.1)
         (λ works. ⊎_elim (λ settles. turned m n whole.offered stands whole.less goes works settles) (λ idle. absurd (never-late m stands idle.late)) works.exchanged) whole.worked
 
-    -- what was seen before a round is seen behind it
+    -- what was seen before a round is seen after it
     goes-whole : (m n : Moment P) → Whole tell o (seat ∷ joined) seat migration homes rounds m n → GoesTo n.stands.seen m.stands.seen
     goes-whole m n whole =
         ⊎_elim (λ rests. absurd rests.1)
@@ -313,7 +313,7 @@ module _ {P : Type 0} (tell : P → PortTrace) (o : Opening) (seat : ℕ) (joine
     stands-all m (n ∷ later) at stands are goes =
         stands-all n later at (stands-next m n stands are.0 (goes-chain n.stands.seen at.stands.seen final (goes-all n later at are.1) goes)) are.1 goes
 
-    -- ---- what was seen before the last round is seen behind it
+    -- ---- what was seen before the last round is seen after it
     goes-round : (why : Cause) (answers : List Op) (log after : List Written) → StopsRound o (seat ∷ joined) seat log answers why after → GoesTo after log
     goes-round (cause.Spent given item number) answers log after stops = absurd stops
     goes-round (cause.Port switch) answers log after stops = absurd stops
@@ -344,7 +344,7 @@ module _ {P : Type 0} (tell : P → PortTrace) (o : Opening) (seat : ℕ) (joine
         called)
         rests.1
 
-    -- what was seen when it asked is seen behind it
+    -- what was seen when it asked is seen after it
     goes-stop : (seen after : List Written) (why : Cause) (halt : Halt) → IsStopCall o (seat ∷ joined) seat seen why halt after → GoesTo after seen
     goes-stop seen after why halt call = goes-before after seen call.log call.past.past call.past.is (by (has_asked seat call.log) call.noted)
       where
@@ -379,17 +379,17 @@ module _ {P : Type 0} (tell : P → PortTrace) (o : Opening) (seat : ℕ) (joine
     -- ---- the last round
     module _ (m : Moment P) (stands : Stands m) (enough : first ≤ rounds) where
       -- a stop that another's note was, or the seat's with an excuse
-      look-excused : (halt : Halt) (seen after : List Written) (ports : List (Talk P)) → AreExcused seat seen → Looks (caller_of o (seat ∷ joined) seat ports) seen (wake.Stopped halt) after → halt.seat ≡ seat → IsExcused halt.cause
+      look-excused : (halt : Halt) (seen after : List Written) (ports : List (SessionView P)) → AreExcused seat seen → Looks (caller_of o (seat ∷ joined) seat ports) seen (wake.Stopped halt) after → halt.seat ≡ seat → IsExcused halt.cause
       look-excused halt seen after ports excused call mine =
           first-excused seat call.log halt (excused-past seat joined seen call.log excused call.past) (look-stopped o seat call.log (due_of ports) halt call.told) mine
 
       -- a look that found work, where no more is known of what was seen later
-      awake-excused : (op : Op) (seen after : List Written) (ports : List (Talk P)) → AreExcused seat seen → Looks (caller_of o (seat ∷ joined) seat ports) seen (wake.Work op) after → AreExcused seat after
+      awake-excused : (op : Op) (seen after : List Written) (ports : List (SessionView P)) → AreExcused seat seen → Looks (caller_of o (seat ∷ joined) seat ports) seen (wake.Work op) after → AreExcused seat after
       awake-excused op seen after ports excused call =
           let w = next_note seat call.log what.Work [] in
           excused-note seat call.log after w (excused-past seat joined seen call.log excused call.past) call.noted (plain w refl)
 
-      listed-excused : (op : Op) (seen after : List Written) (commands : List Command) (ports : List (Talk P)) → AreExcused seat seen → Lists (caller_of o (seat ∷ joined) seat ports) op seen commands list.Listed after → AreExcused seat after
+      listed-excused : (op : Op) (seen after : List Written) (commands : List Command) (ports : List (SessionView P)) → AreExcused seat seen → Lists (caller_of o (seat ∷ joined) seat ports) op seen commands list.Listed after → AreExcused seat after
       listed-excused op seen after commands ports excused lists =
           let call = lists.listed in
           let w = next_note seat call.log what.Listed [] in
@@ -456,7 +456,7 @@ module _ {P : Type 0} (tell : P → PortTrace) (o : Opening) (seat : ℕ) (joine
       same-cause a b e = cc e
 
       -- what a round of the book asked to stop for
-      round-excused : (why : Cause) (log after : List Written) (commands : List Command) (ns : List (Talk P)) (told : List Answer) → GoesTo final after → Listed m.stands.seen log commands → Exchanges tell migration homes m.stands.ports commands told ns
+      round-excused : (why : Cause) (log after : List Written) (commands : List Command) (ns : List (SessionView P)) (told : List Answer) → GoesTo final after → Listed m.stands.seen log commands → Exchanges tell migration homes m.stands.ports commands told ns
           → StopsRound o (seat ∷ joined) seat log (told_by told) why after → IsExcused why × AreExcused seat after
       round-excused (cause.Spent given item number) log after commands ns told goes lists went stops = absurd stops
       round-excused (cause.Port switch) log after commands ns told goes lists went stops = absurd stops
@@ -476,7 +476,7 @@ module _ {P : Type 0} (tell : P → PortTrace) (o : Opening) (seat : ℕ) (joine
       round-excused cause.Memory log after commands ns told goes lists went stops =
           (tt, subst (AreExcused seat) (sym stops.noted) (excused-past seat joined log stops.log lists.excused stops.past))
 
-      breaks-excused : (why : Cause) (log after : List Written) (commands : List Command) (ns : List (Talk P)) → Listed m.stands.seen log commands
+      breaks-excused : (why : Cause) (log after : List Written) (commands : List Command) (ns : List (SessionView P)) → Listed m.stands.seen log commands
           → Untold tell migration homes commands (record { seen = log; ports = m.stands.ports }) (outcome.Stops why) (record { seen = after; ports = ns }) → IsExcused why × AreExcused seat after
       breaks-excused why log after commands ns lists breaks = (
         ⊎_elim

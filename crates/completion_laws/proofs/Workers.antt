@@ -1,4 +1,4 @@
--- A run over ports that are ready: what stops it has an excuse.
+-- A run over ports that have answered all: what stops it has an excuse.
 use Rattle.std.proofs.Common.{◌≡◌, ◌≢◌, ℕ, zero, suc, ◌<◌, ◌≤◌, true, List, [], ◌∷◌, ◌++◌, map, length, slice_index_or, Option, Some, None, option_map, inl, inr, ⊎_elim, refl, sym, ap, ◌∙◌, subst, arith}
 use Rattle.std.proofs.lemmas.List.Elements.{All-contains, Contains-append_left, Contains-get_or}
 use Rattle.std.proofs.lemmas.List.Sorted.{Contains-permutation, IsPermutation-sym}
@@ -12,38 +12,37 @@ use Rattle.rollout_rules.specs.Legal.{unsettled}
 use Rattle.rollout_laws.proofs.Histories.{with_none}
 use Rattle.wan_edge.specs.Frames.{Answer}
 use Rattle.wan_edge.specs.Ports.{PortTrace}
-use Rattle.port_session.specs.Sessions.{Talk}
-use Rattle.shared_history.specs.declared.note.Cause.{Cause}
-use Rattle.shared_history.specs.declared.note.Cause.TheVariants as cause
-use Rattle.shared_history.specs.declared.note.Written.{Written}
-use Rattle.shared_history.specs.declared.reply.Halt.{Halt}
-use Rattle.shared_history.specs.declared.reply.Wake.{Wake}
-use Rattle.shared_history.specs.declared.reply.Wake.TheVariants as wake
-use Rattle.shared_history.specs.Histories.{Opening, history_of}
-use Rattle.shared_history.specs.Legal.{is_legal_shared}
-use Rattle.shared_history.specs.Notes.{cause_of, first_stop}
-use Rattle.shared_history.proofs.Going.{front_is_legal}
-use Rattle.shared_history.proofs.Stops.{first_stop-append}
+use Rattle.port_session.specs.Sessions.{SessionView}
+use Rattle.shared_book.specs.declared.note.Cause.{Cause}
+use Rattle.shared_book.specs.declared.note.Cause.TheVariants as cause
+use Rattle.shared_book.specs.declared.note.Written.{Written}
+use Rattle.shared_book.specs.declared.call_reply.Halt.{Halt}
+use Rattle.shared_book.specs.declared.call_reply.Wake.{Wake}
+use Rattle.shared_book.specs.declared.call_reply.Wake.TheVariants as wake
+use Rattle.shared_book.specs.Histories.{Opening, history_of}
+use Rattle.shared_book.specs.Legal.{is_legal_shared}
+use Rattle.shared_book.specs.Notes.{cause_of, first_stop}
+use Rattle.shared_book.proofs.Going.{front_is_legal}
+use Rattle.shared_book.proofs.Stops.{first_stop-append}
 use Rattle.shared_book.specs.Calls.{seat_of}
 use Rattle.shared_book.specs.Homes.{homes_of}
-use Rattle.worker_ports.specs.Lots.{home_at}
-use Rattle.worker_ports.specs.Rows.{AtOne}
-use Rattle.worker_ports.specs.Views.{view}
+use Rattle.switch_ports.specs.Outboxes.{home_at}
+use Rattle.switch_ports.specs.Rows.{AtOne}
+use Rattle.switch_ports.specs.Views.{view}
 use Rattle.controller_run.specs.Promises.{AreAnswered, IsEndAt, Promises, StopsNothing, WasTold, switches_of}
 use Rattle.controller_run.specs.Serving.{Served}
 use Rattle.controller_run.proofs.Keeps.{serves-keeps}
 use Rattle.controller_run.proofs.Elements.{inside-later, map-has}
 use Rattle.controller_run.proofs.Quiet.{quiet-first}
-use Rattle.rollout_run.specs.Shifts.{IsEarlyCause, IsShift, Returns, Shift}
-use Rattle.rollout_run.specs.Together.{given_ports}
-use Rattle.rollout_run.proofs.Keeping.{keeps}
-use Rattle.rollout_run.proofs.Ports.{in_all, of_one}
-use Rattle.completion_laws.specs.Answering.{IsReady, IsUpToDate}
+use Rattle.controller_run.specs.Shifts.{IsEarlyCause, IsShift, Returns, Shift}
+use Rattle.controller_run.specs.Together.{given_ports}
+use Rattle.controller_run.proofs.Keeping.{keeps}
+use Rattle.controller_run.proofs.RunPorts.{in_all, of_one}
+use Rattle.completion_laws.specs.Answering.{IsUpToDate}
 use Rattle.completion_laws.specs.Faults.{IsExcused}
-use Rattle.completion_laws.specs.Finishing.{AreServedApart, IsOfWorkers, IsProvided}
+use Rattle.completion_laws.specs.Finishing.{AreServedApart, IsOfWorkers, IsServed}
 use Rattle.completion_laws.specs.Turns.{OthersEndElsewhere}
 use Rattle.completion_laws.proofs.Passing.{Passes, passes-unsettled, passes-up}
-use Rattle.completion_laws.proofs.Readied.{ready-up}
 use Rattle.completion_laws.proofs.WholeRounds.{worker-excused}
 use Rattle.completion_laws.proofs.Stopping.{excused-quiet}
 
@@ -82,8 +81,8 @@ early-excused seen cause.Disk early = tt
 early-excused seen cause.Memory early = tt
 
 -- ---- a worker
-module _ {P : Type 0} (tell : P → PortTrace) (o : Opening) (migration : ℕ) (homes : List (Option ℕ)) (rounds : ℕ) (same_homes : homes ≡ homes_of o.rollout.problem) (log : List Written) (legal : is_legal_shared o log ≡ true) (opened : List (Talk P)) (sure : IsProvided tell o migration homes rounds opened)
-    (s : Shift P) (shift : IsShift tell o migration homes rounds log s) (elsewhere : OthersEndElsewhere homes (switches_of s.given.before.ports) s.given.seat log) (among : (t : Talk P) → Contains s.given.before.ports t → Contains opened t) where
+module _ {P : Type 0} (tell : P → PortTrace) (o : Opening) (migration : ℕ) (homes : List (Option ℕ)) (rounds : ℕ) (same_homes : homes ≡ homes_of o.rollout.problem) (log : List Written) (legal : is_legal_shared o log ≡ true) (opened : List (SessionView P)) (sure : IsServed tell o migration homes rounds opened)
+    (s : Shift P) (shift : IsShift tell o migration homes rounds log s) (elsewhere : OthersEndElsewhere homes (switches_of s.given.before.ports) s.given.seat log) (among : (t : SessionView P) → Contains s.given.before.ports t → Contains opened t) where
   abbrev seat : ℕ
   seat = s.given.seat
 
@@ -121,9 +120,9 @@ module _ {P : Type 0} (tell : P → PortTrace) (o : Opening) (migration : ℕ) (
     ups = λ k d inside.
         let t = slice_index_or s.given.before.ports k d in
         let at : Contains s.given.before.ports t = Contains-get_or s.given.before.ports k d inside in
-        let ready = All-contains (λ t. IsReady o.rollout migration homes o.found (view tell t)) opened t sure.ready (among t at) in
+        let up = All-contains (λ t. IsUpToDate o.rollout migration homes o.found (view tell t)) opened t sure.up (among t at) in
         passes-up o homes switches [] before none-ended migration (view tell t) (map-has (λ u. u.switch) s.given.before.ports t at)
-        (subst (λ (h : History). IsUpToDate o.rollout migration homes h (view tell t)) (sym at-found) (ready-up o.rollout migration homes o.found (view tell t) ready))
+        (subst (λ (h : History). IsUpToDate o.rollout migration homes h (view tell t)) (sym at-found) up)
 
     legal-before : is_legal_shared o before ≡ true
     legal-before =
@@ -149,7 +148,7 @@ module _ {P : Type 0} (tell : P → PortTrace) (o : Opening) (migration : ℕ) (
   by-end : (end : Option Wake) → Returns tell o seat migration homes rounds s.given.before end s.now → (halt : Halt) → first_stop s.now.seen ≡ Some halt → halt.seat ≡ seat → IsExcused halt.cause
   by-end None returns halt first mine = early-excused s.now.seen halt.cause (returns.1 halt first mine)
   by-end (Some end) returns halt first mine =
-      let live : All (λ (t : Talk P). IsTrue t.stream.live) s.given.before.ports = λ k d inside. subst (λ (t : Talk P). IsTrue t.stream.live) (sym (shift.fresh k d inside)) refl in
+      let live : All (λ (t : SessionView P). IsTrue t.stream.live) s.given.before.ports = λ k d inside. subst (λ (t : SessionView P). IsTrue t.stream.live) (sym (shift.fresh k d inside)) refl in
       let promises = serves-keeps tell o seat [] migration homes rounds s.given.before returns.0 end s.now live returns.1 in
       by-wake end promises.ends promises returns.0 returns.1 halt first mine
 
@@ -157,7 +156,7 @@ module _ {P : Type 0} (tell : P → PortTrace) (o : Opening) (migration : ℕ) (
   one-excused halt first mine = by-end s.end shift.returns halt (seen-first halt first mine) mine
 
 -- the switch of a port that told something
-one-told : {P : Type 0} (tell : P → PortTrace) (migration switch : ℕ) (answer : Answer) (bs ns : List (Talk P)) → AtOne (λ b n. WasTold migration switch answer (view tell b) (view tell n)) bs ns → Contains (switches_of bs) switch
+one-told : {P : Type 0} (tell : P → PortTrace) (migration switch : ℕ) (answer : Answer) (bs ns : List (SessionView P)) → AtOne (λ b n. WasTold migration switch answer (view tell b) (view tell n)) bs ns → Contains (switches_of bs) switch
 one-told tell migration switch answer [] [] one = absurd one
 one-told tell migration switch answer [] (n ∷ ns) one = absurd one
 one-told tell migration switch answer (b ∷ bs) [] one = absurd one
@@ -165,7 +164,7 @@ one-told tell migration switch answer (b ∷ bs) (n ∷ ns) (inl here) = (0, ome
 one-told tell migration switch answer (b ∷ bs) (n ∷ ns) (inr later) = inside-later b.switch switch (switches_of bs) (one-told tell migration switch answer bs ns later)
 
 -- ---- all of them
-module _ {P : Type 0} (tell : P → PortTrace) (o : Opening) (migration : ℕ) (homes : List (Option ℕ)) (rounds : ℕ) (same_homes : homes ≡ homes_of o.rollout.problem) (log : List Written) (legal : is_legal_shared o log ≡ true) (opened : List (Talk P)) (sure : IsProvided tell o migration homes rounds opened)
+module _ {P : Type 0} (tell : P → PortTrace) (o : Opening) (migration : ℕ) (homes : List (Option ℕ)) (rounds : ℕ) (same_homes : homes ≡ homes_of o.rollout.problem) (log : List Written) (legal : is_legal_shared o log ≡ true) (opened : List (SessionView P)) (sure : IsServed tell o migration homes rounds opened)
     (one : IsOfWorkers tell o migration homes rounds opened log) where
   abbrev shifts : List (Shift P)
   shifts = one.worked.shifts
@@ -200,7 +199,7 @@ module _ {P : Type 0} (tell : P → PortTrace) (o : Opening) (migration : ℕ) (
       halt first (sym found.2)
 
 -- one worker's ports are apart from no other's
-pub alone-apart : {P : Type 0} (shifts : List (Shift P)) (ports : List (Talk P)) → map (λ s. s.now.ports) shifts ≡ ports ∷ [] → AreServedApart shifts
+pub alone-apart : {P : Type 0} (shifts : List (Shift P)) (ports : List (SessionView P)) → map (λ s. s.now.ports) shifts ≡ ports ∷ [] → AreServedApart shifts
 alone-apart [] ports back a b at_a at_b other switch here there = omega (arith, ap length back)
 alone-apart (s ∷ r ∷ shifts) ports back a b at_a at_b other switch here there = omega (arith, ap length back)
 alone-apart {P = P} (s ∷ []) ports back a b at_a at_b other switch here there = other (ap (λ (r : Shift P). r.given.seat) (sym (only s a at_a) ∙ only s b at_b))

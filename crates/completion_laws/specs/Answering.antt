@@ -8,13 +8,13 @@ use Rattle.rollout_rules.specs.declared.held.Held.{Held}
 use Rattle.wan_edge.specs.Frames.{Answer, Command, CommandFrame, IsCommand, answer_bytes, command_bytes}
 use Rattle.wan_edge.specs.Ports.{IsPromptState, NothingToCome}
 use Rattle.wan_edge.specs.Switches.{Holdings, after_commands, answers_to}
-use Rattle.worker_ports.specs.Lots.{home_at}
-use Rattle.worker_ports.specs.Views.{PortView}
+use Rattle.switch_ports.specs.Outboxes.{home_at}
+use Rattle.switch_ports.specs.Views.{SessionTrace}
 use Rattle.switch_laws.specs.Runs.{StartsAsFound}
 
 -- A port as a run must find it to be sure that it finishes. It is found as the history allows; it is prompt, tells all, and keeps to what a prompt
 -- port keeps to; none of its answers is still to come, and none is awaited.
-pub record IsReady (r : Rollout) (migration : ℕ) (homes : List (Option ℕ)) (found : History) (first : PortView) : Type 0 where
+pub record IsReady (r : Rollout) (migration : ℕ) (homes : List (Option ℕ)) (found : History) (first : SessionTrace) : Type 0 where
   pub starts : StartsAsFound r migration homes found first
   pub prompt : IsTrue first.port.prompt
   pub offered : IsTrue (is_some first.port.offered)
@@ -26,7 +26,7 @@ pub record IsReady (r : Rollout) (migration : ℕ) (homes : List (Option ℕ)) (
 
 -- A prompt port that has answered all. It tells everything; these whole commands were offered, its switch has carried out all of them in order, and
 -- what was heard is the answers to them, none of which is kept half read or awaited: the switch isn't late.
-pub record HasAnswered (commands : List CommandFrame) (now : PortView) : Type 0 where
+pub record HasAnswered (commands : List CommandFrame) (now : SessionTrace) : Type 0 where
   pub prompt : IsTrue now.port.prompt
   pub fit : All IsCommand commands
   pub offered : now.port.offered ≡ Some (flat_map command_bytes commands)
@@ -47,8 +47,8 @@ IsOnTheWay migration h n held = ((held.migration ≡ migration) × (settled h n 
 abbrev pub AreOnTheWay : Rollout → ℕ → List (Option ℕ) → ℕ → History → Holdings → Type 0
 AreOnTheWay r migration homes switch h holdings = (n : ℕ) → n < item_count r.problem → home_at homes n ≡ Some switch → IsOnTheWay migration h n (holdings n).held
 
--- A port between two rounds: it has answered all, and what its switch holds is on the way behind the history.
-pub record IsUpToDate (r : Rollout) (migration : ℕ) (homes : List (Option ℕ)) (h : History) (now : PortView) : Type 0 where
+-- A port between two rounds: it has answered all, and what its switch holds is on the way after the history.
+pub record IsUpToDate (r : Rollout) (migration : ℕ) (homes : List (Option ℕ)) (h : History) (now : SessionTrace) : Type 0 where
   pub commands : List CommandFrame
   pub answered : HasAnswered commands now
   pub held : AreOnTheWay r migration homes now.switch h (after_commands now.port.start commands)

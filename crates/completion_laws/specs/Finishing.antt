@@ -5,27 +5,27 @@ use Rattle.rollout_rules.specs.Network.{IsNetwork}
 use Rattle.rollout_rules.specs.Valid.{is_valid_plan}
 use Rattle.rollout_rules.specs.Legal.{is_finished, unsettled}
 use Rattle.rollout_laws.specs.Waiting.{HoldsNothing}
-use Rattle.port_session.specs.Sessions.{Talk}
-use Rattle.shared_history.specs.declared.note.Cause.{Cause}
-use Rattle.shared_history.specs.declared.note.Cause.TheVariants as cause
-use Rattle.shared_history.specs.declared.note.Written.{Written}
-use Rattle.shared_history.specs.Histories.{Opening, history_of}
-use Rattle.shared_history.specs.Legal.{is_still}
-use Rattle.shared_history.specs.Notes.{first_stop}
+use Rattle.port_session.specs.Sessions.{SessionView}
+use Rattle.shared_book.specs.declared.note.Cause.{Cause}
+use Rattle.shared_book.specs.declared.note.Cause.TheVariants as cause
+use Rattle.shared_book.specs.declared.note.Written.{Written}
+use Rattle.shared_book.specs.Histories.{Opening, history_of}
+use Rattle.shared_book.specs.Legal.{is_still}
+use Rattle.shared_book.specs.Notes.{first_stop}
 use Rattle.shared_book.specs.Calls.{seat_of}
 use Rattle.wan_edge.specs.Ports.{PortTrace}
-use Rattle.worker_ports.specs.Views.{view}
+use Rattle.switch_ports.specs.Views.{view}
 use Rattle.controller_run.specs.Promises.{switches_of}
-use Rattle.rollout_run.specs.Shifts.{HasTurned, Shift}
-use Rattle.rollout_run.specs.Together.{HasWorked}
-use Rattle.rollout_run.specs.declared.end.RunEnd.{RunEnd}
-use Rattle.rollout_run.specs.declared.end.RunEnd.TheVariants as run
-use Rattle.completion_laws.specs.Answering.{IsReady}
+use Rattle.controller_run.specs.Shifts.{HasTurned, Shift}
+use Rattle.controller_run.specs.Together.{HasWorked}
+use Rattle.controller_run.specs.declared.end.RunEnd.{RunEnd}
+use Rattle.controller_run.specs.declared.end.RunEnd.TheVariants as run
+use Rattle.completion_laws.specs.Answering.{IsReady, IsUpToDate}
 use Rattle.completion_laws.specs.Faults.{IsExcused}
 
 -- What a run of a valid plan begins with that is sure to finish: each port that was opened is ready, rounds are given for all that isn't settled,
 -- and the policy holds nothing back.
-pub record IsSure {P : Type 0} (tell : P → PortTrace) (o : Opening) (migration : ℕ) (homes : List (Option ℕ)) (rounds : ℕ) (opened : List (Talk P)) : Type 0 where
+pub record IsSure {P : Type 0} (tell : P → PortTrace) (o : Opening) (migration : ℕ) (homes : List (Option ℕ)) (rounds : ℕ) (opened : List (SessionView P)) : Type 0 where
   pub network : IsNetwork o.rollout.problem
   pub plan : IsTrue (is_valid_plan o.rollout.problem o.rollout.plan)
   pub small : migration < 2 ^ 32
@@ -34,14 +34,22 @@ pub record IsSure {P : Type 0} (tell : P → PortTrace) (o : Opening) (migration
   pub free : HoldsNothing o.policy
 
 -- The same but for the policy: such a run ends, whatever its policy holds back.
-pub record IsProvided {P : Type 0} (tell : P → PortTrace) (o : Opening) (migration : ℕ) (homes : List (Option ℕ)) (rounds : ℕ) (opened : List (Talk P)) : Type 0 where
+pub record IsProvided {P : Type 0} (tell : P → PortTrace) (o : Opening) (migration : ℕ) (homes : List (Option ℕ)) (rounds : ℕ) (opened : List (SessionView P)) : Type 0 where
   pub network : IsNetwork o.rollout.problem
   pub plan : IsTrue (is_valid_plan o.rollout.problem o.rollout.plan)
   pub small : migration < 2 ^ 32
   pub ready : All (λ t. IsReady o.rollout migration homes o.found (view tell t)) opened
   pub enough : unsettled o.rollout.problem o.rollout.plan o.found ≤ rounds
 
--- a stop for want of memory, and for nothing else
+-- The same over ports that have answered all that went over them by now, whatever that was, and whose switches hold what is on the way after the history found.
+pub record IsServed {P : Type 0} (tell : P → PortTrace) (o : Opening) (migration : ℕ) (homes : List (Option ℕ)) (rounds : ℕ) (opened : List (SessionView P)) : Type 0 where
+  pub network : IsNetwork o.rollout.problem
+  pub plan : IsTrue (is_valid_plan o.rollout.problem o.rollout.plan)
+  pub small : migration < 2 ^ 32
+  pub up : All (λ t. IsUpToDate o.rollout migration homes o.found (view tell t)) opened
+  pub enough : unsettled o.rollout.problem o.rollout.plan o.found ≤ rounds
+
+-- a stop for lack of memory, and for nothing else
 abbrev pub IsWant : Cause → Type 0
 IsWant (cause.Spent given item number) = ⊥
 IsWant (cause.Port switch) = ⊥
@@ -51,7 +59,7 @@ IsWant (cause.NoAnswer switch byte) = ⊥
 IsWant cause.Disk = ⊥
 IsWant cause.Memory = ⊤
 
--- a run that has finished, or ended for want of memory
+-- a run that has finished, or ended for lack of memory
 abbrev pub FinishesOrWants : RunEnd → Type 0
 FinishesOrWants run.Finished = ⊤
 FinishesOrWants run.Held = ⊥
@@ -59,7 +67,7 @@ FinishesOrWants (run.Stopped halt) = IsWant halt.cause
 FinishesOrWants (run.NoPort switch) = ⊥
 FinishesOrWants run.Memory = ⊤
 
--- a run that has finished, was stopped where the disk or a port failed, or ended for want of memory
+-- a run that has finished, was stopped where the disk or a port failed, or ended for lack of memory
 abbrev pub FinishesOrIsExcused : RunEnd → Type 0
 FinishesOrIsExcused run.Finished = ⊤
 FinishesOrIsExcused run.Held = ⊥
@@ -67,7 +75,7 @@ FinishesOrIsExcused (run.Stopped halt) = IsExcused halt.cause
 FinishesOrIsExcused (run.NoPort switch) = ⊥
 FinishesOrIsExcused run.Memory = ⊤
 
--- a run that has finished or was held by its policy, was stopped where the disk or a port failed, or ended for want of memory
+-- a run that has finished or was held by its policy, was stopped where the disk or a port failed, or ended for lack of memory
 abbrev pub EndsOrIsExcused : RunEnd → Type 0
 EndsOrIsExcused run.Finished = ⊤
 EndsOrIsExcused run.Held = ⊤
@@ -88,10 +96,10 @@ pub record HasEnded (o : Opening) (log : List Written) : Type 0 where
   pub idle : is_finished o.rollout.problem o.rollout.plan (history_of o front) ≡ false → is_still o.rollout.problem (history_of o front) ≡ true
 
 -- How workers came to a history, from the ports that were opened. Where no stop stands in it, one of them has come to its end.
-pub record IsOfWorkers {P : Type 0} (tell : P → PortTrace) (o : Opening) (migration : ℕ) (homes : List (Option ℕ)) (rounds : ℕ) (opened : List (Talk P)) (log : List Written) : Type 0 where
+pub record IsOfWorkers {P : Type 0} (tell : P → PortTrace) (o : Opening) (migration : ℕ) (homes : List (Option ℕ)) (rounds : ℕ) (opened : List (SessionView P)) (log : List Written) : Type 0 where
   pub seats : ℕ
   pub made : All (λ w. seat_of w < seats) log
-  pub left : List (Talk P)
+  pub left : List (SessionView P)
   pub worked : HasWorked tell o migration homes rounds opened seats log left
   pub apart : AreServedApart worked.shifts
   pub ended : first_stop log ≡ None → HasEnded o log

@@ -1,3 +1,5 @@
+pub mod Untold
+pub mod WorkedHoldings
 pub mod Faults
 pub mod Turns
 pub mod Answering

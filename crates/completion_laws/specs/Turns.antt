@@ -3,8 +3,8 @@ use Rattle.std.specs.Prelude.{◌≡◌, ◌≢◌, ℕ, List, Option, Some}
 use Rattle.std.specs.List.{Contains}
 use Rattle.rollout_rules.specs.declared.op.Op.{Op}
 use Rattle.rollout_rules.specs.declared.op.Entry.TheVariants.{Done}
-use Rattle.worker_ports.specs.Lots.{home_at}
-use Rattle.shared_history.specs.declared.note.Written.{Written}
+use Rattle.switch_ports.specs.Outboxes.{home_at}
+use Rattle.shared_book.specs.declared.note.Written.{Written}
 
 -- A note doesn't say that an operation is done whose item's home is one of these switches.
 abbrev pub EndsNoneAt : List (Option ℕ) → List ℕ → Written → Type 0

@@ -3,14 +3,14 @@ use Rattle.std.specs.Prelude.{true, List, [], ◌∷◌}
 use Rattle.rollout_rules.specs.Worked.{begin_of, done_of, fresh}
 use Rattle.rollout_rules.specs.History.{History}
 use Rattle.wan_edge.specs.Frames.{CommandFrame}
-use Rattle.worker_ports.specs.Views.{PortView}
-use Rattle.shared_history.specs.declared.note.What.TheVariants as what
-use Rattle.shared_history.specs.declared.note.Written.{Written}
-use Rattle.shared_history.specs.Worked.{says_with}
+use Rattle.switch_ports.specs.Views.{SessionTrace}
+use Rattle.shared_book.specs.declared.note.What.TheVariants as what
+use Rattle.shared_book.specs.declared.note.Written.{Written}
+use Rattle.shared_book.specs.Worked.{says_with}
 use Rattle.switch_laws.specs.Worked.{first_command}
 
 -- the same port, that is prompt
-abbrev pub promptly : PortView → PortView
+abbrev pub promptly : SessionTrace → SessionTrace
 promptly v = record v { port = record v.port { prompt = true } }
 
 -- the first operation in flight, and done

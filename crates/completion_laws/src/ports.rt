@@ -8,17 +8,17 @@ ghost use Rattle.rollout_rules.specs.Legal.{is_legal};
 ghost use Rattle.rollout_rules.specs.World.{in_flight};
 ghost use Rattle.wan_edge.specs.Frames.{Answer};
 ghost use Rattle.rollout_book.specs.Commands.{asked};
-ghost use Rattle.worker_ports.specs.Hearing.{HearsOut};
-ghost use Rattle.worker_ports.specs.Lots.{own};
-ghost use Rattle.worker_ports.specs.Offering.{OffersAll};
-ghost use Rattle.worker_ports.specs.Views.{PortView};
+ghost use Rattle.switch_ports.specs.Hearing.{HearsOut};
+ghost use Rattle.switch_ports.specs.Outboxes.{own};
+ghost use Rattle.switch_ports.specs.Offering.{OffersAll};
+ghost use Rattle.switch_ports.specs.Views.{SessionTrace};
 ghost use Rattle.completion_laws.specs.Answering.{IsReady, IsUpToDate, answer_for};
 
-/// A port that is ready for a run has answered all, and what its switch holds is on the way behind the
+/// A port that is ready for a run has answered all, and what its switch holds is on the way after the
 /// history found.
 pub fn a_ready_port_is_up_to_date()
     ensures { (r : Rollout) (migration : ℕ) (homes : List (Option ℕ)) (found : History)
-        (first : PortView)
+        (first : SessionTrace)
         → IsReady r migration homes found first
         → IsUpToDate r migration homes found first }
 {}
@@ -27,7 +27,7 @@ pub fn a_ready_port_is_up_to_date()
 /// tells the answer to each of them, of just its number, and nothing else; and then it is up to date again.
 pub fn a_port_that_is_up_to_date_answers_each_command()
     ensures { (r : Rollout) (migration : ℕ) (homes : List (Option ℕ)) (h : History)
-        (switches : List ℕ) (before offered now : PortView) (told : List Answer)
+        (switches : List ℕ) (before offered now : SessionTrace) (told : List Answer)
         → IsNetwork r.problem
         → IsTrue (is_valid_plan r.problem r.plan)
         → IsTrue (is_legal r.problem r.plan h)

@@ -3,12 +3,12 @@ ghost use Rattle.std.specs.Prelude.{◌≡◌, ℕ, ◌+◌, ◌<◌, ◌≤◌,
 ghost use Rattle.rollout_rules.specs.Network.{IsNetwork};
 ghost use Rattle.rollout_rules.specs.Valid.{is_valid_plan};
 ghost use Rattle.rollout_rules.specs.Legal.{unsettled};
-ghost use Rattle.shared_history.specs.declared.reply.Halt.{Halt};
-ghost use Rattle.shared_history.specs.declared.reply.Wake.TheVariants as wake;
-ghost use Rattle.shared_history.specs.Histories.{Opening, history_of};
-ghost use Rattle.shared_history.specs.Legal.{is_legal_shared};
+ghost use Rattle.shared_book.specs.declared.call_reply.Halt.{Halt};
+ghost use Rattle.shared_book.specs.declared.call_reply.Wake.TheVariants as wake;
+ghost use Rattle.shared_book.specs.Histories.{Opening, history_of};
+ghost use Rattle.shared_book.specs.Legal.{is_legal_shared};
 ghost use Rattle.shared_book.specs.Homes.{homes_of};
-ghost use Rattle.worker_ports.specs.Views.{view};
+ghost use Rattle.switch_ports.specs.Views.{view};
 ghost use Rattle.controller_run.specs.Promises.{StopsNothing, switches_of};
 ghost use Rattle.controller_run.specs.Serving.{AreWhole, Moment, Served};
 ghost use Rattle.controller_run.specs.Working.{Standing};
@@ -19,7 +19,7 @@ ghost use Rattle.completion_laws.specs.Turns.{OthersEndElsewhere};
 use wan_edge::Port;
 
 /// Over prompt ports that have answered all, each round of a worker which lists a command settles at least
-/// one operation: so many fewer are unsettled as rounds were spent. Behind each round the ports have
+/// one operation: so many fewer are unsettled as rounds were spent. After each round the ports have
 /// answered all again.
 pub fn each_round_settles_an_operation<T: Port>()
     ensures { (o : Opening) (seat : ℕ) (joined : List ℕ) (migration : ℕ) (homes : List (Option ℕ))

@@ -1,18 +1,18 @@
-//! What is in flight behind a round of the book.
+//! What is in flight after a round of the book.
 ghost use Rattle.std.specs.Prelude.{ℕ, List, IsFalse, IsTrue};
 ghost use Rattle.rollout_rules.specs.Network.{IsNetwork};
 ghost use Rattle.rollout_rules.specs.Valid.{is_valid_plan};
 ghost use Rattle.rollout_rules.specs.Legal.{is_finished, may_begin};
 ghost use Rattle.rollout_rules.specs.Release.{is_held_back, next_op, view_of};
 ghost use Rattle.rollout_laws.specs.Waiting.{HoldsNothing};
-ghost use Rattle.shared_history.specs.declared.note.Written.{Written};
-ghost use Rattle.shared_history.specs.declared.reply.Wake.TheVariants as wake;
-ghost use Rattle.shared_history.specs.Histories.{Opening, history_of};
-ghost use Rattle.shared_history.specs.Legal.{is_legal_shared, is_still};
+ghost use Rattle.shared_book.specs.declared.note.Written.{Written};
+ghost use Rattle.shared_book.specs.declared.call_reply.Wake.TheVariants as wake;
+ghost use Rattle.shared_book.specs.Histories.{Opening, history_of};
+ghost use Rattle.shared_book.specs.Legal.{is_legal_shared, is_still};
 ghost use Rattle.controller_run.specs.Promises.{IsEndAt};
-ghost use Rattle.rollout_run.specs.Shifts.{HasTurned};
+ghost use Rattle.controller_run.specs.Shifts.{HasTurned};
 
-/// Behind a round of the book, and whatever was noted since, each operation that may begin is held back by
+/// After a round of the book, and whatever was noted since, each operation that may begin is held back by
 /// the policy where nothing is in flight.
 pub fn a_round_leaves_what_is_held_back()
     ensures { (o : Opening) (log : List Written)

@@ -2,11 +2,11 @@
 //! settle, and which notes say that a round turned.
 ghost use Rattle.std.specs.Prelude.{[], ◌∷◌};
 ghost use Rattle.rollout_rules.specs.Worked.{fresh};
-ghost use Rattle.shared_history.specs.declared.note.What.TheVariants as what;
-ghost use Rattle.shared_history.specs.Worked.{says};
+ghost use Rattle.shared_book.specs.declared.note.What.TheVariants as what;
+ghost use Rattle.shared_book.specs.Worked.{says};
 ghost use Rattle.switch_laws.specs.Worked.{answering, both_at_first, silent, two_flows, unused};
 ghost use Rattle.completion_laws.specs.Answering.{HasAnswered, IsReady};
-ghost use Rattle.rollout_run.specs.Shifts.{HasTurned};
+ghost use Rattle.controller_run.specs.Shifts.{HasTurned};
 ghost use Rattle.completion_laws.specs.Turns.{EndsNoneAt, OthersEndElsewhere};
 ghost use Rattle.completion_laws.specs.Worked.{begins_first, begun_one, one_sent, promptly, settles_first};
 

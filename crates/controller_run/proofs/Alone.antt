@@ -4,12 +4,12 @@ use Rattle.std.proofs.lemmas.List.Elements.{All-push}
 use Rattle.rollout_rules.specs.declared.op.Entry.TheVariants.{Done}
 use Rattle.rollout_book.specs.declared.fault.BookFault.TheVariants as fault
 use Rattle.rollout_book.specs.declared.turn.Turn.{Turn}
-use Rattle.shared_history.specs.declared.note.What.{What}
-use Rattle.shared_history.specs.declared.note.What.TheVariants as what
-use Rattle.shared_history.specs.declared.note.Written.{Written}
-use Rattle.shared_history.specs.Histories.{Opening, history_of}
-use Rattle.shared_history.specs.Knows.{next_note}
-use Rattle.shared_history.specs.Replies.{batch_at}
+use Rattle.shared_book.specs.declared.note.What.{What}
+use Rattle.shared_book.specs.declared.note.What.TheVariants as what
+use Rattle.shared_book.specs.declared.note.Written.{Written}
+use Rattle.shared_book.specs.Histories.{Opening, history_of}
+use Rattle.shared_book.specs.Knows.{next_note}
+use Rattle.shared_book.specs.Replies.{batch_at}
 use Rattle.shared_book.specs.Calls.{IsRoundCall}
 use Rattle.shared_book.specs.declared.reply.RoundReply.{RoundReply}
 use Rattle.shared_book.specs.declared.reply.RoundReply.TheVariants as round

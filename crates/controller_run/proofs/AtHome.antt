@@ -5,7 +5,7 @@ use Rattle.rollout_rules.specs.Wan.{Problem}
 use Rattle.wan_edge.specs.Frames.{Command}
 use Rattle.shared_book.specs.Homes.{home_if_any, homes_of}
 use Rattle.shared_book.proofs.HomeRows.{home-is}
-use Rattle.worker_ports.specs.Lots.{home_at, home_in, is_switch, own}
+use Rattle.switch_ports.specs.Outboxes.{home_at, home_in, is_switch, own}
 use Rattle.controller_run.proofs.Chains.{is-home}
 use Rattle.controller_run.proofs.Elements.{inside-cons, inside-later, none-inside}
 

@@ -15,14 +15,14 @@ use Rattle.rollout_rules.specs.declared.op.Entry.TheVariants.{Begin}
 use Rattle.rollout_laws.proofs.Histories.{begun_is_there}
 use Rattle.wan_edge.specs.Frames.{Command}
 use Rattle.rollout_book.specs.Commands.{command_of, is_among, is_asked}
-use Rattle.shared_history.specs.declared.note.What.{What}
-use Rattle.shared_history.specs.declared.note.What.TheVariants as what
-use Rattle.shared_history.specs.declared.note.Written.{Written}
-use Rattle.shared_history.specs.Histories.{Opening, added, history_of}
-use Rattle.shared_history.specs.Legal.{is_legal_shared}
-use Rattle.shared_history.proofs.Going.{front_is_legal}
-use Rattle.shared_history.proofs.Lists.{list-is_legal}
-use Rattle.shared_history.proofs.Stops.{added-append}
+use Rattle.shared_book.specs.declared.note.What.{What}
+use Rattle.shared_book.specs.declared.note.What.TheVariants as what
+use Rattle.shared_book.specs.declared.note.Written.{Written}
+use Rattle.shared_book.specs.Histories.{Opening, added, history_of}
+use Rattle.shared_book.specs.Legal.{is_legal_shared}
+use Rattle.shared_book.proofs.Going.{front_is_legal}
+use Rattle.shared_book.proofs.Lists.{list-is_legal}
+use Rattle.shared_book.proofs.Stops.{added-append}
 use Rattle.shared_book.specs.Told.{commands_at}
 use Rattle.controller_run.proofs.Elements.{any-found, none-inside}
 use Rattle.controller_run.specs.Promises.{AreListed, IsListedAt, IsListedIn, IsOfBegun, says_listed}

@@ -1,4 +1,4 @@
--- What is begun and settled behind further notes.
+-- What is begun and settled after further notes.
 use Rattle.std.proofs.Common.{◌≡◌, ℕ, zero, suc, ◌+◌, ◌≤◌, true, ◌==◌, List, [], ◌∷◌, ◌++◌, refl, sym, ap, ◌∙◌, subst, arith, eq-eqb}
 use Rattle.std.specs.List.{Contains}
 use Rattle.rollout_rules.specs.History.{History, begun, dones_in, settled, with_entries}
@@ -6,9 +6,9 @@ use Rattle.rollout_rules.specs.declared.op.Op.{Op}
 use Rattle.rollout_rules.specs.declared.op.Entry.{Entry}
 use Rattle.rollout_rules.specs.declared.op.Entry.TheVariants.{Begin, Done}
 use Rattle.rollout_laws.proofs.Histories.{begun-with, settled-with, with_both}
-use Rattle.shared_history.specs.declared.note.Written.{Written}
-use Rattle.shared_history.specs.Histories.{Opening, added, history_of}
-use Rattle.shared_history.proofs.Stops.{added-append}
+use Rattle.shared_book.specs.declared.note.Written.{Written}
+use Rattle.shared_book.specs.Histories.{Opening, added, history_of}
+use Rattle.shared_book.proofs.Stops.{added-append}
 use Rattle.controller_run.proofs.Elements.{none-inside}
 
 -- a Done among entries counts

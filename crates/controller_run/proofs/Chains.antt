@@ -1,4 +1,4 @@
--- Rounds between the ports of a worker, one behind the other.
+-- Rounds between the ports of a worker, one after the other.
 use Rattle.std.proofs.Common.{◌≡◌, ◌⊎◌, ℕ, zero, suc, Bool, true, false, ◌==◌, List, [], ◌∷◌, ◌++◌, Option, Some, None, refl, sym, ap, ◌∙◌, inl, inr, subst, arith, eqb-true}
 use Rattle.std.proofs.lemmas.Bool.{false≢true}
 use Rattle.std.proofs.lemmas.List.Elements.{Contains-append_cases}
@@ -6,14 +6,14 @@ use Rattle.std.specs.List.{AllZip, Contains}
 use Rattle.std.specs.Prelude.{All, IsTrue, ⊤}
 use Rattle.wan_edge.specs.Frames.{Answer, Command}
 use Rattle.wan_edge.specs.Ports.{PortTrace}
-use Rattle.port_session.specs.Sessions.{Talk}
-use Rattle.worker_ports.specs.Hearing.{HearsOut, IsOwn}
-use Rattle.worker_ports.specs.Lots.{home_at, is_switch, own}
-use Rattle.worker_ports.specs.Offering.{OffersAll}
-use Rattle.worker_ports.specs.Rows.{AtOne, HearsEach, ListensEach, OffersAllEach, OffersEach}
-use Rattle.worker_ports.specs.Stories.{IsTold, LastStoryEach, Story, StoryEach, ToldAt}
-use Rattle.worker_ports.specs.Views.{PortView, view}
-use Rattle.worker_ports.proofs.Stories.{story_begins, story_ends_in_hear, story_ends_in_offer, story_goes_on, told_now, told_stays}
+use Rattle.port_session.specs.Sessions.{SessionView}
+use Rattle.switch_ports.specs.Hearing.{HearsOut, IsOwn}
+use Rattle.switch_ports.specs.Outboxes.{home_at, is_switch, own}
+use Rattle.switch_ports.specs.Offering.{OffersAll}
+use Rattle.switch_ports.specs.Rows.{AtOne, HearsEach, ListensEach, OffersAllEach, OffersEach}
+use Rattle.switch_ports.specs.Stories.{IsTold, LastStoryEach, Story, StoryEach, ToldAt}
+use Rattle.switch_ports.specs.Views.{SessionTrace, view}
+use Rattle.switch_ports.proofs.Stories.{story_begins, story_ends_in_hear, story_ends_in_offer, story_goes_on, told_now, told_stays}
 use Rattle.controller_run.specs.Exchanging.{Exchanges}
 
 -- the home of what a port tells is its switch
@@ -26,12 +26,12 @@ contained P xs x at all = subst P at.2 (all at.0 x at.1)
 
 module _ {P : Type 0} (tell : P → PortTrace) (migration : ℕ) (homes : List (Option ℕ)) where
   -- before the first round
-  pub stories_begin : (ps : List (Talk P)) → All (λ (t : Talk P). IsTrue t.stream.live) ps → StoryEach tell migration homes [] ps ps
+  pub stories_begin : (ps : List (SessionView P)) → All (λ (t : SessionView P). IsTrue t.stream.live) ps → StoryEach tell migration homes [] ps ps
   stories_begin [] live = tt
   stories_begin (p ∷ ps) live = (story_begins migration homes (view tell p) (live 0 p (omega arith)), stories_begin ps (λ k d inside. live (suc k) d (omega (arith, inside))))
 
   -- one round more
-  pub stories_go_on : (earlier commands : List Command) (told : List Answer) (ps bs os ns : List (Talk P)) → StoryEach tell migration homes earlier ps bs → OffersAllEach tell migration homes commands bs os → HearsEach tell migration homes os ns told
+  pub stories_go_on : (earlier commands : List Command) (told : List Answer) (ps bs os ns : List (SessionView P)) → StoryEach tell migration homes earlier ps bs → OffersAllEach tell migration homes commands bs os → HearsEach tell migration homes os ns told
       → StoryEach tell migration homes (earlier ++ commands) ps ns
   stories_go_on earlier commands told [] [] [] [] story offers hears = tt
   stories_go_on earlier commands told [] [] [] (n ∷ ns) story offers hears = absurd hears
@@ -46,7 +46,7 @@ module _ {P : Type 0} (tell : P → PortTrace) (migration : ℕ) (homes : List (
   )
 
   -- a last round, which ended while it offered or while it heard
-  pub stories_end_in_offer : (earlier commands : List Command) (ps bs os : List (Talk P)) → StoryEach tell migration homes earlier ps bs → OffersEach tell migration homes commands bs os → LastStoryEach tell migration homes (earlier ++ commands) ps os
+  pub stories_end_in_offer : (earlier commands : List Command) (ps bs os : List (SessionView P)) → StoryEach tell migration homes earlier ps bs → OffersEach tell migration homes commands bs os → LastStoryEach tell migration homes (earlier ++ commands) ps os
   stories_end_in_offer earlier commands [] [] [] story offers = tt
   stories_end_in_offer earlier commands [] [] (o ∷ os) story offers = absurd offers
   stories_end_in_offer earlier commands [] (b ∷ bs) os story offers = absurd story
@@ -55,7 +55,7 @@ module _ {P : Type 0} (tell : P → PortTrace) (migration : ℕ) (homes : List (
   stories_end_in_offer earlier commands (p ∷ ps) (b ∷ bs) (o ∷ os) story offers =
       (story_ends_in_offer migration homes earlier commands (view tell p) (view tell b) (view tell o) story.0 offers.0, stories_end_in_offer earlier commands ps bs os story.1 offers.1)
 
-  pub stories_end_in_hear : (earlier commands : List Command) (ps bs os ns : List (Talk P)) → StoryEach tell migration homes earlier ps bs → OffersAllEach tell migration homes commands bs os → ListensEach tell os ns
+  pub stories_end_in_hear : (earlier commands : List Command) (ps bs os ns : List (SessionView P)) → StoryEach tell migration homes earlier ps bs → OffersAllEach tell migration homes commands bs os → ListensEach tell os ns
       → LastStoryEach tell migration homes (earlier ++ commands) ps ns
   stories_end_in_hear earlier commands [] [] [] [] story offers hears = tt
   stories_end_in_hear earlier commands [] [] [] (n ∷ ns) story offers hears = absurd hears
@@ -68,7 +68,7 @@ module _ {P : Type 0} (tell : P → PortTrace) (migration : ℕ) (homes : List (
       (story_ends_in_hear migration homes earlier commands (view tell p) (view tell b) (view tell o) (view tell n) story.0 offers.0 hears.0, stories_end_in_hear earlier commands ps bs os ns story.1 offers.1 hears.1)
 
   -- what was told by the port of a switch stays told
-  pub told_stays_each : (switch : ℕ) (answer : Answer) (commands : List Command) (told : List Answer) (ps bs os ns : List (Talk P)) → IsTold tell migration switch answer ps bs → OffersAllEach tell migration homes commands bs os → HearsEach tell migration homes os ns told
+  pub told_stays_each : (switch : ℕ) (answer : Answer) (commands : List Command) (told : List Answer) (ps bs os ns : List (SessionView P)) → IsTold tell migration switch answer ps bs → OffersAllEach tell migration homes commands bs os → HearsEach tell migration homes os ns told
       → IsTold tell migration switch answer ps ns
   told_stays_each switch answer commands told [] [] os ns at offers hears = absurd at
   told_stays_each switch answer commands told [] (b ∷ bs) os ns at offers hears = absurd at
@@ -80,7 +80,7 @@ module _ {P : Type 0} (tell : P → PortTrace) (migration : ℕ) (homes : List (
   told_stays_each switch answer commands told (p ∷ ps) (b ∷ bs) (o ∷ os) (n ∷ ns) (inr at) offers hears = inr (told_stays_each switch answer commands hears.1 ps bs os ns at offers.1 hears.4)
 
   -- each answer that a round tells was told by the port of its item's home
-  pub told_by_home : (earlier commands : List Command) (told : List Answer) (answer : Answer) (ps bs os ns : List (Talk P)) → StoryEach tell migration homes earlier ps bs → OffersAllEach tell migration homes commands bs os → HearsEach tell migration homes os ns told
+  pub told_by_home : (earlier commands : List Command) (told : List Answer) (answer : Answer) (ps bs os ns : List (SessionView P)) → StoryEach tell migration homes earlier ps bs → OffersAllEach tell migration homes commands bs os → HearsEach tell migration homes os ns told
       → Contains told answer → (switch : ℕ) × (home_at homes answer.item ≡ Some switch) × IsTold tell migration switch answer ps ns
   told_by_home earlier commands told answer ps bs [] [] story offers hears among = absurd (none (subst (λ (ts : List Answer). Contains ts answer) hears among))
     where

@@ -7,21 +7,21 @@ use Rattle.rollout_rules.specs.Legal.{is_finished}
 use Rattle.rollout_rules.specs.declared.op.Op.{Op}
 use Rattle.rollout_rules.specs.declared.op.Entry.{Entry}
 use Rattle.rollout_laws.proofs.Histories.{with_none}
-use Rattle.shared_history.specs.declared.note.Cause.{Cause}
-use Rattle.shared_history.specs.declared.note.What.{What}
-use Rattle.shared_history.specs.declared.note.What.TheVariants as what
-use Rattle.shared_history.specs.declared.note.Written.{Written}
-use Rattle.shared_history.specs.declared.reply.Halt.{Halt}
-use Rattle.shared_history.specs.declared.reply.ListReply.TheVariants as list
-use Rattle.shared_history.specs.declared.reply.Wake.{Wake}
-use Rattle.shared_history.specs.declared.reply.Wake.TheVariants as wake
-use Rattle.shared_history.specs.Notes.{asks_to_stop, cause_of, first_stop, halt_by, has_asked, is_stopped}
-use Rattle.shared_history.specs.Histories.{Opening, history_of}
-use Rattle.shared_history.specs.Knows.{next_note}
-use Rattle.shared_history.specs.Legal.{is_still}
-use Rattle.shared_history.specs.Replies.{asked_at, halt_or, list_reply, wake_or, wake_reply, wake_with}
-use Rattle.shared_history.proofs.Lists.{history-next}
-use Rattle.shared_history.proofs.Stops.{first_stop-append, first_stop-stays}
+use Rattle.shared_book.specs.declared.note.Cause.{Cause}
+use Rattle.shared_book.specs.declared.note.What.{What}
+use Rattle.shared_book.specs.declared.note.What.TheVariants as what
+use Rattle.shared_book.specs.declared.note.Written.{Written}
+use Rattle.shared_book.specs.declared.call_reply.Halt.{Halt}
+use Rattle.shared_book.specs.declared.call_reply.ListReply.TheVariants as list
+use Rattle.shared_book.specs.declared.call_reply.Wake.{Wake}
+use Rattle.shared_book.specs.declared.call_reply.Wake.TheVariants as wake
+use Rattle.shared_book.specs.Notes.{asks_to_stop, cause_of, first_stop, halt_by, has_asked, is_stopped}
+use Rattle.shared_book.specs.Histories.{Opening, history_of}
+use Rattle.shared_book.specs.Knows.{next_note}
+use Rattle.shared_book.specs.Legal.{is_still}
+use Rattle.shared_book.specs.Replies.{asked_at, halt_or, list_reply, wake_or, wake_reply, wake_with}
+use Rattle.shared_book.proofs.Lists.{history-next}
+use Rattle.shared_book.proofs.Stops.{first_stop-append, first_stop-stays}
 use Rattle.controller_run.specs.Promises.{IsEndAt}
 
 -- ---- what a look was told

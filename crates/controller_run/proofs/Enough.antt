@@ -8,17 +8,17 @@ use Rattle.wan_edge.specs.Frames.{Answer, Command, IsAnswer, Splits, answer_byte
 use Rattle.wan_edge.specs.Ports.{IsOneMore, PortTrace}
 use Rattle.wan_edge.specs.Streams.{Appends}
 use Rattle.wan_edge.proofs.Chains.{Appends-chain, Appends-nothing}
-use Rattle.port_session.specs.Sessions.{IsOver, Talk, awaited_behind}
+use Rattle.port_session.specs.Sessions.{IsOver, SessionView, awaited_behind}
 use Rattle.port_session.proofs.Awaited.{awaited_none, awaited_some}
-use Rattle.worker_ports.specs.Due.{LeavesAlone, due_of, late_bit, late_count}
-use Rattle.worker_ports.specs.Hearing.{HearsOut}
-use Rattle.worker_ports.specs.Lots.{home_at, is_switch, own}
-use Rattle.worker_ports.specs.Offering.{OffersAll}
-use Rattle.worker_ports.specs.Rows.{HearsEach, OffersAllEach}
-use Rattle.worker_ports.specs.Views.{PortView, view}
-use Rattle.worker_ports.proofs.Lateness.{bit_below, bit_few, bit_none, bit_some}
-use Rattle.shared_history.specs.declared.note.Written.{Written}
-use Rattle.shared_history.specs.Histories.{Opening}
+use Rattle.switch_ports.specs.Due.{LeavesAlone, due_of, late_bit, late_count}
+use Rattle.switch_ports.specs.Hearing.{HearsOut}
+use Rattle.switch_ports.specs.Outboxes.{home_at, is_switch, own}
+use Rattle.switch_ports.specs.Offering.{OffersAll}
+use Rattle.switch_ports.specs.Rows.{HearsEach, OffersAllEach}
+use Rattle.switch_ports.specs.Views.{SessionTrace, view}
+use Rattle.switch_ports.proofs.Lateness.{bit_below, bit_few, bit_none, bit_some}
+use Rattle.shared_book.specs.declared.note.Written.{Written}
+use Rattle.shared_book.specs.Histories.{Opening}
 use Rattle.shared_book.specs.Homes.{homes_of}
 use Rattle.shared_book.specs.Told.{commands_at}
 use Rattle.controller_run.specs.Exchanging.{Exchanges}
@@ -46,7 +46,7 @@ quiet-both a b (Some after) m n first second =
     (omega (arith, low, high), was.1 ∙ ap Some less)
 
 -- ---- what comes from a port
-comes-nothing : (v : PortView) → Comes 0 v v
+comes-nothing : (v : SessionTrace) → Comes 0 v v
 comes-nothing v = record {
   answers = [];
   quiets = 0;
@@ -57,7 +57,7 @@ comes-nothing v = record {
   quieter = quiet-none v.port.quiet v.port.quiet refl;
 }
 
-comes-both : (m n : ℕ) (a b c : PortView) → Comes m a b → Comes n b c → Comes (m + n) a c
+comes-both : (m n : ℕ) (a b c : SessionTrace) → Comes m a b → Comes n b c → Comes (m + n) a c
 comes-both m n a b c first second =
     let ahead = flat_map answer_bytes first.answers in
     let later = flat_map answer_bytes second.answers in
@@ -80,7 +80,7 @@ comes-both m n a b c first second =
     }
 
 -- So many came. Where commands went out, or the switch was late, some did, or it is late.
-record CameOf (commands : List Command) (before now : PortView) : Type 0 where
+record CameOf (commands : List Command) (before now : SessionTrace) : Type 0 where
   count : ℕ
   comes : Comes count before now
   went : ℕ
@@ -118,7 +118,7 @@ module _ (before awaited : ℕ) (commands : List Command) (alone : 0 < before �
       by [] is = gone-none is
       by (c ∷ cs) is = let long : length commands ≡ length (c ∷ cs) = ap length is in gone-some (omega (arith, long))
 
-module _ (migration : ℕ) (homes : List (Option ℕ)) (commands : List Command) (mine : List Answer) (b o n : PortView) (offers : OffersAll migration commands b o) (hears : HearsOut migration homes o mine n) (alone : 0 < b.stream.awaited → commands ≡ []) where
+module _ (migration : ℕ) (homes : List (Option ℕ)) (commands : List Command) (mine : List Answer) (b o n : SessionTrace) (offers : OffersAll migration commands b o) (hears : HearsOut migration homes o mine n) (alone : 0 < b.stream.awaited → commands ≡ []) where
   appended-now : Appends b.port.heard hears.reads.bytes n.port.heard
   appended-now = subst (λ (h : Option (List ℕ)). Appends h hears.reads.bytes n.port.heard) offers.some.unheard hears.reads.appended
 
@@ -174,11 +174,11 @@ module _ (migration : ℕ) (homes : List (Option ℕ)) (commands : List Command)
 
 -- ---- what comes from all ports
 module _ {P : Type 0} (tell : P → PortTrace) where
-  comes-none : (ps : List (Talk P)) → ComesEach tell 0 ps ps
+  comes-none : (ps : List (SessionView P)) → ComesEach tell 0 ps ps
   comes-none [] = refl
   comes-none (p ∷ ps) = (0, 0, omega arith, comes-nothing (view tell p), comes-none ps)
 
-  comes-chain : (m n : ℕ) (ps bs ns : List (Talk P)) → ComesEach tell m ps bs → ComesEach tell n bs ns → ComesEach tell (m + n) ps ns
+  comes-chain : (m n : ℕ) (ps bs ns : List (SessionView P)) → ComesEach tell m ps bs → ComesEach tell n bs ns → ComesEach tell (m + n) ps ns
   comes-chain m n [] [] [] first second = omega (arith, first, second)
   comes-chain m n [] [] (x ∷ ns) first second = absurd second
   comes-chain m n [] (b ∷ bs) ns first second = absurd first
@@ -195,36 +195,36 @@ module _ {P : Type 0} (tell : P → PortTrace) where
       )
 
   -- At least so many came, but for those of switches that are late, and with those of switches that were.
-  pub record HasOwed (least : ℕ) (before now : List (Talk P)) : Type 0 where
+  pub record HasOwed (least : ℕ) (before now : List (SessionView P)) : Type 0 where
     pub count : ℕ
     pub each : ComesEach tell count before now
     pub enough : least + late_count before ≤ count + late_count now
 
-  pub none-owed : (ps : List (Talk P)) → HasOwed 0 ps ps
+  pub none-owed : (ps : List (SessionView P)) → HasOwed 0 ps ps
   none-owed ps = record { count = 0; each = comes-none ps; enough = omega arith }
 
-  pub both-owed : (m n : ℕ) (ps bs ns : List (Talk P)) → HasOwed m ps bs → HasOwed n bs ns → HasOwed (m + n) ps ns
+  pub both-owed : (m n : ℕ) (ps bs ns : List (SessionView P)) → HasOwed m ps bs → HasOwed n bs ns → HasOwed (m + n) ps ns
   both-owed m n ps bs ns first second =
       let one = first.enough in
       let other = second.enough in
       record { count = first.count + second.count; each = comes-chain first.count second.count ps bs ns first.each second.each; enough = omega (arith, one, other) }
 
   -- where none is late, all have come
-  pub owed-come : (least : ℕ) (ps ns : List (Talk P)) → late_count ns ≡ 0 → HasOwed least ps ns → HasCome tell least ps ns
+  pub owed-come : (least : ℕ) (ps ns : List (SessionView P)) → late_count ns ≡ 0 → HasOwed least ps ns → HasCome tell least ps ns
   owed-come least ps ns none owed =
       let enough = owed.enough in
       record { count = owed.count; each = owed.each; enough = omega (arith, enough, none) }
 
   module _ (migration : ℕ) (homes : List (Option ℕ)) where
     -- some came where a command went out at one of the ports, or a switch is late
-    record RowCame (commands : List Command) (bs ns : List (Talk P)) : Type 0 where
+    record RowCame (commands : List Command) (bs ns : List (SessionView P)) : Type 0 where
       count : ℕ
       each : ComesEach tell count bs ns
       went : ℕ
-      some : (t : Talk P) → Contains bs t → 0 < length (own homes t.switch commands) → 1 ≤ went
+      some : (t : SessionView P) → Contains bs t → 0 < length (own homes t.switch commands) → 1 ≤ went
       enough : went + late_count bs ≤ count + late_count ns
 
-    row-one : (commands : List Command) (b n : Talk P) (bs ns : List (Talk P)) → CameOf (own homes b.switch commands) (view tell b) (view tell n) → RowCame commands bs ns → RowCame commands (b ∷ bs) (n ∷ ns)
+    row-one : (commands : List Command) (b n : SessionView P) (bs ns : List (SessionView P)) → CameOf (own homes b.switch commands) (view tell b) (view tell n) → RowCame commands bs ns → RowCame commands (b ∷ bs) (n ∷ ns)
     row-one commands b n bs ns one rest =
         let mine = one.enough in
         let others = rest.enough in
@@ -234,12 +234,12 @@ module _ {P : Type 0} (tell : P → PortTrace) where
           went = one.went + rest.went;
           some = λ t at has.
               ⊎_elim
-              (λ (same : b ≡ t). let low = one.some (subst (λ (u : Talk P). 0 < length (own homes u.switch commands)) (sym same) has) in omega (arith, low))
+              (λ (same : b ≡ t). let low = one.some (subst (λ (u : SessionView P). 0 < length (own homes u.switch commands)) (sym same) has) in omega (arith, low))
               (λ (later : Contains bs t). let low = rest.some t later has in omega (arith, low)) (inside-cons b t bs at);
           enough = omega (arith, mine, others);
         }
 
-    row-came : (commands : List Command) (told : List Answer) (bs os ns : List (Talk P)) → LeavesAlone homes commands bs → OffersAllEach tell migration homes commands bs os → HearsEach tell migration homes os ns told → RowCame commands bs ns
+    row-came : (commands : List Command) (told : List Answer) (bs os ns : List (SessionView P)) → LeavesAlone homes commands bs → OffersAllEach tell migration homes commands bs os → HearsEach tell migration homes os ns told → RowCame commands bs ns
     row-came commands told [] [] [] alone offers hears = record { count = 0; each = refl; went = 0; some = λ t at has. absurd (none-inside t at); enough = omega arith }
     row-came commands told [] [] (n ∷ ns) alone offers hears = absurd hears
     row-came commands told [] (o ∷ os) ns alone offers hears = absurd offers
@@ -248,11 +248,11 @@ module _ {P : Type 0} (tell : P → PortTrace) where
     row-came commands told (b ∷ bs) (o ∷ os) (n ∷ ns) alone offers hears =
         row-one commands b n bs ns (came-heard migration homes (own homes b.switch commands) hears.0 (view tell b) (view tell o) (view tell n) offers.0 hears.2 alone.0 hears.2.over) (row-came commands hears.1 bs os ns alone.1 offers.1 hears.4)
 
-    some-came : (commands : List Command) (bs ns : List (Talk P)) → All (IsHomed homes (switches_of bs)) commands → (row : RowCame commands bs ns) → offered_in commands ≤ row.went
+    some-came : (commands : List Command) (bs ns : List (SessionView P)) → All (IsHomed homes (switches_of bs)) commands → (row : RowCame commands bs ns) → offered_in commands ≤ row.went
     some-came [] bs ns homed row = let low : 0 ≤ row.went = omega arith in low
     some-came (c ∷ cs) bs ns homed row =
         let home = All-head (IsHomed homes (switches_of bs)) c cs homed in
-        let found = map-found (λ (t : Talk P). t.switch) bs home.0 home.2 in
+        let found = map-found (λ (t : SessionView P). t.switch) bs home.0 home.2 in
         let w = found.0.switch in
         let mine : home_at homes c.item ≡ Some w = home.1 ∙ ap Some (sym found.2) in
         let has : Contains (own homes w (c ∷ cs)) c
@@ -266,7 +266,7 @@ module _ {P : Type 0} (tell : P → PortTrace) where
     homed-of asked switches some c home = (home.0, home.1, All-contains (Contains switches) asked home.0 some home.2)
 
     -- a whole round in which the late switches were left alone
-    pub round-owed : (commands : List Command) (told : List Answer) (bs ns : List (Talk P)) → LeavesAlone homes commands bs → Exchanges tell migration homes bs commands told ns → All (IsHomed homes (switches_of bs)) commands → HasOwed (offered_in commands) bs ns
+    pub round-owed : (commands : List Command) (told : List Answer) (bs ns : List (SessionView P)) → LeavesAlone homes commands bs → Exchanges tell migration homes bs commands told ns → All (IsHomed homes (switches_of bs)) commands → HasOwed (offered_in commands) bs ns
     round-owed commands told bs ns alone went homed =
         let row = row-came commands told bs went.offered ns alone went.offers went.hears in
         let some = some-came commands bs ns homed row in
@@ -274,13 +274,13 @@ module _ {P : Type 0} (tell : P → PortTrace) where
         record { count = row.count; each = row.each; enough = omega (arith, some, enough) }
 
     -- whose commands were listed at a history, of the due ones
-    pub listed-owed : (o : Opening) → homes ≡ homes_of o.rollout.problem → (commands : List Command) (told : List Answer) (log : List Written) (bs ns : List (Talk P)) → LeavesAlone homes commands bs → Exchanges tell migration homes bs commands told ns
+    pub listed-owed : (o : Opening) → homes ≡ homes_of o.rollout.problem → (commands : List Command) (told : List Answer) (log : List Written) (bs ns : List (SessionView P)) → LeavesAlone homes commands bs → Exchanges tell migration homes bs commands told ns
         → commands ≡ commands_at o log (due_of bs) → HasOwed (offered_in commands) bs ns
     listed-owed o same commands told log bs ns alone went listed =
         round-owed commands told bs ns alone went
         (All-weaker (IsHomed homes (due_of bs)) (IsHomed homes (switches_of bs)) (homed-of (due_of bs) (switches_of bs) (due-among bs)) commands (all-homed homes o same commands log (due_of bs) listed))
 
     -- in which nothing was listed
-    pub idle-owed : (commands : List Command) (told : List Answer) (bs ns : List (Talk P)) → commands ≡ [] → LeavesAlone homes commands bs → Exchanges tell migration homes bs commands told ns → HasOwed (offered_in commands) bs ns
+    pub idle-owed : (commands : List Command) (told : List Answer) (bs ns : List (SessionView P)) → commands ≡ [] → LeavesAlone homes commands bs → Exchanges tell migration homes bs commands told ns → HasOwed (offered_in commands) bs ns
     idle-owed commands told bs ns none alone went =
         round-owed commands told bs ns alone went (subst (λ (cs : List Command). All (IsHomed homes (switches_of bs)) cs) (sym none) (All-nil (IsHomed homes (switches_of bs))))

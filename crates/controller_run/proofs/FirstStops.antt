@@ -11,30 +11,30 @@ use Rattle.wan_edge.specs.Ports.{PortTrace}
 use Rattle.wan_edge.specs.Streams.{Rose}
 use Rattle.rollout_book.specs.Aliens.{op_of, told_by}
 use Rattle.rollout_book.specs.declared.fault.BookFault.TheVariants as fault
-use Rattle.port_session.specs.Sessions.{Talk}
-use Rattle.shared_history.specs.declared.note.Cause.{Cause}
-use Rattle.shared_history.specs.declared.note.Cause.TheVariants as cause
-use Rattle.shared_history.specs.declared.note.What.{What}
-use Rattle.shared_history.specs.declared.note.What.TheVariants as what
-use Rattle.shared_history.specs.declared.note.Written.{Written}
-use Rattle.shared_history.specs.declared.reply.Halt.{Halt}
-use Rattle.shared_history.specs.declared.reply.ListReply.TheVariants as list
-use Rattle.shared_history.specs.declared.reply.Wake.{Wake}
-use Rattle.shared_history.specs.declared.reply.Wake.TheVariants as wake
-use Rattle.shared_history.specs.Histories.{Opening, history_of}
-use Rattle.shared_history.specs.Knows.{next_note}
-use Rattle.shared_history.specs.Notes.{calls_by, cause_of, first_stop}
-use Rattle.shared_history.specs.Replies.{asked_at, batch_at, halt_or}
-use Rattle.shared_history.proofs.Stops.{first_stop-stays}
+use Rattle.port_session.specs.Sessions.{SessionView}
+use Rattle.shared_book.specs.declared.note.Cause.{Cause}
+use Rattle.shared_book.specs.declared.note.Cause.TheVariants as cause
+use Rattle.shared_book.specs.declared.note.What.{What}
+use Rattle.shared_book.specs.declared.note.What.TheVariants as what
+use Rattle.shared_book.specs.declared.note.Written.{Written}
+use Rattle.shared_book.specs.declared.call_reply.Halt.{Halt}
+use Rattle.shared_book.specs.declared.call_reply.ListReply.TheVariants as list
+use Rattle.shared_book.specs.declared.call_reply.Wake.{Wake}
+use Rattle.shared_book.specs.declared.call_reply.Wake.TheVariants as wake
+use Rattle.shared_book.specs.Histories.{Opening, history_of}
+use Rattle.shared_book.specs.Knows.{next_note}
+use Rattle.shared_book.specs.Notes.{calls_by, cause_of, first_stop}
+use Rattle.shared_book.specs.Replies.{asked_at, batch_at, halt_or}
+use Rattle.shared_book.proofs.Stops.{first_stop-stays}
 use Rattle.shared_book.specs.Calls.{IsRoundCall, IsStopCall}
 use Rattle.shared_book.specs.declared.reply.RoundReply.TheVariants as round
-use Rattle.worker_ports.specs.Due.{any_late, due_of}
-use Rattle.worker_ports.specs.Hearing.{IsHearCause}
-use Rattle.worker_ports.specs.Lots.{own}
-use Rattle.worker_ports.specs.Offering.{IsOfferCause, OffersAll}
-use Rattle.worker_ports.specs.Rows.{AtOne, IsCauseOfHear, IsCauseOfOffer, OffersAllEach}
-use Rattle.worker_ports.specs.Stories.{Story, StoryEach}
-use Rattle.worker_ports.specs.Views.{view}
+use Rattle.switch_ports.specs.Due.{any_late, due_of}
+use Rattle.switch_ports.specs.Hearing.{IsHearCause}
+use Rattle.switch_ports.specs.Outboxes.{own}
+use Rattle.switch_ports.specs.Offering.{IsOfferCause, OffersAll}
+use Rattle.switch_ports.specs.Rows.{AtOne, IsCauseOfHear, IsCauseOfOffer, OffersAllEach}
+use Rattle.switch_ports.specs.Stories.{Story, StoryEach}
+use Rattle.switch_ports.specs.Views.{view}
 use Rattle.controller_run.specs.Exchanging.{StopsInHear, StopsInOffer}
 use Rattle.controller_run.specs.Finding.{Lists, Looks}
 use Rattle.controller_run.specs.Promises.{AreListed, IsToldAtHome, StopsNothing, switches_of}
@@ -42,9 +42,9 @@ use Rattle.controller_run.specs.Reasons.{AreHeardOut, FailedAt, HasCome, HasFail
 use Rattle.controller_run.specs.Serving.{HasStopped, IsLast, Moment, Served, caller_of}
 use Rattle.controller_run.specs.Settling.{StopsRound}
 use Rattle.controller_run.specs.Working.{RestsFor, Settles, Standing, Works, is_some_command}
-use Rattle.controller_run.specs.declared.outcome.Outcome.{Outcome}
-use Rattle.controller_run.specs.declared.outcome.Outcome.TheVariants as outcome
-use Rattle.worker_ports.proofs.Lateness.{all_due}
+use Rattle.controller_run.specs.declared.round_end.RoundEnd.{RoundEnd}
+use Rattle.controller_run.specs.declared.round_end.RoundEnd.TheVariants as outcome
+use Rattle.switch_ports.proofs.Lateness.{all_due}
 use Rattle.controller_run.proofs.Enough.{owed-come}
 use Rattle.controller_run.proofs.HeardOut.{IsRow, row-of}
 use Rattle.controller_run.proofs.Passed.{asked-next, passed-behind}
@@ -78,24 +78,24 @@ rose-on a b c le (inr top) = inr top
 
 module _ {P : Type 0} (tell : P → PortTrace) where
   -- the same port, whose count hasn't fallen
-  Later : Talk P → Talk P → Type 0
+  Later : SessionView P → SessionView P → Type 0
   Later before now = (now.switch ≡ before.switch) × ((tell before.port).faults ≤ (tell now.port).faults)
 
-  failed-behind : (switch : ℕ) (ps bs ns : List (Talk P)) → AllZip Later ps bs → AtOne (λ b n. (switch ≡ b.switch) × Rose (tell b.port).faults (tell n.port).faults) bs ns → HasFailed tell switch ps ns
+  failed-behind : (switch : ℕ) (ps bs ns : List (SessionView P)) → AllZip Later ps bs → AtOne (λ b n. (switch ≡ b.switch) × Rose (tell b.port).faults (tell n.port).faults) bs ns → HasFailed tell switch ps ns
   unfolding Later
   failed-behind switch = one-behind Later (λ b n. (switch ≡ b.switch) × Rose (tell b.port).faults (tell n.port).faults) (λ a c. FailedAt switch (view tell a) (view tell c))
       (λ a b c later failed. (sym (failed.0 ∙ later.0), rose-on (tell a.port).faults (tell b.port).faults (tell c.port).faults later.1 failed.1))
 
   module _ (migration : ℕ) (homes : List (Option ℕ)) where
-    story-later : (commands : List Command) (ps bs : List (Talk P)) → StoryEach tell migration homes commands ps bs → AllZip Later ps bs
+    story-later : (commands : List Command) (ps bs : List (SessionView P)) → StoryEach tell migration homes commands ps bs → AllZip Later ps bs
     unfolding Later
     story-later commands = zip-weaker (λ a b. Story migration homes commands (view tell a) (view tell b)) Later (λ a b story. (story.switch, story.goes_on.count))
 
-    offers-later : (commands : List Command) (bs os : List (Talk P)) → OffersAllEach tell migration homes commands bs os → AllZip Later bs os
+    offers-later : (commands : List Command) (bs os : List (SessionView P)) → OffersAllEach tell migration homes commands bs os → AllZip Later bs os
     unfolding Later
     offers-later commands = zip-weaker (λ a b. OffersAll migration (own homes a.switch commands) (view tell a) (view tell b)) Later (λ a b offers. (offers.some.switch, offers.some.goes_on.count))
 
-    later-on : (ps bs os : List (Talk P)) → AllZip Later ps bs → AllZip Later bs os → AllZip Later ps os
+    later-on : (ps bs os : List (SessionView P)) → AllZip Later ps bs → AllZip Later bs os → AllZip Later ps os
     unfolding Later
     later-on = zip-chain Later Later Later (λ a b c first second. (second.0 ∙ first.0, le-on (tell a.port).faults (tell b.port).faults (tell c.port).faults first.1 second.1))
       where
@@ -111,10 +111,10 @@ module _ {P : Type 0} (tell : P → PortTrace) (o : Opening) (seat : ℕ) (joine
   Row m = IsRow tell o (seat ∷ joined) seat migration homes rounds (record { stands = before; left = rounds }) m
 
   module _ (at : Moment P) (reaches : Reaches tell o seat joined migration homes before rounds at) (row : Row at) where
-    abbrev Mine : Outcome → Standing P → Type 0
+    abbrev Mine : RoundEnd → Standing P → Type 0
     Mine given now = IsWork tell o seat joined migration homes rounds before quiet_before at reaches given now
 
-    abbrev Adding : List (Talk P) → List Written → List Written → Type 0
+    abbrev Adding : List (SessionView P) → List Written → List Written → Type 0
     Adding ports seen after = Tally o seat (switches_of before.ports) (Answers tell o seat joined migration homes before ports) seen after [] 0
 
     -- ---- a last round in which nothing went out
@@ -175,7 +175,7 @@ module _ {P : Type 0} (tell : P → PortTrace) (o : Opening) (seat : ℕ) (joine
     rest-reason cause.Memory log seen rests adds = tt
 
     -- ---- a last round whose answers were refused
-    module _ (given : Outcome) (last : Standing P) (works : Mine given last) (settles : Settles tell o (seat ∷ joined) seat migration homes works.commands (record { seen = works.log; ports = at.stands.ports }) given last) where
+    module _ (given : RoundEnd) (last : Standing P) (works : Mine given last) (settles : Settles tell o (seat ∷ joined) seat migration homes works.commands (record { seen = works.log; ports = at.stands.ports }) given last) where
       above-reason : (item held begun : ℕ) (log seen : List Written) → IsRoundCall o (seat ∷ joined) seat works.log (told_by settles.told) (round.Refused (fault.Alien item held begun)) log → Adding last.ports log seen
           → Reasons (cause.Above item held begun) (record { seen = seen; ports = last.ports })
       above-reason item held begun log seen call adds =
@@ -234,7 +234,7 @@ module _ {P : Type 0} (tell : P → PortTrace) (o : Opening) (seat : ℕ) (joine
           stop-own o seat joined log seen cause.Memory halt (subst (StopsNothing seat) (sym stops.noted) (quiet-past seat joined works.log stops.log quiet stops.past)) asked mine
 
     -- ---- a last round that broke
-    offer-reason : (why : Cause) (commands : List Command) (seen : List Written) (ports : List (Talk P)) → StopsInOffer tell migration homes why at.stands.ports commands ports → Reasons why (record { seen = seen; ports = ports })
+    offer-reason : (why : Cause) (commands : List Command) (seen : List Written) (ports : List (SessionView P)) → StopsInOffer tell migration homes why at.stands.ports commands ports → Reasons why (record { seen = seen; ports = ports })
     offer-reason (cause.Spent given item number) commands seen ports stops = absurd (no-one (λ b n. IsOfferCause (cause.Spent given item number) (view tell b) (view tell n)) (λ b n none. none) at.stands.ports ports stops.cause)
     offer-reason (cause.Port switch) commands seen ports stops = failed-behind tell switch before.ports at.stands.ports ports (story-later tell migration homes reaches.commands before.ports at.stands.ports reaches.story) stops.cause
     offer-reason (cause.Above item held begun) commands seen ports stops = absurd (no-one (λ b n. IsOfferCause (cause.Above item held begun) (view tell b) (view tell n)) (λ b n none. none) at.stands.ports ports stops.cause)
@@ -243,7 +243,7 @@ module _ {P : Type 0} (tell : P → PortTrace) (o : Opening) (seat : ℕ) (joine
     offer-reason cause.Disk commands seen ports stops = absurd (no-one (λ b n. IsOfferCause cause.Disk (view tell b) (view tell n)) (λ b n none. none) at.stands.ports ports stops.cause)
     offer-reason cause.Memory commands seen ports stops = tt
 
-    hear-reason : (why : Cause) (commands : List Command) (seen : List Written) (ports : List (Talk P)) → StopsInHear tell migration homes why at.stands.ports commands ports → Reasons why (record { seen = seen; ports = ports })
+    hear-reason : (why : Cause) (commands : List Command) (seen : List Written) (ports : List (SessionView P)) → StopsInHear tell migration homes why at.stands.ports commands ports → Reasons why (record { seen = seen; ports = ports })
     hear-reason (cause.Spent given item number) commands seen ports stops = absurd (hear-breaks tell migration homes (cause.Spent given item number) stops.offered ports stops.cause)
     hear-reason (cause.Port switch) commands seen ports stops =
         failed-behind tell switch before.ports stops.offered ports
@@ -255,7 +255,7 @@ module _ {P : Type 0} (tell : P → PortTrace) (o : Opening) (seat : ℕ) (joine
     hear-reason cause.Memory commands seen ports stops = tt
 
     -- ---- the end
-    stopped-adds : (halt : Halt) (now : Standing P) (ports : List (Talk P)) → (stopped : HasStopped tell o (seat ∷ joined) seat migration homes rounds at halt now) → Adding ports stopped.log now.seen
+    stopped-adds : (halt : Halt) (now : Standing P) (ports : List (SessionView P)) → (stopped : HasStopped tell o (seat ∷ joined) seat migration homes rounds at halt now) → Adding ports stopped.log now.seen
     stopped-adds halt now ports stopped = stop-adds tell o seat joined migration homes rounds before quiet_before at reaches ports stopped.cause halt stopped.log now.seen stopped.asked
 
     stopped-first : (halt : Halt) (now : Standing P) → (stopped : HasStopped tell o (seat ∷ joined) seat migration homes rounds at halt now) → first_stop now.seen ≡ Some halt
@@ -268,7 +268,7 @@ module _ {P : Type 0} (tell : P → PortTrace) (o : Opening) (seat : ℕ) (joine
         let quiet = rests-quiet tell o seat joined migration homes rounds before quiet_before at reaches stopped.cause stopped.log rests in
         let why = stop-own o seat joined stopped.log now.seen stopped.cause halt quiet stopped.asked mine in
         subst (λ (c : Cause). Reasons c now) (sym why)
-        (subst (λ (ports : List (Talk P)). Reasons stopped.cause (record { seen = now.seen; ports = ports })) (sym same)
+        (subst (λ (ports : List (SessionView P)). Reasons stopped.cause (record { seen = now.seen; ports = ports })) (sym same)
         (rest-reason stopped.cause stopped.log now.seen rests (stopped-adds halt now ps stopped)))
 
     stopped-settles : (halt : Halt) (now : Standing P) (stopped : HasStopped tell o (seat ∷ joined) seat migration homes rounds at halt now) (works : Mine (outcome.Stops stopped.cause) (record { seen = stopped.log; ports = now.ports }))
@@ -280,7 +280,7 @@ module _ {P : Type 0} (tell : P → PortTrace) (o : Opening) (seat : ℕ) (joine
         let why = round-why given last works settles stopped.cause stopped.log now.seen halt settles.settled stopped.asked adds (stopped-first halt now stopped) mine in
         subst (λ (c : Cause). Reasons c now) (sym why) (round-reason given last works settles stopped.cause stopped.log now.seen settles.settled adds)
 
-    broken-why : (given : Outcome) (last : Standing P) (works : Mine given last) (why : Cause) (halt : Halt) (seen after : List Written) → seen ≡ works.log → GoOn tell at.stands.ports last.ports → IsStopCall o (seat ∷ joined) seat seen why halt after → halt.seat ≡ seat → halt.cause ≡ why
+    broken-why : (given : RoundEnd) (last : Standing P) (works : Mine given last) (why : Cause) (halt : Halt) (seen after : List Written) → seen ≡ works.log → GoOn tell at.stands.ports last.ports → IsStopCall o (seat ∷ joined) seat seen why halt after → halt.seat ≡ seat → halt.cause ≡ why
     broken-why given last works why halt seen after same goes asked mine =
         let quiet = quiet-here tell o seat joined migration homes rounds before quiet_before last.ports works.log _ _ (so-far tell o seat joined migration homes before rounds at given last works reaches goes) in
         stop-own o seat joined seen after why halt (subst (StopsNothing seat) (sym same) quiet) asked mine

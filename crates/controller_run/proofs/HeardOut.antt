@@ -5,19 +5,19 @@ use Rattle.std.specs.List.{Contains}
 use Rattle.wan_edge.specs.Frames.{Answer, Command}
 use Rattle.wan_edge.specs.Ports.{PortTrace}
 use Rattle.rollout_book.specs.Aliens.{told_by}
-use Rattle.port_session.specs.Sessions.{Talk}
-use Rattle.shared_history.specs.declared.note.What.TheVariants as what
-use Rattle.shared_history.specs.declared.note.Written.{Written}
-use Rattle.shared_history.specs.Histories.{Opening, history_of}
-use Rattle.shared_history.specs.Knows.{next_note}
-use Rattle.shared_history.specs.Replies.{batch_at}
+use Rattle.port_session.specs.Sessions.{SessionView}
+use Rattle.shared_book.specs.declared.note.What.TheVariants as what
+use Rattle.shared_book.specs.declared.note.Written.{Written}
+use Rattle.shared_book.specs.Histories.{Opening, history_of}
+use Rattle.shared_book.specs.Knows.{next_note}
+use Rattle.shared_book.specs.Replies.{batch_at}
 use Rattle.shared_book.specs.Homes.{homes_of}
-use Rattle.worker_ports.specs.Due.{LeavesAlone}
+use Rattle.switch_ports.specs.Due.{LeavesAlone}
 use Rattle.controller_run.specs.Exchanging.{Exchanges}
 use Rattle.controller_run.specs.Reasons.{AreHeardOut, offered_in}
 use Rattle.controller_run.specs.Serving.{AreWhole, Moment, Whole, caller_of}
 use Rattle.controller_run.specs.Working.{IsIdle, ListsNone, ListsSome, Settles, Works}
-use Rattle.controller_run.specs.declared.outcome.Outcome.TheVariants as outcome
+use Rattle.controller_run.specs.declared.round_end.RoundEnd.TheVariants as outcome
 use Rattle.controller_run.proofs.Elements.{none-inside}
 use Rattle.controller_run.proofs.Enough.{HasOwed, both-owed, idle-owed, listed-owed, none-owed}
 use Rattle.controller_run.proofs.Passed.{IsPassed, both-behind, note-behind, passed-behind, round-passed}
@@ -50,7 +50,7 @@ module _ {P : Type 0} (tell : P → PortTrace) (o : Opening) (seats : List ℕ) 
       ⊎_elim (λ none. ([], none.1 ∙ sym (append-nil m.stands.seen))) (λ call. (call.past.past, call.noted ∙ call.past.is)) found.looks_on
 
   -- and what came of it
-  found-owed : (m : Moment P) (commands : List Command) (log : List Written) (told : List Answer) (ns : List (Talk P)) → Found m commands log → LeavesAlone homes commands m.stands.ports → Exchanges tell migration homes m.stands.ports commands told ns
+  found-owed : (m : Moment P) (commands : List Command) (log : List Written) (told : List Answer) (ns : List (SessionView P)) → Found m commands log → LeavesAlone homes commands m.stands.ports → Exchanges tell migration homes m.stands.ports commands told ns
       → homes ≡ homes_of o.rollout.problem → HasOwed tell (offered_in commands) m.stands.ports ns
   found-owed m commands log told ns (inl found) alone went same =
       listed-owed tell migration homes o same commands told found.lists.listed.log m.stands.ports ns alone went found.lists.listed.listed
@@ -97,7 +97,7 @@ module _ {P : Type 0} (tell : P → PortTrace) (o : Opening) (seats : List ℕ) 
 
   -- and so it is with all of them
   pub record IsRow (before at : Moment P) : Type 0 where
-    pub rows : List (List (Talk P))
+    pub rows : List (List (SessionView P))
     pub used : ℕ
     pub told : List Answer
     pub heard_out : AreHeardOut tell migration homes rows used told before.stands.ports at.stands.ports
@@ -115,7 +115,7 @@ module _ {P : Type 0} (tell : P → PortTrace) (o : Opening) (seats : List ℕ) 
     less = (let left = ap (λ (m : Moment P). m.left) same in omega (arith, left));
     goes_on = ([], ap (λ (m : Moment P). m.stands.seen) same ∙ sym (append-nil before.stands.seen));
     passed = λ a inside. absurd (none-inside a inside);
-    come = λ _. subst (λ (ps : List (Talk P)). HasOwed tell 0 before.stands.ports ps) (sym (ap (λ (m : Moment P). m.stands.ports) same)) (none-owed tell before.stands.ports);
+    come = λ _. subst (λ (ps : List (SessionView P)). HasOwed tell 0 before.stands.ports ps) (sym (ap (λ (m : Moment P). m.stands.ports) same)) (none-owed tell before.stands.ports);
   }
 
   one-more : (before m at : Moment P) → IsExchange before m → IsRow m at → IsRow before at

@@ -7,38 +7,38 @@ use Rattle.turn_lock.specs.Histories.{Follows}
 use Rattle.wan_edge.specs.Frames.{Answer, Command}
 use Rattle.wan_edge.specs.Ports.{PortTrace}
 use Rattle.rollout_book.specs.Aliens.{told_by}
-use Rattle.port_session.specs.Sessions.{Talk}
-use Rattle.shared_history.specs.declared.note.Cause.{Cause}
-use Rattle.shared_history.specs.declared.note.Cause.TheVariants as cause
-use Rattle.shared_history.specs.declared.note.What.{What}
-use Rattle.shared_history.specs.declared.note.What.TheVariants as what
-use Rattle.shared_history.specs.declared.note.Written.{Written}
-use Rattle.shared_history.specs.declared.reply.Halt.{Halt}
-use Rattle.shared_history.specs.declared.reply.ListReply.TheVariants as list
-use Rattle.shared_history.specs.declared.reply.Wake.{Wake}
-use Rattle.shared_history.specs.declared.reply.Wake.TheVariants as wake
-use Rattle.shared_history.specs.Histories.{Opening, history_of}
-use Rattle.shared_history.specs.Knows.{next_note}
-use Rattle.shared_history.specs.Legal.{is_legal_shared}
-use Rattle.shared_history.specs.Notes.{cause_of, first_stop, has_asked}
-use Rattle.shared_history.specs.Replies.{batch_at}
+use Rattle.port_session.specs.Sessions.{SessionView}
+use Rattle.shared_book.specs.declared.note.Cause.{Cause}
+use Rattle.shared_book.specs.declared.note.Cause.TheVariants as cause
+use Rattle.shared_book.specs.declared.note.What.{What}
+use Rattle.shared_book.specs.declared.note.What.TheVariants as what
+use Rattle.shared_book.specs.declared.note.Written.{Written}
+use Rattle.shared_book.specs.declared.call_reply.Halt.{Halt}
+use Rattle.shared_book.specs.declared.call_reply.ListReply.TheVariants as list
+use Rattle.shared_book.specs.declared.call_reply.Wake.{Wake}
+use Rattle.shared_book.specs.declared.call_reply.Wake.TheVariants as wake
+use Rattle.shared_book.specs.Histories.{Opening, history_of}
+use Rattle.shared_book.specs.Knows.{next_note}
+use Rattle.shared_book.specs.Legal.{is_legal_shared}
+use Rattle.shared_book.specs.Notes.{cause_of, first_stop, has_asked}
+use Rattle.shared_book.specs.Replies.{batch_at}
 use Rattle.shared_book.specs.Calls.{IsListCall, IsRoundCall, IsStopCall, seat_of}
 use Rattle.shared_book.specs.Waking.{IsLookCall}
 use Rattle.shared_book.specs.declared.reply.RoundReply.TheVariants as round
-use Rattle.worker_ports.specs.Hearing.{IsHearCause}
-use Rattle.worker_ports.specs.Offering.{IsOfferCause}
-use Rattle.worker_ports.specs.Rows.{AtOne, IsCauseOfHear, IsCauseOfOffer}
-use Rattle.worker_ports.specs.Stories.{LastStoryEach, StoryEach}
-use Rattle.worker_ports.specs.Views.{view}
+use Rattle.switch_ports.specs.Hearing.{IsHearCause}
+use Rattle.switch_ports.specs.Offering.{IsOfferCause}
+use Rattle.switch_ports.specs.Rows.{AtOne, IsCauseOfHear, IsCauseOfOffer}
+use Rattle.switch_ports.specs.Stories.{LastStoryEach, StoryEach}
+use Rattle.switch_ports.specs.Views.{view}
 use Rattle.controller_run.specs.Exchanging.{StopsInHear, StopsInOffer}
-use Rattle.worker_ports.specs.Due.{any_late, due_of}
+use Rattle.switch_ports.specs.Due.{any_late, due_of}
 use Rattle.controller_run.specs.Finding.{Lists, Looks}
 use Rattle.controller_run.specs.Promises.{BreaksOff, IsBreak, IsEndAt, Promises, StopsNothing, UnlessStopped, switches_of}
 use Rattle.controller_run.specs.Serving.{HasStopped, IsLast, Moment, Served, Worked, caller_of}
 use Rattle.controller_run.specs.Working.{ListsNone, ListsSome, RestsFor, Settles, Standing, Works, is_some_command}
 use Rattle.controller_run.specs.Settling.{StopsRound}
-use Rattle.controller_run.specs.declared.outcome.Outcome.{Outcome}
-use Rattle.controller_run.specs.declared.outcome.Outcome.TheVariants as outcome
+use Rattle.controller_run.specs.declared.round_end.RoundEnd.{RoundEnd}
+use Rattle.controller_run.specs.declared.round_end.RoundEnd.TheVariants as outcome
 use Rattle.controller_run.proofs.Chains.{stories_end_in_hear, stories_end_in_offer}
 use Rattle.controller_run.proofs.Endings.{ends-finished, ends-held, first-stops, list-stopped, look-stopped, still-stopped, stop-first}
 use Rattle.controller_run.proofs.Noted.{listed, listed-none, listed-stopped, looked, then-none, unnoted}
@@ -60,7 +60,7 @@ at-most-one true = omega arith
 at-most-one false = omega arith
 
 module _ {P : Type 0} (tell : P → PortTrace) where
-  pub offer-breaks : (why : Cause) (bs ns : List (Talk P)) → IsCauseOfOffer tell why bs ns → IsBreak why
+  pub offer-breaks : (why : Cause) (bs ns : List (SessionView P)) → IsCauseOfOffer tell why bs ns → IsBreak why
   offer-breaks (cause.Spent given item number) bs ns is = no-one (λ b n. IsOfferCause (cause.Spent given item number) (view tell b) (view tell n)) (λ b n none. none) bs ns is
   offer-breaks (cause.Port switch) bs ns is = tt
   offer-breaks (cause.Above item held begun) bs ns is = no-one (λ b n. IsOfferCause (cause.Above item held begun) (view tell b) (view tell n)) (λ b n none. none) bs ns is
@@ -69,7 +69,7 @@ module _ {P : Type 0} (tell : P → PortTrace) where
   offer-breaks cause.Disk bs ns is = no-one (λ b n. IsOfferCause cause.Disk (view tell b) (view tell n)) (λ b n none. none) bs ns is
   offer-breaks cause.Memory bs ns is = tt
 
-  pub hear-breaks : (migration : ℕ) (homes : List (Option ℕ)) (why : Cause) (bs ns : List (Talk P)) → IsCauseOfHear tell migration homes why bs ns → IsBreak why
+  pub hear-breaks : (migration : ℕ) (homes : List (Option ℕ)) (why : Cause) (bs ns : List (SessionView P)) → IsCauseOfHear tell migration homes why bs ns → IsBreak why
   hear-breaks migration homes (cause.Spent given item number) bs ns is = no-one (λ b n. IsHearCause migration homes (cause.Spent given item number) (view tell b) (view tell n)) (λ b n none. none) bs ns is
   hear-breaks migration homes (cause.Port switch) bs ns is = tt
   hear-breaks migration homes (cause.Above item held begun) bs ns is = no-one (λ b n. IsHearCause migration homes (cause.Above item held begun) (view tell b) (view tell n)) (λ b n none. none) bs ns is
@@ -82,7 +82,7 @@ module _ {P : Type 0} (tell : P → PortTrace) (o : Opening) (seat : ℕ) (joine
   abbrev pub ws : List ℕ
   ws = switches_of before.ports
 
-  abbrev pub Sent : List Command → List (Talk P) → Type 0
+  abbrev pub Sent : List Command → List (SessionView P) → Type 0
   Sent commands ports = StoryEach tell migration homes commands before.ports ports
 
   abbrev Kept : Wake → Standing P → Type 0
@@ -118,13 +118,13 @@ module _ {P : Type 0} (tell : P → PortTrace) (o : Opening) (seat : ℕ) (joine
   unless wake.Memory now A B ends a = absurd ends
 
   -- so far the seat has stopped nothing
-  pub quiet-here : (ports : List (Talk P)) (seen : List Written) (commands : List Command) (count : ℕ) → Has (Good tell o seat joined migration homes before ports) seen commands count → StopsNothing seat seen
+  pub quiet-here : (ports : List (SessionView P)) (seen : List Written) (commands : List Command) (count : ℕ) → Has (Good tell o seat joined migration homes before ports) seen commands count → StopsNothing seat seen
   quiet-here ports seen commands count tally =
       subst (StopsNothing seat) (sym tally.is)
       (All-append (IsQuiet seat) before.seen tally.more quiet_before (λ k d inside own. (tally.good k d inside own).1))
 
   -- a call that asks that all stop
-  stop-noted : (ports : List (Talk P)) (why : Cause) (halt : Halt) (seen log after : List Written) (asked : Bool) → Follows seat_of (seat ∷ joined) seen log → has_asked seat log ≡ asked
+  stop-noted : (ports : List (SessionView P)) (why : Cause) (halt : Halt) (seen log after : List Written) (asked : Bool) → Follows seat_of (seat ∷ joined) seen log → has_asked seat log ≡ asked
       → after ≡ (if asked then log else log ++ next_note seat log (what.Stop why) [] ∷ []) → Tally o seat ws (Answers tell o seat joined migration homes before ports) seen after [] 0
   stop-noted ports why halt seen log after true past asked is = unnoted o seat joined ws (Answers tell o seat joined migration homes before ports) (λ l said none. plain-answers tell o seat joined migration homes before ports l said) seen log after past is
   stop-noted ports why halt seen log after false past asked is = tally-note o seat ws (Answers tell o seat joined migration homes before ports) joined seen log after (what.Stop why) [] past is (plain-answers tell o seat joined migration homes before ports log (what.Stop why))
@@ -134,16 +134,16 @@ module _ {P : Type 0} (tell : P → PortTrace) (o : Opening) (seat : ℕ) (joine
     seats = seat ∷ joined
 
     -- what a round, or the front of one, has come to
-    abbrev pub IsWork : Outcome → Standing P → Type 0
+    abbrev pub IsWork : RoundEnd → Standing P → Type 0
     IsWork given now = Works tell (caller_of o seats seat at.stands.ports) migration homes at.left at.stands given now
 
-    abbrev pub Adds : List (Talk P) → List Written → List Written → Type 0
+    abbrev pub Adds : List (SessionView P) → List Written → List Written → Type 0
     Adds ports seen after = Tally o seat ws (Answers tell o seat joined migration homes before ports) seen after [] 0
 
-    pub plain : (ports : List (Talk P)) (log : List Written) (said : What) → cause_of said ≡ None → Answers tell o seat joined migration homes before ports (next_note seat log said [])
+    pub plain : (ports : List (SessionView P)) (log : List Written) (said : What) → cause_of said ≡ None → Answers tell o seat joined migration homes before ports (next_note seat log said [])
     plain ports log said none = plain-answers tell o seat joined migration homes before ports log said
 
-    pub looks-add : (ports : List (Talk P)) (asked : List ℕ) (woken : Wake) (seen after : List Written) → IsLookCall o seats seat seen asked (Some woken) after → Adds ports seen after
+    pub looks-add : (ports : List (SessionView P)) (asked : List ℕ) (woken : Wake) (seen after : List Written) → IsLookCall o seats seat seen asked (Some woken) after → Adds ports seen after
     looks-add ports = looked o seat joined ws (Answers tell o seat joined migration homes before ports) (plain ports)
 
     -- the switches that are due, and whether others are late
@@ -166,7 +166,7 @@ module _ {P : Type 0} (tell : P → PortTrace) (o : Opening) (seat : ℕ) (joine
         let G = Answers tell o seat joined migration homes before ps in
         let first = tally-weaker o seat ws (Good tell o seat joined migration homes before ps) G before.seen at.stands.seen reaches.commands reaches.count (λ w good. good.0) reaches.tally in
         let had = reaches.left in
-        subst (λ (ports : List (Talk P)). Kept end (record { seen = now.seen; ports = ports })) (sym same)
+        subst (λ (ports : List (SessionView P)). Kept end (record { seen = now.seen; ports = ports })) (sym same)
         (keeps end (record { seen = now.seen; ports = ps }) reaches.commands reaches.count
         (then-none o seat joined ws G (plain ps) before.seen at.stands.seen now.seen reaches.commands reaches.count first adds) (omega (arith, had)) (last-of tell migration homes reaches.commands before.ports ps reaches.story)
         legal (unless end now.seen (Sent reaches.commands ps) (BreaksOff seat now.seen) ends reaches.story) ends)
@@ -195,7 +195,7 @@ module _ {P : Type 0} (tell : P → PortTrace) (o : Opening) (seat : ℕ) (joine
         (still-stopped o seat call.log halt what.Stopped [] now.seen (list-stopped o seat call.log halt call.told) call.noted)
 
     -- ---- a last round in which all went out, and what came was told to the book
-    pub works-keep : (given : Outcome) (last : Standing P) (works : IsWork given last) → Settles tell o seats seat migration homes works.commands (record { seen = works.log; ports = at.stands.ports }) given last
+    pub works-keep : (given : RoundEnd) (last : Standing P) (works : IsWork given last) → Settles tell o seats seat migration homes works.commands (record { seen = works.log; ports = at.stands.ports }) given last
         → (end : Wake) (after : List Written) → Adds last.ports works.log after → is_legal_shared o after ≡ true → IsEndAt o after end → Kept end (record { seen = after; ports = last.ports })
     works-keep given last works settles end after adds legal ends =
         let ps = last.ports in
@@ -217,7 +217,7 @@ module _ {P : Type 0} (tell : P → PortTrace) (o : Opening) (seat : ℕ) (joine
         (tally-note o seat ws (Answers tell o seat joined migration homes before now.ports) joined works.log call.log now.seen what.Stopped [] call.past call.noted (plain now.ports call.log what.Stopped refl))
         call.legal (still-stopped o seat call.log halt what.Stopped [] now.seen call.told call.noted)
 
-    -- ---- a last round behind which the worker asks that all stop
+    -- ---- a last round after which the worker asks that all stop
     rests-noted : (G : Written → Type 0) → ((log : List Written) (said : What) → cause_of said ≡ None → G (next_note seat log said [])) → (why : Cause) (after : List Written)
         → RestsFor (caller_of o seats seat at.stands.ports) at.left rounds at.stands.seen why after → Tally o seat ws G at.stands.seen after [] 0
     rests-noted G good (cause.Spent given item number) after rests = looked o seat joined ws G good due (wake.Work (record { item = item; number = number })) at.stands.seen after rests.2
@@ -242,7 +242,7 @@ module _ {P : Type 0} (tell : P → PortTrace) (o : Opening) (seat : ℕ) (joine
         let good = plain-good tell o seat joined migration homes before ps in
         quiet-here ps after reaches.commands reaches.count (then-none o seat joined ws G good before.seen at.stands.seen after reaches.commands reaches.count reaches.tally (rests-noted G good why after rests))
 
-    pub round-adds : (given : Outcome) (last : Standing P) (works : IsWork given last) (settles : Settles tell o seats seat migration homes works.commands (record { seen = works.log; ports = at.stands.ports }) given last) (why : Cause) (after : List Written)
+    pub round-adds : (given : RoundEnd) (last : Standing P) (works : IsWork given last) (settles : Settles tell o seats seat migration homes works.commands (record { seen = works.log; ports = at.stands.ports }) given last) (why : Cause) (after : List Written)
         → StopsRound o seats seat works.log (told_by settles.told) why after → Adds last.ports works.log after
     round-adds given last works settles (cause.Spent rounds item number) after stops = absurd stops
     round-adds given last works settles (cause.Port switch) after stops = absurd stops
@@ -257,17 +257,17 @@ module _ {P : Type 0} (tell : P → PortTrace) (o : Opening) (seat : ℕ) (joine
     round-adds given last works settles cause.Memory after stops = unnoted o seat joined ws (Answers tell o seat joined migration homes before last.ports) (plain last.ports) works.log stops.log after stops.past stops.noted
 
     -- the stop itself
-    pub stop-adds : (ports : List (Talk P)) (why : Cause) (halt : Halt) (seen after : List Written) → IsStopCall o seats seat seen why halt after → Adds ports seen after
+    pub stop-adds : (ports : List (SessionView P)) (why : Cause) (halt : Halt) (seen after : List Written) → IsStopCall o seats seat seen why halt after → Adds ports seen after
     stop-adds ports why halt seen after call = stop-noted ports why halt seen call.log after (has_asked seat call.log) call.past refl call.noted
 
     pub stop-ends : (why : Cause) (halt : Halt) (seen after : List Written) → IsStopCall o seats seat seen why halt after → IsEndAt o after (wake.Stopped halt)
     stop-ends why halt seen after call = stop-first seat call.log why halt after (has_asked seat call.log) refl call.noted call.told
 
-    pub both-add : (ports : List (Talk P)) (a b c : List Written) → Adds ports a b → Adds ports b c → Adds ports a c
+    pub both-add : (ports : List (SessionView P)) (a b c : List Written) → Adds ports a b → Adds ports b c → Adds ports a c
     both-add ports a b c first second = then-none o seat joined ws (Answers tell o seat joined migration homes before ports) (plain ports) a b c [] 0 first second
 
     -- a round that broke
-    breaks-off : (why : Cause) (halt : Halt) (ports : List (Talk P)) (seen after : List Written) (commands : List Command) (count : ℕ) → IsBreak why → Has (Good tell o seat joined migration homes before ports) seen commands count → IsStopCall o seats seat seen why halt after → BreaksOff seat after
+    breaks-off : (why : Cause) (halt : Halt) (ports : List (SessionView P)) (seen after : List Written) (commands : List Command) (count : ℕ) → IsBreak why → Has (Good tell o seat joined migration homes before ports) seen commands count → IsStopCall o seats seat seen why halt after → BreaksOff seat after
     breaks-off why halt ports seen after commands count breaks tally call =
         let asked = quiet-asks-not seat call.log (quiet-past seat joined seen call.log (quiet-here ports seen commands count tally) call.past) in
         record {
@@ -277,7 +277,7 @@ module _ {P : Type 0} (tell : P → PortTrace) (o : Opening) (seat : ℕ) (joine
           is = call.noted ∙ ap (λ (b : Bool). if b then call.log else call.log ++ next_note seat call.log (what.Stop why) [] ∷ []) asked;
         }
 
-    broken-keeps : (given : Outcome) (halt : Halt) (why : Cause) (now : Standing P) (last : Standing P) (works : IsWork given last) → IsBreak why → GoOn tell at.stands.ports last.ports → LastStoryEach tell migration homes (reaches.commands ++ works.commands) before.ports last.ports
+    broken-keeps : (given : RoundEnd) (halt : Halt) (why : Cause) (now : Standing P) (last : Standing P) (works : IsWork given last) → IsBreak why → GoOn tell at.stands.ports last.ports → LastStoryEach tell migration homes (reaches.commands ++ works.commands) before.ports last.ports
         → IsStopCall o seats seat works.log why halt now.seen → now.ports ≡ last.ports → Kept (wake.Stopped halt) now
     broken-keeps given halt why now last works breaks goes sent call same =
         let ps = last.ports in
@@ -288,7 +288,7 @@ module _ {P : Type 0} (tell : P → PortTrace) (o : Opening) (seat : ℕ) (joine
         let first = tally-weaker o seat ws (Good tell o seat joined migration homes before ps) G before.seen works.log commands (reaches.count + one) (λ w g. g.0) good in
         let had = reaches.left in
         let few = some-left works.commands works.log works.found in
-        subst (λ (ports : List (Talk P)). Kept (wake.Stopped halt) (record { seen = now.seen; ports = ports })) (sym same)
+        subst (λ (ports : List (SessionView P)). Kept (wake.Stopped halt) (record { seen = now.seen; ports = ports })) (sym same)
         (keeps (wake.Stopped halt) (record { seen = now.seen; ports = ps }) commands (reaches.count + one)
         (then-none o seat joined ws G (plain ps) before.seen works.log now.seen commands (reaches.count + one) first (stop-adds ps why halt works.log now.seen call)) (omega (arith, had, few)) sent
         call.legal (inr (breaks-off why halt ps works.log now.seen commands (reaches.count + one) breaks good call)) (stop-ends why halt works.log now.seen call))

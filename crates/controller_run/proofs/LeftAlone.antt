@@ -12,12 +12,12 @@ use Rattle.rollout_rules.specs.declared.op.Op.{Op}
 use Rattle.rollout_laws.proofs.Rounds.{numbers_below}
 use Rattle.wan_edge.specs.Frames.{Command}
 use Rattle.rollout_book.specs.Commands.{asked, command_of, is_asked}
-use Rattle.port_session.specs.Sessions.{Talk}
-use Rattle.worker_ports.specs.Due.{AreApart, LeavesAlone, due_of, is_late}
-use Rattle.worker_ports.specs.Lots.{home_at, is_switch, own}
-use Rattle.shared_history.specs.declared.note.Written.{Written}
-use Rattle.shared_history.specs.declared.reply.ListReply.TheVariants as list
-use Rattle.shared_history.specs.Histories.{Opening, history_of}
+use Rattle.port_session.specs.Sessions.{SessionView}
+use Rattle.switch_ports.specs.Due.{AreApart, LeavesAlone, due_of, is_late}
+use Rattle.switch_ports.specs.Outboxes.{home_at, is_switch, own}
+use Rattle.shared_book.specs.declared.note.Written.{Written}
+use Rattle.shared_book.specs.declared.call_reply.ListReply.TheVariants as list
+use Rattle.shared_book.specs.Histories.{Opening, history_of}
 use Rattle.shared_book.specs.Homes.{homes_of}
 use Rattle.shared_book.specs.Told.{commands_at}
 use Rattle.shared_book.proofs.HomeRows.{home-read}
@@ -29,11 +29,11 @@ use Rattle.controller_run.proofs.Elements.{any-has, inside-later}
 
 -- the due switches are some of all
 module _ {P : Type 0} where
-  among-by : (t : Talk P) (ts : List (Talk P)) (late : Bool) → AreSome (due_of ts) (switches_of (t ∷ ts)) → AreSome (if late then due_of ts else t.switch ∷ due_of ts) (switches_of (t ∷ ts))
+  among-by : (t : SessionView P) (ts : List (SessionView P)) (late : Bool) → AreSome (due_of ts) (switches_of (t ∷ ts)) → AreSome (if late then due_of ts else t.switch ∷ due_of ts) (switches_of (t ∷ ts))
   among-by t ts true rest = rest
   among-by t ts false rest = All-cons (Contains (switches_of (t ∷ ts))) t.switch (due_of ts) (0, omega arith, refl) rest
 
-  pub due-among : (ts : List (Talk P)) → AreSome (due_of ts) (switches_of ts)
+  pub due-among : (ts : List (SessionView P)) → AreSome (due_of ts) (switches_of ts)
   due-among [] = All-nil (Contains (switches_of {P = P} []))
   due-among (t ∷ ts) =
       among-by t ts (is_late t)
@@ -76,10 +76,10 @@ module _ (homes : List (Option ℕ)) where
       ap (λ (b : Bool). if b then c ∷ own homes w cs else own homes w cs) other ∙ none-own w switches cs (All-tail (IsHomed switches) c cs all) none
 
   module _ {P : Type 0} where
-    left-alone : (due : List ℕ) (commands : List Command) (ts : List (Talk P)) → All (IsHomed due) commands → AreApart due ts → LeavesAlone homes commands ts
+    left-alone : (due : List ℕ) (commands : List Command) (ts : List (SessionView P)) → All (IsHomed due) commands → AreApart due ts → LeavesAlone homes commands ts
     left-alone due commands [] all apart = tt
     left-alone due commands (t ∷ ts) all apart = (λ late. none-own t.switch due commands all (apart.0 late), left-alone due commands ts all apart.1)
 
     -- of what was listed of the due switches
-    pub lists-alone : (w : Caller) (op : Op) (seen log : List Written) (commands : List Command) (ts : List (Talk P)) → homes ≡ homes_of w.opening.rollout.problem → AreApart w.switches ts → Lists w op seen commands list.Listed log → LeavesAlone homes commands ts
+    pub lists-alone : (w : Caller) (op : Op) (seen log : List Written) (commands : List Command) (ts : List (SessionView P)) → homes ≡ homes_of w.opening.rollout.problem → AreApart w.switches ts → Lists w op seen commands list.Listed log → LeavesAlone homes commands ts
     lists-alone w op seen log commands ts same apart lists = left-alone w.switches commands ts (all-homed w.opening same commands lists.listed.log w.switches lists.listed.listed) apart

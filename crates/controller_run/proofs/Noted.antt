@@ -1,18 +1,18 @@
--- What each call of a worker leaves behind what was seen.
+-- What each call of a worker leaves after what was seen.
 use Rattle.std.proofs.Common.{◌≡◌, ℕ, Bool, List, [], ◌∷◌, ◌++◌, Option, Some, None, refl, sym, ap, ◌∙◌, subst, arith, append-nil, inl, inr, if◌then◌else◌}
 use Rattle.rollout_rules.specs.declared.op.Op.{Op}
 use Rattle.turn_lock.specs.Histories.{Follows}
 use Rattle.wan_edge.specs.Frames.{Command}
-use Rattle.shared_history.specs.declared.note.What.{What}
-use Rattle.shared_history.specs.declared.note.What.TheVariants as what
-use Rattle.shared_history.specs.declared.note.Written.{Written}
-use Rattle.shared_history.specs.declared.reply.Halt.{Halt}
-use Rattle.shared_history.specs.declared.reply.ListReply.TheVariants as list
-use Rattle.shared_history.specs.declared.reply.Wake.{Wake}
-use Rattle.shared_history.specs.declared.reply.Wake.TheVariants as wake
-use Rattle.shared_history.specs.Histories.{Opening}
-use Rattle.shared_history.specs.Knows.{next_note}
-use Rattle.shared_history.specs.Notes.{cause_of}
+use Rattle.shared_book.specs.declared.note.What.{What}
+use Rattle.shared_book.specs.declared.note.What.TheVariants as what
+use Rattle.shared_book.specs.declared.note.Written.{Written}
+use Rattle.shared_book.specs.declared.call_reply.Halt.{Halt}
+use Rattle.shared_book.specs.declared.call_reply.ListReply.TheVariants as list
+use Rattle.shared_book.specs.declared.call_reply.Wake.{Wake}
+use Rattle.shared_book.specs.declared.call_reply.Wake.TheVariants as wake
+use Rattle.shared_book.specs.Histories.{Opening}
+use Rattle.shared_book.specs.Knows.{next_note}
+use Rattle.shared_book.specs.Notes.{cause_of}
 use Rattle.shared_book.specs.Calls.{IsListCall, seat_of}
 use Rattle.shared_book.specs.Told.{commands_at}
 use Rattle.shared_book.specs.Waking.{IsLookCall}
@@ -34,7 +34,7 @@ module _ (o : Opening) (seat : ℕ) (joined switches : List ℕ) (G : Written �
   looked asked (wake.Stopped halt) seen after call = tally-note o seat switches G joined seen call.log after what.Stopped [] call.past call.noted (plain call.log what.Stopped refl)
   looked asked wake.Memory seen after call = unnoted seen call.log after call.past call.noted
 
-  -- one call behind another
+  -- one call after another
   pub then-none : (a b c : List Written) (cs : List Command) (n : ℕ) → Tally o seat switches G a b cs n → Tally o seat switches G b c [] 0 → Tally o seat switches G a c cs n
   then-none a b c cs n first second = tally-as o seat switches G a c (cs ++ []) cs _ n (append-nil cs) (omega arith) (tally-chain o seat switches G a b c cs [] n 0 first second)
 
@@ -50,7 +50,7 @@ module _ (o : Opening) (seat : ℕ) (joined switches : List ℕ) (G : Written �
       none-then seen lists.awake log commands _ first
       (tally-as o seat switches G lists.awake log (commands_at o call.log asked) commands _ _ (sym call.listed) (ap {B = ℕ} (λ (cs : List Command). if is_some_command cs then 1 else 0) (sym call.listed)) second)
 
-  -- a look, and a stop in the place of commands, or want of memory
+  -- a look, and a stop in the place of commands, or lack of memory
   pub listed-stopped : (asked : List ℕ) (late : Bool) (op : Op) (halt : Halt) (seen after : List Written) (commands : List Command) → Lists (caller o (seat ∷ joined) seat asked late) op seen commands (list.Stopped halt) after → Tally o seat switches G seen after [] 0
   listed-stopped asked late op halt seen after commands lists =
       let call = lists.listed in

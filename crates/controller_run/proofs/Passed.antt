@@ -1,4 +1,4 @@
--- No answer that was told in whole rounds is above what is settled behind them.
+-- No answer that was told in whole rounds is above what is settled after them.
 use Rattle.std.proofs.Common.{◌≡◌, ◌⊎◌, ℕ, ◌+◌, ◌<◌, ◌≤◌, Bool, true, false, not, ◌&&◌, ◌==◌, nat_le, nat_lt, List, [], ◌∷◌, ◌++◌, All, Option, Some, if◌then◌else◌, refl, sym, ap, ◌∙◌, subst, ⊎_elim, arith, append-nil, append_assoc, eq-eqb, leb-true, ltb-true}
 use Rattle.std.proofs.lemmas.Bool.{and_from, and_parts, cases_lt, le-leb}
 use Rattle.std.proofs.lemmas.List.Elements.{All-contains, All-filter, All-map, Contains-append_left}
@@ -18,16 +18,16 @@ use Rattle.turn_lock.specs.Histories.{Follows}
 use Rattle.wan_edge.specs.Frames.{Answer}
 use Rattle.rollout_book.specs.Aliens.{op_of, told_by}
 use Rattle.rollout_book.specs.declared.turn.Turn.{Turn}
-use Rattle.shared_history.specs.declared.note.What.{What}
-use Rattle.shared_history.specs.declared.note.What.TheVariants as what
-use Rattle.shared_history.specs.declared.note.Written.{Written}
-use Rattle.shared_history.specs.declared.reply.Halt.{Halt}
-use Rattle.shared_history.specs.Histories.{Opening, history_of}
-use Rattle.shared_history.specs.Knows.{next_note}
-use Rattle.shared_history.specs.Legal.{begun_of, is_alien, is_legal_shared}
-use Rattle.shared_history.specs.Replies.{asked_at, batch_at, first_alien, is_asked, or_stopped, or_turned}
-use Rattle.shared_history.proofs.Going.{front_is_legal}
-use Rattle.shared_history.proofs.Lists.{list-is_legal}
+use Rattle.shared_book.specs.declared.note.What.{What}
+use Rattle.shared_book.specs.declared.note.What.TheVariants as what
+use Rattle.shared_book.specs.declared.note.Written.{Written}
+use Rattle.shared_book.specs.declared.call_reply.Halt.{Halt}
+use Rattle.shared_book.specs.Histories.{Opening, history_of}
+use Rattle.shared_book.specs.Knows.{next_note}
+use Rattle.shared_book.specs.Legal.{begun_of, is_alien, is_legal_shared}
+use Rattle.shared_book.specs.Replies.{asked_at, batch_at, first_alien, is_asked, or_stopped, or_turned}
+use Rattle.shared_book.proofs.Going.{front_is_legal}
+use Rattle.shared_book.proofs.Lists.{list-is_legal}
 use Rattle.shared_book.specs.Calls.{IsRoundCall, seat_of}
 use Rattle.shared_book.specs.declared.reply.RoundReply.TheVariants as round
 use Rattle.controller_run.proofs.Behind.{history-behind, settled-behind, some-done}
@@ -57,7 +57,7 @@ module _ (p : Problem) (h : History) where
       let few : op.number ≤ begun_of p h op.item = leb-true op.number (begun_of p h op.item) parts.1 in
       (ltb-true op.item (item_count p) parts.0, subst (λ (b : Bool). op.number ≤ (if b then begun h op.item else 0)) parts.0 few)
 
--- ---- behind the batch of a round
+-- ---- after the batch of a round
 module _ (o : Opening) (h : History) (legal : is_legal o.rollout.problem o.rollout.plan h ≡ true) (told : List Answer) where
   -- an operation in flight that an answer covers is done in the batch
   covered-done : (a : Answer) → Contains told a → a.item < item_count o.rollout.problem → begun h a.item ≡ settled h a.item + 1 → begun h a.item ≤ a.held → Contains (batch_at o h (told_by told)) (Done (next_op h a.item))
@@ -114,7 +114,7 @@ round-passed o seats seat seen after told turn call a inside =
     let behind : history_of o after ≡ with_entries h es = ap (history_of o) call.noted ∙ history-behind o call.log (note ∷ []) ∙ ap (with_entries h) (append-nil es) in
     subst (λ (g : History). a.held ≤ settled g a.item) (sym behind) (batch-passed o h legal told turn.dones turn.begins says a inside)
 
--- a note of a call comes behind what was seen
+-- a note of a call comes after what was seen
 pub note-behind : (seats : List ℕ) (seen log after : List Written) (note : Written) → Follows seat_of seats seen log → after ≡ log ++ note ∷ [] → (more : List Written) × (after ≡ seen ++ more)
 note-behind seats seen log after note past is =
     (past.past ++ note ∷ [], is ∙ ap (λ (ws : List Written). ws ++ note ∷ []) past.is ∙ append_assoc seen past.past (note ∷ []))

@@ -5,15 +5,15 @@ use Rattle.wan_edge.specs.Frames.{Answer, Command}
 use Rattle.wan_edge.specs.Ports.{GoesOn, PortTrace}
 use Rattle.wan_edge.proofs.Chains.{stays}
 use Rattle.port_session.specs.Offers.{frames_of}
-use Rattle.port_session.specs.Sessions.{Talk}
-use Rattle.worker_ports.specs.Hearing.{Listens}
-use Rattle.worker_ports.specs.Lots.{own}
-use Rattle.worker_ports.specs.Offering.{Offers, OffersAll}
-use Rattle.worker_ports.specs.Rows.{AtOne, HearsEach, ListensEach, OffersAllEach, OffersEach}
-use Rattle.worker_ports.specs.Stories.{IsTold, LastStory, LastStoryEach, Story, StoryEach, ToldAt}
-use Rattle.worker_ports.specs.Views.{PortView, view}
-use Rattle.worker_ports.proofs.Stories.{goes_on_on}
-use Rattle.worker_ports.proofs.Told.{all_sent}
+use Rattle.port_session.specs.Sessions.{SessionView}
+use Rattle.switch_ports.specs.Hearing.{Listens}
+use Rattle.switch_ports.specs.Outboxes.{own}
+use Rattle.switch_ports.specs.Offering.{Offers, OffersAll}
+use Rattle.switch_ports.specs.Rows.{AtOne, HearsEach, ListensEach, OffersAllEach, OffersEach}
+use Rattle.switch_ports.specs.Stories.{IsTold, LastStory, LastStoryEach, Story, StoryEach, ToldAt}
+use Rattle.switch_ports.specs.Views.{SessionTrace, view}
+use Rattle.switch_ports.proofs.Stories.{goes_on_on}
+use Rattle.switch_ports.proofs.Told.{all_sent}
 use Rattle.controller_run.specs.Exchanging.{Exchanges, StopsInHear, StopsInOffer}
 use Rattle.controller_run.specs.Promises.{IsToldAtHome, WasTold, WasToldEach, switches_of}
 use Rattle.controller_run.proofs.Chains.{told_by_home}
@@ -62,64 +62,64 @@ one-ahead R S Q f (a ∷ xs) (b ∷ bs) (c ∷ cs) (inr later) all = inr (one-ah
 
 module _ {P : Type 0} (tell : P → PortTrace) where
   -- ---- all ports go on
-  abbrev pub GoOn : List (Talk P) → List (Talk P) → Type 0
+  abbrev pub GoOn : List (SessionView P) → List (SessionView P) → Type 0
   GoOn = AllZip (λ before now. GoesOn (tell before.port) (tell now.port))
 
-  go-none : (ps : List (Talk P)) → GoOn ps ps
+  go-none : (ps : List (SessionView P)) → GoOn ps ps
   go-none [] = tt
   go-none (p ∷ ps) = (stays (tell p.port), go-none ps)
 
-  go-chain : (xs bs cs : List (Talk P)) → GoOn xs bs → GoOn bs cs → GoOn xs cs
+  go-chain : (xs bs cs : List (SessionView P)) → GoOn xs bs → GoOn bs cs → GoOn xs cs
   go-chain = zip-chain (λ a b. GoesOn (tell a.port) (tell b.port)) (λ a b. GoesOn (tell a.port) (tell b.port)) (λ a b. GoesOn (tell a.port) (tell b.port)) (λ a b c. goes_on_on (tell a.port) (tell b.port) (tell c.port))
 
   module _ (migration : ℕ) (homes : List (Option ℕ)) where
-    hears-go : (os ns : List (Talk P)) (told : List Answer) → HearsEach tell migration homes os ns told → GoOn os ns
+    hears-go : (os ns : List (SessionView P)) (told : List Answer) → HearsEach tell migration homes os ns told → GoOn os ns
     hears-go [] [] told hears = tt
     hears-go [] (n ∷ ns) told hears = absurd hears
     hears-go (o ∷ os) [] told hears = absurd hears
     hears-go (o ∷ os) (n ∷ ns) told hears = (hears.2.listens.goes_on, hears-go os ns hears.1 hears.4)
 
-    offers-go : (commands : List Command) (bs os : List (Talk P)) → OffersEach tell migration homes commands bs os → GoOn bs os
+    offers-go : (commands : List Command) (bs os : List (SessionView P)) → OffersEach tell migration homes commands bs os → GoOn bs os
     offers-go commands = zip-weaker (λ a b. Offers migration (own homes a.switch commands) (view tell a) (view tell b)) (λ a b. GoesOn (tell a.port) (tell b.port)) (λ a b offers. offers.goes_on)
 
-    offers-all-go : (commands : List Command) (bs os : List (Talk P)) → OffersAllEach tell migration homes commands bs os → GoOn bs os
+    offers-all-go : (commands : List Command) (bs os : List (SessionView P)) → OffersAllEach tell migration homes commands bs os → GoOn bs os
     offers-all-go commands = zip-weaker (λ a b. OffersAll migration (own homes a.switch commands) (view tell a) (view tell b)) (λ a b. GoesOn (tell a.port) (tell b.port)) (λ a b offers. offers.some.goes_on)
 
-    listens-go : (os ns : List (Talk P)) → ListensEach tell os ns → GoOn os ns
+    listens-go : (os ns : List (SessionView P)) → ListensEach tell os ns → GoOn os ns
     listens-go = zip-weaker (λ a b. Listens (view tell a) (view tell b)) (λ a b. GoesOn (tell a.port) (tell b.port)) (λ a b listens. listens.goes_on)
 
-    pub exchange-goes : (commands : List Command) (told : List Answer) (bs ns : List (Talk P)) → Exchanges tell migration homes bs commands told ns → GoOn bs ns
+    pub exchange-goes : (commands : List Command) (told : List Answer) (bs ns : List (SessionView P)) → Exchanges tell migration homes bs commands told ns → GoOn bs ns
     exchange-goes commands told bs ns went = go-chain bs went.offered ns (offers-all-go commands bs went.offered went.offers) (hears-go went.offered ns told went.hears)
 
-    pub offer-goes : (why : _) (commands : List Command) (bs ns : List (Talk P)) → StopsInOffer tell migration homes why bs commands ns → GoOn bs ns
+    pub offer-goes : (why : _) (commands : List Command) (bs ns : List (SessionView P)) → StopsInOffer tell migration homes why bs commands ns → GoOn bs ns
     offer-goes why commands bs ns stops = offers-go commands bs ns stops.offers
 
-    pub hear-goes : (why : _) (commands : List Command) (bs ns : List (Talk P)) → StopsInHear tell migration homes why bs commands ns → GoOn bs ns
+    pub hear-goes : (why : _) (commands : List Command) (bs ns : List (SessionView P)) → StopsInHear tell migration homes why bs commands ns → GoOn bs ns
     hear-goes why commands bs ns stops = go-chain bs stops.offered ns (offers-all-go commands bs stops.offered stops.offers) (listens-go stops.offered ns stops.listens)
 
     -- ---- the rounds of each port
     -- no port is taken for another's switch
-    pub same-switches : (commands : List Command) (ps ns : List (Talk P)) → StoryEach tell migration homes commands ps ns → switches_of ns ≡ switches_of ps
+    pub same-switches : (commands : List Command) (ps ns : List (SessionView P)) → StoryEach tell migration homes commands ps ns → switches_of ns ≡ switches_of ps
     same-switches commands [] [] story = refl
     same-switches commands [] (n ∷ ns) story = absurd story
     same-switches commands (p ∷ ps) [] story = absurd story
     same-switches commands (p ∷ ps) (n ∷ ns) story = ap₂ (λ (w : ℕ) (ws : List ℕ). w ∷ ws) story.0.switch (same-switches commands ps ns story.1)
 
     -- where all went out, a front did
-    pub last-of : (commands : List Command) (ps ns : List (Talk P)) → StoryEach tell migration homes commands ps ns → LastStoryEach tell migration homes commands ps ns
+    pub last-of : (commands : List Command) (ps ns : List (SessionView P)) → StoryEach tell migration homes commands ps ns → LastStoryEach tell migration homes commands ps ns
     last-of commands = zip-weaker (λ a b. Story migration homes commands (view tell a) (view tell b)) (λ a b. LastStory migration homes commands (view tell a) (view tell b))
         (λ a b story. record { switch = story.switch; goes_on = story.goes_on; part = all_sent (tell a.port).offered (tell b.port).offered (frames_of migration (own homes a.switch commands)) story.sent })
 
     -- ---- what was told
-    pub told-on : (switch : ℕ) (answer : Answer) (ps bs ns : List (Talk P)) → WasToldEach tell migration switch answer ps bs → GoOn bs ns → WasToldEach tell migration switch answer ps ns
+    pub told-on : (switch : ℕ) (answer : Answer) (ps bs ns : List (SessionView P)) → WasToldEach tell migration switch answer ps bs → GoOn bs ns → WasToldEach tell migration switch answer ps ns
     told-on switch answer = one-ahead (λ a b. WasTold migration switch answer (view tell a) (view tell b)) (λ a b. GoesOn (tell a.port) (tell b.port)) (λ a b. WasTold migration switch answer (view tell a) (view tell b))
         (λ a b c was goes. record { at = was.at; told = was.told; later = goes_on_on was.at.port (tell b.port) (tell c.port) was.later goes })
 
-    pub home-on : (answer : Answer) (ps bs ns : List (Talk P)) → IsToldAtHome tell migration homes ps answer bs → GoOn bs ns → IsToldAtHome tell migration homes ps answer ns
+    pub home-on : (answer : Answer) (ps bs ns : List (SessionView P)) → IsToldAtHome tell migration homes ps answer bs → GoOn bs ns → IsToldAtHome tell migration homes ps answer ns
     home-on answer ps bs ns was goes = record { switch = was.switch; home = was.home; told = told-on was.switch answer ps bs ns was.told goes }
 
     -- each answer that a round tells
-    pub home-now : (earlier commands : List Command) (told : List Answer) (answer : Answer) (ps bs ns : List (Talk P)) → StoryEach tell migration homes earlier ps bs → Exchanges tell migration homes bs commands told ns → Contains told answer
+    pub home-now : (earlier commands : List Command) (told : List Answer) (answer : Answer) (ps bs ns : List (SessionView P)) → StoryEach tell migration homes earlier ps bs → Exchanges tell migration homes bs commands told ns → Contains told answer
         → IsToldAtHome tell migration homes ps answer ns
     home-now earlier commands told answer ps bs ns story went among =
         let found = told_by_home tell migration homes earlier commands told answer ps bs went.offered ns story went.offers went.hears among in

@@ -9,22 +9,22 @@ use Rattle.rollout_rules.specs.declared.op.Entry.TheVariants.{Done}
 use Rattle.wan_edge.specs.Frames.{Answer, Command}
 use Rattle.wan_edge.specs.Ports.{PortTrace}
 use Rattle.rollout_book.specs.Aliens.{op_of, told_by}
-use Rattle.port_session.specs.Sessions.{Talk}
-use Rattle.shared_history.specs.declared.note.What.{What}
-use Rattle.shared_history.specs.declared.note.What.TheVariants as what
-use Rattle.shared_history.specs.declared.note.Written.{Written}
-use Rattle.shared_history.specs.Histories.{Opening, history_of}
-use Rattle.shared_history.specs.Knows.{next_note}
-use Rattle.shared_history.specs.Notes.{cause_of}
-use Rattle.shared_history.specs.Replies.{batch_at}
-use Rattle.worker_ports.specs.Due.{any_late, due_of}
-use Rattle.worker_ports.specs.Stories.{StoryEach}
+use Rattle.port_session.specs.Sessions.{SessionView}
+use Rattle.shared_book.specs.declared.note.What.{What}
+use Rattle.shared_book.specs.declared.note.What.TheVariants as what
+use Rattle.shared_book.specs.declared.note.Written.{Written}
+use Rattle.shared_book.specs.Histories.{Opening, history_of}
+use Rattle.shared_book.specs.Knows.{next_note}
+use Rattle.shared_book.specs.Notes.{cause_of}
+use Rattle.shared_book.specs.Replies.{batch_at}
+use Rattle.switch_ports.specs.Due.{any_late, due_of}
+use Rattle.switch_ports.specs.Stories.{StoryEach}
 use Rattle.controller_run.specs.Exchanging.{Exchanges}
 use Rattle.controller_run.specs.Promises.{AreAnswered, AreSome, switches_of}
 use Rattle.controller_run.specs.Serving.{AreWhole, Moment, Whole, caller_of}
 use Rattle.controller_run.specs.Working.{IsIdle, ListsNone, ListsSome, Settles, Standing, Works, is_some_command}
-use Rattle.controller_run.specs.declared.outcome.Outcome.{Outcome}
-use Rattle.controller_run.specs.declared.outcome.Outcome.TheVariants as outcome
+use Rattle.controller_run.specs.declared.round_end.RoundEnd.{RoundEnd}
+use Rattle.controller_run.specs.declared.round_end.RoundEnd.TheVariants as outcome
 use Rattle.controller_run.proofs.Answered.{batch-covered, told-answer}
 use Rattle.controller_run.proofs.Chains.{stories_begin, stories_go_on}
 use Rattle.controller_run.proofs.Elements.{none-inside}
@@ -35,27 +35,27 @@ use Rattle.controller_run.proofs.Tallies.{Tally, tally-chain, tally-none, tally-
 
 module _ {P : Type 0} (tell : P → PortTrace) (o : Opening) (seat : ℕ) (joined : List ℕ) (migration : ℕ) (homes : List (Option ℕ)) (before : Standing P) where
   -- each operation that comes as done with a note is answered
-  abbrev pub Answers : List (Talk P) → Written → Type 0
+  abbrev pub Answers : List (SessionView P) → Written → Type 0
   Answers ports w = AreAnswered tell migration homes before.ports w.entries ports
 
   -- and the note stops nothing
-  abbrev pub Good : List (Talk P) → Written → Type 0
+  abbrev pub Good : List (SessionView P) → Written → Type 0
   Good ports w = Answers ports w × (cause_of w.note.what ≡ None)
 
-  pub answers-on : (bs ns : List (Talk P)) → GoOn tell bs ns → (w : Written) → Answers bs w → Answers ns w
+  pub answers-on : (bs ns : List (SessionView P)) → GoOn tell bs ns → (w : Written) → Answers bs w → Answers ns w
   answers-on bs ns goes w answered = λ op at. let was = answered op at in record { answer = was.answer; item = was.item; covers = was.covers; told = home-on tell migration homes was.answer before.ports bs ns was.told goes }
 
-  pub good-on : (bs ns : List (Talk P)) → GoOn tell bs ns → (w : Written) → Good bs w → Good ns w
+  pub good-on : (bs ns : List (SessionView P)) → GoOn tell bs ns → (w : Written) → Good bs w → Good ns w
   good-on bs ns goes w good = (answers-on bs ns goes w good.0, good.1)
 
-  pub plain-answers : (ports : List (Talk P)) (log : List Written) (said : What) → Answers ports (next_note seat log said [])
+  pub plain-answers : (ports : List (SessionView P)) (log : List Written) (said : What) → Answers ports (next_note seat log said [])
   plain-answers ports log said = λ op at. absurd (none-inside (Done op) at)
 
-  pub plain-good : (ports : List (Talk P)) (log : List Written) (said : What) → cause_of said ≡ None → Good ports (next_note seat log said [])
+  pub plain-good : (ports : List (SessionView P)) (log : List Written) (said : What) → cause_of said ≡ None → Good ports (next_note seat log said [])
   plain-good ports log said quiet = (plain-answers ports log said, quiet)
 
   -- the batch of a round is answered by what was told in it
-  pub batch-answers : (earlier commands : List Command) (told : List Answer) (h : History) (bs ns : List (Talk P)) → StoryEach tell migration homes earlier before.ports bs → Exchanges tell migration homes bs commands told ns
+  pub batch-answers : (earlier commands : List Command) (told : List Answer) (h : History) (bs ns : List (SessionView P)) → StoryEach tell migration homes earlier before.ports bs → Exchanges tell migration homes bs commands told ns
       → AreAnswered tell migration homes before.ports (batch_at o h (told_by told)) ns
   batch-answers earlier commands told h bs ns story went = λ op at.
       let covered = batch-covered o.rollout.problem o.rollout.plan o.policy h (told_by told) op at in
@@ -103,7 +103,7 @@ module _ {P : Type 0} (tell : P → PortTrace) (o : Opening) (seat : ℕ) (joine
         (looked-on o seat joined (switches_of before.ports) G plain (due_of m.stands.ports) (any_late m.stands.ports) m.left m.stands.seen log found.looks_on)
 
     -- up to where a round has its commands listed, said at ports that went on since
-    pub so-far : (m : Moment P) (given : Outcome) (now : Standing P) (works : Works tell (caller_of o (seat ∷ joined) seat m.stands.ports) migration homes m.left m.stands given now) (reaches : Reaches m) → GoOn tell m.stands.ports now.ports
+    pub so-far : (m : Moment P) (given : RoundEnd) (now : Standing P) (works : Works tell (caller_of o (seat ∷ joined) seat m.stands.ports) migration homes m.left m.stands given now) (reaches : Reaches m) → GoOn tell m.stands.ports now.ports
         → Tally o seat (switches_of before.ports) (Good now.ports) before.seen works.log (reaches.commands ++ works.commands) (reaches.count + (if is_some_command works.commands then 1 else 0))
     so-far m given now works reaches goes =
         let ws = switches_of before.ports in
@@ -111,12 +111,12 @@ module _ {P : Type 0} (tell : P → PortTrace) (o : Opening) (seat : ℕ) (joine
         let lists = found-tally (Good now.ports) (plain-good now.ports) m reaches works.commands works.log works.found in
         tally-chain o seat ws (Good now.ports) before.seen m.stands.seen works.log reaches.commands works.commands reaches.count (if is_some_command works.commands then 1 else 0) first lists
 
-    pub exchanged : (m : Moment P) (given : Outcome) (now : Standing P) (works : Works tell (caller_of o (seat ∷ joined) seat m.stands.ports) migration homes m.left m.stands given now)
+    pub exchanged : (m : Moment P) (given : RoundEnd) (now : Standing P) (works : Works tell (caller_of o (seat ∷ joined) seat m.stands.ports) migration homes m.left m.stands given now)
         → Settles tell o (seat ∷ joined) seat migration homes works.commands (record { seen = works.log; ports = m.stands.ports }) given now
         → (reaches : Reaches m) → Tally o seat (switches_of before.ports) (Good now.ports) before.seen works.log (reaches.commands ++ works.commands) (reaches.count + (if is_some_command works.commands then 1 else 0))
     exchanged m given now works settles reaches = so-far m given now works reaches (exchange-goes tell migration homes works.commands settles.told m.stands.ports now.ports settles.exchanges)
 
-    pub story-on : (m : Moment P) (given : Outcome) (now : Standing P) (works : Works tell (caller_of o (seat ∷ joined) seat m.stands.ports) migration homes m.left m.stands given now)
+    pub story-on : (m : Moment P) (given : RoundEnd) (now : Standing P) (works : Works tell (caller_of o (seat ∷ joined) seat m.stands.ports) migration homes m.left m.stands given now)
         → Settles tell o (seat ∷ joined) seat migration homes works.commands (record { seen = works.log; ports = m.stands.ports }) given now
         → (reaches : Reaches m) → StoryEach tell migration homes (reaches.commands ++ works.commands) before.ports now.ports
     story-on m given now works settles reaches =

@@ -12,20 +12,20 @@ use Rattle.wan_edge.specs.Frames.{Answer, Command}
 use Rattle.wan_edge.specs.Streams.{Rose}
 use Rattle.rollout_book.specs.Aliens.{op_of, told_by}
 use Rattle.rollout_book.specs.declared.fault.BookFault.TheVariants as fault
-use Rattle.port_session.specs.Sessions.{Talk}
-use Rattle.shared_history.specs.declared.note.Cause.{Cause}
-use Rattle.shared_history.specs.declared.note.Cause.TheVariants as cause
-use Rattle.shared_history.specs.declared.note.What.{What}
-use Rattle.shared_history.specs.declared.note.What.TheVariants as what
-use Rattle.shared_history.specs.declared.note.Written.{Written}
-use Rattle.shared_history.specs.declared.reply.Halt.{Halt}
-use Rattle.shared_history.specs.declared.reply.Wake.{Wake}
-use Rattle.shared_history.specs.declared.reply.Wake.TheVariants as wake
-use Rattle.shared_history.specs.Histories.{Opening, history_of}
-use Rattle.shared_history.specs.Knows.{next_note}
-use Rattle.shared_history.specs.Legal.{begun_of, is_alien}
-use Rattle.shared_history.specs.Notes.{first_stop, has_asked}
-use Rattle.shared_history.specs.Replies.{asked_at, batch_at, first_alien, halt_or, or_stopped, or_turned, turned}
+use Rattle.port_session.specs.Sessions.{SessionView}
+use Rattle.shared_book.specs.declared.note.Cause.{Cause}
+use Rattle.shared_book.specs.declared.note.Cause.TheVariants as cause
+use Rattle.shared_book.specs.declared.note.What.{What}
+use Rattle.shared_book.specs.declared.note.What.TheVariants as what
+use Rattle.shared_book.specs.declared.note.Written.{Written}
+use Rattle.shared_book.specs.declared.call_reply.Halt.{Halt}
+use Rattle.shared_book.specs.declared.call_reply.Wake.{Wake}
+use Rattle.shared_book.specs.declared.call_reply.Wake.TheVariants as wake
+use Rattle.shared_book.specs.Histories.{Opening, history_of}
+use Rattle.shared_book.specs.Knows.{next_note}
+use Rattle.shared_book.specs.Legal.{begun_of, is_alien}
+use Rattle.shared_book.specs.Notes.{first_stop, has_asked}
+use Rattle.shared_book.specs.Replies.{asked_at, batch_at, first_alien, halt_or, or_stopped, or_turned, turned}
 use Rattle.shared_book.specs.Calls.{IsRoundCall, IsStopCall, seat_of}
 use Rattle.shared_book.specs.declared.reply.RoundReply.TheVariants as round
 use Rattle.controller_run.proofs.Elements.{inside-later}

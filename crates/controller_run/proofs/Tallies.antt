@@ -1,14 +1,14 @@
--- The notes that calls of a seat leave behind one another: what they list, in how many rounds, and what holds of each.
+-- The notes that calls of a seat leave after one another: what they list, in how many rounds, and what holds of each.
 use Rattle.std.proofs.Common.{◌≡◌, ◌≢◌, ℕ, suc, ◌+◌, Bool, true, false, ◌&&◌, ◌==◌, List, [], ◌∷◌, ◌++◌, All, refl, sym, ap, ◌∙◌, arith, append_assoc, append-nil, eq-eqb, ne_eqb, subst, if◌then◌else◌}
 use Rattle.std.proofs.lemmas.List.Elements.{All-nil, All-cons, All-append, All-weaker}
 use Rattle.std.specs.List.{Contains}
 use Rattle.rollout_rules.specs.declared.op.Entry.{Entry}
 use Rattle.turn_lock.specs.Histories.{Follows}
 use Rattle.wan_edge.specs.Frames.{Command}
-use Rattle.shared_history.specs.declared.note.What.{What}
-use Rattle.shared_history.specs.declared.note.Written.{Written}
-use Rattle.shared_history.specs.Histories.{Opening}
-use Rattle.shared_history.specs.Knows.{next_note}
+use Rattle.shared_book.specs.declared.note.What.{What}
+use Rattle.shared_book.specs.declared.note.Written.{Written}
+use Rattle.shared_book.specs.Histories.{Opening}
+use Rattle.shared_book.specs.Knows.{next_note}
 use Rattle.shared_book.specs.Calls.{seat_of}
 use Rattle.shared_book.specs.Told.{commands_at}
 use Rattle.controller_run.specs.Promises.{AreListed, AreSome, listed_at, says_listed}
@@ -63,7 +63,7 @@ module _ (o : Opening) (seat : ℕ) (switches : List ℕ) where
     others-list (log ++ w ∷ []) past (λ k d inside. none (suc k) d (omega (arith, inside))),
   )
 
-  -- so others' notes behind add nothing
+  -- so others' notes after add nothing
   pub listed-past : (log more past : List Written) (cs : List Command) (n : ℕ) → All (λ (w : Written). seat ≢ w.note.seat) past → AreListed o seat switches log more cs n → AreListed o seat switches log (more ++ past) cs n
   listed-past log more past cs n none listed =
       let same_count : n + 0 ≡ n = omega arith in
@@ -77,7 +77,7 @@ module _ (o : Opening) (seat : ℕ) (switches : List ℕ) where
   own-lists : (asked : List ℕ) (log : List Written) (said : What) (es : List Entry) → listed_at o seat asked log (next_note seat log said es) ≡ lists_by asked said log
   own-lists asked log said es = ap (λ (b : Bool). if b && says_listed said then commands_at o log asked else []) (eq-eqb seat seat refl)
 
-  -- Behind what was seen there are notes, of which the seat's own list these commands, in so many rounds that have some, and each keeps to a
+  -- After what was seen there are notes, of which the seat's own list these commands, in so many rounds that have some, and each keeps to a
   -- rule.
   pub record Tally (Good : Written → Type 0) (seen after : List Written) (commands : List Command) (rounds : ℕ) : Type 0 where
     pub more : List Written

@@ -5,21 +5,21 @@ use Rattle.rollout_rules.specs.declared.op.Op.{Op}
 use Rattle.wan_edge.specs.Frames.{Answer, Command}
 use Rattle.wan_edge.specs.Ports.{PortTrace}
 use Rattle.rollout_book.specs.Aliens.{told_by}
-use Rattle.port_session.specs.Sessions.{Talk}
-use Rattle.shared_history.specs.declared.note.Written.{Written}
-use Rattle.shared_history.specs.declared.reply.ListReply.TheVariants as list
-use Rattle.shared_history.specs.declared.reply.Wake.{Wake}
-use Rattle.shared_history.specs.declared.reply.Wake.TheVariants as wake
-use Rattle.shared_history.specs.Histories.{Opening}
-use Rattle.worker_ports.specs.Due.{any_late}
+use Rattle.port_session.specs.Sessions.{SessionView}
+use Rattle.shared_book.specs.declared.note.Written.{Written}
+use Rattle.shared_book.specs.declared.call_reply.ListReply.TheVariants as list
+use Rattle.shared_book.specs.declared.call_reply.Wake.{Wake}
+use Rattle.shared_book.specs.declared.call_reply.Wake.TheVariants as wake
+use Rattle.shared_book.specs.Histories.{Opening}
+use Rattle.switch_ports.specs.Due.{any_late}
 use Rattle.controller_run.specs.Exchanging.{Exchanges}
 use Rattle.controller_run.specs.Finding.{Caller, EndsAt, IsFound, Lists, Looks, LooksOn, Wants}
 use Rattle.controller_run.specs.Settling.{IsLateSettled, IsSettled}
 use Rattle.controller_run.specs.Working.{ListsNone, ListsSome, OnOffered, Settles, Standing, Untold, is_some_command}
 use Rattle.controller_run.specs.declared.finding.Found.{Found}
 use Rattle.controller_run.specs.declared.finding.Found.TheVariants as found
-use Rattle.controller_run.specs.declared.outcome.Outcome.{Outcome}
-use Rattle.controller_run.specs.declared.outcome.Outcome.TheVariants as outcome
+use Rattle.controller_run.specs.declared.round_end.RoundEnd.{RoundEnd}
+use Rattle.controller_run.specs.declared.round_end.RoundEnd.TheVariants as outcome
 
 pub none-told : (answers : List Answer) → length answers ≡ 0 → answers ≡ []
 none-told [] none = refl
@@ -62,7 +62,7 @@ module _ (o : Opening) (seats : List ℕ) (seat : ℕ) (asked switches : List �
   lists-some op is = let both = work-found op is in record { some_left = both.0; op = op; lists = both.1 }
 
 -- the same seats, and the same commands
-pub carried : {P : Type 0} (tell : P → PortTrace) (o : Opening) (seats seats' : List ℕ) (seat seat' : ℕ) (migration : ℕ) (homes : List (Option ℕ)) (commands commands' : List Command) (before : Standing P) (given : Outcome) (now : Standing P)
+pub carried : {P : Type 0} (tell : P → PortTrace) (o : Opening) (seats seats' : List ℕ) (seat seat' : ℕ) (migration : ℕ) (homes : List (Option ℕ)) (commands commands' : List Command) (before : Standing P) (given : RoundEnd) (now : Standing P)
     → seats' ≡ seats → seat' ≡ seat → commands' ≡ commands
     → Settles tell o seats' seat' migration homes commands' before given now ⊎ Untold tell migration homes commands' before given now
     → Settles tell o seats seat migration homes commands before given now ⊎ Untold tell migration homes commands before given now
@@ -72,27 +72,27 @@ carried tell o seats seats' seat seat' migration homes commands commands' before
     (subst (λ (cs : List Command). Settles tell o seats' seat' migration homes cs before given now ⊎ Untold tell migration homes cs before given now) same_commands did))
 
 -- ---- whether a round offered something
-pub on-offered : (given : Outcome) (holds : Type 0) → holds → OnOffered given holds
+pub on-offered : (given : RoundEnd) (holds : Type 0) → holds → OnOffered given holds
 on-offered (outcome.Whole offered) holds h = λ is. h
 on-offered (outcome.Ended end) holds h = tt
 on-offered (outcome.Stops why) holds h = tt
 
-pub of-offered : (given : Outcome) (offered : Bool) (holds : Type 0) → given ≡ outcome.Whole offered → OnOffered given holds → offered ≡ true → holds
-of-offered given offered holds is on = subst (λ (g : Outcome). OnOffered g holds) is on
+pub of-offered : (given : RoundEnd) (offered : Bool) (holds : Type 0) → given ≡ outcome.Whole offered → OnOffered given holds → offered ≡ true → holds
+of-offered given offered holds is on = subst (λ (g : RoundEnd). OnOffered g holds) is on
 
 module _ {P : Type 0} (tell : P → PortTrace) (o : Opening) (seats : List ℕ) (seat migration : ℕ) (homes : List (Option ℕ)) (commands : List Command) (none : commands ≡ []) where
   none-offered : (offered : Bool) → offered ≡ is_some_command commands → offered ≡ true → ⊥
   none-offered offered is some = false≢true (sym (is ∙ ap is_some_command none) ∙ some)
 
   -- a round without commands offers none
-  pub idle-offers : (before : Standing P) (given : Outcome) (now : Standing P) (holds : Type 0) → Settles tell o seats seat migration homes commands before given now ⊎ Untold tell migration homes commands before given now → OnOffered given holds
+  pub idle-offers : (before : Standing P) (given : RoundEnd) (now : Standing P) (holds : Type 0) → Settles tell o seats seat migration homes commands before given now ⊎ Untold tell migration homes commands before given now → OnOffered given holds
   idle-offers before (outcome.Whole offered) now holds (inl settles) = λ some. absurd (none-offered offered settles.settled.0 some)
   idle-offers before (outcome.Whole offered) now holds (inr idle) = λ some. absurd (false≢true (sym idle.none_offered ∙ some))
   idle-offers before (outcome.Ended end) now holds did = tt
   idle-offers before (outcome.Stops why) now holds did = tt
 
   -- what came of hearing alone
-  pub late-settled : (before : Standing P) (ports : List (Talk P)) (answers : List Answer) (given : Outcome) (after : List Written) → any_late before.ports ≡ true → Exchanges tell migration homes before.ports commands answers ports
+  pub late-settled : (before : Standing P) (ports : List (SessionView P)) (answers : List Answer) (given : RoundEnd) (after : List Written) → any_late before.ports ≡ true → Exchanges tell migration homes before.ports commands answers ports
       → IsLateSettled o seats seat before.seen answers given after
       → Settles tell o seats seat migration homes commands before given (record { seen = after; ports = ports }) ⊎ Untold tell migration homes commands before given (record { seen = after; ports = ports })
   late-settled before ports answers given after late went (inl settled) =
@@ -102,7 +102,7 @@ module _ {P : Type 0} (tell : P → PortTrace) (o : Opening) (seats : List ℕ) 
         settled = subst (λ (b : Bool). IsSettled o seats seat before.seen (told_by answers) b given after) (sym (ap is_some_command none)) settled;
       })
   late-settled before ports answers given after late went (inr quiet) =
-      inr (subst (λ (g : Outcome). Untold tell migration homes commands before g (record { seen = after; ports = ports })) (sym quiet.0)
+      inr (subst (λ (g : RoundEnd). Untold tell migration homes commands before g (record { seen = after; ports = ports })) (sym quiet.0)
       (record {
         late = late;
         none_offered = refl;

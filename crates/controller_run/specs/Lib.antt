@@ -1,3 +1,12 @@
+pub mod Causes
+pub mod Shifts
+pub mod Together
+pub mod Workers
+pub mod Keeping
+pub mod PortRuns
+pub mod Runs
+pub mod Ran
+pub mod RolloutEnds
 pub mod Exchanging
 pub mod Finding
 pub mod Settling

@@ -11,25 +11,25 @@ use Rattle.wan_edge.specs.Frames.{Answer, Command}
 use Rattle.wan_edge.specs.Ports.{GoesOn, PortTrace}
 use Rattle.wan_edge.specs.Streams.{Rose}
 use Rattle.rollout_book.specs.Commands.{command_of}
-use Rattle.port_session.specs.Sessions.{Talk}
-use Rattle.shared_history.specs.declared.note.Cause.{Cause}
-use Rattle.shared_history.specs.declared.note.Cause.TheVariants as cause
-use Rattle.shared_history.specs.declared.note.What.{What}
-use Rattle.shared_history.specs.declared.note.What.TheVariants as what
-use Rattle.shared_history.specs.declared.note.Written.{Written}
-use Rattle.shared_history.specs.declared.reply.Halt.{Halt}
-use Rattle.shared_history.specs.declared.reply.Wake.{Wake}
-use Rattle.shared_history.specs.declared.reply.Wake.TheVariants as wake
-use Rattle.shared_history.specs.Notes.{cause_of, first_stop}
-use Rattle.shared_history.specs.Histories.{Opening, history_of}
-use Rattle.shared_history.specs.Knows.{next_note}
-use Rattle.shared_history.specs.Legal.{begun_of, is_alien, is_legal_shared, is_still}
-use Rattle.shared_history.specs.Replies.{asked_at}
+use Rattle.port_session.specs.Sessions.{SessionView}
+use Rattle.shared_book.specs.declared.note.Cause.{Cause}
+use Rattle.shared_book.specs.declared.note.Cause.TheVariants as cause
+use Rattle.shared_book.specs.declared.note.What.{What}
+use Rattle.shared_book.specs.declared.note.What.TheVariants as what
+use Rattle.shared_book.specs.declared.note.Written.{Written}
+use Rattle.shared_book.specs.declared.call_reply.Halt.{Halt}
+use Rattle.shared_book.specs.declared.call_reply.Wake.{Wake}
+use Rattle.shared_book.specs.declared.call_reply.Wake.TheVariants as wake
+use Rattle.shared_book.specs.Notes.{cause_of, first_stop}
+use Rattle.shared_book.specs.Histories.{Opening, history_of}
+use Rattle.shared_book.specs.Knows.{next_note}
+use Rattle.shared_book.specs.Legal.{begun_of, is_alien, is_legal_shared, is_still}
+use Rattle.shared_book.specs.Replies.{asked_at}
 use Rattle.shared_book.specs.Told.{commands_at}
-use Rattle.worker_ports.specs.Lots.{home_at}
-use Rattle.worker_ports.specs.Rows.{AtOne}
-use Rattle.worker_ports.specs.Stories.{LastStoryEach, StoryEach, ToldAt}
-use Rattle.worker_ports.specs.Views.{PortView, view}
+use Rattle.switch_ports.specs.Outboxes.{home_at}
+use Rattle.switch_ports.specs.Rows.{AtOne}
+use Rattle.switch_ports.specs.Stories.{LastStoryEach, StoryEach, ToldAt}
+use Rattle.switch_ports.specs.Views.{SessionTrace, view}
 use Rattle.controller_run.specs.Exchanging.{StopsInHear}
 use Rattle.controller_run.specs.Working.{Standing, is_some_command}
 
@@ -46,7 +46,7 @@ says_listed what.Held = false
 says_listed what.Stopped = false
 says_listed (what.Stop why) = false
 
--- what a seat had listed of these switches in a note behind a history; nothing where the note is another's, or says something else
+-- what a seat had listed of these switches in a note after a history; nothing where the note is another's, or says something else
 abbrev pub listed_at : Opening → ℕ → List ℕ → List Written → Written → List Command
 listed_at o seat switches log w = if (w.note.seat == seat) && says_listed w.note.what then commands_at o log switches else []
 
@@ -60,7 +60,7 @@ pub record IsListedAt (o : Opening) (seat : ℕ) (switches : List ℕ) (log : Li
   pub some : AreSome asked switches
   pub is : commands ≡ listed_at o seat asked log w
 
--- These commands it had listed in all notes that come behind a history, in order, and in so many of them some command was.
+-- These commands it had listed in all notes that come after a history, in order, and in so many of them some command was.
 abbrev pub AreListed : Opening → ℕ → List ℕ → List Written → List Written → List Command → ℕ → Type 0
 AreListed o seat switches log [] commands rounds = (commands ≡ []) × (rounds ≡ 0)
 AreListed o seat switches log (w ∷ later) commands rounds =
@@ -90,36 +90,36 @@ pub record IsOfBegun (o : Opening) (switches : List ℕ) (h : History) (c : Comm
 
 -- ---- what was told
 -- An answer was told by the port of a switch, at some time from which the port went on.
-pub record WasTold (migration switch : ℕ) (answer : Answer) (before now : PortView) : Type 0 where
-  pub at : PortView
+pub record WasTold (migration switch : ℕ) (answer : Answer) (before now : SessionTrace) : Type 0 where
+  pub at : SessionTrace
   pub told : ToldAt migration switch answer before at
   pub later : GoesOn at.port now.port
 
-abbrev pub WasToldEach : {P : Type 0} → (P → PortTrace) → ℕ → ℕ → Answer → List (Talk P) → List (Talk P) → Type 0
+abbrev pub WasToldEach : {P : Type 0} → (P → PortTrace) → ℕ → ℕ → Answer → List (SessionView P) → List (SessionView P) → Type 0
 WasToldEach tell migration switch answer = AtOne (λ before now. WasTold migration switch answer (view tell before) (view tell now))
 
 -- the port of the item's home told this answer
-pub record IsToldAtHome {P : Type 0} (tell : P → PortTrace) (migration : ℕ) (homes : List (Option ℕ)) (before : List (Talk P)) (answer : Answer) (now : List (Talk P)) : Type 0 where
+pub record IsToldAtHome {P : Type 0} (tell : P → PortTrace) (migration : ℕ) (homes : List (Option ℕ)) (before : List (SessionView P)) (answer : Answer) (now : List (SessionView P)) : Type 0 where
   pub switch : ℕ
   pub home : home_at homes answer.item ≡ Some switch
   pub told : WasToldEach tell migration switch answer before now
 
 -- the port of an operation's item told an answer that covers the operation
-pub record IsAnswered {P : Type 0} (tell : P → PortTrace) (migration : ℕ) (homes : List (Option ℕ)) (before : List (Talk P)) (op : Op) (now : List (Talk P)) : Type 0 where
+pub record IsAnswered {P : Type 0} (tell : P → PortTrace) (migration : ℕ) (homes : List (Option ℕ)) (before : List (SessionView P)) (op : Op) (now : List (SessionView P)) : Type 0 where
   pub answer : Answer
   pub item : answer.item ≡ op.item
   pub covers : op.number ≤ answer.held
   pub told : IsToldAtHome tell migration homes before answer now
 
 -- so it is with each operation that is done among entries
-abbrev pub AreAnswered : {P : Type 0} → (P → PortTrace) → ℕ → List (Option ℕ) → List (Talk P) → List Entry → List (Talk P) → Type 0
+abbrev pub AreAnswered : {P : Type 0} → (P → PortTrace) → ℕ → List (Option ℕ) → List (SessionView P) → List Entry → List (SessionView P) → Type 0
 AreAnswered tell migration homes before es now = (op : Op) → Contains es (Done op) → IsAnswered tell migration homes before op now
 
 -- no entry says that an operation is done
 abbrev pub EndNothing : List Entry → Type 0
 EndNothing es = (op : Op) → Contains es (Done op) → ⊥
 
--- Behind what was seen no note of the seat says that an operation is done.
+-- After what was seen no note of the seat says that an operation is done.
 pub record BeginsAlone (seat : ℕ) (seen after : List Written) : Type 0 where
   pub more : List Written
   pub goes_on : after ≡ seen ++ more
@@ -130,7 +130,7 @@ pub record BeginsAlone (seat : ℕ) (seen after : List Written) : Type 0 where
 abbrev pub StopsNothing : ℕ → List Written → Type 0
 StopsNothing seat ws = All (λ w. w.note.seat ≡ seat → cause_of w.note.what ≡ None) ws
 
--- what a port, its answers, or want of memory may be the cause of
+-- what a port, its answers, or lack of memory may be the cause of
 abbrev pub IsBreak : Cause → Type 0
 IsBreak (cause.Spent rounds item number) = ⊥
 IsBreak (cause.Port switch) = ⊤
@@ -167,7 +167,7 @@ IsEndAt o seen (wake.Stopped halt) = first_stop seen ≡ Some halt
 IsEndAt o seen wake.Memory = ⊥
 
 -- ---- the promises
-abbrev pub switches_of : {P : Type 0} → List (Talk P) → List ℕ
+abbrev pub switches_of : {P : Type 0} → List (SessionView P) → List ℕ
 switches_of ports = map (λ t. t.switch) ports
 
 -- From where a worker began it has come here, and ended so. What it has seen goes on from what it had, and is legal. These commands it had listed, of the

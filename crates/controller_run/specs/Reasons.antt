@@ -6,20 +6,20 @@ use Rattle.rollout_rules.specs.declared.op.Entry.{Entry}
 use Rattle.wan_edge.specs.Frames.{Answer, AnswerFrame, Command, IsAnswer, Splits, answer_bytes}
 use Rattle.wan_edge.specs.Ports.{PortTrace}
 use Rattle.wan_edge.specs.Streams.{Appends, Rose}
-use Rattle.port_session.specs.Sessions.{Talk}
-use Rattle.shared_history.specs.declared.note.Cause.{Cause}
-use Rattle.shared_history.specs.declared.note.Cause.TheVariants as cause
-use Rattle.shared_history.specs.declared.note.What.TheVariants as what
-use Rattle.shared_history.specs.declared.note.Written.{Written}
-use Rattle.shared_history.specs.Histories.{Opening, history_of}
-use Rattle.shared_history.specs.Knows.{next_note}
-use Rattle.shared_history.specs.Legal.{begun_of, is_alien}
-use Rattle.shared_history.specs.Replies.{asked_at}
+use Rattle.port_session.specs.Sessions.{SessionView}
+use Rattle.shared_book.specs.declared.note.Cause.{Cause}
+use Rattle.shared_book.specs.declared.note.Cause.TheVariants as cause
+use Rattle.shared_book.specs.declared.note.What.TheVariants as what
+use Rattle.shared_book.specs.declared.note.Written.{Written}
+use Rattle.shared_book.specs.Histories.{Opening, history_of}
+use Rattle.shared_book.specs.Knows.{next_note}
+use Rattle.shared_book.specs.Legal.{begun_of, is_alien}
+use Rattle.shared_book.specs.Replies.{asked_at}
 use Rattle.shared_book.specs.Homes.{homes_of}
-use Rattle.worker_ports.specs.Due.{any_late}
-use Rattle.worker_ports.specs.Rows.{AtOne}
-use Rattle.worker_ports.specs.Stories.{StoryEach}
-use Rattle.worker_ports.specs.Views.{PortView, view}
+use Rattle.switch_ports.specs.Due.{any_late}
+use Rattle.switch_ports.specs.Rows.{AtOne}
+use Rattle.switch_ports.specs.Stories.{StoryEach}
+use Rattle.switch_ports.specs.Views.{SessionTrace, view}
 use Rattle.controller_run.specs.Exchanging.{Exchanges, StopsInHear}
 use Rattle.controller_run.specs.Promises.{AreListed, IsToldAtHome, switches_of}
 use Rattle.controller_run.specs.Working.{Standing, is_some_command}
@@ -28,10 +28,10 @@ use Rattle.controller_run.specs.Working.{Standing, is_some_command}
 abbrev pub offered_in : List Command → ℕ
 offered_in commands = if is_some_command commands then 1 else 0
 
--- Whole rounds between the ports, one behind the other: from these ports to the first of the row, and so on. In each the commands went out, and each port was
+-- Whole rounds between the ports, one after the other: from these ports to the first of the row, and so on. In each the commands went out, and each port was
 -- heard, so that one which awaited answers ended one, was quiet once, or wasn't ready and is late (`over` and `comes` of HearsOut). In exactly so many of them
 -- some command was offered, and these are the answers that were told in all of them, in order.
-abbrev pub AreHeardOut : {P : Type 0} → (P → PortTrace) → ℕ → List (Option ℕ) → List (List (Talk P)) → ℕ → List Answer → List (Talk P) → List (Talk P) → Type 0
+abbrev pub AreHeardOut : {P : Type 0} → (P → PortTrace) → ℕ → List (Option ℕ) → List (List (SessionView P)) → ℕ → List Answer → List (SessionView P) → List (SessionView P) → Type 0
 AreHeardOut tell migration homes [] count told before now = (count ≡ 0) × (told ≡ []) × (now ≡ before)
 AreHeardOut tell migration homes (at ∷ later) count told before now =
     (commands : List Command) × (mine : List Answer) × (rest : ℕ) × (behind : List Answer) × Exchanges tell migration homes before commands mine at
@@ -41,8 +41,8 @@ AreHeardOut tell migration homes (at ∷ later) count told before now =
 abbrev pub IsMoreBy : ℕ → Option ℕ → Option ℕ → Type 0
 IsMoreBy count before now = IfSome now (λ after. (count ≤ after) × (before ≡ Some (after - count)))
 
--- What came from a port, as far as it tells: so many whole answers, behind what was kept, and quiet hears.
-pub record Comes (count : ℕ) (before now : PortView) : Type 0 where
+-- What came from a port, as far as it tells: so many whole answers, after what was kept, and quiet hears.
+pub record Comes (count : ℕ) (before now : SessionTrace) : Type 0 where
   pub answers : List AnswerFrame
   pub quiets : ℕ
   pub count_is : count ≡ length answers + quiets
@@ -52,14 +52,14 @@ pub record Comes (count : ℕ) (before now : PortView) : Type 0 where
   pub quieter : IsMoreBy quiets before.port.quiet now.port.quiet
 
 -- and so many from all ports together
-abbrev pub ComesEach : {P : Type 0} → (P → PortTrace) → ℕ → List (Talk P) → List (Talk P) → Type 0
+abbrev pub ComesEach : {P : Type 0} → (P → PortTrace) → ℕ → List (SessionView P) → List (SessionView P) → Type 0
 ComesEach tell count [] [] = count ≡ 0
 ComesEach tell count [] (n ∷ ns) = ⊥
 ComesEach tell count (b ∷ bs) [] = ⊥
 ComesEach tell count (b ∷ bs) (n ∷ ns) = (mine : ℕ) × (rest : ℕ) × (count ≡ mine + rest) × Comes mine (view tell b) (view tell n) × ComesEach tell rest bs ns
 
 -- at least so many
-pub record HasCome {P : Type 0} (tell : P → PortTrace) (least : ℕ) (before now : List (Talk P)) : Type 0 where
+pub record HasCome {P : Type 0} (tell : P → PortTrace) (least : ℕ) (before now : List (SessionView P)) : Type 0 where
   pub count : ℕ
   pub each : ComesEach tell count before now
   pub enough : least ≤ count
@@ -68,7 +68,7 @@ pub record HasCome {P : Type 0} (tell : P → PortTrace) (least : ℕ) (before n
 abbrev pub IsShortOf : Op → Answer → Type 0
 IsShortOf op a = a.item ≡ op.item → a.held < op.number
 
--- Its rounds were spent: as many as were given, and in each some command had been listed. All went out, in exactly so many rounds, and behind that no switch is
+-- Its rounds were spent: as many as were given, and in each some command had been listed. All went out, in exactly so many rounds, and after that no switch is
 -- late, and an operation of its switches was in flight, which no answer covers that was told in them. Whole answers and quiet hears together are at least the
 -- rounds, over the homes of the problem.
 pub record Spends {P : Type 0} (tell : P → PortTrace) (o : Opening) (seat migration : ℕ) (homes : List (Option ℕ)) (rounds : ℕ) (before : Standing P) (given : ℕ) (op : Op) (now : Standing P) : Type 0 where
@@ -79,7 +79,7 @@ pub record Spends {P : Type 0} (tell : P → PortTrace) (o : Opening) (seat migr
   pub lists : AreListed o seat (switches_of before.ports) before.seen more listed rounds
   pub sent : StoryEach tell migration homes listed before.ports now.ports
   pub due : any_late now.ports ≡ false
-  pub rows : List (List (Talk P))
+  pub rows : List (List (SessionView P))
   pub told : List Answer
   pub heard_out : AreHeardOut tell migration homes rows rounds told before.ports now.ports
   pub uncovered : All (IsShortOf op) told
@@ -90,16 +90,16 @@ pub record Spends {P : Type 0} (tell : P → PortTrace) (o : Opening) (seat migr
   pub flies : Contains (asked_at o.rollout.problem (history_of o log) (switches_of before.ports)) op
 
 -- the port of a switch failed, and its count rose
-abbrev pub FailedAt : ℕ → PortView → PortView → Type 0
+abbrev pub FailedAt : ℕ → SessionTrace → SessionTrace → Type 0
 FailedAt switch before now = (before.switch ≡ switch) × Rose before.port.faults now.port.faults
 
-abbrev pub HasFailed : {P : Type 0} → (P → PortTrace) → ℕ → List (Talk P) → List (Talk P) → Type 0
+abbrev pub HasFailed : {P : Type 0} → (P → PortTrace) → ℕ → List (SessionView P) → List (SessionView P) → Type 0
 HasFailed tell switch = AtOne (λ before now. FailedAt switch (view tell before) (view tell now))
 
--- Behind rounds that were heard out it stopped in the middle of hearing.
-pub record HeardAmiss {P : Type 0} (tell : P → PortTrace) (migration : ℕ) (homes : List (Option ℕ)) (why : Cause) (before now : List (Talk P)) : Type 0 where
+-- After rounds that were heard out it stopped in the middle of hearing.
+pub record HeardAmiss {P : Type 0} (tell : P → PortTrace) (migration : ℕ) (homes : List (Option ℕ)) (why : Cause) (before now : List (SessionView P)) : Type 0 where
   pub earlier : List Command
-  pub at : List (Talk P)
+  pub at : List (SessionView P)
   pub story : StoryEach tell migration homes earlier before at
   pub commands : List Command
   pub stops : StopsInHear tell migration homes why at commands now

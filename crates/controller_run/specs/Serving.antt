@@ -1,19 +1,19 @@
 -- What a worker comes to, from its first round to its last.
 use Rattle.std.specs.Prelude.{◌≡◌, ◌⊎◌, ℕ, ◌+◌, Bool, List, [], ◌∷◌, Option, if◌then◌else◌}
-use Rattle.port_session.specs.Sessions.{Talk}
-use Rattle.shared_history.specs.declared.note.Cause.{Cause}
-use Rattle.shared_history.specs.declared.note.Written.{Written}
-use Rattle.shared_history.specs.declared.reply.Halt.{Halt}
-use Rattle.shared_history.specs.declared.reply.Wake.{Wake}
-use Rattle.shared_history.specs.declared.reply.Wake.TheVariants as wake
-use Rattle.shared_history.specs.Histories.{Opening}
+use Rattle.port_session.specs.Sessions.{SessionView}
+use Rattle.shared_book.specs.declared.note.Cause.{Cause}
+use Rattle.shared_book.specs.declared.note.Written.{Written}
+use Rattle.shared_book.specs.declared.call_reply.Halt.{Halt}
+use Rattle.shared_book.specs.declared.call_reply.Wake.{Wake}
+use Rattle.shared_book.specs.declared.call_reply.Wake.TheVariants as wake
+use Rattle.shared_book.specs.Histories.{Opening}
 use Rattle.shared_book.specs.Calls.{IsStopCall}
 use Rattle.wan_edge.specs.Ports.{PortTrace}
-use Rattle.worker_ports.specs.Due.{any_late, due_of}
+use Rattle.switch_ports.specs.Due.{any_late, due_of}
 use Rattle.controller_run.specs.Finding.{Caller}
 use Rattle.controller_run.specs.Working.{IsWorked, Standing}
-use Rattle.controller_run.specs.declared.outcome.Outcome.{Outcome}
-use Rattle.controller_run.specs.declared.outcome.Outcome.TheVariants as outcome
+use Rattle.controller_run.specs.declared.round_end.RoundEnd.{RoundEnd}
+use Rattle.controller_run.specs.declared.round_end.RoundEnd.TheVariants as outcome
 
 -- where a worker stands before a round, and how many of its rounds are left
 pub record Moment (P : Type 0) : Type 0 where
@@ -21,11 +21,11 @@ pub record Moment (P : Type 0) : Type 0 where
   pub left : ℕ
 
 -- a worker with these ports
-abbrev pub caller_of : {P : Type 0} → Opening → List ℕ → ℕ → List (Talk P) → Caller
+abbrev pub caller_of : {P : Type 0} → Opening → List ℕ → ℕ → List (SessionView P) → Caller
 caller_of o seats seat ports = record { opening = o; seats = seats; seat = seat; switches = due_of ports; late = any_late ports }
 
 -- what became of one round
-abbrev pub Worked : {P : Type 0} → (P → PortTrace) → Opening → List ℕ → ℕ → ℕ → List (Option ℕ) → ℕ → Moment P → Outcome → Standing P → Type 0
+abbrev pub Worked : {P : Type 0} → (P → PortTrace) → Opening → List ℕ → ℕ → ℕ → List (Option ℕ) → ℕ → Moment P → RoundEnd → Standing P → Type 0
 Worked tell o seats seat migration homes rounds before given now =
     IsWorked tell (caller_of o seats seat before.stands.ports) migration homes before.left rounds before.stands given now
 
@@ -35,7 +35,7 @@ pub record Whole {P : Type 0} (tell : P → PortTrace) (o : Opening) (seats : Li
   pub worked : Worked tell o seats seat migration homes rounds before (outcome.Whole offered) now.stands
   pub less : before.left ≡ now.left + (if offered then 1 else 0)
 
--- whole rounds, one behind the other
+-- whole rounds, one after the other
 abbrev pub AreWhole : {P : Type 0} → (P → PortTrace) → Opening → List ℕ → ℕ → ℕ → List (Option ℕ) → ℕ → Moment P → List (Moment P) → Moment P → Type 0
 AreWhole tell o seats seat migration homes rounds before [] now = now ≡ before
 AreWhole tell o seats seat migration homes rounds before (m ∷ later) now =

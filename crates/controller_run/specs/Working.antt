@@ -4,19 +4,19 @@ use Rattle.rollout_rules.specs.declared.op.Op.{Op}
 use Rattle.wan_edge.specs.Frames.{Answer, Command}
 use Rattle.wan_edge.specs.Ports.{PortTrace}
 use Rattle.rollout_book.specs.Aliens.{told_by}
-use Rattle.port_session.specs.Sessions.{Talk}
-use Rattle.shared_history.specs.declared.note.Cause.{Cause}
-use Rattle.shared_history.specs.declared.note.Cause.TheVariants as cause
-use Rattle.shared_history.specs.declared.note.Written.{Written}
-use Rattle.shared_history.specs.declared.reply.ListReply.TheVariants as list
-use Rattle.shared_history.specs.declared.reply.Wake.TheVariants as wake
-use Rattle.shared_history.specs.Histories.{Opening}
-use Rattle.worker_ports.specs.Due.{LeavesAlone, any_late}
+use Rattle.port_session.specs.Sessions.{SessionView}
+use Rattle.shared_book.specs.declared.note.Cause.{Cause}
+use Rattle.shared_book.specs.declared.note.Cause.TheVariants as cause
+use Rattle.shared_book.specs.declared.note.Written.{Written}
+use Rattle.shared_book.specs.declared.call_reply.ListReply.TheVariants as list
+use Rattle.shared_book.specs.declared.call_reply.Wake.TheVariants as wake
+use Rattle.shared_book.specs.Histories.{Opening}
+use Rattle.switch_ports.specs.Due.{LeavesAlone, any_late}
 use Rattle.controller_run.specs.Exchanging.{Exchanges, StopsInHear, StopsInOffer}
 use Rattle.controller_run.specs.Finding.{Caller, EndsAt, Lists, Looks, LooksOn, Wants}
 use Rattle.controller_run.specs.Settling.{IsSettled}
-use Rattle.controller_run.specs.declared.outcome.Outcome.{Outcome}
-use Rattle.controller_run.specs.declared.outcome.Outcome.TheVariants as outcome
+use Rattle.controller_run.specs.declared.round_end.RoundEnd.{RoundEnd}
+use Rattle.controller_run.specs.declared.round_end.RoundEnd.TheVariants as outcome
 
 abbrev pub is_some_command : List Command → Bool
 is_some_command [] = false
@@ -25,10 +25,10 @@ is_some_command (c ∷ cs) = true
 -- what a pass has seen, and the ports
 pub record Standing (P : Type 0) : Type 0 where
   pub seen : List Written
-  pub ports : List (Talk P)
+  pub ports : List (SessionView P)
 
 -- the ports answered, and the book was told
-pub record Settles {P : Type 0} (tell : P → PortTrace) (o : Opening) (seats : List ℕ) (seat : ℕ) (migration : ℕ) (homes : List (Option ℕ)) (commands : List Command) (before : Standing P) (given : Outcome) (now : Standing P) : Type 0 where
+pub record Settles {P : Type 0} (tell : P → PortTrace) (o : Opening) (seats : List ℕ) (seat : ℕ) (migration : ℕ) (homes : List (Option ℕ)) (commands : List Command) (before : Standing P) (given : RoundEnd) (now : Standing P) : Type 0 where
   pub told : List Answer
   pub exchanges : Exchanges tell migration homes before.ports commands told now.ports
   pub settled : IsSettled o seats seat before.seen (told_by told) (is_some_command commands) given now.seen
@@ -42,7 +42,7 @@ pub record IsIdle {P : Type 0} (tell : P → PortTrace) (migration : ℕ) (homes
   pub exchanges : Exchanges tell migration homes before.ports commands [] now.ports
 
 -- The book was told nothing: nothing was offered and none answered; or a port failed, or told what it may not, or memory ran out.
-abbrev pub Untold : {P : Type 0} → (P → PortTrace) → ℕ → List (Option ℕ) → List Command → Standing P → Outcome → Standing P → Type 0
+abbrev pub Untold : {P : Type 0} → (P → PortTrace) → ℕ → List (Option ℕ) → List Command → Standing P → RoundEnd → Standing P → Type 0
 Untold tell migration homes commands before (outcome.Whole offered) now = IsIdle tell migration homes commands before offered now
 Untold tell migration homes commands before (outcome.Ended end) now = ⊥
 Untold tell migration homes commands before (outcome.Stops why) now =
@@ -50,13 +50,13 @@ Untold tell migration homes commands before (outcome.Stops why) now =
     × (StopsInOffer tell migration homes why before.ports commands now.ports ⊎ StopsInHear tell migration homes why before.ports commands now.ports)
 
 -- what holds of a whole round
-abbrev pub OnWhole : Outcome → Type 0 → Type 0
+abbrev pub OnWhole : RoundEnd → Type 0 → Type 0
 OnWhole (outcome.Whole offered) holds = holds
 OnWhole (outcome.Ended end) holds = ⊤
 OnWhole (outcome.Stops why) holds = ⊤
 
 -- what holds of a whole round in which a command was offered
-abbrev pub OnOffered : Outcome → Type 0 → Type 0
+abbrev pub OnOffered : RoundEnd → Type 0 → Type 0
 OnOffered (outcome.Whole offered) holds = offered ≡ true → holds
 OnOffered (outcome.Ended end) holds = ⊤
 OnOffered (outcome.Stops why) holds = ⊤
@@ -72,7 +72,7 @@ RestsFor w left rounds seen (cause.NoAnswer switch byte) after = ⊥
 RestsFor w left rounds seen cause.Disk after = ⊥
 RestsFor w left rounds seen cause.Memory after = (commands : List Command) × Wants w seen commands after
 
-abbrev pub Rests : Caller → ℕ → ℕ → List Written → Outcome → List Written → Type 0
+abbrev pub Rests : Caller → ℕ → ℕ → List Written → RoundEnd → List Written → Type 0
 Rests w left rounds seen (outcome.Whole offered) after = ⊥
 Rests w left rounds seen (outcome.Ended end) after = (commands : List Command) × EndsAt w seen commands end after
 Rests w left rounds seen (outcome.Stops why) after = RestsFor w left rounds seen why after
@@ -90,7 +90,7 @@ pub record ListsNone (w : Caller) (left : ℕ) (seen : List Written) (commands :
   pub looks_on : LooksOn w left seen log
 
 -- What was listed of the due switches went out, or began to, and the late ones were left alone. From all ports what came was heard.
-pub record Works {P : Type 0} (tell : P → PortTrace) (w : Caller) (migration : ℕ) (homes : List (Option ℕ)) (left : ℕ) (before : Standing P) (given : Outcome) (now : Standing P) : Type 0 where
+pub record Works {P : Type 0} (tell : P → PortTrace) (w : Caller) (migration : ℕ) (homes : List (Option ℕ)) (left : ℕ) (before : Standing P) (given : RoundEnd) (now : Standing P) : Type 0 where
   pub commands : List Command
   pub log : List Written
   pub found : ListsSome w left before.seen commands log ⊎ ListsNone w left before.seen commands log
@@ -98,6 +98,6 @@ pub record Works {P : Type 0} (tell : P → PortTrace) (w : Caller) (migration :
   pub exchanged : Settles tell w.opening w.seats w.seat migration homes commands (record { seen = log; ports = before.ports }) given now ⊎ Untold tell migration homes commands (record { seen = log; ports = before.ports }) given now
 
 -- what a worker makes of a round, where so many of its rounds are left
-abbrev pub IsWorked : {P : Type 0} → (P → PortTrace) → Caller → ℕ → List (Option ℕ) → ℕ → ℕ → Standing P → Outcome → Standing P → Type 0
+abbrev pub IsWorked : {P : Type 0} → (P → PortTrace) → Caller → ℕ → List (Option ℕ) → ℕ → ℕ → Standing P → RoundEnd → Standing P → Type 0
 IsWorked tell w migration homes left rounds before given now =
     ((now.ports ≡ before.ports) × Rests w left rounds before.seen given now.seen) ⊎ Works tell w migration homes left before given now

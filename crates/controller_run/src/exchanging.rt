@@ -1,15 +1,14 @@
 ghost use Rattle.std.specs.Prelude.{◌≡◌, ◌⊎◌, ℕ, All, List, Option, IfErr, IfOk, IsTrue, OnOk};
 ghost use Rattle.shared_book.specs.Homes.{homes_of};
-ghost use Rattle.worker_ports.specs.Due.{LeavesAlone};
+ghost use Rattle.switch_ports.specs.Due.{LeavesAlone};
 ghost use Rattle.controller_run.specs.Exchanging.{Exchanges, StopsInHear, StopsInOffer};
 
 use disk_model::Disk;
-use port_session::Heard;
-use shared_book::{Listed, Marker};
-use shared_history::Cause;
+use port_session::PortAnswers;
+use shared_book::{Cause, Listed, Marker};
 use std::alloc::Global;
+use switch_ports::WorkerPorts;
 use wan_edge::Port;
-use worker_ports::WorkerPorts;
 
 /// A round between the ports alone: the commands go out, none of which is a late switch's, at all ports
 /// before the first is heard, and what comes is told, port by port. No port is waited for. Ports are apart,
@@ -24,7 +23,7 @@ pub fn exchange<D: Disk, M: Marker, T: Port>(
     commands: &Listed<D, M>,
     homes: &[Option<u32>],
     migration: u32,
-) -> Result<Heard<T>, Cause>
+) -> Result<PortAnswers<T>, Cause>
     requires live { All (λ s. IsTrue s.stream.live) ports.old }
     requires homes { homes.now ≡ homes_of M.opening.rollout.problem }
     requires migration { migration ≡ M.migration }

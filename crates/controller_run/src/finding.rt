@@ -6,8 +6,7 @@ ghost use Rattle.controller_run.specs.Finding.{IsFound, IsListed};
 
 use disk_model::Disk;
 use rollout_rules::Op;
-use shared_book::{BookPass, Listed, Marker, SharedBook};
-use shared_history::{ListReply, Wake};
+use shared_book::{BookPass, ListReply, Listed, Marker, SharedBook, Wake};
 use std::alloc::Global;
 use std::sync::Wait;
 

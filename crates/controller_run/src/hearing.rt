@@ -4,19 +4,19 @@ ghost use Rattle.turn_lock.specs.Passes.{IsPassOf, IsSamePass, seat_of_pass, sea
 ghost use Rattle.shared_book.specs.Calls.{IsCounted};
 ghost use Rattle.shared_book.specs.Homes.{homes_of};
 ghost use Rattle.shared_book.specs.Lasting.{CountsAsHeard};
-ghost use Rattle.worker_ports.specs.Due.{LeavesAlone, any_late};
+ghost use Rattle.switch_ports.specs.Due.{LeavesAlone, any_late};
 ghost use Rattle.controller_run.specs.Working.{OnWhole, Settles, Untold};
 
 use crate::exchanging::exchange;
-use crate::outcome::Outcome;
+use crate::round_end::RoundEnd;
 use crate::settling::settle_late;
-use crate::working::Terms;
+use crate::working::WorkerOptions;
 use disk_model::Disk;
 use shared_book::{BookPass, Listed, Marker, SharedBook};
 use std::alloc::Global;
 use std::sync::Wait;
+use switch_ports::WorkerPorts;
 use wan_edge::Port;
-use worker_ports::WorkerPorts;
 
 /// Hears where switches are late, and no command is to go out. The book is told what came, if anything did.
 pub(crate) fn hear_late<'d, R: Wait, D: Disk, M: Marker, T: Port>(
@@ -25,9 +25,9 @@ pub(crate) fn hear_late<'d, R: Wait, D: Disk, M: Marker, T: Port>(
     book: &SharedBook<'d, D, M>,
     pass: BookPass<D, M>,
     ports: &mut WorkerPorts<T>,
-    terms: Terms<'_>,
+    terms: WorkerOptions<'_>,
     commands: Listed<D, M>,
-) -> (BookPass<D, M>, Outcome)
+) -> (BookPass<D, M>, RoundEnd)
     requires lock { IsPassOf book.now.lock pass.pass }
     requires policy { M.opening.policy ≡ rank_by book.now.policy.now.answers }
     requires calls { IsCounted pass.calls pass.pass }
@@ -53,6 +53,6 @@ pub(crate) fn hear_late<'d, R: Wait, D: Disk, M: Marker, T: Port>(
 {
     match exchange(alloc, ports, &commands, terms.homes, terms.migration) {
         Ok(heard) => settle_late(rt, book, pass, ports, heard),
-        Err(cause) => (pass, Outcome::Stops(cause)),
+        Err(cause) => (pass, RoundEnd::Stops(cause)),
     }
 }

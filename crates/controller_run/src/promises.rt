@@ -6,19 +6,19 @@ ghost use Rattle.rollout_rules.specs.History.{History};
 ghost use Rattle.rollout_rules.specs.declared.op.Entry.{Entry};
 ghost use Rattle.rollout_book.specs.declared.turn.Turn.{Turn};
 ghost use Rattle.wan_edge.specs.Frames.{Command};
-ghost use Rattle.shared_history.specs.declared.note.Written.{Written};
-ghost use Rattle.shared_history.specs.declared.reply.Halt.{Halt};
-ghost use Rattle.shared_history.specs.declared.reply.Wake.{Wake};
-ghost use Rattle.shared_history.specs.declared.reply.Wake.TheVariants as wake;
-ghost use Rattle.shared_history.specs.Histories.{Opening, history_of};
-ghost use Rattle.shared_history.specs.Legal.{is_legal_shared};
-ghost use Rattle.shared_history.specs.Notes.{calls_by};
-ghost use Rattle.shared_history.specs.Replies.{batch_at};
+ghost use Rattle.shared_book.specs.declared.note.Written.{Written};
+ghost use Rattle.shared_book.specs.declared.call_reply.Halt.{Halt};
+ghost use Rattle.shared_book.specs.declared.call_reply.Wake.{Wake};
+ghost use Rattle.shared_book.specs.declared.call_reply.Wake.TheVariants as wake;
+ghost use Rattle.shared_book.specs.Histories.{Opening, history_of};
+ghost use Rattle.shared_book.specs.Legal.{is_legal_shared};
+ghost use Rattle.shared_book.specs.Notes.{calls_by};
+ghost use Rattle.shared_book.specs.Replies.{batch_at};
 ghost use Rattle.shared_book.specs.Calls.{IsRoundCall};
 ghost use Rattle.shared_book.specs.Homes.{home_if_any, homes_of};
 ghost use Rattle.shared_book.specs.declared.reply.RoundReply.{RoundReply};
 ghost use Rattle.shared_book.specs.declared.reply.RoundReply.TheVariants as round;
-ghost use Rattle.worker_ports.specs.Lots.{home_at, own};
+ghost use Rattle.switch_ports.specs.Outboxes.{home_at, own};
 ghost use Rattle.controller_run.specs.Promises.{AreListed, BeginsAlone, EndNothing, IsListedIn, IsOfBegun, Promises, StopsNothing};
 ghost use Rattle.controller_run.specs.Reasons.{IsReason};
 ghost use Rattle.controller_run.specs.Serving.{Served};
@@ -37,7 +37,7 @@ pub fn a_worker_keeps_its_promises<T: Port>()
 {}
 
 /// Each command that a seat had listed stands at the history before one of its notes, and is that of an
-/// operation which the whole history begins, at home at one of the switches. Notes of others behind it
+/// operation which the whole history begins, at home at one of the switches. Notes of others after it
 /// list nothing for the seat.
 pub fn listed_commands_are_begun()
     ensures listed { (o : Opening) (seat : ℕ) (switches : List ℕ) (log more : List Written)
@@ -71,7 +71,7 @@ pub fn a_round_without_answers_ends_nothing()
         → BeginsAlone seat seen after }
 {}
 
-/// A seat has stopped nothing where it has made no call, as long as others make calls, and behind a round
+/// A seat has stopped nothing where it has made no call, as long as others make calls, and after a round
 /// that turned.
 pub fn a_seat_stops_nothing_at_first()
     ensures uncalled { (seat : ℕ) (ws : List Written)

@@ -7,16 +7,15 @@ ghost use Rattle.shared_book.specs.Homes.{homes_of};
 ghost use Rattle.shared_book.specs.Lasting.{CountsAsHeard};
 ghost use Rattle.controller_run.specs.Serving.{Served};
 
-use crate::outcome::Outcome;
-use crate::working::{Terms, work};
+use crate::round_end::RoundEnd;
+use crate::working::{WorkerOptions, work};
 use disk_model::Disk;
-use shared_book::{BookPass, CallPass, Kept, Marker, SharedBook};
-use shared_history::Wake;
+use shared_book::{BookPass, CallPass, Marker, NotedBook, SharedBook, Wake};
 use std::alloc::Global;
 use std::sync::Wait;
+use switch_ports::WorkerPorts;
 use turn_lock::Counted;
 use wan_edge::Port;
-use worker_ports::WorkerPorts;
 
 /// What is left of a worker: its pass, its ports, and why it ended, which is never work.
 pub struct WorkerEnd<V: Counted, T: Port> {
@@ -35,8 +34,8 @@ pub fn serve<'d, R: Wait, D: Disk, M: Marker, T: Port>(
     book: &SharedBook<'d, D, M>,
     mut pass: BookPass<D, M>,
     mut ports: WorkerPorts<T>,
-    terms: Terms<'_>,
-) -> WorkerEnd<Kept<D, M>, T>
+    terms: WorkerOptions<'_>,
+) -> WorkerEnd<NotedBook<D, M>, T>
     requires lock { IsPassOf book.now.lock pass.pass }
     requires homes { book.now.homes ≡ homes_of M.opening.rollout.problem }
     requires policy { M.opening.policy ≡ rank_by book.now.policy.now.answers }
@@ -58,18 +57,18 @@ pub fn serve<'d, R: Wait, D: Disk, M: Marker, T: Port>(
     for _ in rt.forever() {
         let (next, outcome) = work(rt, alloc, book, pass, &mut ports, terms, left);
         match outcome {
-            Outcome::Whole { offered } => {
+            RoundEnd::Whole { offered } => {
                 pass = next;
                 left = left_behind(left, offered);
             }
-            Outcome::Ended(end) => {
+            RoundEnd::Ended(end) => {
                 return WorkerEnd {
                     pass: next,
                     ports,
                     end,
                 };
             }
-            Outcome::Stops(cause) => {
+            RoundEnd::Stops(cause) => {
                 let (pass, halt) = book.stop(rt, next, cause);
                 return WorkerEnd {
                     pass,
@@ -82,7 +81,7 @@ pub fn serve<'d, R: Wait, D: Disk, M: Marker, T: Port>(
     unreachable!()
 }
 
-// How many rounds are left behind one in which commands were offered or not.
+// How many rounds are left after one in which commands were offered or not.
 fn left_behind(left: u32, offered: bool) -> u32
     requires some { offered ≡ true → 0 < left }
     ensures { left ≡ result + (if offered then 1 else 0) }

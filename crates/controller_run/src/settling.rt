@@ -6,24 +6,22 @@ ghost use Rattle.shared_book.specs.Calls.{IsCounted};
 ghost use Rattle.shared_book.specs.Lasting.{CountsAsHeard};
 ghost use Rattle.controller_run.specs.Settling.{IsLateSettled, IsSettled};
 
-use crate::outcome::Outcome;
+use crate::round_end::RoundEnd;
 use disk_model::Disk;
-use port_session::Heard;
-use rollout_book::BookFault;
-use shared_book::{BookPass, Marker, RoundReply, SharedBook};
-use shared_history::{Cause, Wake};
+use port_session::PortAnswers;
+use shared_book::{BookPass, Cause, Marker, RoundReply, SharedBook, Wake};
 use std::sync::Wait;
+use switch_ports::WorkerPorts;
 use wan_edge::Port;
-use worker_ports::WorkerPorts;
 
 /// Hands the answers that a round has heard to the book, in whose round a command was offered or none.
 pub(crate) fn settle<'d, R: Wait, D: Disk, M: Marker, T: Port>(
     rt: &R,
     book: &SharedBook<'d, D, M>,
     pass: BookPass<D, M>,
-    heard: Heard<T>,
+    heard: PortAnswers<T>,
     offered: bool,
-) -> (BookPass<D, M>, Outcome)
+) -> (BookPass<D, M>, RoundEnd)
     requires lock { IsPassOf book.now.lock pass.pass }
     requires policy { M.opening.policy ≡ rank_by book.now.policy.now.answers }
     requires calls { IsCounted pass.calls pass.pass }
@@ -36,13 +34,10 @@ pub(crate) fn settle<'d, R: Wait, D: Disk, M: Marker, T: Port>(
 {
     let (pass, reply) = book.round(rt, pass, heard);
     let outcome = match reply {
-        RoundReply::Turned(_) => Outcome::Whole { offered },
-        RoundReply::Stopped(halt) => Outcome::Ended(Wake::Stopped(halt)),
-        RoundReply::Refused(BookFault::Alien { item, held, begun }) => {
-            Outcome::Stops(Cause::Above { item, held, begun })
-        }
-        RoundReply::Refused(BookFault::Disk) => Outcome::Stops(Cause::Disk),
-        RoundReply::Memory => Outcome::Stops(Cause::Memory),
+        RoundReply::Turned(_) => RoundEnd::Whole { offered },
+        RoundReply::Stopped(halt) => RoundEnd::Ended(Wake::Stopped(halt)),
+        RoundReply::Refused(fault) => RoundEnd::Stops(Cause::from(fault)),
+        RoundReply::Memory => RoundEnd::Stops(Cause::Memory),
     };
     (pass, outcome)
 }
@@ -54,8 +49,8 @@ pub(crate) fn settle_late<'d, R: Wait, D: Disk, M: Marker, T: Port>(
     book: &SharedBook<'d, D, M>,
     pass: BookPass<D, M>,
     ports: &WorkerPorts<T>,
-    heard: Heard<T>,
-) -> (BookPass<D, M>, Outcome)
+    heard: PortAnswers<T>,
+) -> (BookPass<D, M>, RoundEnd)
     requires lock { IsPassOf book.now.lock pass.pass }
     requires policy { M.opening.policy ≡ rank_by book.now.policy.now.answers }
     requires calls { IsCounted pass.calls pass.pass }
@@ -68,7 +63,7 @@ pub(crate) fn settle_late<'d, R: Wait, D: Disk, M: Marker, T: Port>(
 {
     if heard.answers().is_empty() {
         ports.rest();
-        return (pass, Outcome::Whole { offered: false });
+        return (pass, RoundEnd::Whole { offered: false });
     }
     settle(rt, book, pass, heard, false)
 }

@@ -4,26 +4,25 @@ ghost use Rattle.turn_lock.specs.Passes.{IsPassOf, IsSamePass, seat_of_pass, sea
 ghost use Rattle.shared_book.specs.Calls.{IsCounted};
 ghost use Rattle.shared_book.specs.Homes.{homes_of};
 ghost use Rattle.shared_book.specs.Lasting.{CountsAsHeard};
-ghost use Rattle.worker_ports.specs.Due.{AreApart, LeavesAlone, any_late, due_of};
+ghost use Rattle.switch_ports.specs.Due.{AreApart, LeavesAlone, any_late, due_of};
 ghost use Rattle.controller_run.specs.Working.{IsWorked, OnOffered, OnWhole, Settles, Untold};
 
 use crate::exchanging::exchange;
 use crate::finding::{Found, find_work};
 use crate::hearing::hear_late;
-use crate::outcome::Outcome;
+use crate::round_end::RoundEnd;
 use crate::settling::settle;
 use disk_model::Disk;
-use shared_book::{BookPass, Listed, Marker, SharedBook};
-use shared_history::Cause;
+use shared_book::{BookPass, Cause, Listed, Marker, SharedBook};
 use std::alloc::Global;
 use std::sync::Wait;
+use switch_ports::WorkerPorts;
 use wan_edge::Port;
-use worker_ports::WorkerPorts;
 
 /// What a worker's rounds are given: where each item's home is, in which migration commands go out, and how
 /// many rounds may offer some.
 #[derive(Clone, Copy)]
-pub struct Terms<'h> {
+pub struct WorkerOptions<'h> {
     pub homes: &'h [Option<u32>],
     pub migration: u32,
     pub rounds: u32,
@@ -39,9 +38,9 @@ pub(crate) fn work<'d, R: Wait, D: Disk, M: Marker, T: Port>(
     book: &SharedBook<'d, D, M>,
     pass: BookPass<D, M>,
     ports: &mut WorkerPorts<T>,
-    terms: Terms<'_>,
+    terms: WorkerOptions<'_>,
     left: u32,
-) -> (BookPass<D, M>, Outcome)
+) -> (BookPass<D, M>, RoundEnd)
     requires lock { IsPassOf book.now.lock pass.pass }
     requires homes { book.now.homes ≡ homes_of M.opening.rollout.problem }
     requires policy { M.opening.policy ≡ rank_by book.now.policy.now.answers }
@@ -68,7 +67,7 @@ pub(crate) fn work<'d, R: Wait, D: Disk, M: Marker, T: Port>(
 {
     match ports.due(alloc) {
         Ok(due) => work_at(rt, alloc, book, pass, ports, terms, left, due.as_slice()),
-        Err(_) => (pass, Outcome::Stops(Cause::Memory)),
+        Err(_) => (pass, RoundEnd::Stops(Cause::Memory)),
     }
 }
 
@@ -79,10 +78,10 @@ fn work_at<'d, R: Wait, D: Disk, M: Marker, T: Port>(
     book: &SharedBook<'d, D, M>,
     pass: BookPass<D, M>,
     ports: &mut WorkerPorts<T>,
-    terms: Terms<'_>,
+    terms: WorkerOptions<'_>,
     left: u32,
     due: &[u32],
-) -> (BookPass<D, M>, Outcome)
+) -> (BookPass<D, M>, RoundEnd)
     requires lock { IsPassOf book.now.lock pass.pass }
     requires homes { book.now.homes ≡ homes_of M.opening.rollout.problem }
     requires policy { M.opening.policy ≡ rank_by book.now.policy.now.answers }
@@ -119,12 +118,12 @@ fn work_at<'d, R: Wait, D: Disk, M: Marker, T: Port>(
                 item: op.item,
                 number: op.number,
             };
-            (pass, Outcome::Stops(spent))
+            (pass, RoundEnd::Stops(spent))
         }
         Found::Work(_) => carry_out(rt, alloc, book, pass, ports, terms, commands),
         Found::Later => hear_late(rt, alloc, book, pass, ports, terms, commands),
-        Found::Ended(end) => (pass, Outcome::Ended(end)),
-        Found::Memory => (pass, Outcome::Stops(Cause::Memory)),
+        Found::Ended(end) => (pass, RoundEnd::Ended(end)),
+        Found::Memory => (pass, RoundEnd::Stops(Cause::Memory)),
     }
 }
 
@@ -135,9 +134,9 @@ fn carry_out<'d, R: Wait, D: Disk, M: Marker, T: Port>(
     book: &SharedBook<'d, D, M>,
     pass: BookPass<D, M>,
     ports: &mut WorkerPorts<T>,
-    terms: Terms<'_>,
+    terms: WorkerOptions<'_>,
     commands: Listed<D, M>,
-) -> (BookPass<D, M>, Outcome)
+) -> (BookPass<D, M>, RoundEnd)
     requires lock { IsPassOf book.now.lock pass.pass }
     requires policy { M.opening.policy ≡ rank_by book.now.policy.now.answers }
     requires calls { IsCounted pass.calls pass.pass }
@@ -162,6 +161,6 @@ fn carry_out<'d, R: Wait, D: Disk, M: Marker, T: Port>(
     let offered = !commands.commands().is_empty();
     match exchange(alloc, ports, &commands, terms.homes, terms.migration) {
         Ok(heard) => settle(rt, book, pass, heard, offered),
-        Err(cause) => (pass, Outcome::Stops(cause)),
+        Err(cause) => (pass, RoundEnd::Stops(cause)),
     }
 }

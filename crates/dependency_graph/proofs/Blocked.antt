@@ -137,7 +137,7 @@ module _ (g : Followed) (i n : ℕ) (net : IsNetwork g.rollout.problem) (legal :
       lacks = λ q is. lacks-begun q (so.lacks q is);
     }
 
--- what a graph may leave alone behind a Begin, whose item is let go
+-- what a graph may leave alone after a Begin, whose item is let go
 pub begun-waiting : (g : Followed) (i : ℕ) (old later : Awake) → IsNetwork g.rollout.problem → is_legal g.rollout.problem g.rollout.plan g.history ≡ true → i < item_count g.rollout.problem → has_next g i ≡ true → AreWaiting g old → IsLetGo i 0 old later → AreWaiting (with_begun g i) later
 begun-waiting g i old later net legal this goes so lets = record {
   items = lets.items ∙ so.items;

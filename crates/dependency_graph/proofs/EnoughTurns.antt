@@ -1,4 +1,4 @@
--- Chains go through ever later stages, so as many turns as there are stages behind give the whole chain.
+-- Chains go through ever later stages, so as many turns as there are stages after give the whole chain.
 use Rattle.std.proofs.Common.{◌≡◌, ℕ, zero, suc, ◌+◌, ◌-◌, ◌<◌, ◌≤◌, max, length, nat_le, Bool, true, false, not, ◌&&◌, ◌==◌, nat_lt, if◌then◌else◌, refl, sym, ap₂, subst, inl, inr, arith, ltb-true, eqb-true}
 use Rattle.std.proofs.lemmas.Bool.{and_parts, cases_lt}
 use Rattle.rollout_rules.specs.Wan.{Problem, Plan, flow_at, tunnel_at, tunnel_of, hops, stage_at, rate_at, mark_at, last_stage}
@@ -73,7 +73,7 @@ module _ (p : Problem) (plan : Plan) (before : InstalledBefore plan) where
       (most-none (last_stage plan) _ (λ u lt. where-none _ _ (λ e. omega (arith, le, lt, own-later (item.Entry t h) s u e))))
       (most-none (last_stage plan) _ (λ u lt. where-none _ _ (λ e. omega (arith, le, lt, arrives-later (item.Flow (tunnel_at p t).flow) t s u lt e))))
 
-  -- So more turns than there are stages behind change nothing.
+  -- So more turns than there are stages after change nothing.
   pub enough : (a b : ℕ) (i : Item) (s : ℕ) → last_stage plan ≤ a + s → last_stage plan ≤ b + s → chain_within a p plan i s ≡ chain_within b p plan i s
   enough zero b i s many more = sym (spent b i s (omega (arith, many)))
   enough (suc a) zero i s many more = spent (suc a) i s (omega (arith, more))

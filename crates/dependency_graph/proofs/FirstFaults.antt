@@ -207,7 +207,7 @@ module _ (r : Rollout) (c : Counts) (n : ℕ) where
       let passed' = subst (λ k. all_below s (parts.had_needs_at r c k) ≡ true) is passed in
       sym (walk r.problem r.plan i (slice_index c.settled n) met le) ∙ subst (λ m. all_below m (parts.had_needs_at r c (item_at r.problem n)) ≡ true) at passed'
 
--- ---- one test behind another
+-- ---- one test after another
 pub option_as : {A : Type 0} (o : Option A) (P Q : Type 0) (R S : A → Type 0) → MatchOption o P R → (P → Q) → ((a : A) → R a → S a) → MatchOption o Q S
 option_as None P Q R S is none some = none is
 option_as (Some a) P Q R S is none some = some a is
@@ -216,7 +216,7 @@ module _ (r : Rollout) (c : Counts) where
   abbrev fit : Bool
   fit = fits r.problem r.plan (places_with r c [])
 
-  -- what comes behind a test that holds
+  -- what comes after a test that holds
   pub behind-exist : (o : Option StartFault) → parts.all_exist r c ≡ true → MatchOption o (parts.had_needs_and_fit r c ≡ true) (parts.IsOfPlaces r c) → MatchOption o (parts.is_sound r c ≡ true) (parts.IsFirst r c)
   behind-exist o exist is = option_as o _ _ _ _ is
       (λ both. let had = and_parts (parts.all_had_their_needs r c) fit both in and_from (parts.all_exist r c && parts.all_had_their_needs r c) fit (and_from (parts.all_exist r c) (parts.all_had_their_needs r c) exist had.0) had.1)

@@ -1,4 +1,4 @@
--- The tunnels of a flow that cross each of its links, one link's behind another's in one list.
+-- The tunnels of a flow that cross each of its links, one link's after another's in one list.
 use Rattle.std.proofs.Common.{◌≡◌, ℕ, zero, suc, ◌+◌, ◌-◌, ◌<◌, ◌≤◌, List, [], ◌∷◌, ◌++◌, length, length-append, take, drop, slice_index, inl, inr, refl, sym, ap, ◌∙◌, subst, arith}
 use Rattle.std.proofs.lemmas.Bool.{cases_lt}
 use Rattle.std.proofs.lemmas.List.{get_or_append_left, get_or_push, length-drop, drop-append-le, take-append-le, drop_at, take_all}

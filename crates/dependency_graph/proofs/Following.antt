@@ -8,7 +8,7 @@ use Rattle.rollout_rules.specs.declared.op.Entry.TheVariants.{Begin, Done}
 use Rattle.rollout_laws.proofs.Histories.{begins, ends, front_is_legal, rest_follows, is_counted}
 use Rattle.dependency_graph.specs.Progress.{Counts, AreCountsOf, MayCount}
 
--- an entry behind a history that is counted may be counted where the history with it is legal
+-- an entry after a history that is counted may be counted where the history with it is legal
 pub counted_next : (c : Counts) (h : History) (e : Entry) → AreCountsOf c h → is_legal c.rollout.problem c.rollout.plan (with_entries h (e ∷ [])) ≡ true → MayCount c e
 counted_next c h (Begin op) counts legal =
     let may = (and_parts _ _ (rest_follows c.rollout.problem c.rollout.plan h (Begin op ∷ []) legal)).0 in

@@ -174,7 +174,7 @@ taken-start p f n m links rows so = record {
   missing = so.missing;
 }
 
--- the row of the link behind
+-- the row of the link after
 pub taken-row : (p : Problem) (f k l : ℕ) (links : List ℕ) (gathered rows : List (List ℕ)) → k < length links → l ≡ slice_index links k → AreGathered p f (flow_at p f).tunnels 0 links gathered → AreTakenOut p links k gathered rows → IsCrossingOf p f l (flow_at p f).tunnels (slice_index_or rows l [])
 taken-row p f k l links gathered rows lt at all so =
     let q = slice_index links k in

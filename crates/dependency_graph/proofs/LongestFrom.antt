@@ -33,7 +33,7 @@ pub most-where : (b : Bool) (n : ℕ) (f : ℕ → ℕ) → most_below n (λ k. 
 most-where true n f = refl
 most-where false n f = most-none n (λ k. 0) (λ k lt. refl)
 
--- a run begins behind a stage that fails
+-- a run begins after a stage that fails
 pub run_start-stops : (run : ℕ → Bool) (u v : ℕ) → run_start run u ≡ v + 1 → run v ≡ false
 run_start-stops run zero v e = absurd (omega (arith, e))
 run_start-stops run (suc u) v e = elim (cases_Bool (run u)) as (λ c. run v ≡ false) [
@@ -138,7 +138,7 @@ both-of false true false x = refl
 both-of false false true x = refl
 both-of false false false x = refl
 
--- what counts in the run that begins behind a stage
+-- what counts in the run that begins after a stage
 pub longest-run : (last : ℕ) (run counts : ℕ → Bool) (number : ℕ → ℕ) (s : ℕ) → most_below last (λ u. if counts u && (run_start run u == s + 1) then number u else 0) ≡ (if not (run s) then longest_from last run counts number (s + 1) else 0)
 longest-run last run counts number s =
     most-same last _ (λ u. if not (run s) then (if nat_le (s + 1) u && counts u && nat_le (run_start run u) (s + 1) then number u else 0) else 0) (λ u low. each u (cases_Bool (run s)))

@@ -36,14 +36,14 @@ module _ (order places : List ℕ) (so : AreInverse order places) where
       let is : slice_index order a ≡ slice_index order b = omega (arith, get_or-take count order a 0 low, get_or-take count order b 0 low', same) in
       omega (arith, so.forth a (omega (arith, low, few)), so.forth b (omega (arith, low', few)), ap (slice_index places) is)
 
--- an item is put in, or taken out, as it changes places with the first behind the set, or its last
+-- an item is put in, or taken out, as it changes places with the first after the set, or its last
 module _ (order places order' places' : List ℕ) (count i : ℕ) (so : AreInverse order places) (so' : AreInverse order' places') (all : length order' ≡ length order) (few : count < length order) (here : i < length order) (moved : AreExchanged (slice_index places i) count places places') where
   own : slice_index places i ≡ slice_index places i → slice_index places' i ≡ count
   own _ =
       let e : (slice_index places i == slice_index places i) ≡ true = eq-eqb (slice_index places i) (slice_index places i) refl in
       moved.each i (omega (arith, here, so.all)) ∙ rw e refl
 
-  -- another item stays, or comes from the place behind to where this one was
+  -- another item stays, or comes from the place after to where this one was
   other : (n : ℕ) → n < length order → (n ≡ i → ⊥) → slice_index places' n ≡ (if slice_index places n == count then slice_index places i else slice_index places n)
   other n lt apart =
       let e : (slice_index places n == slice_index places i) ≡ false = ne_eqb (slice_index places n) (slice_index places i) (λ q. apart (sym (so.back n lt) ∙ ap (slice_index order) q ∙ so.back i here)) in

@@ -80,7 +80,7 @@ passes-next p n m rows net lt all so =
       each = λ l low. to-next p l n (slice_index_or rows l []) once (subst (λ k. IsCrossingTo p l n k (slice_index_or rows l [])) all (so.each l low));
     })
 
--- ---- before the first tunnel, and behind the last
+-- ---- before the first tunnel, and after the last
 pub passes-start : (p : Problem) (rows : List (List ℕ)) → AreEmpty (length p.links) rows → AreCrossingsTo p 0 0 rows
 passes-start p rows so = record {
   count = so.count;

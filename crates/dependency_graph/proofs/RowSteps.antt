@@ -30,7 +30,7 @@ module _ (low high : ℕ) (row : List ℕ) (amount : ℕ → ℕ) where
   row-less k t mid later first next =
       raised-both low high (only (slice_index row k) (amount (slice_index row k))) (among row amount k) (among row amount (k + 1)) t mid later first next (λ q. omega (arith, among-next row amount k q))
 
-  -- the cells of the resource behind are as they were
+  -- the cells of the resource after are as they were
   pub row-ahead : (k : ℕ) (t later : Cells) → AreOnce row → k < length row → AreRaised low high (among row amount k) t later → (s : ℕ) → s < t.stages → slice_index row k * t.stages + s < length t.cells → cell later (slice_index row k) s ≡ cell t (slice_index row k) s
   row-ahead k t later once lt so s below inside =
       let none : between low high s (among row amount k (slice_index row k)) ≡ 0 = ap (between low high s) (among-ahead row amount k once lt) ∙ nothing (nat_le low s && nat_lt s high) in

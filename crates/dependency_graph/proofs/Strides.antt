@@ -7,7 +7,7 @@ use Rattle.rollout_rules.specs.declared.item.Item.{Item}
 use Rattle.rollout_laws.proofs.Standing.{changes-up, changes-step, stand-most, stand-passes, stand-past, stand-before}
 
 module _ (p : Problem) (plan : Plan) (i : Item) where
-  -- up to the stage behind the one where it stands there is at most one change more
+  -- up to the stage after the one where it stands there is at most one change more
   pub changes-behind : (from j s : ℕ) → from ≡ stand_after p plan i j → s ≤ from + 1 → changes_to p plan i s ≤ j + 1
   changes-behind from j s is le = omega (arith, changes-up p plan i s (suc from) (omega (arith, le)), changes-step p plan i from, ap (changes_to p plan i) is, stand-passes p plan i j)
 

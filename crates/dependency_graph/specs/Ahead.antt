@@ -1,4 +1,4 @@
--- How far items have come with entries behind those that are counted.
+-- How far items have come with entries after those that are counted.
 use Rattle.std.specs.Prelude.{ℕ, ◌+◌, Bool, false, List, slice_index, ◌==◌, if◌then◌else◌, nat_le}
 use Rattle.rollout_rules.specs.Sums.{all_below}
 use Rattle.rollout_rules.specs.Wan.{Rollout, tunnel_at, width_of, rate_at, mark_at}

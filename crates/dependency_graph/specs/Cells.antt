@@ -40,7 +40,7 @@ pub record AreRooms (r : Rollout) (at : Places) (t : Cells) : Type 0 where
   pub each : (u : Resource) → is_resource r.problem u ≡ true → (s : ℕ) → least_stage r.problem r.plan at ≤ s → s < last_stage r.plan
       → cell t (resource_number r.problem u) s ≡ room r.problem r.plan at s u
 
--- the cells of the first n resources have the rooms from stage low on, and those of the one behind up to another stage
+-- the cells of the first n resources have the rooms from stage low on, and those of the one after up to another stage
 pub record AreFilled (r : Rollout) (at : Places) (low n high : ℕ) (t : Cells) : Type 0 where
   pub cells : AreCells r t
   pub rows : (q s : ℕ) → q < n → low ≤ s → s < last_stage r.plan → cell t q s ≡ room r.problem r.plan at s (resource_at r.problem q)

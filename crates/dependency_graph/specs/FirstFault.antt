@@ -21,7 +21,7 @@ pub record FailsFirst (n : ℕ) (test : ℕ → Bool) (k : ℕ) : Type 0 where
   pub fails : test k ≡ false
   pub before : all_below k test ≡ true
 
--- whether the needs of the operation behind j of an item's operations were met
+-- whether the needs of the operation after j of an item's operations were met
 abbrev pub had_needs_behind : Problem → Plan → Places → ℕ → ℕ → Bool
 had_needs_behind p plan at n j = needs_met_at p plan at (item_at p n) (stand_after p plan (item_at p n) j)
 
@@ -61,7 +61,7 @@ pub record LacksRoom (p : Problem) (plan : Plan) (at : Places) (s : ℕ) (here :
   pub taken : found ≡ room p plan at s (resource_at p number)
   pub there : wanted ≡ capacity_of p plan (resource_at p number)
 
--- Want of memory says nothing.
+-- Lack of memory says nothing.
 abbrev pub IsFirstFault : Problem → Plan → Places → StartFault → Type 0
 IsFirstFault p plan at (fault.Above item held count) = IsAbove p plan at item held count
 IsFirstFault p plan at (fault.Need item number) = LacksNeeds p plan at item number

@@ -9,7 +9,7 @@ use Rattle.rollout_rules.specs.declared.op.Entry.{Entry}
 use Rattle.dependency_graph.specs.Progress.{Counts}
 use Rattle.dependency_graph.specs.Ahead.{stand_with}
 
--- whether tunnel t carries nothing at the stage behind s, or each of its entries stands where it is installed for that
+-- whether tunnel t carries nothing at the stage after s, or each of its entries stands where it is installed for that
 abbrev pub carrier_stands : Problem → Plan → Places → ℕ → ℕ → Bool
 carrier_stands p plan at t s = (rate_at plan (s + 1) t == 0) || entries_past p plan at t (installed_since plan t (s + 1))
 

@@ -36,7 +36,7 @@ pub record IsCrossing (p : Problem) (l n : ℕ) (row : List ℕ) : Type 0 where
   pub tunnels : (j : ℕ) → j < length row → slice_index row j < length p.tunnels
   pub sums : (f : ℕ → ℕ) → sum_below (length row) (λ j. f (slice_index row j)) ≡ sum_below n (λ t. if crosses p t l then f t else 0)
 
--- Of the entries of the first n tunnels, and of the first m of the one behind, the row has those in the table of switch w.
+-- Of the entries of the first n tunnels, and of the first m of the one after, the row has those in the table of switch w.
 pub record IsTable (p : Problem) (w n m : ℕ) (row : List TablePlace) : Type 0 where
   pub tunnels : (j : ℕ) → j < length row → (place_at row j).tunnel < length p.tunnels
   pub items : (j : ℕ) → j < length row → (place_at row j).item < item_count p
@@ -49,7 +49,7 @@ pub record AreEmpty {X : Type 0} (n : ℕ) (rows : List (List X)) : Type 0 where
   pub count : length rows ≡ n
   pub each : (l : ℕ) → l < n → slice_index_or rows l [] ≡ []
 
--- Of the first n tunnels, and by the first m links of the one behind, the row has those that cross link l.
+-- Of the first n tunnels, and by the first m links of the one after, the row has those that cross link l.
 pub record IsCrossingTo (p : Problem) (l n m : ℕ) (row : List ℕ) : Type 0 where
   pub tunnels : (j : ℕ) → j < length row → slice_index row j < length p.tunnels
   pub sums : (f : ℕ → ℕ) → sum_below (length row) (λ j. f (slice_index row j))
@@ -60,7 +60,7 @@ pub record AreCrossingsTo (p : Problem) (n m : ℕ) (rows : List (List ℕ)) : T
   pub count : length rows ≡ length p.links
   pub each : (l : ℕ) → l < length p.links → IsCrossingTo p l n m (slice_index_or rows l [])
 
--- each switch has a row of the entries in its table, of the first n tunnels and the first m of the one behind
+-- each switch has a row of the entries in its table, of the first n tunnels and the first m of the one after
 pub record AreTablesTo (p : Problem) (n m : ℕ) (rows : List (List TablePlace)) : Type 0 where
   pub count : length rows ≡ length p.switches
   pub each : (w : ℕ) → w < length p.switches → IsTable p w n m (slice_index_or rows w [])

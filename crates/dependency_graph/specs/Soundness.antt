@@ -33,7 +33,7 @@ had_needs_at r c i s = not (changes_behind r.problem r.plan i s) || needs_met_at
 abbrev pub all_had_their_needs : Rollout → Counts → Bool
 all_had_their_needs r c = all_below (item_count r.problem) (had_its_needs r c)
 
--- all three tests of a start, and the two behind the first
+-- all three tests of a start, and the two after the first
 abbrev pub is_sound : Rollout → Counts → Bool
 is_sound r c = all_exist r c && all_had_their_needs r c && fits r.problem r.plan (places_with r c [])
 

@@ -12,13 +12,13 @@ pub record IsCrossingOf (p : Problem) (f l n : ℕ) (row : List ℕ) : Type 0 wh
   pub tunnels : (j : ℕ) → j < length row → slice_index row j < length p.tunnels
   pub sums : (g : ℕ → ℕ) → sum_below (length row) (λ j. g (slice_index row j)) ≡ sum_below n (λ j. if crosses p (tunnel_of p f j) l then g (tunnel_of p f j) else 0)
 
--- the same of the first n tunnels, and of the first m links of the one behind
+-- the same of the first n tunnels, and of the first m links of the one after
 pub record IsCrossingOfTo (p : Problem) (f l n m : ℕ) (row : List ℕ) : Type 0 where
   pub tunnels : (j : ℕ) → j < length row → slice_index row j < length p.tunnels
   pub sums : (g : ℕ → ℕ) → sum_below (length row) (λ j. g (slice_index row j))
       ≡ sum_below n (λ j. if crosses p (tunnel_of p f j) l then g (tunnel_of p f j) else 0) + sum_below m (λ k. if slice_index (tunnel_at p (tunnel_of p f n)).links k == l then g (tunnel_of p f n) else 0)
 
--- Of flow f's first n tunnels, and of the first m links of the one behind, each link has such a row, and those whose row isn't
+-- Of flow f's first n tunnels, and of the first m links of the one after, each link has such a row, and those whose row isn't
 -- empty are listed, each once.
 pub record AreGathered (p : Problem) (f n m : ℕ) (links : List ℕ) (rows : List (List ℕ)) : Type 0 where
   pub count : length rows ≡ length p.links
@@ -35,7 +35,7 @@ pub record AreTakenOut (p : Problem) (links : List ℕ) (k : ℕ) (gathered rows
   pub there : (i : ℕ) → k ≤ i → i < length links → slice_index_or rows (slice_index links i) [] ≡ slice_index_or gathered (slice_index links i) []
   pub missing : (l : ℕ) → l < length p.links → has links l ≡ false → slice_index_or rows l [] ≡ []
 
--- What an item takes of: the resources, and behind one another in one list the tunnels by which it takes of each. Of
+-- What an item takes of: the resources, and after one another in one list the tunnels by which it takes of each. Of
 -- resource k they stand from its bound on and before the next one.
 pub record ItemRow : Type 0 where
   pub resources : List ℕ
@@ -54,7 +54,7 @@ pub record AreBounds (list bounds : List ℕ) : Type 0 where
   pub rising : (k : ℕ) → k + 1 < length bounds → slice_index bounds k ≤ slice_index bounds (k + 1)
   pub within : (k : ℕ) → k < length bounds → slice_index bounds k ≤ length list
 
--- at each of the first n resources, which are links, stand the tunnels of flow f that cross it, and nothing behind them
+-- at each of the first n resources, which are links, stand the tunnels of flow f that cross it, and nothing after them
 pub record AreCrossingsOf (p : Problem) (f n : ℕ) (row : ItemRow) : Type 0 where
   pub bounds : AreBounds row.tunnels row.bounds
   pub count : length row.bounds ≡ n + 1

@@ -35,7 +35,7 @@ impl Model for Chains {
 }
 
 impl Chains {
-    /// The chains of a plan. Time: the stages times the tunnels. An Err is want of memory.
+    /// The chains of a plan. Time: the stages times the tunnels. An Err is lack of memory.
     pub fn new(alloc: Global, plan: &CheckedPlan) -> Result<Chains, Memory>
         ensures { IfOk result (λ chains. chains ≡ plan.now) }
     {
@@ -47,7 +47,7 @@ impl Chains {
         })
     }
 
-    /// How many operations the longest chain has that begins with the item's operation behind a stage.
+    /// How many operations the longest chain has that begins with the item's operation after a stage.
     pub fn chain(&self, item: Item, stage: u32) -> u32
         requires item { IsTrue (is_item self.now.problem item) }
         requires stage { stage < last_stage self.now.plan }
@@ -80,7 +80,7 @@ struct Rows {
 }
 
 impl Rows {
-    /// Puts the rows of a stage behind those so far, and what is ahead of that stage in place of what was.
+    /// Puts the rows of a stage after those so far, and what is ahead of that stage in place of what was.
     fn put(&mut self, flows: FlowsAt, tunnels: TunnelsAt) -> Result<(), Memory>
         ensures flows { OnOk result (self.new.flows ≡ self.old.flows ++ (flows.chains ∷ [])) }
         ensures tunnels { OnOk result

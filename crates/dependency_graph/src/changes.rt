@@ -69,7 +69,7 @@ pub fn stand_behind(plan: &CheckedPlan, item: Item, from: u32) -> u32
     last as u32
 }
 
-/// Whether the content of an item at the stage behind stage `s` differs from that at `s`: whether an
+/// Whether the content of an item at the stage after stage `s` differs from that at `s`: whether an
 /// operation takes the item there.
 pub fn changes_behind(plan: &CheckedPlan, item: Item, s: usize) -> bool
     requires item { IsTrue (is_item plan.now.problem item) }

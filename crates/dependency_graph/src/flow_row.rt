@@ -5,17 +5,17 @@ ghost use Rattle.dependency_graph.specs.Index.{AreEmpty};
 ghost use Rattle.dependency_graph.specs.Touched.{IsItemRow, AreGathered};
 
 use crate::item_row::ItemRow;
-use crate::scratch::Scratch;
+use crate::scratch_row::ScratchRow;
 use lists::{Ids, Many, Memory};
 use std::alloc::Global;
 use wan_model::CheckedPlan;
 
 /// What a flow takes of: the links of its tunnels, each once, with the tunnels that cross each. There is a
-/// scratch for each link, empty before and behind. Time: the links of its tunnels.
+/// scratch for each link, empty before and after. Time: the links of its tunnels.
 pub(crate) fn row_of_flow(
     alloc: Global,
     plan: &CheckedPlan,
-    scratch: &mut Vec<Scratch>,
+    scratch: &mut Vec<ScratchRow>,
     f: usize,
 ) -> Result<ItemRow, Memory>
     requires flow { f < length plan.now.problem.flows }
@@ -32,7 +32,7 @@ pub(crate) fn row_of_flow(
 fn gather(
     links: &mut Ids,
     plan: &CheckedPlan,
-    scratch: &mut Vec<Scratch>,
+    scratch: &mut Vec<ScratchRow>,
     f: usize,
 ) -> Result<(), Memory>
     requires flow { f < length plan.now.problem.flows }
@@ -51,7 +51,7 @@ fn gather(
 fn gather_tunnel(
     links: &mut Ids,
     plan: &CheckedPlan,
-    scratch: &mut Vec<Scratch>,
+    scratch: &mut Vec<ScratchRow>,
     f: usize,
     j: u32,
 ) -> Result<(), Memory>
@@ -71,7 +71,7 @@ fn gather_tunnel(
 /// Adds a tunnel to the scratch of a link, and with the first one the link to the row.
 fn gather_link(
     links: &mut Ids,
-    scratch: &mut Vec<Scratch>,
+    scratch: &mut Vec<ScratchRow>,
     l: u32,
     tunnel: u32,
 ) -> Result<(), Memory>
@@ -94,7 +94,7 @@ fn gather_link(
 fn taken_out(
     alloc: Global,
     plan: &CheckedPlan,
-    scratch: &mut Vec<Scratch>,
+    scratch: &mut Vec<ScratchRow>,
     f: usize,
     links: Ids,
 ) -> Result<ItemRow, Memory>
@@ -114,7 +114,7 @@ fn taken_out(
 }
 
 /// Takes what stands in a link's scratch out of it.
-fn take_out(tunnels: &mut Ids, scratch: &mut Vec<Scratch>, l: usize) -> Result<(), Memory>
+fn take_out(tunnels: &mut Ids, scratch: &mut Vec<ScratchRow>, l: usize) -> Result<(), Memory>
     requires { l < vec_len scratch.old }
     ensures tunnels { OnOk result
         (tunnels.new ≡ tunnels.old ++ slice_index_or scratch.old.items l []) }

@@ -51,7 +51,7 @@ impl Model for Graph {
 }
 
 impl Graph {
-    /// The graph at the start at which nothing is settled. An Err is want of memory, and gives the plan back.
+    /// The graph at the start at which nothing is settled. An Err is lack of memory, and gives the plan back.
     pub fn new(alloc: Global, plan: CheckedPlan) -> Result<Graph, CheckedPlan>
         ensures ok { IfOk result
             (λ g. g ≡ record { rollout = plan; history = from_nothing plan.problem [] }) }
@@ -63,7 +63,7 @@ impl Graph {
         }
     }
 
-    /// The graph at a sound start. An Err is want of memory, and gives the plan back.
+    /// The graph at a sound start. An Err is lack of memory, and gives the plan back.
     pub fn start(alloc: Global, plan: CheckedPlan, start: &[u32]) -> Result<Graph, CheckedPlan>
         requires numbers { length start.now ≡ item_count plan.problem }
         requires sound { IsTrue (legal.is_sound plan.problem plan.plan start.now) }

@@ -15,7 +15,7 @@ use rollout_rules::Item;
 use std::alloc::Global;
 use wan_model::CheckedPlan;
 
-/// How many operations the longest chains have that begin at a stage or behind it: by flow those of its own
+/// How many operations the longest chains have that begin at a stage or after it: by flow those of its own
 /// steps; by tunnel those of its entries' steps, of their removals while it has carried nothing, and of its
 /// flow's steps onto it while it has been installed.
 #[derive(Drop)]

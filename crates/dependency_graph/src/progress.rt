@@ -62,7 +62,7 @@ impl Model for Progress {
 }
 
 impl Progress {
-    /// What was settled at a start, and nothing begun behind it, under this plan.
+    /// What was settled at a start, and nothing begun after it, under this plan.
     pub fn new(alloc: Global, plan: &CheckedPlan, start: &[u32]) -> Result<Progress, Memory>
         requires { length start.now ≡ item_count plan.now.problem }
         ensures plan { IfOk result (λ progress. progress.rollout ≡ plan.now) }

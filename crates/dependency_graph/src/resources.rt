@@ -7,7 +7,7 @@ ghost use Rattle.dependency_graph.specs.Touched.{IsItemRow, AreRows};
 use crate::flow_row::row_of_flow;
 use crate::index::Index;
 use crate::item_row::ItemRow;
-use crate::scratch::{Scratch, scratches};
+use crate::scratch_row::{ScratchRow, scratch_rows};
 use lists::{Ids, Many, Memory};
 use rollout_rules::Item;
 use std::alloc::Global;
@@ -60,7 +60,7 @@ fn rows(alloc: Global, plan: &CheckedPlan, index: &Index) -> Result<Many<ItemRow
     requires { index.now ≡ plan.now }
     ensures { IfOk result (λ rows. AreRows plan.now.problem rows (item_count plan.now.problem)) }
 {
-    let mut scratch = scratches(alloc, plan.problem().links().len())?;
+    let mut scratch = scratch_rows(alloc, plan.problem().links().len())?;
     let mut rows = Many::new(alloc);
     push_rows(alloc, &mut rows, plan, index, &mut scratch)?;
     Ok(rows)
@@ -71,7 +71,7 @@ fn push_rows(
     rows: &mut Many<ItemRow>,
     plan: &CheckedPlan,
     index: &Index,
-    scratch: &mut Vec<Scratch>,
+    scratch: &mut Vec<ScratchRow>,
 ) -> Result<(), Memory>
     requires own { index.now ≡ plan.now }
     requires rows { rows.old ≡ [] }
@@ -87,7 +87,7 @@ fn push_rows(
 fn row(
     alloc: Global,
     plan: &CheckedPlan,
-    scratch: &mut Vec<Scratch>,
+    scratch: &mut Vec<ScratchRow>,
     item: Item,
 ) -> Result<ItemRow, Memory>
     requires item { IsTrue (is_item plan.now.problem item) }

@@ -2,7 +2,7 @@ ghost use Rattle.std.specs.Prelude.{◌≡◌, ℕ, ◌+◌, ◌<◌, ◌≤◌,
 ghost use Rattle.dependency_graph.specs.Cells.{has, AreOnce};
 ghost use Rattle.dependency_graph.specs.Wakes.{AreFree, Rouses, IsWokenOrKept, AreWokenFrom, IsLetGo, joined, AreAwake};
 
-use crate::kept::Kept;
+use crate::waiting_items::WaitingItems;
 use crate::woken::Woken;
 use lists::Memory;
 use std::alloc::Global;
@@ -12,7 +12,7 @@ use std::marker::Model;
 #[derive(Drop)]
 pub(crate) struct Wakes {
     woken: Woken,
-    kept: Kept,
+    kept: WaitingItems,
 }
 
 impl Model for Wakes {
@@ -34,7 +34,7 @@ impl Wakes {
     {
         Ok(Wakes {
             woken: Woken::new(alloc, items)?,
-            kept: Kept::new(alloc, items, resources)?,
+            kept: WaitingItems::new(alloc, items, resources)?,
         })
     }
 
@@ -118,7 +118,7 @@ impl Wakes {
     }
 }
 
-fn free(woken: &mut Woken, kept: &mut Kept, resource: u32)
+fn free(woken: &mut Woken, kept: &mut WaitingItems, resource: u32)
     requires resource { resource < kept.old.resources }
     requires awake { AreAwake woken.old kept.old }
     ensures awake { AreAwake woken.new kept.new }

@@ -1,4 +1,4 @@
--- What a disk whose bytes are in memory tells, before a call and behind it.
+-- What a disk whose bytes are in memory tells, before a call and after it.
 use Rattle.std.proofs.Common.{◌≡◌, inl, inr, ◌⊎◌, ⊎_elim, ℕ, ◌≤◌, List, length, Option, Some, None, Result, Ok, refl, sym, subst, ◌∙◌, ap, arith}
 use Rattle.disk_model.specs.Crashes.{Within}
 use Rattle.disk_model.specs.Effects.{WritesNothing, WritesSome}

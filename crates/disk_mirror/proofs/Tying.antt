@@ -9,7 +9,7 @@ use Rattle.disk_model.specs.Writes.{Torn, Writes, written}
 use Rattle.disk_model.proofs.Tearing.{Torn-written}
 use Rattle.disk_mirror.specs.Mirrors.{Mirrors}
 
--- one torn write more, behind the others
+-- one torn write more, after the others
 Reaches-more : (synced : List ℕ) (pending : List (ℕ × ℕ)) (at n : ℕ) (b c : List ℕ) → Reaches synced pending b → Torn at n b c → Reaches synced (pending ++ (at, n) ∷ []) c
 Reaches-more synced [] at n b c reached torn = (c, subst (λ (l : List ℕ). Torn at n l c) reached torn, refl)
 Reaches-more synced (write ∷ later) at n b c reached torn = (reached.0, reached.1, Reaches-more reached.0 later at n b c reached.2 torn)
@@ -37,7 +37,7 @@ module _ (at : ℕ) (from : List ℕ) (behind now : DiskTrace) (old new : Timeli
   abbrev wrote : Timeline
   wrote = moves_to old (after_write at from old.medium)
 
-  -- the write may have been done in part behind
+  -- the write may have been done in part after
   pub write_failed : new ≡ wrote → Mirrors behind (Some old) true → WritesSome at (length from) behind now → Mirrors now (Some new) false
   write_failed is tied some = subst (λ (t : Timeline). Mirrors now (Some t) false) (sym is) (record {
     same = λ no. absurd (cc no);
@@ -45,7 +45,7 @@ module _ (at : ℕ) (from : List ℕ) (behind now : DiskTrace) (old new : Timeli
     reached = Reaches-more old.medium.synced old.medium.pending at (length from) old.medium.bytes (written at from old.medium.bytes) tied.reached (Torn-written at from old.medium.bytes);
   })
 
-  -- the write was done behind, too
+  -- the write was done after, too
   pub write_done : new ≡ wrote → Mirrors behind (Some old) true → WritesSome at (length from) behind now → Writes at from behind.bytes now.bytes → Mirrors now (Some new) true
   write_done is tied some done = subst (λ (t : Timeline). Mirrors now (Some t) true) (sym is) (record {
     same = λ yes. write_same at from old.medium behind.bytes now.bytes done (tied.same refl);

@@ -1,4 +1,4 @@
--- How many bytes are told behind an opening.
+-- How many bytes are told after an opening.
 use Rattle.std.proofs.Common.{◌≡◌, ℕ, ◌≤◌, length, Option, Some, None, Result, Ok, Err, IfOk, IfSome, OnOk, refl, sym, ap, subst}
 use Rattle.wan_edge.specs.declared.stream.Failed.{Failed}
 use Rattle.disk_model.specs.Memory.{Timeline}

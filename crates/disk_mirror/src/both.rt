@@ -22,7 +22,7 @@ pub(crate) fn begin<D: Disk>(alloc: Global, disk: &mut D, most: u64) -> Result<C
     Ok(Course::new(image))
 }
 
-/// Writes in memory first, where want of memory changes nothing, and then behind.
+/// Writes in memory first, where lack of memory changes nothing, and then behind.
 pub(crate) fn write_both<D: Disk>(
     disk: &mut D,
     course: &mut Course,

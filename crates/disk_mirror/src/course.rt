@@ -39,7 +39,7 @@ impl Course {
         self.standing.bytes()
     }
 
-    /// A write. Want of memory changes nothing.
+    /// A write. Lack of memory changes nothing.
     pub(crate) fn write(&mut self, at: u64, from: &[u8]) -> Result<(), Memory>
         ensures ok { OnOk result
             (self.new ≡ moves_to self.old (after_write at from.now self.old.medium)) }

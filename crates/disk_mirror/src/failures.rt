@@ -26,7 +26,7 @@ impl Failures {
     }
 
     /// The same answer, a failure counted.
-    pub(crate) fn counted<T>(&mut self, answer: Result<T, Failed>) -> Result<T, Failed>
+    pub(crate) fn count_failure<T>(&mut self, answer: Result<T, Failed>) -> Result<T, Failed>
         ensures value { IfOk result (λ x. answer ≡ Ok x) }
         ensures cause { OnErr result (Rose self.old self.new) }
         ensures count { self.old ≤ self.new }

@@ -161,7 +161,7 @@ impl<D: Disk> Disk for Mirror<D> {
             Ok(bytes) => Ok(bytes.len() as u64),
             Err(fault) => Err(fault),
         };
-        self.failures.counted(answer)
+        self.failures.count_failure(answer)
     }
 
     fn read_at(&mut self, at: u64, into: &mut [u8]) -> Result<usize, Failed> {
@@ -169,24 +169,24 @@ impl<D: Disk> Disk for Mirror<D> {
             Ok(bytes) => Ok(copy_from(bytes, at, into)),
             Err(fault) => Err(fault),
         };
-        self.failures.counted(answer)
+        self.failures.count_failure(answer)
     }
 
     fn write_at(&mut self, at: u64, from: &[u8]) -> Result<(), Failed> {
         let answer = self.write(at, from);
-        self.failures.counted(answer)
+        self.failures.count_failure(answer)
     }
 
     fn sync(&mut self) -> Result<(), Failed> {
         let answer = self.flush();
-        self.failures.counted(answer)
+        self.failures.count_failure(answer)
     }
 }
 
 impl<D: Disk> Openable for Mirror<D> {
     fn open(&mut self, most: u64) -> Result<(), Failed> {
         let answer = self.begin(most);
-        self.failures.counted(answer)
+        self.failures.count_failure(answer)
     }
 }
 

@@ -7,7 +7,7 @@ use wan_edge::Failed;
 
 /// A disk that is opened before its first use, and then tells its bytes.
 pub trait Openable: Disk {
-    /// Opens it: behind an Ok its bytes are told, and where they weren't before there are no more than
+    /// Opens it: after an Ok its bytes are told, and where they weren't before there are no more than
     /// `most`. What was told before is told still, and a crash leaves no more than before. It fails where
     /// the disk does, which is counted.
     fn open(&mut self, most: u64) -> Result<(), Failed>

@@ -49,7 +49,7 @@ impl Standing {
         self.bytes.as_slice()
     }
 
-    /// Writes the bytes, which are not synced. Want of memory changes nothing.
+    /// Writes the bytes, which are not synced. Lack of memory changes nothing.
     pub(crate) fn write(&mut self, at: u64, from: &[u8]) -> Result<(), Memory>
         ensures ok { OnOk result (self.new ≡ after_write at from.now self.old) }
         ensures err { OnErr result (self.new ≡ self.old) }
@@ -68,7 +68,7 @@ impl Standing {
     }
 }
 
-// Writes bytes from `at` on over what is there, with zeros in a gap. Want of memory changes nothing.
+// Writes bytes from `at` on over what is there, with zeros in a gap. Lack of memory changes nothing.
 fn overwrite(bytes: &mut Vec<u8>, at: u64, from: &[u8]) -> Result<(), Memory>
     ensures ok { OnOk result (bytes.new.items ≡ written at from.now bytes.old.items) }
     ensures err { OnErr result (bytes.new.items ≡ bytes.old.items) }
@@ -80,7 +80,7 @@ fn overwrite(bytes: &mut Vec<u8>, at: u64, from: &[u8]) -> Result<(), Memory>
     Ok(())
 }
 
-// Zeros behind bytes up to an end.
+// Zeros after bytes up to an end.
 fn fill_up(bytes: &mut Vec<u8>, end: usize) -> Result<(), Memory>
     ensures ok { OnOk result
         (bytes.new.items ≡ bytes.old.items ++ replicate (end - length bytes.old.items) 0) }

@@ -9,7 +9,7 @@ use Rattle.disk_model.specs.Memory.{Medium, after_write}
 use Rattle.disk_model.specs.Writes.{written}
 use Rattle.disk_model.proofs.Tearing.{length-written}
 
--- the last write comes behind the others
+-- the last write comes after the others
 pub applied-last : (bytes : List ℕ) (writes : List Write) (write : Write) → applied bytes (writes ++ write ∷ []) ≡ written write.at write.bytes (applied bytes writes)
 applied-last bytes [] write = refl
 applied-last bytes (first ∷ later) write = applied-last (written first.at first.bytes bytes) later write

@@ -10,13 +10,13 @@ take_from start end l order =
     let is : start + (end - start) ≡ end = omega arith in
     sym (drop-take start (end - start) l) ∙ ap (λ (k : ℕ). drop start (take k l)) is
 
--- what lies behind both
+-- what lies after both
 drop_from : (start end : ℕ) (l : List ℕ) → start ≤ end → drop (end - start) (drop start l) ≡ drop end l
 drop_from start end l order =
     let is : start + (end - start) ≡ end = omega arith in
     drop-drop (end - start) start l ∙ ap (λ (k : ℕ). drop k l) is
 
--- a torn write behind the start of a part is a torn write of the part
+-- a torn write after the start of a part is a torn write of the part
 pub Torn-drop : (start at n : ℕ) (old new : List ℕ) → start ≤ at → start ≤ length old → Torn at n old new → Torn (at - start) n (drop start old) (drop start new)
 Torn-drop start at n old new behind inside torn =
     let long_old = length-drop start old in
@@ -48,7 +48,7 @@ written-drop start at bytes old behind inside =
 pub Torn-beyond : (start at n : ℕ) (old new : List ℕ) → at + n ≤ start → Torn at n old new → drop start new ≡ drop start old
 Torn-beyond start at n old new before torn = sym (drop_from (at + n) start new before) ∙ ap (drop (start - (at + n))) torn.after ∙ drop_from (at + n) start old before
 
--- a write behind this head leaves it, and what stands behind the range
+-- a write after this head leaves it, and what stands after the range
 pub written-behind : (head rest bytes : List ℕ) (at : ℕ) → at ≡ length head → written at bytes (head ++ rest) ≡ head ++ (bytes ++ drop (length bytes) rest)
 written-behind head rest bytes at is =
     let inside : at - length (head ++ rest) ≡ 0 = omega (arith, length-append head rest) in
@@ -59,7 +59,7 @@ written-behind head rest bytes at is =
     ∙ ap (λ (k : ℕ). head ++ (replicate k 0 ++ (bytes ++ drop (at + length bytes) (head ++ rest)))) inside
     ∙ ap (λ (l : List ℕ). head ++ (bytes ++ l)) behind
 
--- a torn write behind this head leaves it
+-- a torn write after this head leaves it
 pub Torn-behind : (head rest new : List ℕ) (at n : ℕ) → at ≡ length head → Torn at n (head ++ rest) new → new ≡ head ++ drop at new
 Torn-behind head rest new at n is torn =
     let front : take at new ≡ head = torn.before (omega (arith, length-append head rest)) ∙ take_at head rest at (sym is) in

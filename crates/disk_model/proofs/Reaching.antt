@@ -11,7 +11,7 @@ pub Reaches-none : (synced : List ℕ) (pending : List (ℕ × ℕ)) → Reaches
 Reaches-none synced [] = refl
 Reaches-none synced (write ∷ later) = (synced, Torn-none write.0 write.1 synced, Reaches-none synced later)
 
--- the last of them comes behind the others
+-- the last of them comes after the others
 pub Reaches-last : (synced : List ℕ) (pending : List (ℕ × ℕ)) (at n : ℕ) (c : List ℕ) → Reaches synced (pending ++ (at, n) ∷ []) c → Stepped (Torn at n) (Reaches synced pending) c
 Reaches-last synced [] at n c reached = (synced, refl, subst (Torn at n synced) (sym reached.2) reached.1)
 Reaches-last synced (write ∷ later) at n c reached =

@@ -24,7 +24,7 @@ module _ {D : Type 0} (trace : D → DiskTrace) where
     before = λ t c earlier left. ⊎_elim (so_far.before t c earlier) (λ now. inr (here c now)) (time.nothing_else t c (omega (arith, earlier, so_far.later)) left);
   }
 
-  -- one run behind another, of which another property holds
+  -- one run after another, of which another property holds
   pub LeavesOnly-chain : (old mid new : D) (P Q : List ℕ → Type 0) → LeavesOnly trace old mid P → LeavesOnly trace mid new Q
       → Within Q P → LeavesOnly trace old new P
   LeavesOnly-chain old mid new P Q first second here = record {

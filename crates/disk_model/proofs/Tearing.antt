@@ -21,7 +21,7 @@ module _ (at : ℕ) (bytes old : List ℕ) where
   length-front : length front ≡ at
   length-front = omega (arith, length-append (take at old) (replicate (at - length old) 0), length-take at old, length-replicate {A = ℕ} (at - length old) 0)
 
-  -- what was written stands between this front and what stood behind the range
+  -- what was written stands between this front and what stood after the range
   pub in_parts : written at bytes old ≡ front ++ (bytes ++ drop (at + length bytes) old)
   in_parts = sym (append_assoc (take at old) (replicate (at - length old) 0) (bytes ++ drop (at + length bytes) old))
 
@@ -32,7 +32,7 @@ module _ (at : ℕ) (bytes old : List ℕ) where
   pub drop-written : drop at (written at bytes old) ≡ bytes ++ drop (at + length bytes) old
   drop-written = ap (drop at) in_parts ∙ drop_at front (bytes ++ drop (at + length bytes) old) at length-front
 
-  -- behind the range
+  -- after the range
   pub behind-written : drop (at + length bytes) (written at bytes old) ≡ drop (at + length bytes) old
   behind-written =
       ap (drop (at + length bytes)) (in_parts ∙ sym (append_assoc front bytes (drop (at + length bytes) old)))

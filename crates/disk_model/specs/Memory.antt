@@ -58,7 +58,7 @@ pub record Calls : Type 0 where
 abbrev pub fresh : List ℕ → Calls
 fresh fails = record { turns = turns.fresh fails; stop = None }
 
--- whether a call with this number comes at the stop or behind it
+-- whether a call with this number comes at the stop or after it
 abbrev pub is_stopped : Option ℕ → ℕ → Bool
 is_stopped None number = false
 is_stopped (Some call) number = nat_le call number

@@ -9,7 +9,7 @@ pub record Passes (before now : ℕ) (past since : ℕ → List ℕ → Type 0) 
   pub keeps : (t : ℕ) (c : List ℕ) → t ≤ before → past t c → since t c
   pub nothing_else : (t : ℕ) (c : List ℕ) → t ≤ before → since t c → past t c ⊎ images c
 
--- the same of what a disk tells before a call and behind it
+-- the same of what a disk tells before a call and after it
 abbrev pub GoesOn : DiskTrace → DiskTrace → (List ℕ → Type 0) → Type 0
 GoesOn before now images = Passes before.moment now.moment before.left_since now.left_since images
 

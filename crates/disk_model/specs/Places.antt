@@ -6,7 +6,7 @@ pub record AgreesOn (places : ℕ → Type 0) (old new : List ℕ) : Type 0 wher
   pub no_shorter : length old ≤ length new
   pub same : (i : ℕ) → places i → i < length old → slice_index_or new i 0 ≡ slice_index_or old i 0
 
--- the places before a range and behind it
+-- the places before a range and after it
 abbrev pub Outside : ℕ → ℕ → ℕ → Type 0
 Outside at n i = (i < at) ⊎ (at + n ≤ i)
 
@@ -15,7 +15,7 @@ abbrev pub OutsideAll : List (ℕ × ℕ) → ℕ → Type 0
 OutsideAll [] i = ⊤
 OutsideAll (range ∷ ranges) i = Outside range.0 range.1 i × OutsideAll ranges i
 
--- none of these ranges ends behind this place
+-- none of these ranges ends after this place
 abbrev pub EndWithin : ℕ → List (ℕ × ℕ) → Type 0
 EndWithin most [] = ⊤
 EndWithin most (range ∷ ranges) = (range.0 + range.1 ≤ most) × EndWithin most ranges

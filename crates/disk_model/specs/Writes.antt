@@ -2,7 +2,7 @@
 use Rattle.std.specs.Prelude.{◌≡◌, ℕ, ◌+◌, ◌-◌, ◌≤◌, max, List, ◌++◌, length, take, drop, replicate, Option}
 use Rattle.std.specs.Option.{option_map}
 
--- these bytes stand in their range; before and behind it stands what stood there, and a gap past the old end is zeros
+-- these bytes stand in their range; before and after it stands what stood there, and a gap past the old end is zeros
 abbrev pub written : ℕ → List ℕ → List ℕ → List ℕ
 written at bytes old = take at old ++ (replicate (at - length old) 0 ++ (bytes ++ drop (at + length bytes) old))
 

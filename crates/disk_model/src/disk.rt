@@ -18,7 +18,7 @@ pub trait Disk {
         ensures cause { OnErr result (HasFailed (told self.old) (told self.new)) };
 
     /// Reads some of the bytes from `at` on into the front of `into` and says how many; 0 only at the
-    /// end or past it. What stands in `into` behind them is not said.
+    /// end or past it. What stands in `into` after them is not said.
     fn read_at(&mut self, at: u64, into: &mut [u8]) -> Result<usize, Failed>
         requires room { 0 < length into.old }
         ensures within { IfOk result (λ n. n ≤ length into.old) }

@@ -75,7 +75,7 @@ impl Medium {
         Ok(bytes)
     }
 
-    /// Writes the bytes, which are not synced. Want of memory changes nothing. Time: the bytes; at the first
+    /// Writes the bytes, which are not synced. Lack of memory changes nothing. Time: the bytes; at the first
     /// write and where the disk grows, all that there are.
     pub fn write(&mut self, alloc: Global, at: u64, from: &[u8]) -> Result<(), Memory>
         ensures ok { OnOk result (self.new ≡ after_write at from.now self.old) }
@@ -137,7 +137,7 @@ fn write_each(bytes: &mut Vec<u8>, writes: &[Write]) -> Result<(), Memory>
     Ok(())
 }
 
-// Writes bytes from `at` on over what is there, with zeros in a gap. Want of memory changes nothing.
+// Writes bytes from `at` on over what is there, with zeros in a gap. Lack of memory changes nothing.
 fn overwrite(bytes: &mut Vec<u8>, at: u64, from: &[u8]) -> Result<(), Memory>
     ensures ok { OnOk result (bytes.new.items ≡ written at from.now bytes.old.items) }
     ensures err { OnErr result (bytes.new.items ≡ bytes.old.items) }
@@ -149,7 +149,7 @@ fn overwrite(bytes: &mut Vec<u8>, at: u64, from: &[u8]) -> Result<(), Memory>
     Ok(())
 }
 
-// Zeros behind bytes up to an end.
+// Zeros after bytes up to an end.
 fn fill_up(bytes: &mut Vec<u8>, end: usize) -> Result<(), Memory>
     ensures ok { OnOk result
         (bytes.new.items ≡ bytes.old.items ++ replicate (end - length bytes.old.items) 0) }

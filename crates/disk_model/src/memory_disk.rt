@@ -142,7 +142,7 @@ impl Disk for MemoryDisk {
     }
 
     #[tactic(auto, using(crate::proofs::Passing::passes))]
-    /// Writes all the bytes, or fails: where it is this call's turn, or for want of memory.
+    /// Writes all the bytes, or fails: where it is this call's turn, or for lack of memory.
     fn write_at(&mut self, at: u64, from: &[u8]) -> Result<(), Failed>
         ensures fails { IsTrue (fails_now self.old.calls) → IsErr result }
         ensures ok { OnOk result
@@ -162,7 +162,7 @@ impl Disk for MemoryDisk {
     }
 
     #[tactic(auto, using(crate::proofs::Passing::passes))]
-    /// Syncs all that was written, or fails: where it is this call's turn, or for want of memory.
+    /// Syncs all that was written, or fails: where it is this call's turn, or for lack of memory.
     fn sync(&mut self) -> Result<(), Failed>
         ensures fails { IsTrue (fails_now self.old.calls) → IsErr result }
         ensures ok { OnOk result

@@ -41,7 +41,7 @@ impl Timeline {
         &self.medium
     }
 
-    /// A write. Want of memory changes nothing.
+    /// A write. Lack of memory changes nothing.
     pub fn write(&mut self, alloc: Global, at: u64, from: &[u8]) -> Result<(), Memory>
         ensures ok { OnOk result
             (self.new ≡ moves_to self.old (after_write at from.now self.old.medium)) }
@@ -54,7 +54,7 @@ impl Timeline {
         Ok(())
     }
 
-    /// A sync. Want of memory changes nothing.
+    /// A sync. Lack of memory changes nothing.
     pub fn sync(&mut self) -> Result<(), Memory>
         ensures ok { OnOk result (self.new ≡ moves_to self.old (at_rest self.old.medium.bytes)) }
         ensures err { OnErr result (self.new ≡ self.old) }

@@ -31,7 +31,7 @@ fn one() -> &'static str {
 
 // How a side ended, and what it wrote.
 #[derive(Drop)]
-struct Told {
+struct SideEnd {
     status: u8,
     text: Vec<u8>,
 }
@@ -41,13 +41,13 @@ fn both_sides<R: Wait + Threads + Sync>(
     wait: &R,
     rt: HostRuntime,
     address: String,
-) -> (Result<Told, Memory>, Result<Told, Memory>) {
+) -> (Result<SideEnd, Memory>, Result<SideEnd, Memory>) {
     join(
         wait,
-        move || -> Result<Told, Memory>
+        move || -> Result<SideEnd, Memory>
             requires { IsSync R.row }
         { serve(wait, rt, address) },
-        move || -> Result<Told, Memory>
+        move || -> Result<SideEnd, Memory>
             requires { IsSync R.row }
         { roll_out(wait, rt) },
     )
@@ -57,7 +57,7 @@ fn serve<R: Wait + Threads + Sync>(
     wait: &R,
     rt: HostRuntime,
     address: String,
-) -> Result<Told, Memory> {
+) -> Result<SideEnd, Memory> {
     let path = String::new(rt.alloc());
     let mut fleet = TcpFleet::new(rt.alloc(), rt, path, address, LIMIT);
     let told = told_over(wait, rt, "agent", "", "", &mut fleet);
@@ -65,7 +65,7 @@ fn serve<R: Wait + Threads + Sync>(
     told
 }
 
-fn roll_out<R: Wait + Threads + Sync>(wait: &R, rt: HostRuntime) -> Result<Told, Memory> {
+fn roll_out<R: Wait + Threads + Sync>(wait: &R, rt: HostRuntime) -> Result<SideEnd, Memory> {
     let path = String::from_str(rt.alloc(), FLEET_PATH)?;
     let mut fleet = TcpFleet::new(rt.alloc(), rt, path, String::new(rt.alloc()), LIMIT);
     let told = told_over(wait, rt, "run", one(), JOURNAL_PATH, &mut fleet);
@@ -81,7 +81,7 @@ fn told_over<R: Wait + Threads + Sync>(
     input: &str,
     journal: &str,
     fleet: &mut TcpFleet<HostRuntime>,
-) -> Result<Told, Memory> {
+) -> Result<SideEnd, Memory> {
     let by_item: Box<dyn Fn(OpView) -> u64 + Send + Sync> = Box::new(
         rt.alloc(),
         |view: OpView| -> u64
@@ -101,29 +101,62 @@ fn told_with<R: Wait + Threads + Sync>(
     journal: &str,
     fleet: &mut TcpFleet<HostRuntime>,
     policies: &Policies<Policy>,
-) -> Result<Told, Memory> {
+) -> Result<SideEnd, Memory> {
     let words = words_of(rt.alloc(), word)?;
+    let told = told_by(wait, rt, &words, input, journal, fleet, policies);
+    drop(words);
+    told
+}
+
+// The same by these words.
+fn told_by<R: Wait + Threads + Sync>(
+    wait: &R,
+    rt: HostRuntime,
+    words: &[String],
+    input: &str,
+    journal: &str,
+    fleet: &mut TcpFleet<HostRuntime>,
+    policies: &Policies<Policy>,
+) -> Result<SideEnd, Memory> {
     let mut source = source_of(rt.alloc(), input)?;
+    let told = told_from(wait, rt, words, &mut source, journal, fleet, policies);
+    drop(source);
+    told
+}
+
+// The same from this source.
+fn told_from<R: Wait + Threads + Sync>(
+    wait: &R,
+    rt: HostRuntime,
+    words: &[String],
+    source: &mut MemorySource,
+    journal: &str,
+    fleet: &mut TcpFleet<HostRuntime>,
+    policies: &Policies<Policy>,
+) -> Result<SideEnd, Memory> {
     let disk = disk_of(rt, journal)?;
     let mut sink = MemorySink::new(rt.alloc(), Turns::new(rt.alloc()));
     let mut notes = MemorySink::new(rt.alloc(), Turns::new(rt.alloc()));
     let status = status_of(
         wait,
         rt.alloc(),
-        &words,
-        &mut source,
+        words,
+        source,
         &mut sink,
         &mut notes,
         disk,
         fleet,
         policies,
     );
-    told_of(rt.alloc(), status, &sink)
+    drop(notes);
+    let told = told_of(rt.alloc(), status, &sink);
+    drop(sink);
+    told
 }
 
-fn told_of(alloc: Global, status: u8, sink: &MemorySink) -> Result<Told, Memory> {
+fn told_of(alloc: Global, status: u8, sink: &MemorySink) -> Result<SideEnd, Memory> {
     let text = Vec::from_slice(alloc, sink.written())?;
-    Ok(Told { status, text })
+    Ok(SideEnd { status, text })
 }
 
 fn disk_of(rt: HostRuntime, journal: &str) -> Result<Mirror<FileDisk<HostRuntime>>, Memory> {
@@ -163,36 +196,43 @@ fn source_of(alloc: Global, input: &str) -> Result<MemorySource, Memory> {
     Ok(MemorySource::new(bytes, Turns::new(alloc)))
 }
 
-// An address of this machine at which nobody listens, as it was given to somebody who has gone.
-fn free_address(rt: HostRuntime) -> Result<String, Fail> {
+// An address of this machine at which nobody listens, as it was given to somebody who has gone. The fleet's file
+// names it, and there is no journal.
+fn prepared(rt: HostRuntime) -> Result<String, Fail> {
     let listener = TcpListener::bind(&rt, "127.0.0.1:0")?;
     let address = listener.local_addr()?;
+    drop(listener);
+    let lines = format!(in rt.alloc(); "A {address}\n")?;
+    fs::write(&rt, FLEET_PATH, lines.as_str())?;
+    let _ = fs::remove_file(&rt, JOURNAL_PATH);
     Ok(format!(in rt.alloc(); "{address}")?)
 }
 
-fn has_ended(told: Result<Told, Memory>, text: &str) -> bool {
+fn has_ended(told: Result<SideEnd, Memory>, text: &str) -> bool {
     match told {
         Ok(told) => is_told(told, text),
         Err(_) => false,
     }
 }
 
-fn is_told(told: Told, text: &str) -> bool {
+fn is_told(told: SideEnd, text: &str) -> bool {
     let is_told = told.status == 0 && told.text.as_slice().starts_with(text.as_bytes());
     drop(told);
     is_told
 }
 
-// The agent may have been asked more than once, on a busy machine.
+// Whether both sides end well. The agent may have been asked more than once, on a busy machine.
+fn both_end<R: Wait + Threads + Sync>(wait: &R, rt: HostRuntime, address: String) -> bool {
+    let (agent, rollout) = both_sides(wait, rt, address);
+    let rolled = has_ended(rollout, "finished: operations 1, found 0\n");
+    let served = has_ended(agent, "agent: guests 1, commands ");
+    rolled && served
+}
+
 #[test]
 fn an_agent_and_a_rollout_end_in_one_process(rt: HostRuntime) -> Result<(), Fail> {
-    let address = free_address(rt)?;
-    let lines = format!(in rt.alloc(); "A {address}\n")?;
-    fs::write(&rt, FLEET_PATH, lines.as_str())?;
-    let _ = fs::remove_file(&rt, JOURNAL_PATH);
-    let (agent, rollout) = both_sides(&rt, rt, address);
-    assert!(rt; has_ended(rollout, "finished: operations 1, found 0\n"));
-    assert!(rt; has_ended(agent, "agent: guests 1, commands "));
+    let address = prepared(rt)?;
+    assert!(rt; both_end(&rt, rt, address));
     fs::remove_file(&rt, JOURNAL_PATH)?;
     fs::remove_file(&rt, FLEET_PATH)?;
     Ok(())

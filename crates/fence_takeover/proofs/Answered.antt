@@ -3,7 +3,7 @@ use Rattle.std.proofs.Common.{◌≡◌, ◌⊎◌, ℕ, List, Result, Ok, Err, 
 use Rattle.std.specs.Prelude.{IfErr, IfOk, IsErrOf}
 use Rattle.rollout_rules.specs.Wan.{Plan, Problem}
 use Rattle.wan_edge.specs.Ports.{PortTrace}
-use Rattle.rollout_ports.specs.Berths.{FleetPorts}
+use Rattle.switch_ports.specs.Berths.{FleetPorts}
 use Rattle.held_service.specs.Noting.{Notes}
 use Rattle.held_service.specs.Visits.{Fails, TellsAll}
 use Rattle.held_service.specs.declared.not_told.NotTold.{NotTold}
@@ -16,13 +16,13 @@ use Rattle.fence_takeover.specs.declared.end.FenceEnd.TheVariants as fence
 
 module _ {P : Type 0} (tell : P → PortTrace) (p : Problem) (plan : Plan) (migration limit : ℕ) (before now : FleetPorts P) where
   -- all told
-  pub fences-told : (notes : Notes) (result : Result (List ℕ) FenceEnd) → TellsAll tell p plan limit before now notes → IfOk result (λ start. IsTaken p plan migration notes start)
+  pub fences-told : (notes : Notes) (result : Result (List ℕ) FenceEnd) → TellsAll tell p plan migration limit before now notes → IfOk result (λ start. IsTaken p plan migration notes start)
       → IfErr result (λ end. (end ≡ fence.Memory) ⊎ IsUntaken p plan migration notes end) → Fences result tell p plan migration limit before now
   fences-told notes (Ok start) tells taken refused = record { notes = notes; tells = tells; taken = taken }
   fences-told notes (Err end) tells taken refused = inr (record { notes = notes; tells = tells; why = refused })
 
   -- not all did
-  pub fences-untold : (why : NotTold) (end : FenceEnd) → end ≡ end_of limit why → Fails tell p plan limit why before now → Fences (Err end) tell p plan migration limit before now
+  pub fences-untold : (why : NotTold) (end : FenceEnd) → end ≡ end_of limit why → Fails tell p plan migration limit why before now → Fences (Err end) tell p plan migration limit before now
   fences-untold why end is fails = inl (record { why = why; end_is = is; fails = fails })
 
 -- only the want of a port is one here

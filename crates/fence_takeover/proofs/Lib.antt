@@ -1,2 +1,4 @@
+pub mod Starts
 pub mod Taken
 pub mod Answered
+mod Asked

@@ -1,3 +1,5 @@
+pub mod Asked
+pub mod Beginnings
 pub mod Ends
 pub mod Starts
 pub mod Fences

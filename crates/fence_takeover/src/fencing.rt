@@ -1,5 +1,5 @@
 ghost use Rattle.std.specs.Prelude.{◌≡◌, ℕ, ◌≤◌, IsErrOf};
-ghost use Rattle.rollout_ports.specs.Berths.{ports_of};
+ghost use Rattle.switch_ports.specs.Berths.{ports_of};
 ghost use Rattle.wan_edge.specs.Streams.{Rose};
 ghost use Rattle.fence_takeover.specs.Fences.{Fences};
 
@@ -14,11 +14,11 @@ use wan_model::CheckedPlan;
 
 /// Asks the home of each item that has an operation what it holds of it, in so many rounds at the most, and gives of
 /// each item the number that is held of this migration: 0 where it is of an earlier one, or the item has no
-/// operation. The switches are asked one after the other, each by the name that the problem has for it, and what a
-/// switch holds stays as it was.
+/// operation. The questions name this migration. The switches are asked one after the other, each by the name that
+/// the problem has for it, and what a switch holds stays as it was.
 ///
-/// Over a fleet for a controller of one term each switch has that term as its floor behind it, since it told of
-/// each of its items behind that floor. What is given is then what its switches hold until the rollout goes on, but
+/// Over a fleet for a controller of one term each switch has that term as its floor after it, since it told of
+/// each of its items after that floor. What is given is then what its switches hold until the rollout goes on, but
 /// it need not be a start at which one may begin: that is to be tested.
 ///
 /// # Premises
@@ -49,7 +49,7 @@ pub fn fence<F: Fleet>(
         → Rose (F.faults fleet.old) (F.faults fleet.new) }
     ensures count { F.faults fleet.old ≤ F.faults fleet.new }
 {
-    match held_pairs(alloc, plan, rounds, fleet) {
+    match held_pairs(alloc, plan, migration, rounds, fleet) {
         Ok(pairs) => taken_start(alloc, plan, migration, pairs.as_slice()),
         Err(why) => Err(end_of(rounds, why)),
     }

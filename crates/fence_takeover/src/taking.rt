@@ -53,7 +53,7 @@ fn taken_at(
 {
     let noted = noted_at(notes, item);
     let count = operation_count(plan, item);
-    taken(migration, item, count, noted)
+    count_taken(migration, item, count, noted)
 }
 
 // How many operations the item with a number has.
@@ -71,7 +71,7 @@ fn noted_at(notes: &[Option<Held>], item: u32) -> Option<Held>
     *notes.get(item as usize)?
 }
 
-fn taken(migration: u32, item: u32, count: u32, noted: Option<Held>) -> Result<u32, FenceEnd>
+fn count_taken(migration: u32, item: u32, count: u32, noted: Option<Held>) -> Result<u32, FenceEnd>
     ensures { TakesOne migration item count noted result }
 {
     match noted {

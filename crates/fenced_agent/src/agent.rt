@@ -73,7 +73,7 @@ impl FencedAgent {
     }
 
     /// Holds what a command of this migration left that was carried out before, whatever is held of its
-    /// item, as [`Agent::restore`] does. Want of memory changes nothing.
+    /// item, as [`Agent::restore`] does. Lack of memory changes nothing.
     pub fn restore(&mut self, migration: u32, command: &Command) -> Result<(), Memory>
         ensures restored { OnOk result
             (fenced_holding self.new

@@ -24,7 +24,7 @@ in-head true last term floor byte given is = silent-or-alien (byte == fence_kind
 in-head false true term floor byte given is = alien-or-silent (nat_lt term floor) given is
 in-head false false term floor byte given is = cc is
 
--- ---- behind it
+-- ---- after it
 
 same-byte : (byte given : ℕ) → Plain byte ≡ Plain given → given ≡ byte
 same-byte byte given is = cc is

@@ -20,7 +20,7 @@ framing kept out = record { kept = kept; out = out }
 
 -- ---- one command
 
--- the head, and the command behind it
+-- the head, and the command after it
 pub one_added : (term : ℕ) (c : CommandFrame) (before mid now : List ℕ) → mid ≡ before ++ fence_bytes (Some term) → now ≡ mid ++ command_bytes c → now ≡ before ++ with_terms term (c ∷ [])
 one_added term c before mid now head is =
     is ∙ ap (λ (xs : List ℕ). xs ++ command_bytes c) head ∙ append_assoc before (fence_bytes (Some term)) (command_bytes c)
@@ -134,7 +134,7 @@ sends-none term kept bytes before = record {
   offered = record { count = 0; within = omega arith; appended = Appends-nothing before };
 }
 
--- what holds behind an error
+-- what holds after an error
 pub on-err : {X E : Type 0} (answer : Result X E) (given : E) (P : Type 0) → IsErrAnd answer (λ e. e ≡ given) → P → OnErr answer P
 on-err (Ok x) given P is holds = tt
 on-err (Err e) given P is holds = holds

@@ -1,4 +1,4 @@
--- A port that begins now is new, whatever went over the one behind it before.
+-- A port that begins now is new, whatever went over the one after it before.
 use Rattle.std.proofs.Common.{◌≡◌, ℕ, None, refl, subst, sym}
 use Rattle.wan_edge.specs.Fleets.{GivesPort}
 use Rattle.fenced_ports.specs.FencedPorts.{Fenced, first_fenced, told_of}

@@ -10,7 +10,7 @@ use Rattle.fenced_ports.specs.Sieves.{AfterPart, Hands, HearsByte, HearsNothing,
 use Rattle.fenced_ports.specs.declared.part.Part.{Part}
 use Rattle.fenced_ports.specs.declared.part.Part.TheVariants.{Alien, Low, Plain, Silent}
 
--- behind no fault a byte is noted for what it is
+-- after no fault a byte is noted for what it is
 pub read_on : (term : ℕ) (s : Sifting) (byte : ℕ) → s.broken ≡ false → after_byte term s byte ≡ noted (moved s byte) (part_of term s.at s.floor byte)
 read_on term s byte whole = cond-false s.broken s (noted (moved s byte) (part_of term s.at s.floor byte)) whole
 
@@ -123,7 +123,7 @@ module _ (term : ℕ) (t u : Sifting) (byte : ℕ) (within : t.at < 18) (whole :
 -- ---- the end
 
 module _ (before now : PortTrace) (s t : Sifting) where
-  -- where nothing was there behind silent bytes
+  -- where nothing was there after silent bytes
   pub hands-nothing : (moment : PortTrace) → AfterPart Silent s t → moment.quiet ≡ before.quiet → HearsNothing moment now → Hands (Ok None) before s now t
   hands-nothing moment so_far quiet nothing = record {
     same = so_far.0;
@@ -131,7 +131,7 @@ module _ (before now : PortTrace) (s t : Sifting) where
     why = inl (subst (λ (q : Option ℕ). IsOneMore q now.quiet) quiet nothing.quieter);
   }
 
-  -- where the port failed behind them
+  -- where the port failed after them
   pub hands-fault : (given : Result (Option ℕ) Failed) (why : Failed) (moment : PortTrace) → IsErrAnd given (λ e. e ≡ why) → AfterPart Silent s t → before.faults ≤ moment.faults → Rose moment.faults now.faults → Hands given before s now t
   hands-fault (Ok found) why moment fails so_far count cause = absurd fails
   hands-fault (Err e) why moment fails so_far count cause = record { same = so_far.0; why = inl (later cause) }

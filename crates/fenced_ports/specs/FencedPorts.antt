@@ -6,7 +6,7 @@ use Rattle.fenced_ports.specs.Framing.{IsFramed}
 use Rattle.fenced_ports.specs.Sieves.{Sifting, Sifts, first_sifting}
 
 -- The port behind it, now and as it was handed over; the term; what was made of the bytes heard; of the commands offered the one that hasn't ended, and
--- whether all before it are commands; whether a call has failed, behind which all others do; all bytes that were offered; how often nothing was there,
+-- whether all before it are commands; whether a call has failed, after which all others do; all bytes that were offered; how often nothing was there,
 -- how often it was looked at too early, and how often a call has failed.
 pub record Fenced (P : Type 0) : Type 0 where
   pub port : P

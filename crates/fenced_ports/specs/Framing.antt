@@ -18,13 +18,13 @@ pub record Framing : Type 0 where
   pub kept : List ℕ
   pub out : List ℕ
 
--- Behind what was kept, whole commands stand at the front of these bytes. Each is put to what goes out with the term in front, and the rest is kept.
+-- After what was kept, whole commands stand at the front of these bytes. Each is put to what goes out with the term in front, and the rest is kept.
 pub record Frames (term : ℕ) (before : Framing) (bytes : List ℕ) (now : Framing) : Type 0 where
   pub commands : List CommandFrame
   pub whole : Splits command_bytes IsCommand (before.kept ++ bytes) commands now.kept
   pub added : now.out ≡ before.out ++ with_terms term commands
 
--- These bytes were offered behind what was kept: the whole commands in them went out, and the rest is kept.
+-- These bytes were offered after what was kept: the whole commands in them went out, and the rest is kept.
 pub record Sends (term : ℕ) (kept bytes : List ℕ) (before now : Option (List ℕ)) (kept_now : List ℕ) : Type 0 where
   pub commands : List CommandFrame
   pub whole : Splits command_bytes IsCommand (kept ++ bytes) commands kept_now

@@ -1,4 +1,3 @@
-pub mod Histories
 pub mod Parts
 pub mod Sieves
 pub mod Framing

@@ -21,7 +21,7 @@ left Alien at = 0
 
 -- ---- where one stands
 
--- the place behind this one, of the eighteen of a frame
+-- the place after this one, of the eighteen of a frame
 abbrev pub next_at : ℕ → ℕ
 next_at at = if nat_lt at 17 then at + 1 else 0
 
@@ -29,7 +29,7 @@ next_at at = if nat_lt at 17 then at + 1 else 0
 abbrev pub shifted : ℕ → ℕ → ℕ
 shifted floor byte = (floor * 256 + byte) % 2 ^ 32
 
--- the floor so far: it is whole behind the fifth byte
+-- the floor so far: it is whole after the fifth byte
 abbrev pub next_floor : ℕ → ℕ → ℕ → ℕ
 next_floor at floor byte = if nat_lt at 5 then shifted floor byte else floor
 
@@ -51,11 +51,11 @@ head_byte term at floor byte = if at == 0 then first_byte byte else if at == 4 t
 abbrev pub in_answers_place : ℕ → Part
 in_answers_place byte = if byte == answer_kind then Silent else Plain byte
 
--- behind a lower floor
+-- after a lower floor
 abbrev pub lower_byte : ℕ → ℕ → Part
 lower_byte at byte = if at == 5 then in_answers_place byte else if at == 17 then Low else Silent
 
--- behind a floor
+-- after a floor
 abbrev pub answer_byte : ℕ → ℕ → ℕ → ℕ → Part
 answer_byte term at floor byte = if nat_lt floor term then lower_byte at byte else Plain byte
 

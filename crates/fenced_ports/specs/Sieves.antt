@@ -8,7 +8,7 @@ use Rattle.fenced_ports.specs.declared.part.Part.{Part}
 use Rattle.fenced_ports.specs.declared.part.Part.TheVariants.{Alien, Low, Plain, Silent}
 
 -- The place of the next byte and the floor so far; the bytes that were handed on; how many answers with a lower floor have ended; and whether a byte came
--- that can't stand where it stood, behind which nothing is read.
+-- that can't stand where it stood, after which nothing is read.
 pub record Sifting : Type 0 where
   pub at : ℕ
   pub floor : ℕ

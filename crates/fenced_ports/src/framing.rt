@@ -10,7 +10,7 @@ use wan_edge::Port;
 use wire_frames::{COMMAND_LEN, Command, CommandReader, write_command};
 
 /// Sends the whole commands that end in these bytes, each with the term in front and all in one call, and keeps
-/// what stands behind them.
+/// what stands after them.
 pub(crate) fn send_framed<T: Port>(
     port: &mut T,
     term: u32,

@@ -5,7 +5,7 @@ ghost use Rattle.fenced_ports.specs.Parts.{part_of};
 ghost use Rattle.fenced_ports.specs.Sieves.{Sifting, after_bytes, first_sifting};
 ghost use Rattle.fenced_ports.specs.declared.part.Part.TheVariants as part;
 
-/// A byte is handed on only behind a floor, and the floor isn't below the term, or the byte stands in an answer's
+/// A byte is handed on only after a floor, and the floor isn't below the term, or the byte stands in an answer's
 /// first place and begins none. No floor above the term comes so far: its last byte is the end of all.
 pub fn what_is_handed_on_is_behind_the_term()
     ensures behind { (term at floor byte given : ℕ)
@@ -20,7 +20,7 @@ pub fn what_is_handed_on_is_behind_the_term()
 {}
 
 /// Where nothing came that can't stand where it stood, no floor that has ended is above the term. So a byte that is
-/// handed on stands behind the term itself, or begins no answer.
+/// handed on stands after the term itself, or begins no answer.
 pub fn a_floor_is_never_above_the_term()
     ensures bounded { (term : ℕ) (bytes : List ℕ)
         → (after_bytes term first_sifting bytes).broken ≡ false
@@ -39,7 +39,7 @@ pub fn it_does_not_matter_where_a_stream_is_cut()
         → after_bytes term s (xs ++ ys) ≡ after_bytes term (after_bytes term s xs) ys }
 {}
 
-/// Behind a byte that can't stand where it stood, nothing is read.
+/// After a byte that can't stand where it stood, nothing is read.
 pub fn behind_a_fault_nothing_is_read()
     ensures { (term : ℕ) (s : Sifting) (bytes : List ℕ)
         → s.broken ≡ true

@@ -1,6 +1,6 @@
 ghost use Rattle.std.specs.Prelude.{◌≡◌, ◌<◌, ℕ};
 
-/// A fleet whose ports are for a controller of one term, so that each command goes out over them behind it.
+/// A fleet whose ports are for a controller of one term, so that each command goes out over them after it.
 /// One over plain ports is none: what is asked over it fences nobody off.
 pub trait OneTerm {
     /// The term of its ports.

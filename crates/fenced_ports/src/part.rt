@@ -6,7 +6,7 @@ ghost use Rattle.fenced_ports.specs.Parts.{is_silent};
 pub(crate) enum Part {
     /// A byte that isn't handed on: of what stands in front of an answer, or of an answer with a lower floor.
     Silent,
-    /// A byte that is handed on: of an answer behind the term as its floor, or one that begins no answer.
+    /// A byte that is handed on: of an answer after the term as its floor, or one that begins no answer.
     Plain(u8),
     /// The last byte of an answer with a lower floor.
     Low,

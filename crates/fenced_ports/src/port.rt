@@ -5,8 +5,8 @@ ghost use Rattle.fenced_ports.specs.Sieves.{Hands, HandsFault};
 
 use crate::framing::send_framed;
 use crate::hearing::hear_plain;
-use crate::history::{Count, History};
 use crate::sieve::Sieve;
+use byte_history::{Count, History};
 use std::alloc::Global;
 use std::marker::Model;
 use std::snapshot::Snapshot;
@@ -18,7 +18,7 @@ use wire_frames::CommandReader;
 /// floor: one with a lower floor was given before the switch heard of the term, and counts as nothing heard.
 ///
 /// It fails where the port behind it fails, where a floor above the term is heard, where a frame begins with
-/// another byte than it may, where what is offered begins no command, and for want of memory. Then it is down:
+/// another byte than it may, where what is offered begins no command, and for lack of memory. Then it is down:
 /// each later call fails, and nothing more goes over the port behind it.
 ///
 /// What is heard is read as one stream. So the port behind it gives whole frames only, or fails where a connection

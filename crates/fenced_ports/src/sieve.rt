@@ -3,8 +3,8 @@ ghost use Rattle.std.specs.Prelude.{◌≡◌, ◌<◌, false};
 ghost use Rattle.fenced_ports.specs.Parts as parts;
 ghost use Rattle.fenced_ports.specs.Sieves.{after_byte, first_sifting, moved, noted};
 
-use crate::history::{Count, History};
 use crate::part::Part;
+use byte_history::{Count, History};
 use std::marker::Model;
 
 /// The first byte of a frame.
@@ -117,14 +117,14 @@ fn next_floor(at: u8, floor: u32, byte: u8) -> u32
     ensures { result ≡ parts.next_floor at floor byte }
 {
     if at < HEAD {
-        shifted(floor, byte)
+        shift_in(floor, byte)
     } else {
         floor
     }
 }
 
 // The last four bytes as a number, with this one.
-fn shifted(floor: u32, byte: u8) -> u32
+fn shift_in(floor: u32, byte: u8) -> u32
     ensures { result ≡ parts.shifted floor byte }
 {
     ((u64::from(floor) * 256 + u64::from(byte)) % 4_294_967_296) as u32
@@ -146,7 +146,7 @@ fn head_byte(term: u32, at: u8, floor: u32, byte: u8) -> Part
     if at == 0 {
         first_byte(byte)
     } else if at == HEAD - 1 {
-        last_of_floor(term, shifted(floor, byte))
+        last_of_floor(term, shift_in(floor, byte))
     } else {
         Part::Silent
     }

@@ -6,7 +6,7 @@ ghost use Rattle.fenced_agent.specs.Worked.{first_answer, first_command, floored
 ghost use Rattle.fenced_ports.specs.Framing.{with_terms};
 ghost use Rattle.fenced_ports.specs.Sieves.{after_bytes, first_sifting};
 
-/// A controller of term 2 is handed the answer behind floor 2. The one behind floor 1 tells nothing, and behind
+/// A controller of term 2 is handed the answer after floor 2. The one after floor 1 tells nothing, and after
 /// floor 3 nothing is read.
 pub fn an_answer_is_handed_on_behind_its_own_floor()
     ensures own { after_bytes 2 first_sifting (floored_bytes (floored (Some 2) (first_answer 1)))
@@ -27,7 +27,7 @@ pub fn an_answer_is_handed_on_behind_its_own_floor()
         ≡ true }
 {}
 
-/// Behind a lower floor comes the answer to a command of this term.
+/// After a lower floor comes the answer to a command of this term.
 pub fn a_late_answer_is_passed_over()
     ensures { (after_bytes 2 first_sifting
         (floored_bytes (floored (Some 1) (first_answer 0))
@@ -35,7 +35,7 @@ pub fn a_late_answer_is_passed_over()
         ≡ answer_bytes (first_answer 1) }
 {}
 
-/// Behind either floor a byte that begins no answer is handed on.
+/// After either floor a byte that begins no answer is handed on.
 pub fn a_byte_that_begins_no_answer_is_handed_on()
     ensures own { (after_bytes 2 first_sifting (0x46 ∷ 0 ∷ 0 ∷ 0 ∷ 2 ∷ 0x46 ∷ [])).plain
         ≡ 0x46 ∷ [] }

@@ -1,4 +1,4 @@
--- What a reader of commands with terms makes of a head, and of what stands behind it.
+-- What a reader of commands with terms makes of a head, and of what stands after it.
 use Rattle.std.proofs.Common.{◌≡◌, ◌≢◌, ◌⊎◌, ℕ, zero, suc, ◌+◌, ◌-◌, ◌<◌, ◌≤◌, ◌^◌, min, Bool, true, false, List, [], ◌∷◌, ◌++◌, length, slice_index, take, drop, replicate, Option, Some, None, inl, inr, refl, sym, ap, ap₂, subst, ◌∙◌, append_assoc, append-nil, arith, length-append}
 use Rattle.std.proofs.lemmas.Bool.{cases_lt}
 use Rattle.std.proofs.lemmas.List.{get_or-replicate, get_or_append_left, get_or_past, length-replicate, length-take-le, nil_from_length, take_all}
@@ -152,7 +152,7 @@ module _ (r : Termed) (piece : List ℕ) (front : IsHead r.head) (ready : IsRead
       };
     }
 
-  -- ---- behind it
+  -- ---- after it
   module _ (body : IsInBody r.head r.begun piece) where
     either : (r.head ≡ []) ⊎ (length r.head ≡ 5)
     either = none-or-whole r piece front ready body

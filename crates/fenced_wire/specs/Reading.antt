@@ -6,7 +6,7 @@ use Rattle.wire_frames.specs.Reading.{IsCommandFault, Reader}
 use Rattle.wire_frames.specs.declared.fault.FrameFault.{FrameFault}
 use Rattle.fenced_agent.specs.Frames.{IsTermedCommand, TermedCommand, fence_bytes, fence_kind, term_of, termed_bytes}
 
--- The bytes that stand in front of a command, as far as they have come, and those of the command behind them; whether such a one has begun; and whether
+-- The bytes that stand in front of a command, as far as they have come, and those of the command after them; whether such a one has begun; and whether
 -- there was no fault.
 pub record Termed : Type 0 where
   pub head : List ℕ
@@ -21,7 +21,7 @@ all_kept r = r.head ++ r.kept
 abbrev pub fresh : Termed
 fresh = record { head = []; kept = []; begun = false; live = true }
 
--- What stands at the front of these bytes is no command, with a term or without one: behind the term, or in its place, a byte can't stand where it stands.
+-- What stands at the front of these bytes is no command, with a term or without one: after the term, or in its place, a byte can't stand where it stands.
 pub record IsTermedFault (bytes : List ℕ) (fault : FrameFault) : Type 0 where
   pub term : Option ℕ
   pub in_term : term_of term < 2 ^ 32
@@ -66,7 +66,7 @@ pub record IsHead (head : List ℕ) : Type 0 where
   pub short : length head ≤ 5
   pub small : (i : ℕ) → slice_index head i < 256
 
--- the number behind the kind in a whole head; none where there is no head
+-- the number after the kind in a whole head; none where there is no head
 abbrev pub IsTermIn : List ℕ → Option ℕ → Type 0
 IsTermIn head None = length head < 5
 IsTermIn head (Some term) = (5 ≤ length head) × (term ≡ big_number 4 (take (length head - 1) (drop 1 head)))

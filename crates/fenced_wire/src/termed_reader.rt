@@ -85,7 +85,7 @@ impl TermedReader {
     }
 
     /// Takes bytes of the piece, at least one, up to the end of one command or of what stands in front of one,
-    /// and says how many, and which command it is. After a fault nothing more may be fed. A byte behind a term
+    /// and says how many, and which command it is. After a fault nothing more may be fed. A byte after a term
     /// that begins no command is a fault at that byte.
     pub fn feed(&mut self, piece: &[u8]) -> Result<(usize, Option<TermedFrame>), FrameFault>
         requires live { IsTrue self.old.live }
@@ -117,7 +117,7 @@ fn feed_parts(
     feed_body(head, commands, begun, piece)
 }
 
-// The reading of what stands behind a head, or without one.
+// The reading of what stands after a head, or without one.
 fn feed_body(
     head: &mut Head,
     commands: &mut CommandReader,

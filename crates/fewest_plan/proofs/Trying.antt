@@ -113,7 +113,7 @@ module _ (p : Problem) (d : ℕ) (before after : List ℕ) (f : ℕ) (are : AreS
         omega (arith, at)
   ]
 
-  -- the tops behind it
+  -- the tops after it
   pub tops-moved : (sums later : List ℕ) (most : ℕ) → IsNetwork p → slice_index before f ≤ slice_index after f → sums ≡ tops p d before after → GrownBy sums later (gained (gains_of p f) (far p d before after f)) most → later ≡ tops p d before (moved p d before after f)
   tops-moved sums later most net grows is by =
       let count : length sums ≡ length p.links = ap length is ∙ list_below-length (length p.links) (top p d before after) in

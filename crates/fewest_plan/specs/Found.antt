@@ -8,7 +8,7 @@ use Rattle.fewest_plan.specs.declared.cause.Cause.TheVariants.{Unchosen, Unfound
 use Rattle.fewest_plan.specs.declared.cause.NotFound.{NotFound}
 use Rattle.fewest_plan.specs.Fewest.{fewest}
 
--- the cause that a planner answers is the right one; want of memory says nothing
+-- the cause that a planner answers is the right one; lack of memory says nothing
 abbrev pub Refuses : {A : Type 0} → Cause → Result A Cause → Type 0
 Refuses (Unchosen (OverCapacity link side load capacity)) wanted = wanted ≡ Err (Unchosen (OverCapacity link side load capacity))
 Refuses (Unchosen (TableFull switch entries size)) wanted = wanted ≡ Err (Unchosen (TableFull switch entries size))

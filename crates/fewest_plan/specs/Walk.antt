@@ -20,7 +20,7 @@ shares_after p d order (suc n) = step p d order (shares_after p d order n)
 abbrev pub have_arrived : Problem → ℕ → List ℕ → Bool
 have_arrived p d shares = all_below (length p.flows) (λ f. slice_index shares f == d)
 
--- a number of rate steps less one, where all flows have arrived behind these steps
+-- a number of rate steps less one, where all flows have arrived after these steps
 abbrev pub arrives : Problem → ℕ → List ℕ → ℕ → Option ℕ
 arrives p d order i = provided (have_arrived p d (shares_after p d order (i + 1))) i
 

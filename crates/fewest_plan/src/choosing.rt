@@ -97,11 +97,11 @@ fn without_slack(alloc: Global, problem: &Problem, cause: NoPlan) -> Result<Plan
     let found = by_rule(alloc, problem, 252)?;
     match found {
         Some(better) => Ok(better),
-        None => unfound(alloc, problem, cause),
+        None => cause_of_none(alloc, problem, cause),
     }
 }
 
-fn unfound(alloc: Global, problem: &Problem, cause: NoPlan) -> Result<Planned, Cause>
+fn cause_of_none(alloc: Global, problem: &Problem, cause: NoPlan) -> Result<Planned, Cause>
     ensures { Answers result (Err (spec.why_none cause (stuck_link problem.now))) }
 {
     let stuck = stuck_link(alloc, problem)?;

@@ -42,7 +42,7 @@ fn borne_by(problem: &Problem, marks: &[bool], side: Side, t: usize) -> u64
 {
     times(
         problem.rate_on(side, t).unwrap_or(0),
-        crossed(problem, marks, t),
+        count_crossed(problem, marks, t),
     )
 }
 
@@ -56,7 +56,7 @@ fn times(rate: u64, often: u64) -> u64
 }
 
 /// How many marked links are on the path of a tunnel.
-pub(crate) fn crossed(problem: &Problem, marks: &[bool], t: usize) -> u64
+pub(crate) fn count_crossed(problem: &Problem, marks: &[bool], t: usize) -> u64
     requires count { length marks.now ≡ length problem.now.links }
     requires tunnel { t < length problem.now.tunnels }
     ensures value { result ≡ spec.crossed problem.now marks.now t }

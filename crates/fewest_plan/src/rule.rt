@@ -101,13 +101,13 @@ fn in_parts(
     requires most { most ≤ 252 }
     ensures { IfOk result (λ best. best ≡ spec.in_parts problem.now most order.now found) }
 {
-    let found = improved(alloc, problem, 1, order, gains, most, found)?;
-    let found = improved(alloc, problem, 2, order, gains, most, found)?;
-    improved(alloc, problem, 12, order, gains, most, found)
+    let found = improve(alloc, problem, 1, order, gains, most, found)?;
+    let found = improve(alloc, problem, 2, order, gains, most, found)?;
+    improve(alloc, problem, 12, order, gains, most, found)
 }
 
 // What was found, unless the rule gives fewer rate steps.
-fn improved(
+fn improve(
     alloc: Global,
     problem: &Problem,
     scale: u32,

@@ -5,7 +5,7 @@ ghost use Rattle.wan_model.specs.declared.side.Side.TheVariants.{Old, New};
 ghost use Rattle.plan_check.specs.LeastSlack.{AreLoads};
 ghost use Rattle.fewest_plan.specs.Stuck as spec;
 
-use crate::marked::{crossed, loads_on};
+use crate::marked::{count_crossed, loads_on};
 use lists::{Marks, Memory};
 use rollout_rules::MOST_HOPS;
 use std::alloc::Global;
@@ -130,11 +130,11 @@ fn stays_by(alloc: Global, problem: &Problem, weight: Weight, l: usize) -> Resul
     ensures { IfOk result
         (λ is. is ≡ spec.stay_full problem.now (spec.weighed weight problem.now l)) }
 {
-    let marks = weighed(alloc, problem, weight, l)?;
+    let marks = weigh_links(alloc, problem, weight, l)?;
     Ok(stay_full(problem, marks.as_slice()))
 }
 
-fn weighed(alloc: Global, problem: &Problem, weight: Weight, l: usize) -> Result<Marks, Memory>
+fn weigh_links(alloc: Global, problem: &Problem, weight: Weight, l: usize) -> Result<Marks, Memory>
     requires { l < length problem.now.links }
     ensures { IfOk result (λ marks. marks ≡ spec.weighed weight problem.now l) }
 {
@@ -165,7 +165,7 @@ fn stay_full(problem: &Problem, marks: &[bool]) -> bool
     requires { length marks.now ≡ length problem.now.links }
     ensures { result ≡ spec.stay_full problem.now marks.now }
 {
-    room(problem, marks) <= kept(problem, marks)
+    room(problem, marks) <= sum_kept(problem, marks)
 }
 
 fn room(problem: &Problem, marks: &[bool]) -> u128
@@ -187,7 +187,7 @@ fn room_on(problem: &Problem, marks: &[bool], l: usize) -> u64
     if marks[l] { problem.capacity(l) } else { 0 }
 }
 
-fn kept(problem: &Problem, marks: &[bool]) -> u128
+fn sum_kept(problem: &Problem, marks: &[bool]) -> u128
     requires { length marks.now ≡ length problem.now.links }
     ensures { result ≡ spec.kept problem.now marks.now }
 {
@@ -225,7 +225,7 @@ fn least_crossed(problem: &Problem, marks: &[bool], f: usize) -> u64
 {
     let mut least = MOST_HOPS as u64;
     for j in 0..problem.tunnel_count(f) {
-        least = least.min(crossed(problem, marks, problem.tunnel_of(f, j)));
+        least = least.min(count_crossed(problem, marks, problem.tunnel_of(f, j)));
     }
     least
 }

@@ -38,7 +38,7 @@ pub(crate) fn greedy(
         let next = step(alloc, problem, scale, order, gains, before)?;
         let after = next.as_slice();
         if have_arrived(problem, scale, after) {
-            return framed(alloc, problem, scale, &rows, i + 1);
+            return accept_frame(alloc, problem, scale, &rows, i + 1);
         }
         if are_same(before, after) {
             return Ok(None);
@@ -86,7 +86,7 @@ fn are_same(before: &[u64], after: &[u64]) -> bool
 }
 
 // The plan over the rates between, where the checker accepts it.
-fn framed(
+fn accept_frame(
     alloc: Global,
     problem: &Problem,
     scale: u32,
@@ -98,10 +98,10 @@ fn framed(
         ≡ spec.accepted problem.now rate_steps (frame.frame problem.now scale rows.now)) }
 {
     let plan = frame(alloc, problem, scale, rows.as_slice())?;
-    accepted(alloc, problem, plan, rate_steps)
+    accept(alloc, problem, plan, rate_steps)
 }
 
-fn accepted(
+fn accept(
     alloc: Global,
     problem: &Problem,
     plan: Plan,

@@ -1,4 +1,4 @@
--- What comes of a reading, and of a second one behind it.
+-- What comes of a reading, and of a second one after it.
 use Rattle.std.proofs.Common.{◌≡◌, ◌≢◌, inl, inr, ℕ, List, take, Result, Ok, Err, IfErr, IfOk, refl, sym, subst}
 use Rattle.wan_edge.specs.ReadAll.{ReadsToEnd}
 use Rattle.wan_edge.specs.Streams.{Rose, SourceTrace}

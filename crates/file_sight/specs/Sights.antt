@@ -72,6 +72,6 @@ Looks trace limit before (Err Failed) now = IsUnread trace limit before now ⊎ 
 Looks trace limit before (Err InUse) now = HasMoved trace limit before now
 Looks trace limit before (Err Memory) now = ⊤
 
--- the same of a second reading, behind one that gave these bytes, wherever that began
+-- the same of a second reading, after one that gave these bytes, wherever that began
 abbrev pub LooksBehind : {W : Type 0} → (W → SourceTrace) → ℕ → W → List ℕ → Result (List ℕ) Unseen → W → Type 0
 LooksBehind {W} trace limit between bytes answer now = (before : W) → IsRead trace limit before between bytes → Looks trace limit before answer now

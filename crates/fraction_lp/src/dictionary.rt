@@ -4,9 +4,9 @@ ghost use Rattle.fraction_lp.specs.Steps.{Leaves};
 
 use crate::line::Line;
 use crate::rows::Row;
+use crate::step_fault::StepFault;
 use crate::term::Term;
 use crate::terms::{coefficient_at, negated_or_zero};
-use crate::unfinished::Unfinished;
 use crate::{Fraction, FractionList};
 use std::alloc::{AllocError, Global};
 use std::marker::Model;
@@ -33,7 +33,7 @@ fn put_in_each(
     c: usize,
     solved: &Line,
     spare: &mut Vec<Term>,
-) -> Result<(), Unfinished>
+) -> Result<(), StepFault>
     ensures { Leaves result (put_in_each solved.now c lines.old) lines.new }
 {
     for slot in lines.iter_mut() {
@@ -83,7 +83,7 @@ impl Dictionary {
     }
 
     /// Exchanges b, the number that leaves, and the number of a term of its line.
-    pub(crate) fn exchange(&mut self, b: usize, term: Term) -> Result<(), Unfinished>
+    pub(crate) fn exchange(&mut self, b: usize, term: Term) -> Result<(), StepFault>
         requires b { leaving self.old ≡ Some b }
         requires c { term.number < length self.old }
         ensures { Leaves result (exchanged b term self.old) self.new }
@@ -124,7 +124,7 @@ fn exchange_lines(
     spare: &mut Vec<Term>,
     b: usize,
     term: Term,
-) -> Result<(), Unfinished>
+) -> Result<(), StepFault>
     requires b { leaving lines.old.items ≡ Some b }
     requires c { term.number < vec_len lines.old }
     ensures { Leaves result (exchanged b term lines.old.items) lines.new.items }

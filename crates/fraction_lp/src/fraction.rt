@@ -38,7 +38,7 @@ impl Fraction {
         if bottom < 1 || top == i128::MIN {
             None
         } else {
-            Some(reduced(top, bottom as u128))
+            Some(reduce(top, bottom as u128))
         }
     }
 
@@ -61,7 +61,7 @@ impl Fraction {
     pub fn plus(self, other: Fraction) -> Option<Fraction>
         ensures { result ≡ plus self other }
     {
-        let (left, right) = self.crossed(other)?;
+        let (left, right) = self.cross_products(other)?;
         let top = formed_sum(left, right)?;
         over_both(top, self.whole(), other.whole())
     }
@@ -70,7 +70,7 @@ impl Fraction {
     pub fn minus(self, other: Fraction) -> Option<Fraction>
         ensures { result ≡ minus self other }
     {
-        let (left, right) = self.crossed(other)?;
+        let (left, right) = self.cross_products(other)?;
         let top = formed_difference(left, right)?;
         over_both(top, self.whole(), other.whole())
     }
@@ -92,18 +92,18 @@ impl Fraction {
             return None;
         }
         let top = formed_product(self.top(), other.bottom())?;
-        over_both(turned(top, divisor), self.whole(), divisor.unsigned_abs())
+        over_both(flip_by(top, divisor), self.whole(), divisor.unsigned_abs())
     }
 
     /// Which of two is greater, where each top times the other's bottom fits.
     pub fn order(self, other: Fraction) -> Option<Ordering>
         ensures { result ≡ order self other }
     {
-        let (left, right) = self.crossed(other)?;
+        let (left, right) = self.cross_products(other)?;
         Some(left.cmp(&right))
     }
 
-    pub(crate) fn negated(self) -> Fraction
+    pub(crate) fn negate(self) -> Fraction
         ensures { result ≡ negated self }
     {
         Fraction {
@@ -151,7 +151,7 @@ impl Fraction {
     }
 
     /// Each top times the other's bottom, where both fit.
-    fn crossed(self, other: Fraction) -> Option<(i128, i128)>
+    fn cross_products(self, other: Fraction) -> Option<(i128, i128)>
         ensures { result
             ≡ where_they_fit ((self.top *ℤ pos other.bottom) ∷ (other.top *ℤ pos self.bottom) ∷ [])
             ((self.top *ℤ pos other.bottom), (other.top *ℤ pos self.bottom)) }
@@ -170,7 +170,7 @@ fn over_both(top: i128, a: u128, b: u128) -> Option<Fraction>
     ensures { result ≡ where_they_fit (pos (a * b) ∷ []) (ratio top (a * b)) }
 {
     let bottom = formed_bottom(a, b)?;
-    Some(reduced(top, bottom))
+    Some(reduce(top, bottom))
 }
 
 /// A product of two positive numbers, where it is at most 2^127 - 1.
@@ -187,7 +187,7 @@ fn formed_bottom(a: u128, b: u128) -> Option<u128>
 }
 
 /// A number that fits, its sign changed where the divisor is negative.
-fn turned(top: i128, divisor: i128) -> i128
+fn flip_by(top: i128, divisor: i128) -> i128
     requires { nat_abs top < 2 ^ 127 }
     ensures value { result ≡ turned top divisor }
     ensures size { nat_abs result < 2 ^ 127 }
@@ -196,7 +196,7 @@ fn turned(top: i128, divisor: i128) -> i128
 }
 
 /// A fraction of numbers that fit.
-fn reduced(top: i128, bottom: u128) -> Fraction
+fn reduce(top: i128, bottom: u128) -> Fraction
     requires top { nat_abs top < 2 ^ 127 }
     requires positive { 0 < bottom }
     requires bottom { bottom < 2 ^ 127 }

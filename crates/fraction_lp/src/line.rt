@@ -3,9 +3,9 @@ ghost use Rattle.fraction_lp.specs.Dictionary.{Line as TheLine, solved_for, put_
 ghost use Rattle.fraction_lp.specs.Steps.{Gives, Leaves};
 
 use crate::Fraction;
+use crate::step_fault::StepFault;
 use crate::term::Term;
 use crate::terms::{add_times, insert_term, over_each, take_term};
-use crate::unfinished::Unfinished;
 use std::marker::Model;
 use std::mem;
 
@@ -44,7 +44,7 @@ impl Line {
     }
 
     /// The line of b solved for the number that a term of it has.
-    pub(crate) fn solved_for(self, b: usize, term: Term) -> Result<Line, Unfinished>
+    pub(crate) fn solved_for(self, b: usize, term: Term) -> Result<Line, StepFault>
         ensures { Gives result (solved_for b term.number term.coefficient self) }
     {
         let Line {
@@ -52,13 +52,13 @@ impl Line {
             mut terms,
         } = self;
         let p = term.coefficient;
-        let constant = constant.negated().over(p).ok_or(Unfinished::Overflow)?;
+        let constant = constant.negate().over(p).ok_or(StepFault::Overflow)?;
         take_term(term.number, &mut terms);
         insert_term(
             &mut terms,
             Term {
                 number: b,
-                coefficient: Fraction::one().negated(),
+                coefficient: Fraction::one().negate(),
             },
         )?;
         over_each(p, terms.as_mut_slice())?;
@@ -71,7 +71,7 @@ impl Line {
         c: usize,
         solved: &Line,
         spare: &mut Vec<Term>,
-    ) -> Result<(), Unfinished>
+    ) -> Result<(), StepFault>
         ensures { Leaves result
             (put_in_where solved.now c self.old (coefficient_at c self.old.terms)) self.new }
     {
@@ -86,9 +86,9 @@ impl Line {
     }
 }
 
-fn plus_times(x: Fraction, t: Fraction, y: Fraction) -> Result<Fraction, Unfinished>
+fn plus_times(x: Fraction, t: Fraction, y: Fraction) -> Result<Fraction, StepFault>
     ensures { Gives result (plus_times x t y) }
 {
-    let added = t.times(y).ok_or(Unfinished::Overflow)?;
-    x.plus(added).ok_or(Unfinished::Overflow)
+    let added = t.times(y).ok_or(StepFault::Overflow)?;
+    x.plus(added).ok_or(StepFault::Overflow)
 }

@@ -102,7 +102,7 @@ impl Rows {
         }
     }
 
-    /// Asks that a row times the unknowns is at most a bound. Want of memory changes nothing.
+    /// Asks that a row times the unknowns is at most a bound. Lack of memory changes nothing.
     pub fn add(&mut self, row: &[Fraction], bound: Fraction) -> Result<(), Memory>
         requires { length row.now ≡ self.old.unknowns }
         ensures ok { OnOk result

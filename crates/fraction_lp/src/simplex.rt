@@ -6,9 +6,9 @@ ghost use Rattle.fraction_lp.specs.Choices.{IsChoice};
 use crate::LpAnswer;
 use crate::dictionary::Dictionary;
 use crate::rows::Rows;
+use crate::step_fault::StepFault;
 use crate::term::Term;
 use crate::terms::entering;
-use crate::unfinished::Unfinished;
 use std::alloc::AllocError;
 
 /// How many exchanges are made at most.
@@ -43,8 +43,8 @@ fn run(rows: &Rows) -> Result<LpAnswer, AllocError>
             Choice::End(answer) => return Ok(answer),
             Choice::Exchange(b, term) => match dictionary.exchange(b, term) {
                 Ok(()) => {}
-                Err(Unfinished::Overflow) => return Ok(LpAnswer::Overflow(made)),
-                Err(Unfinished::Memory) => return Err(AllocError),
+                Err(StepFault::Overflow) => return Ok(LpAnswer::Overflow(made)),
+                Err(StepFault::Memory) => return Err(AllocError),
             },
         }
     }

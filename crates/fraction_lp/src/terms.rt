@@ -3,12 +3,12 @@ ghost use Rattle.fraction_lp.specs.Dictionary.{with_term, times_each, below, fro
 ghost use Rattle.fraction_lp.specs.Steps.{Leaves, TakesSome, behind};
 
 use crate::Fraction;
+use crate::step_fault::StepFault;
 use crate::term::Term;
-use crate::unfinished::Unfinished;
 use std::alloc::{AllocError, Global};
 
 /// Adds a term at the end, where its coefficient isn't 0.
-fn keep(kept: &mut Vec<Term>, number: usize, coefficient: Fraction) -> Result<(), Unfinished>
+fn keep(kept: &mut Vec<Term>, number: usize, coefficient: Fraction) -> Result<(), StepFault>
     ensures { Leaves result (behind kept.old.items (with_term number (Some coefficient) (Some [])))
         kept.new.items }
 {
@@ -23,15 +23,11 @@ fn keep(kept: &mut Vec<Term>, number: usize, coefficient: Fraction) -> Result<()
 }
 
 /// Adds t times each term at the end.
-pub(crate) fn times_each(
-    t: Fraction,
-    terms: &[Term],
-    made: &mut Vec<Term>,
-) -> Result<(), Unfinished>
+pub(crate) fn times_each(t: Fraction, terms: &[Term], made: &mut Vec<Term>) -> Result<(), StepFault>
     ensures { Leaves result (behind made.old.items (times_each t terms.now)) made.new.items }
 {
     for term in terms {
-        let coefficient = t.times(term.coefficient).ok_or(Unfinished::Overflow)?;
+        let coefficient = t.times(term.coefficient).ok_or(StepFault::Overflow)?;
         keep(made, term.number, coefficient)?;
     }
     Ok(())
@@ -58,14 +54,14 @@ fn add_first(
     term: Term,
     others: &[Term],
     made: &mut Vec<Term>,
-) -> Result<usize, Unfinished>
+) -> Result<usize, StepFault>
     ensures { TakesSome result (λ rest. behind made.old.items (add_first t term rest others.now))
         made.new.items others.now }
 {
     if let Some(first) = others.first() {
         if first.number == term.number {
-            let added = t.times(first.coefficient).ok_or(Unfinished::Overflow)?;
-            let sum = term.coefficient.plus(added).ok_or(Unfinished::Overflow)?;
+            let added = t.times(first.coefficient).ok_or(StepFault::Overflow)?;
+            let sum = term.coefficient.plus(added).ok_or(StepFault::Overflow)?;
             keep(made, term.number, sum)?;
             return Ok(1);
         }
@@ -80,7 +76,7 @@ pub(crate) fn add_times(
     terms: &[Term],
     others: &[Term],
     made: &mut Vec<Term>,
-) -> Result<(), Unfinished>
+) -> Result<(), StepFault>
     ensures { Leaves result (behind made.old.items (add_times t terms.now others.now))
         made.new.items }
 {
@@ -118,15 +114,15 @@ pub(crate) fn insert_term(terms: &mut Vec<Term>, term: Term) -> Result<(), Alloc
 }
 
 /// Puts each coefficient, negated, over p.
-pub(crate) fn over_each(p: Fraction, terms: &mut [Term]) -> Result<(), Unfinished>
+pub(crate) fn over_each(p: Fraction, terms: &mut [Term]) -> Result<(), StepFault>
     ensures { Leaves result (over_each p terms.old) terms.new }
 {
     for term in terms.iter_mut() {
         term.coefficient = term
             .coefficient
-            .negated()
+            .negate()
             .over(p)
-            .ok_or(Unfinished::Overflow)?;
+            .ok_or(StepFault::Overflow)?;
     }
     Ok(())
 }
@@ -149,7 +145,7 @@ pub(crate) fn negated_or_zero(coefficient: Option<Fraction>) -> Fraction
     ensures { result ≡ negated_or_zero coefficient }
 {
     match coefficient {
-        Some(coefficient) => coefficient.negated(),
+        Some(coefficient) => coefficient.negate(),
         None => Fraction::zero(),
     }
 }
@@ -176,7 +172,7 @@ pub(crate) fn negated_terms(
     let mut terms = Vec::new(alloc);
     for (number, coefficient) in coefficients.iter().enumerate() {
         if !coefficient.is_zero() {
-            let coefficient = coefficient.negated();
+            let coefficient = coefficient.negate();
             terms.push(Term {
                 number,
                 coefficient,

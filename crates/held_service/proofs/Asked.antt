@@ -5,8 +5,8 @@ use Rattle.std.proofs.lemmas.Option.{slice_get_past}
 use Rattle.rollout_rules.specs.Items.{home_of, item_at}
 use Rattle.rollout_rules.specs.Operations.{operations}
 use Rattle.rollout_rules.specs.Wan.{Plan, Problem}
-use Rattle.rollout_ports.specs.Homes.{passing_below}
-use Rattle.worker_ports.specs.Lots.{home_in, is_switch}
+use Rattle.switch_ports.specs.Homes.{passing_below}
+use Rattle.switch_ports.specs.Outboxes.{home_in, is_switch}
 use Rattle.held_service.specs.Questions.{asked_home, has_items, is_asked, items_at}
 
 -- an item without an operation, and one with some

@@ -16,15 +16,17 @@ use Rattle.held_service.specs.Questions.{question, question_bytes}
 
 -- ---- questions
 
-pub question-more : (items : List ℕ) (item : ℕ) → question_bytes (items ++ item ∷ []) ≡ question_bytes items ++ command_bytes (question item)
-question-more [] item = append-nil (command_bytes (question item))
-question-more (n ∷ items) item =
-    ap (λ (bytes : List ℕ). command_bytes (question n) ++ bytes) (question-more items item) ∙ sym (append_assoc (command_bytes (question n)) (question_bytes items) (command_bytes (question item)))
+pub question-more : (migration : ℕ) (items : List ℕ) (item : ℕ) → question_bytes migration (items ++ item ∷ []) ≡ question_bytes migration items ++ command_bytes (question migration item)
+question-more migration [] item = append-nil (command_bytes (question migration item))
+question-more migration (n ∷ items) item =
+    ap (λ (bytes : List ℕ). command_bytes (question migration n) ++ bytes) (question-more migration items item)
+    ∙ sym (append_assoc (command_bytes (question migration n)) (question_bytes migration items) (command_bytes (question migration item)))
 
-pub question-append : (items more : List ℕ) → question_bytes (items ++ more) ≡ question_bytes items ++ question_bytes more
-question-append [] more = refl
-question-append (n ∷ items) more =
-    ap (λ (bytes : List ℕ). command_bytes (question n) ++ bytes) (question-append items more) ∙ sym (append_assoc (command_bytes (question n)) (question_bytes items) (question_bytes more))
+pub question-append : (migration : ℕ) (items more : List ℕ) → question_bytes migration (items ++ more) ≡ question_bytes migration items ++ question_bytes migration more
+question-append migration [] more = refl
+question-append migration (n ∷ items) more =
+    ap (λ (bytes : List ℕ). command_bytes (question migration n) ++ bytes) (question-append migration items more)
+    ∙ sym (append_assoc (command_bytes (question migration n)) (question_bytes migration items) (question_bytes migration more))
 
 -- the front of a buffer that has these bytes
 pub front-is : (frame out rest : List ℕ) (n : ℕ) → out ≡ frame ++ rest → n ≡ length frame → take n out ≡ frame
@@ -39,7 +41,7 @@ length-answer a = refl
 pub cut-short : (kept : List ℕ) → IsCutAnswer kept → length kept < 13
 cut-short kept cut = omega (arith, ap (λ (bytes : List ℕ). length bytes) cut.begins, length-append kept cut.missing, cut.some, length-answer cut.frame)
 
--- whole answers behind others
+-- whole answers after others
 splits-on : (kept between xs ys rest : List ℕ) (earlier later : List AnswerFrame) → Splits answer_bytes IsAnswer (kept ++ xs) earlier between → Splits answer_bytes IsAnswer (between ++ ys) later rest → Splits answer_bytes IsAnswer (kept ++ (xs ++ ys)) (earlier ++ later) rest
 splits-on kept between xs ys rest earlier later first second = record {
   fit = All-append IsAnswer earlier later first.fit second.fit;

@@ -1,13 +1,14 @@
 -- What hearing a switch comes to, byte by byte.
-use Rattle.std.proofs.Common.{◌≡◌, ℕ, ◌+◌, ◌*◌, ◌-◌, ◌<◌, ◌≤◌, Bool, List, [], ◌∷◌, ◌++◌, length, take, if◌then◌else◌, Option, Some, None, refl, sym, ap, ◌∙◌, subst, inl, inr, arith, append-nil, length-append}
-use Rattle.std.proofs.lemmas.Bool.{le-ltb, lt-ltb}
+use Rattle.std.proofs.Common.{◌≡◌, ◌⊎◌, ℕ, ◌+◌, ◌*◌, ◌-◌, ◌<◌, ◌≤◌, Bool, List, [], ◌∷◌, ◌++◌, length, take, if◌then◌else◌, Option, Some, None, refl, sym, ap, ◌∙◌, subst, inl, inr, arith, append-nil, length-append}
+use Rattle.std.proofs.lemmas.Bool.{OnTrue_at, OnTrue_from, le-ltb, lt-ltb}
 use Rattle.std.proofs.lemmas.List.Elements.{All-append, All-cons, All-nil}
 use Rattle.wan_edge.specs.Frames.{AnswerFrame, IsAnswer, IsCutAnswer, Splits, answer_bytes}
-use Rattle.wan_edge.specs.Ports.{FailsToHear, GoesOn, Hears as HearsBytes, IsOneMore, PortTrace, Steps}
+use Rattle.wan_edge.specs.Ports.{FailsToHear, GoesOn, Hears as HearsBytes, IsOneMore, NothingToCome, PortTrace, Steps}
 use Rattle.wan_edge.specs.Streams.{Appends, Rose}
+use Rattle.wan_edge.specs.Switches.{Holdings}
 use Rattle.wan_edge.proofs.Chains.{Appends-nothing, goes_once, stays}
 use Rattle.wire_frames.specs.Reading.{Ends, GoesOn as ReadsOn, IsAnswerFault, Reader}
-use Rattle.worker_ports.proofs.Stories.{goes_on_on}
+use Rattle.switch_ports.proofs.Stories.{goes_on_on}
 use Rattle.held_service.specs.Hearing.{Hears, HearsByte, HearsNothing, HearsOut, IsAlien, IsOwn, IsWhy, QuietBy, Reads, StopsHearing, TakesByte, lacking, named_at}
 use Rattle.held_service.specs.Noting.{Notes, with_answer, with_answers}
 use Rattle.held_service.specs.declared.alien.Alien.{Alien}
@@ -63,6 +64,7 @@ module _ (homes : List (Option ℕ)) (switch : ℕ) (kept : List ℕ) (before no
     -- it gave nothing
     pub hears-none : n ≡ 0 → HearsNothing before now
     hears-none zero = record {
+      given = OnTrue_from before.prompt (NothingToCome before.start now.offered now.heard) (λ prompt. OnTrue_at prompt hears.all_given zero);
       heard = subst (λ (m : ℕ). Appends before.heard (take m into) now.heard) zero hears.heard;
       quieter = hears.quieter zero;
       unsent = hears.offered;
@@ -184,7 +186,7 @@ module _ (homes : List (Option ℕ)) (switch awaited between : ℕ) (kept kept_b
     goes_on = goes_on_on a b c first.goes_on second.goes_on;
   }
 
-  -- the port was quiet behind it
+  -- the port was quiet after it
   pub hears-quiet : 0 < between → HearsNothing b c → HearsOut homes switch awaited kept notes a kept_b notes_b c
   hears-quiet some second =
       let one : lacking awaited (length first.answers) ≡ 1 = lacking-one awaited (length first.answers) (omega (arith, first.counted, some)) in
@@ -197,6 +199,8 @@ module _ (homes : List (Option ℕ)) (switch awaited between : ℕ) (kept kept_b
         few = omega (arith, first.counted);
         quiet = subst (λ (q : Option ℕ). QuietBy (lacking awaited (length first.answers)) q c.quiet) first.as_quiet
             (subst (λ (times : ℕ). QuietBy times b.quiet c.quiet) (sym one) (quiet-one b.quiet c.quiet second.quieter));
+        given = OnTrue_from a.prompt ((awaited ≤ length first.answers) ⊎ NothingToCome a.start c.offered c.heard)
+            (λ prompt. inr (subst (λ (s : Holdings). NothingToCome s c.offered c.heard) first.goes_on.start (OnTrue_at (first.goes_on.prompt ∙ prompt) second.given)));
         unsent = second.unsent ∙ first.unsent;
         goes_on = goes_on_on a b c first.goes_on second.goes_on;
       }
@@ -220,6 +224,7 @@ hears-all homes switch awaited left kept kept_now notes notes_now before now non
       own = hears.own;
       noted = hears.noted;
       few = omega (arith, hears.counted);
+      given = OnTrue_from before.prompt ((awaited ≤ length hears.answers) ⊎ NothingToCome before.start now.offered now.heard) (λ prompt. inl (omega (arith, hears.counted, none)));
       quiet = subst (λ (times : ℕ). QuietBy times before.quiet now.quiet) (sym zero) (subst (λ (q : Option ℕ). QuietBy 0 before.quiet q) (sym hears.as_quiet) (quiet-none before.quiet));
       unsent = hears.unsent;
       goes_on = hears.goes_on;

@@ -18,7 +18,7 @@ line-more f n t before after was told =
 pub nothing-more : (t : List ℕ) → t ≡ t ++ []
 nothing-more t = sym (append-nil t)
 
--- three pieces, one behind the other
+-- three pieces, one after the other
 pub three-more : (t a b c x y z : List ℕ) → a ≡ t ++ x → b ≡ a ++ y → c ≡ b ++ z → c ≡ t ++ (x ++ y ++ z)
 three-more t a b c x y z first second third =
     third ∙ ap (λ bs. bs ++ z) (second ∙ ap (λ bs. bs ++ y) first) ∙ simp append_assoc

@@ -11,7 +11,7 @@ pub length-with : (notes : Notes) (answers : List AnswerFrame) → length (with_
 length-with notes [] = refl
 length-with notes (a ∷ later) = length-with (with_answer notes a) later ∙ length-set notes a.1.item (Some (pair_given a))
 
--- answers behind others
+-- answers after others
 pub with-append : (notes : Notes) (earlier later : List AnswerFrame) → with_answers notes (earlier ++ later) ≡ with_answers (with_answers notes earlier) later
 with-append notes [] later = refl
 with-append notes (a ∷ earlier) later = with-append (with_answer notes a) earlier later
@@ -36,7 +36,7 @@ module _ (notes : Notes) (items : List ℕ) (at : ℕ) (inside : at < length ite
   pub found-untold : is_some (noted_at notes (get_or items at 0)) ≡ false → untold notes (drop at items) ≡ untold notes items → Some (get_or items at 0) ≡ first_of (untold notes items)
   found-untold none so_far = sym (ap first_of (sym so_far ∙ parted false none))
 
--- behind the last one
+-- after the last one
 pub none-untold : (notes : Notes) (items : List ℕ) (at : ℕ) → length items ≤ at → untold notes (drop at items) ≡ untold notes items → None ≡ first_of (untold notes items)
 none-untold notes items at past so_far = sym (ap first_of (sym so_far ∙ ap (untold notes) (drop_all at items past)))
 

@@ -1,7 +1,8 @@
 -- What is heard of a switch that was asked: bytes that come in pieces, whole answers among them, and what is noted of these.
-use Rattle.std.specs.Prelude.{◌≡◌, ℕ, ◌+◌, ◌*◌, ◌-◌, ◌≤◌, Bool, true, false, List, [], ◌∷◌, ◌++◌, length, nat_lt, All, Option, Some, IfSome, if◌then◌else◌}
+use Rattle.std.specs.Prelude.{◌≡◌, ◌⊎◌, ℕ, ◌+◌, ◌*◌, ◌-◌, ◌≤◌, Bool, true, false, List, [], ◌∷◌, ◌++◌, length, nat_lt, All, Option, Some, IfSome, if◌then◌else◌}
+use Rattle.std.specs.Bool.{OnTrue}
 use Rattle.wan_edge.specs.Frames.{AnswerFrame, HasOtherKind, IsAnswer, Splits, answer_bytes, answer_kind}
-use Rattle.wan_edge.specs.Ports.{GoesOn, IsOneMore, PortTrace}
+use Rattle.wan_edge.specs.Ports.{GoesOn, IsOneMore, NothingToCome, PortTrace}
 use Rattle.wan_edge.specs.Streams.{Appends, Rose}
 use Rattle.held_service.specs.Noting.{Notes, with_answers}
 use Rattle.held_service.specs.Questions.{is_asked}
@@ -16,13 +17,13 @@ IsOwn homes switch a = is_asked homes switch a.1.item ≡ true
 
 -- ---- bytes
 
--- Further bytes came. Behind what was kept of an answer that hadn't ended these whole answers stand at their front, and what is kept now is the rest.
+-- Further bytes came. After what was kept of an answer that hadn't ended these whole answers stand at their front, and what is kept now is the rest.
 pub record Reads (kept : List ℕ) (before : Option (List ℕ)) (answers : List AnswerFrame) (kept_now : List ℕ) (now : Option (List ℕ)) : Type 0 where
   pub bytes : List ℕ
   pub appended : Appends before bytes now
   pub whole : Splits answer_bytes IsAnswer (kept ++ bytes) answers kept_now
 
--- Further bytes came, and behind whole answers at their front stands a byte that begins none.
+-- Further bytes came, and after whole answers at their front stands a byte that begins none.
 pub record ReadsNone (byte : ℕ) (kept : List ℕ) (before now : Option (List ℕ)) : Type 0 where
   pub bytes : List ℕ
   pub appended : Appends before bytes now
@@ -81,8 +82,9 @@ pub record Hears (homes : List (Option ℕ)) (switch awaited awaited_now : ℕ) 
   pub unsent : now.offered ≡ before.offered
   pub goes_on : GoesOn before now
 
--- Nothing came, which the port counted.
+-- Nothing came, which the port counted: a prompt one has given all its answers.
 pub record HearsNothing (before now : PortTrace) : Type 0 where
+  pub given : OnTrue before.prompt (NothingToCome before.start now.offered now.heard)
   pub heard : Appends before.heard [] now.heard
   pub quieter : IsOneMore before.quiet now.quiet
   pub unsent : now.offered ≡ before.offered
@@ -111,7 +113,7 @@ QuietBy times before now = IfSome now (λ after. (times ≤ after) × (before �
 abbrev pub lacking : ℕ → ℕ → ℕ
 lacking awaited came = if nat_lt came awaited then 1 else 0
 
--- Of so many answers that were awaited these came, and where they are fewer, the port was quiet once behind them.
+-- Of so many answers that were awaited these came, and where they are fewer, the port was quiet once after them: a prompt one has given all its answers.
 pub record HearsOut (homes : List (Option ℕ)) (switch awaited : ℕ) (kept : List ℕ) (notes : Notes) (before : PortTrace) (kept_now : List ℕ) (notes_now : Notes) (now : PortTrace) : Type 0 where
   pub answers : List AnswerFrame
   pub reads : Reads kept before.heard answers kept_now now.heard
@@ -119,6 +121,7 @@ pub record HearsOut (homes : List (Option ℕ)) (switch awaited : ℕ) (kept : L
   pub noted : notes_now ≡ with_answers notes answers
   pub few : length answers ≤ awaited
   pub quiet : QuietBy (lacking awaited (length answers)) before.quiet now.quiet
+  pub given : OnTrue before.prompt ((awaited ≤ length answers) ⊎ NothingToCome before.start now.offered now.heard)
   pub unsent : now.offered ≡ before.offered
   pub goes_on : GoesOn before now
 

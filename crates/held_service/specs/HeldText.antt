@@ -8,8 +8,8 @@ use Rattle.rollout_rules.specs.Wan.{Plan, Problem}
 use Rattle.rollout_rules.specs.declared.held.Held.{Held}
 use Rattle.wan_edge.specs.Ports.{PortTrace}
 use Rattle.wan_text.specs.Names.{switch_text}
-use Rattle.rollout_ports.specs.Berths.{FleetPorts}
-use Rattle.worker_ports.specs.Lots.{home_at}
+use Rattle.switch_ports.specs.Berths.{FleetPorts}
+use Rattle.switch_ports.specs.Outboxes.{home_at}
 use Rattle.held_service.specs.Noting.{Notes, noted_at}
 use Rattle.held_service.specs.Questions.{asked_homes}
 use Rattle.held_service.specs.Visits.{Fails, TellsAll}
@@ -73,12 +73,12 @@ held_text p plan notes = lines_below p plan notes (length notes) ++ last_line (t
 
 -- ---- what comes of asking
 
--- All told, and the text is that of what is noted.
+-- All told, asked by questions of migration 0, and the text is that of what is noted.
 pub record TellsText {P : Type 0} (tell : P → PortTrace) (p : Problem) (plan : Plan) (limit : ℕ) (text : List ℕ) (before now : FleetPorts P) : Type 0 where
   pub notes : Notes
-  pub tells : TellsAll tell p plan limit before now notes
+  pub tells : TellsAll tell p plan 0 limit before now notes
   pub text_is : text ≡ held_text p plan notes
 
 abbrev pub AsksAll : {P : Type 0} → Result (List ℕ) NotTold → (P → PortTrace) → Problem → Plan → ℕ → FleetPorts P → FleetPorts P → Type 0
 AsksAll (Ok text) tell p plan limit before now = TellsText tell p plan limit text before now
-AsksAll (Err why) tell p plan limit before now = Fails tell p plan limit why before now
+AsksAll (Err why) tell p plan limit before now = Fails tell p plan 0 limit why before now

@@ -6,8 +6,8 @@ use Rattle.rollout_rules.specs.Operations.{operations}
 use Rattle.rollout_rules.specs.Sums.{list_below}
 use Rattle.rollout_rules.specs.Wan.{Plan, Problem}
 use Rattle.wan_edge.specs.Frames.{Command, CommandFrame, command_bytes}
-use Rattle.rollout_ports.specs.Homes.{passing_below}
-use Rattle.worker_ports.specs.Lots.{home_at, is_switch}
+use Rattle.switch_ports.specs.Homes.{passing_below}
+use Rattle.switch_ports.specs.Outboxes.{home_at, is_switch}
 
 -- ---- questions
 
@@ -15,15 +15,16 @@ use Rattle.worker_ports.specs.Lots.{home_at, is_switch}
 abbrev pub question_of : ℕ → Command
 question_of item = record { item = item; number = 0; scale = 1; content = 0 ∷ [] }
 
-abbrev pub question : ℕ → CommandFrame
-question item = (0, question_of item)
+-- it names a migration
+abbrev pub question : ℕ → ℕ → CommandFrame
+question migration item = (migration, question_of item)
 
--- those about items, and their bytes, one behind the other
-abbrev pub questions : List ℕ → List CommandFrame
-questions items = map question items
+-- those about items, and their bytes, one after the other
+abbrev pub questions : ℕ → List ℕ → List CommandFrame
+questions migration items = map (question migration) items
 
-abbrev pub question_bytes : List ℕ → List ℕ
-question_bytes items = flat_map command_bytes (questions items)
+abbrev pub question_bytes : ℕ → List ℕ → List ℕ
+question_bytes migration items = flat_map command_bytes (questions migration items)
 
 -- ---- who is asked
 

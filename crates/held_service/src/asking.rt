@@ -6,35 +6,46 @@ ghost use Rattle.held_service.specs.Talks.{AsksRound, EndsTalk, StopsRound};
 
 use crate::NotTold;
 use crate::hearing::hear_out;
-use crate::notes::{first_untold, untold};
+use crate::notes::{first_untold, list_untold};
 use crate::questions::{fit_frames, question_bytes};
 use rollout_rules::Held;
 use std::alloc::Global;
 use wan_edge::Port;
 use wire_frames::AnswerReader;
 
-/// Asks a switch about these items, in so many rounds at the most, until it has told of all.
+/// Asks a switch about these items by questions of a migration, in so many rounds at the most, until it has told
+/// of all.
 pub(crate) fn ask_port<T: Port>(
     alloc: Global,
     port: &mut T,
     homes: &[Option<u32>],
     switch: u32,
     items: &[u32],
+    migration: u32,
     rounds: u32,
     notes: &mut [Option<Held>],
 ) -> Result<(), NotTold>
     requires { length notes.old ≡ length homes.now }
-    ensures { EndsTalk result homes.now switch items.now notes.old rounds (T.told port.old)
-        notes.new (T.told port.new) }
+    ensures { EndsTalk result homes.now switch items.now notes.old migration rounds
+        (T.told port.old) notes.new (T.told port.new) }
 {
-    fit_frames(items);
+    fit_frames(migration, items);
     let mut reader = AnswerReader::new();
     let mut round = 0;
     while let Some(item) = first_untold(notes, items) {
         if round >= rounds {
             return Err(NotTold::Spent(item));
         }
-        ask_round(alloc, port, &mut reader, homes, switch, items, notes)?;
+        ask_round(
+            alloc,
+            port,
+            &mut reader,
+            migration,
+            homes,
+            switch,
+            items,
+            notes,
+        )?;
         round += 1;
     }
     Ok(())
@@ -45,6 +56,7 @@ fn ask_round<T: Port>(
     alloc: Global,
     port: &mut T,
     reader: &mut AnswerReader,
+    migration: u32,
     homes: &[Option<u32>],
     switch: u32,
     items: &[u32],
@@ -56,14 +68,14 @@ fn ask_round<T: Port>(
     ensures live { OnOk result (IsTrue reader.new.live) }
     ensures cut { OnOk result (IsCutAnswer reader.new.kept) }
     ensures ok { OnOk result
-        (AsksRound homes.now switch items.now reader.old.kept notes.old (T.told port.old)
-        reader.new.kept notes.new (T.told port.new)) }
+        (AsksRound migration homes.now switch items.now reader.old.kept notes.old
+        (T.told port.old) reader.new.kept notes.new (T.told port.new)) }
     ensures err { IfErr result
-        (λ why. StopsRound homes.now switch items.now notes.old why reader.old.kept
+        (λ why. StopsRound migration homes.now switch items.now notes.old why reader.old.kept
         (T.told port.old) (T.told port.new)) }
 {
-    let left = untold(alloc, notes, items)?;
-    let bytes = question_bytes(alloc, left.as_slice())?;
+    let left = list_untold(alloc, notes, items)?;
+    let bytes = question_bytes(alloc, migration, left.as_slice())?;
     offer(port, switch, bytes.as_slice())?;
     hear_out(port, reader, homes, switch, left.as_slice().len(), notes)?;
     Ok(())

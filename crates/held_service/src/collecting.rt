@@ -1,7 +1,7 @@
 //! What the switches of a rollout hold, as a row.
 ghost use Rattle.std.specs.Prelude.{◌≡◌, ℕ, ◌≤◌, length, IfErr, IfOk, IsErrOf, OnOk};
 ghost use Rattle.rollout_rules.specs.Items.{item_count};
-ghost use Rattle.rollout_ports.specs.Berths.{ports_of};
+ghost use Rattle.switch_ports.specs.Berths.{ports_of};
 ghost use Rattle.wan_edge.specs.Streams.{Rose};
 ghost use Rattle.held_service.specs.Noting.{no_notes};
 ghost use Rattle.held_service.specs.Questions.{asked_homes};
@@ -18,7 +18,8 @@ use wan_edge::Fleet;
 use wan_model::CheckedPlan;
 
 /// Asks the home of each item that has an operation what it holds of it, as [`held_text`](crate::held_text) does,
-/// and gives the pair that each was told, by the items' numbers; none of an item without operations.
+/// but by questions of this migration. Gives the pair that each was told, by the items' numbers; none of an item
+/// without operations.
 ///
 /// # Errors
 ///
@@ -26,16 +27,17 @@ use wan_model::CheckedPlan;
 pub fn held_pairs<F: Fleet>(
     alloc: Global,
     plan: &CheckedPlan,
+    migration: u32,
     rounds: u32,
     fleet: &mut F,
 ) -> Result<Vec<Option<Held>>, NotTold>
     ensures ok { IfOk result
-        (λ pairs. TellsAll F.Port.told plan.now.problem plan.now.plan rounds
+        (λ pairs. TellsAll F.Port.told plan.now.problem plan.now.plan migration rounds
         (ports_of F.waiting F.kept F.lent F.named fleet.old)
         (ports_of F.waiting F.kept F.lent F.named fleet.new) pairs.items) }
     ensures rows { IfOk result (λ pairs. length pairs.items ≡ item_count plan.now.problem) }
     ensures err { IfErr result
-        (λ why. Fails F.Port.told plan.now.problem plan.now.plan rounds why
+        (λ why. Fails F.Port.told plan.now.problem plan.now.plan migration rounds why
         (ports_of F.waiting F.kept F.lent F.named fleet.old)
         (ports_of F.waiting F.kept F.lent F.named fleet.new)) }
     ensures guests { (F.coming fleet.new ≡ F.coming fleet.old)
@@ -48,7 +50,15 @@ pub fn held_pairs<F: Fleet>(
 {
     let index = Index::new(alloc, plan)?;
     let homes = asked_homes(alloc, plan, &index)?;
-    collect(alloc, plan, &index, homes.as_slice(), rounds, fleet)
+    collect(
+        alloc,
+        plan,
+        &index,
+        homes.as_slice(),
+        migration,
+        rounds,
+        fleet,
+    )
 }
 
 // The same, where it is known who is asked about each item.
@@ -57,18 +67,19 @@ fn collect<F: Fleet>(
     plan: &CheckedPlan,
     index: &Index,
     homes: &[Option<u32>],
+    migration: u32,
     rounds: u32,
     fleet: &mut F,
 ) -> Result<Vec<Option<Held>>, NotTold>
     requires index { index.now ≡ plan.now }
     requires homes { homes.now ≡ asked_homes plan.now.problem plan.now.plan }
     ensures ok { IfOk result
-        (λ pairs. TellsAll F.Port.told plan.now.problem plan.now.plan rounds
+        (λ pairs. TellsAll F.Port.told plan.now.problem plan.now.plan migration rounds
         (ports_of F.waiting F.kept F.lent F.named fleet.old)
         (ports_of F.waiting F.kept F.lent F.named fleet.new) pairs.items) }
     ensures rows { IfOk result (λ pairs. length pairs.items ≡ item_count plan.now.problem) }
     ensures err { IfErr result
-        (λ why. Fails F.Port.told plan.now.problem plan.now.plan rounds why
+        (λ why. Fails F.Port.told plan.now.problem plan.now.plan migration rounds why
         (ports_of F.waiting F.kept F.lent F.named fleet.old)
         (ports_of F.waiting F.kept F.lent F.named fleet.new)) }
     ensures guests { (F.coming fleet.new ≡ F.coming fleet.old)
@@ -80,7 +91,9 @@ fn collect<F: Fleet>(
     ensures count { F.faults fleet.old ≤ F.faults fleet.new }
 {
     let mut row = no_notes(alloc, index.item_count())?;
-    note_all(alloc, plan, index, homes, rounds, fleet, &mut row)?;
+    note_all(
+        alloc, plan, index, homes, migration, rounds, fleet, &mut row,
+    )?;
     Ok(row)
 }
 
@@ -90,6 +103,7 @@ fn note_all<F: Fleet>(
     plan: &CheckedPlan,
     index: &Index,
     homes: &[Option<u32>],
+    migration: u32,
     rounds: u32,
     fleet: &mut F,
     notes: &mut [Option<Held>],
@@ -98,12 +112,12 @@ fn note_all<F: Fleet>(
     requires homes { homes.now ≡ asked_homes plan.now.problem plan.now.plan }
     requires none { notes.old ≡ no_notes (item_count plan.now.problem) }
     ensures ok { OnOk result
-        (TellsAll F.Port.told plan.now.problem plan.now.plan rounds
+        (TellsAll F.Port.told plan.now.problem plan.now.plan migration rounds
         (ports_of F.waiting F.kept F.lent F.named fleet.old)
         (ports_of F.waiting F.kept F.lent F.named fleet.new) notes.new) }
     ensures rows { OnOk result (length notes.new ≡ item_count plan.now.problem) }
     ensures err { IfErr result
-        (λ why. Fails F.Port.told plan.now.problem plan.now.plan rounds why
+        (λ why. Fails F.Port.told plan.now.problem plan.now.plan migration rounds why
         (ports_of F.waiting F.kept F.lent F.named fleet.old)
         (ports_of F.waiting F.kept F.lent F.named fleet.new)) }
     ensures guests { (F.coming fleet.new ≡ F.coming fleet.old)
@@ -115,7 +129,16 @@ fn note_all<F: Fleet>(
     ensures count { F.faults fleet.old ≤ F.faults fleet.new }
 {
     let count = index.item_count();
-    match ask_each(alloc, fleet, plan.problem(), homes, count, rounds, notes) {
+    match ask_each(
+        alloc,
+        fleet,
+        plan.problem(),
+        homes,
+        count,
+        migration,
+        rounds,
+        notes,
+    ) {
         Ok(()) => Ok(()),
         Err(why) => Err(why),
     }

@@ -1,7 +1,7 @@
 //! Which switch is asked about which items.
 ghost use Rattle.std.specs.Prelude.{◌≡◌, ◌++◌, ◌<◌, [], ◌∷◌, length, IfOk, OnOk, if◌then◌else◌};
 ghost use Rattle.rollout_rules.specs.Items.{item_count};
-ghost use Rattle.worker_ports.specs.Lots.{home_at};
+ghost use Rattle.switch_ports.specs.Outboxes.{home_at};
 ghost use Rattle.held_service.specs.Questions.{asked_home, asked_homes, is_asked, items_at};
 
 use dependency_graph::Index;
@@ -74,7 +74,7 @@ pub(crate) fn is_asked(homes: &[Option<u32>], switch: u32, item: u32) -> bool
     home_at(homes, item) == Some(switch)
 }
 
-/// The switch that is asked about an item; none of one behind the last.
+/// The switch that is asked about an item; none of one after the last.
 pub(crate) fn home_at(homes: &[Option<u32>], item: u32) -> Option<u32>
     ensures { result ≡ home_at homes.now item }
 {

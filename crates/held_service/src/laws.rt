@@ -16,14 +16,17 @@ pub fn number_0_is_never_the_next()
         → held_after holding (pair_of migration 0) content ≡ holding }
 {}
 
-/// After any questions a switch holds what it held, and the answer to each is the pair that it holds of the
-/// item. So it is whichever of them come to it, in whatever order and how often.
+/// After any questions of any migration a switch holds what it held, and the answer to each is the pair that it
+/// holds of the item. So it is whichever of them come to it, in whatever order and how often.
 pub fn questions_change_nothing()
-    ensures held { (holdings : Holdings) (items : List ℕ)
-        → after_commands holdings (questions items) ≡ holdings }
-    ensures answer { (holdings : Holdings) (item : ℕ)
-        → answer_to holdings (question item) ≡ answer_of item (holdings item).held }
-    ensures any_order { (holdings : Holdings) (items : List ℕ) (came : List CommandFrame)
-        → All (Contains (questions items)) came
+    ensures held { (holdings : Holdings) (migration : ℕ) (items : List ℕ)
+        → after_commands holdings (questions migration items) ≡ holdings }
+    ensures answer { (holdings : Holdings) (migration item : ℕ)
+        → answer_to holdings (question migration item) ≡ answer_of item (holdings item).held }
+    ensures any_order { (holdings : Holdings)
+        (migration : ℕ)
+        (items : List ℕ)
+        (came : List CommandFrame)
+        → All (Contains (questions migration items)) came
         → after_commands holdings came ≡ holdings }
 {}

@@ -54,7 +54,11 @@ pub(crate) fn is_told(notes: &[Option<Held>], item: u32) -> bool
 }
 
 /// Those of the items of which nothing is noted, in their order.
-pub(crate) fn untold(alloc: Global, notes: &[Option<Held>], items: &[u32]) -> Result<Ids, Memory>
+pub(crate) fn list_untold(
+    alloc: Global,
+    notes: &[Option<Held>],
+    items: &[u32],
+) -> Result<Ids, Memory>
     ensures { IfOk result (λ left. left ≡ untold notes.now items.now) }
 {
     let mut left = Ids::new(alloc);

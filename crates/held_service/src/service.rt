@@ -1,7 +1,7 @@
 //! What the switches of a rollout hold, from the first question to the text.
 ghost use Rattle.std.specs.Prelude.{◌≡◌, ℕ, ◌≤◌, length, IfErr, IfOk, IsErrOf};
 ghost use Rattle.rollout_rules.specs.Items.{item_count};
-ghost use Rattle.rollout_ports.specs.Berths.{ports_of};
+ghost use Rattle.switch_ports.specs.Berths.{ports_of};
 ghost use Rattle.wan_edge.specs.Streams.{Rose};
 ghost use Rattle.held_service.specs.HeldText.{AsksAll, held_text};
 ghost use Rattle.held_service.specs.Noting.{no_notes};
@@ -20,8 +20,8 @@ use wan_model::CheckedPlan;
 
 /// Asks the home of each item that has an operation what it holds of it, in so many rounds at the most, and
 /// gives what all of them told as a text: a line an item, by number, and a last one with how many items there
-/// are and the greatest migration that is held of one. The switches are asked one after the other, each by the
-/// name that the problem has for it, and what a switch holds stays as it was.
+/// are and the greatest migration that is held of one. The questions name migration 0. The switches are asked one
+/// after the other, each by the name that the problem has for it, and what a switch holds stays as it was.
 ///
 /// # Errors
 ///
@@ -109,7 +109,7 @@ fn ask_noting<F: Fleet>(
     ensures count { F.faults fleet.old ≤ F.faults fleet.new }
 {
     let count = index.item_count();
-    match ask_each(alloc, fleet, plan.problem(), homes, count, rounds, notes) {
+    match ask_each(alloc, fleet, plan.problem(), homes, count, 0, rounds, notes) {
         Ok(()) => told_text(alloc, plan, index, homes, notes),
         Err(why) => Err(why),
     }

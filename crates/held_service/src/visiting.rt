@@ -1,6 +1,6 @@
 //! The switches of a rollout are asked, one after the other.
 ghost use Rattle.std.specs.Prelude.{◌≡◌, ℕ, ◌<◌, ◌≤◌, length, true, IsErrOf};
-ghost use Rattle.rollout_ports.specs.Berths.{ports_of};
+ghost use Rattle.switch_ports.specs.Berths.{ports_of};
 ghost use Rattle.wan_edge.specs.Streams.{Rose};
 ghost use Rattle.held_service.specs.Noting.{no_notes};
 ghost use Rattle.held_service.specs.Talks.{EndsTalk};
@@ -14,20 +14,21 @@ use std::alloc::Global;
 use wan_edge::{Failed, Fleet};
 use wan_model::Problem;
 
-/// Asks each switch that is the home of an item with an operation, from number 0 up. Each port is asked for by
-/// the problem's name, and given back before the next one is.
+/// Asks each switch that is the home of an item with an operation, from number 0 up, by questions of a migration.
+/// Each port is asked for by the problem's name, and given back before the next one is.
 pub(crate) fn ask_each<F: Fleet>(
     alloc: Global,
     fleet: &mut F,
     problem: &Problem,
     homes: &[Option<u32>],
     count: u32,
+    migration: u32,
     rounds: u32,
     notes: &mut [Option<Held>],
 ) -> Result<(), NotTold>
     requires count { count ≡ length homes.now }
     requires none { notes.old ≡ no_notes (length homes.now) }
-    ensures asks { AsksEach result F.Port.told problem.now homes.now rounds
+    ensures asks { AsksEach result F.Port.told problem.now homes.now migration rounds
         (ports_of F.waiting F.kept F.lent F.named fleet.old) notes.new
         (ports_of F.waiting F.kept F.lent F.named fleet.new) }
     ensures guests { (F.coming fleet.new ≡ F.coming fleet.old)
@@ -39,7 +40,9 @@ pub(crate) fn ask_each<F: Fleet>(
     ensures count { F.faults fleet.old ≤ F.faults fleet.new }
 {
     for switch in 0..problem.switches().len() as u32 {
-        ask_one(alloc, fleet, problem, homes, count, switch, rounds, notes)?;
+        ask_one(
+            alloc, fleet, problem, homes, count, switch, migration, rounds, notes,
+        )?;
     }
     Ok(())
 }
@@ -52,14 +55,15 @@ fn ask_one<F: Fleet>(
     homes: &[Option<u32>],
     count: u32,
     switch: u32,
+    migration: u32,
     rounds: u32,
     notes: &mut [Option<Held>],
 ) -> Result<(), NotTold>
     requires count { count ≡ length homes.now }
     requires rows { length notes.old ≡ length homes.now }
     requires inside { switch < length problem.now.switches }
-    ensures asks { AsksOne result F.Port.told problem.now homes.now switch notes.old rounds
-        (ports_of F.waiting F.kept F.lent F.named fleet.old) notes.new
+    ensures asks { AsksOne result F.Port.told problem.now homes.now switch notes.old migration
+        rounds (ports_of F.waiting F.kept F.lent F.named fleet.old) notes.new
         (ports_of F.waiting F.kept F.lent F.named fleet.new) }
     ensures guests { (F.coming fleet.new ≡ F.coming fleet.old)
         × (F.served fleet.new ≡ F.served fleet.old)
@@ -75,7 +79,9 @@ fn ask_one<F: Fleet>(
         return Ok(());
     }
     let items = items.as_slice();
-    visit(alloc, fleet, problem, homes, switch, items, rounds, notes)
+    visit(
+        alloc, fleet, problem, homes, switch, items, migration, rounds, notes,
+    )
 }
 
 // Asks a switch about these items, by the port that the fleet gives for its name.
@@ -86,13 +92,14 @@ fn visit<F: Fleet>(
     homes: &[Option<u32>],
     switch: u32,
     items: &[u32],
+    migration: u32,
     rounds: u32,
     notes: &mut [Option<Held>],
 ) -> Result<(), NotTold>
     requires rows { length notes.old ≡ length homes.now }
     requires inside { switch < length problem.now.switches }
     ensures visits { Visits result F.Port.told problem.now homes.now switch items.now notes.old
-        rounds (ports_of F.waiting F.kept F.lent F.named fleet.old) notes.new
+        migration rounds (ports_of F.waiting F.kept F.lent F.named fleet.old) notes.new
         (ports_of F.waiting F.kept F.lent F.named fleet.new) }
     ensures guests { (F.coming fleet.new ≡ F.coming fleet.old)
         × (F.served fleet.new ≡ F.served fleet.old)
@@ -103,7 +110,9 @@ fn visit<F: Fleet>(
     ensures count { F.faults fleet.old ≤ F.faults fleet.new }
 {
     match fleet.port(switch, problem.switch_name(switch as usize)) {
-        Ok(port) => talk(alloc, fleet, port, homes, switch, items, rounds, notes),
+        Ok(port) => talk(
+            alloc, fleet, port, homes, switch, items, migration, rounds, notes,
+        ),
         Err(Failed) => Err(NotTold::NoPort(switch)),
     }
 }
@@ -116,21 +125,24 @@ fn talk<F: Fleet>(
     homes: &[Option<u32>],
     switch: u32,
     items: &[u32],
+    migration: u32,
     rounds: u32,
     notes: &mut [Option<Held>],
 ) -> Result<(), NotTold>
     requires rows { length notes.old ≡ length homes.now }
     requires lent { F.lent fleet.old switch ≡ true }
     ensures keeps { Keeps F.Port.told switch
-        (λ before now. EndsTalk result homes.now switch items.now notes.old rounds before notes.new
-        now) port (ports_of F.waiting F.kept F.lent F.named fleet.old)
+        (λ before now. EndsTalk result homes.now switch items.now notes.old migration rounds before
+        notes.new now) port (ports_of F.waiting F.kept F.lent F.named fleet.old)
         (ports_of F.waiting F.kept F.lent F.named fleet.new) }
     ensures guests { (F.coming fleet.new ≡ F.coming fleet.old)
         × (F.served fleet.new ≡ F.served fleet.old)
         × (F.visiting fleet.new ≡ F.visiting fleet.old) }
     ensures count { F.faults fleet.old ≤ F.faults fleet.new }
 {
-    let told = ask_port(alloc, &mut port, homes, switch, items, rounds, notes);
+    let told = ask_port(
+        alloc, &mut port, homes, switch, items, migration, rounds, notes,
+    );
     fleet.keep(switch, port);
     told
 }

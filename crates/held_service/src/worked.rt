@@ -5,12 +5,29 @@ ghost use Rattle.rollout_rules.specs.Named.{one, one_plan};
 ghost use Rattle.held_service.specs.HeldText.{greatest_of, last_line, line_by, told_count};
 ghost use Rattle.held_service.specs.Hearing.{lacking};
 ghost use Rattle.held_service.specs.Noting.{no_notes, noted_at, untold, with_answers};
-ghost use Rattle.held_service.specs.Questions.{asked_homes, asked_switches, has_items, items_at};
+ghost use Rattle.wan_edge.specs.Frames.{command_bytes};
+ghost use Rattle.held_service.specs.Questions.{asked_homes, asked_switches, has_items, items_at, question};
 
-/// Number 1 of a later migration is applied, and number 0 of one is not.
+/// Number 1 of a later migration is applied, and number 0 of one is not; nor is number 0 of the same migration, or
+/// of an earlier one.
 pub fn number_0_of_a_later_migration_is_not_applied()
     ensures first { is_next_command (pair_of 2 5) (pair_of 3 1) ≡ true }
     ensures none { is_next_command (pair_of 2 5) (pair_of 3 0) ≡ false }
+    ensures same { is_next_command (pair_of 2 5) (pair_of 2 0) ≡ false }
+    ensures earlier { is_next_command (pair_of 2 5) (pair_of 1 0) ≡ false }
+{}
+
+/// A question of migration 7 about item 4: the kind, the migration, the item, number 0, scale 1, and one rate, 0.
+pub fn a_question_names_its_migration()
+    ensures { command_bytes (question 7 4)
+        ≡ 0x4D
+        ∷ 0 ∷ 0 ∷ 0 ∷ 7
+        ∷ 0 ∷ 0 ∷ 0 ∷ 4
+        ∷ 0 ∷ 0 ∷ 0 ∷ 0
+        ∷ 0 ∷ 0 ∷ 0 ∷ 1
+        ∷ 1
+        ∷ 0 ∷ 0 ∷ 0 ∷ 0 ∷ 0 ∷ 0 ∷ 0 ∷ 0
+        ∷ [] }
 {}
 
 /// Switch 0 is asked about items 0 and 2, switch 1 about none, and switch 2 about item 3. Nobody is asked

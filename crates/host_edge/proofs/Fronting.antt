@@ -51,7 +51,7 @@ pub floor-few : (bytes : List ℕ) → 0 < length bytes → slice_index bytes 0 
 floor-few [] some floor few = absurd (omega (arith, some))
 floor-few (b ∷ bs) some floor few = inr (record { behind = bs; parts = ap (λ (x : ℕ). x ∷ bs) floor; cut = inl (omega (arith, few)) })
 
--- behind a floor
+-- after a floor
 abbrev pub moved : Front → Front
 moved (Whole n) = Whole (5 + n)
 moved Cut = Cut

@@ -24,7 +24,7 @@ carries_more a b c before mid now first then = record {
   added = added_further before mid now first.piece then.piece (first.piece ++ then.piece) first.added then.added refl;
 }
 
--- behind the first bytes the first ones of the rest
+-- after the first bytes the first ones of the rest
 pub adds_more : (before bytes mid now : List ℕ) (n : ℕ) → n ≤ length bytes → mid ≡ before ++ take n bytes → AddsFront mid (take (length bytes - n) (drop n bytes)) now → AddsFront before bytes now
 adds_more before bytes mid now n within added then =
     let further = take_further bytes n then.count within then.within in

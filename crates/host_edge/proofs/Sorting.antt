@@ -135,7 +135,7 @@ given_front bytes into copied given whole n few long is =
     ∙ ap (λ (xs : List ℕ). xs ++ take m (drop n (drop given bytes))) (sym is ∙ sym (take_all n copied (omega (arith, long))) ∙ sym (take-append-le n copied (drop n into) (omega (arith, long))))
     ∙ ap (λ (xs : List ℕ). take n (copied ++ drop n into) ++ take m xs) (drop-drop n given bytes)
 
--- behind the bytes that were there stand those that came
+-- after the bytes that were there stand those that came
 pub put_behind : (bytes into : List ℕ) (front room n : ℕ) → front ≤ length bytes → n ≤ length into → take (front + n) (put_mid front room bytes into) ≡ take front bytes ++ take n into
 put_behind bytes into front room n inside few =
     sym (take-take (front + n) (front + length into) (put_mid front room bytes into) (omega (arith, few)))

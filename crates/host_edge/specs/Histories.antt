@@ -1,16 +1,6 @@
--- What went over a way, and how a history of it is tied to a stream that tells its bytes.
-use Rattle.std.specs.Prelude.{◌≡◌, ℕ, ◌+◌, ◌≤◌, List, [], ◌∷◌, ◌++◌, length, take, Option}
+-- How a history of what went over a way is tied to a stream that tells its bytes.
+use Rattle.std.specs.Prelude.{◌≡◌, ℕ, ◌≤◌, List, ◌++◌, length, take, Option}
 use Rattle.std.specs.Io.KnownBytes.{Appends, Consumes}
-use Rattle.host_edge.specs.declared.history.Bytes.{Bytes, Nothing, Also'}
-use Rattle.host_edge.specs.declared.history.Times.{Times, Never, Again'}
-
-abbrev pub bytes_in : Bytes → List ℕ
-bytes_in Nothing = []
-bytes_in (Also' marker before byte) = bytes_in before ++ byte.value ∷ []
-
-abbrev pub times_in : Times → ℕ
-times_in Never = 0
-times_in (Again' marker before) = times_in before + 1
 
 -- the history grew by the first of these bytes, perhaps none or all of them
 pub record AddsFront (before bytes now : List ℕ) : Type 0 where

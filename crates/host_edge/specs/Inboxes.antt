@@ -10,7 +10,7 @@ use Rattle.host_edge.specs.declared.front.Front.TheVariants.{Cut, Other, Whole}
 abbrev pub floor_kind : ℕ
 floor_kind = 0x46
 
--- what may stand in front of an answer: nothing, or a floor, which has four bytes behind its first one
+-- what may stand in front of an answer: nothing, or a floor, which has four bytes after its first one
 abbrev pub IsFront : List ℕ → Type 0
 IsFront front = (front ≡ []) ⊎ ((four : List ℕ) × (length four ≡ 4) × (front ≡ floor_kind ∷ four))
 
@@ -35,7 +35,7 @@ pub record IsCutFloor (bytes : List ℕ) : Type 0 where
 abbrev pub IsCutFronted : List ℕ → Type 0
 IsCutFronted bytes = IsCutAnswer bytes ⊎ IsCutFloor bytes
 
--- a byte stands in an answer's first place, behind a floor or without one, with which no answer begins
+-- a byte stands in an answer's first place, after a floor or without one, with which no answer begins
 pub record BeginsNone (bytes : List ℕ) : Type 0 where
   pub front : List ℕ
   pub is_front : IsFront front
@@ -73,7 +73,7 @@ is_empty_list [] = true
 is_empty_list (byte ∷ bytes) = false
 
 -- Of these bytes the whole answers at their front are ready, each with its floor where it has one, and the front of the answer that hasn't ended is held back.
--- Where a byte stands in an answer's first place with which none begins, it is ready with all behind it, since no answer will end there.
+-- Where a byte stands in an answer's first place with which none begins, it is ready with all after it, since no answer will end there.
 pub record HoldsBack (bytes : List ℕ) (now : Held) : Type 0 where
   pub parts : bytes ≡ now.ready ++ now.cut
   pub answers : List Fronted

@@ -1,7 +1,7 @@
 -- What a fleet has lent, and whom it had as guests.
 use Rattle.std.specs.Prelude.{ℕ, ◌+◌, ◌-◌, Bool, true, false, List, [], ◌∷◌, ◌++◌, Option, None}
 use Rattle.wan_edge.specs.Fleets.{marked, with_one, without}
-use Rattle.host_edge.specs.Histories.{bytes_in}
+use Rattle.byte_history.specs.Histories.{bytes_in}
 use Rattle.host_edge.specs.declared.ledger.Loans.{Loans, Nothing, Given', Back'}
 use Rattle.host_edge.specs.declared.ledger.Visits.{Visits, Nobody, Given' as Came', Back' as Left'}
 use Rattle.host_edge.specs.declared.tcp_guest.TcpGuest.{TcpGuest}

@@ -6,11 +6,11 @@ ghost use Rattle.host_edge.specs.Inboxes.{GivesOn, HoldsBack, IsCutFronted, noth
 ghost use Rattle.host_edge.specs.Outboxes.{Offers, SendsAllOrNone, nothing_sent};
 
 use crate::front::FRONTED_LEN;
-use crate::history::History;
 use crate::inbox::Inbox;
 use crate::outbox::Outbox;
 use crate::time_limit::TimeLimit;
 use crate::unbroken::{write_noted, write_whole};
+use byte_history::History;
 use std::io::{self, ErrorKind, Read, Write};
 use std::net::OpenStream;
 use std::time::{Clock, Duration, Instant};

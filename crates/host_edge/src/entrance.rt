@@ -59,7 +59,7 @@ impl Entrance {
 
     /// Waits until a connection has come, or something is there of one of these guests: bytes, the end, or a
     /// failure, so that a read of it doesn't wait. Of several guests it is the first. A connection and a
-    /// guest take turns where both are there; behind a connection, and at first, it is the guest's turn.
+    /// guest take turns where both are there; after a connection, and at first, it is the guest's turn.
     #[tactic(auto, using(crate::proofs::Waiting::one_woken))]
     pub(crate) fn wait(&mut self, seated: &[TcpGuest<TcpStream>]) -> io::Result<Waited>
         ensures { IfOk result (λ woken. WaitsFor None seated.now woken) }
@@ -73,7 +73,7 @@ impl Entrance {
         Err(ErrorKind::Interrupted.into())
     }
 
-    // Waits once. Behind a signal, and for a connection that has gone before it was taken, nothing is there.
+    // Waits once. After a signal, and for a connection that has gone before it was taken, nothing is there.
     #[tactic(auto, using(crate::proofs::Waiting::one_below))]
     fn look(&mut self, seated: &[TcpGuest<TcpStream>]) -> io::Result<Option<Waited>>
         ensures { IfOk result (λ found. IfSome found (λ woken. WaitsFor None seated.now woken)) }
@@ -111,7 +111,7 @@ impl Entrance {
         }
     }
 
-    // The first of these guests of whom something is there, and None where nothing is, at once or behind a
+    // The first of these guests of whom something is there, and None where nothing is, at once or after a
     // wait.
     fn first_ready(
         &mut self,

@@ -28,7 +28,7 @@ impl Faults {
     }
 
     /// The system's answer as an adapter's, a failure counted.
-    pub(crate) fn counted<T>(&mut self, answer: io::Result<T>) -> Result<T, Failed>
+    pub(crate) fn count_failure<T>(&mut self, answer: io::Result<T>) -> Result<T, Failed>
         ensures value { IfOk result (λ x. answer ≡ Ok x) }
         ensures failed { OnErr result (IsErr answer) }
         ensures cause { OnErr result (Rose self.old self.new) }
@@ -68,13 +68,13 @@ impl StreamFaults {
     }
 
     /// The system's answer as an adapter's, a failure counted.
-    pub(crate) fn counted<T>(&mut self, answer: io::Result<T>) -> Result<T, Failed>
+    pub(crate) fn count_failure<T>(&mut self, answer: io::Result<T>) -> Result<T, Failed>
         requires awaited { IfErr answer (λ error. error_kind error ≢ ErrorKind.WouldBlock) }
         ensures value { IfOk result (λ x. answer ≡ Ok x) }
         ensures failed { OnErr result (IsErr answer) }
         ensures cause { OnErr result (Rose self.old self.new) }
         ensures count { self.old ≤ self.new }
     {
-        self.faults.counted(answer)
+        self.faults.count_failure(answer)
     }
 }

@@ -40,7 +40,7 @@ impl<R: Files<File = File> + Alloc, F: PlacedFile> Disk for FileDisk<R, F> {
 
     fn len(&mut self) -> Result<u64, Failed> {
         let answer = self.file.len();
-        self.faults.counted(answer)
+        self.faults.count_failure(answer)
     }
 
     fn read_at(&mut self, at: u64, into: &mut [u8]) -> Result<usize, Failed>
@@ -56,7 +56,7 @@ impl<R: Files<File = File> + Alloc, F: PlacedFile> Disk for FileDisk<R, F> {
             (λ n. StandsAt F.bytes self.new.file.file at n (take n into.new)) }
     {
         let answer = self.file.read_at(at, into);
-        self.faults.counted(answer)
+        self.faults.count_failure(answer)
     }
 
     fn write_at(&mut self, at: u64, from: &[u8]) -> Result<(), Failed>
@@ -70,12 +70,12 @@ impl<R: Files<File = File> + Alloc, F: PlacedFile> Disk for FileDisk<R, F> {
             WritesAt F.bytes self.old.file.file at from.now self.new.file.file) }
     {
         let answer = self.file.write_at(at, from);
-        self.faults.counted(answer)
+        self.faults.count_failure(answer)
     }
 
     fn sync(&mut self) -> Result<(), Failed> {
         let answer = self.file.sync();
-        self.faults.counted(answer)
+        self.faults.count_failure(answer)
     }
 
     ghost shows_one = { λ _. tt };

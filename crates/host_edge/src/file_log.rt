@@ -11,7 +11,7 @@ use std::time::Clock;
 use wan_edge::{Failed, Sink};
 
 /// A file that lines are added to, as a sink, which tells what was written: the bytes that the system says it
-/// took, behind what the file had.
+/// took, after what the file had.
 ///
 /// The file is opened by the first write, and made if it isn't there. Its exclusive lock is taken then and kept.
 /// At a path that names no regular file, as the empty one, or one whose lock another has, each write fails.
@@ -91,6 +91,6 @@ impl<R: Files<File = File> + Clock> Sink for FileLog<R> {
 
     fn write(&mut self, from: &[u8]) -> Result<usize, Failed> {
         let answer = self.append(from);
-        self.faults.counted(answer)
+        self.faults.count_failure(answer)
     }
 }

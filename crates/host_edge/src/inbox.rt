@@ -3,8 +3,8 @@ ghost use Rattle.std.specs.Io.KnownBytes.{Consumes, Keeps};
 ghost use Rattle.host_edge.specs.Inboxes.{HoldsBack, IsCutFronted, is_empty_list, nothing_in};
 
 use crate::front::{Front, front_of};
-use crate::history::History;
 use crate::unbroken::read_noted;
+use byte_history::History;
 use std::cmp::min;
 use std::io::{self, Read};
 use std::marker::Model;
@@ -13,7 +13,7 @@ use std::marker::Model;
 const ROOM: usize = 4_096;
 
 /// What came over one connection and wasn't given on: the bytes of whole answers, each with its floor where it has
-/// one, and behind them the front of the answer that hasn't ended, which is held back.
+/// one, and after them the front of the answer that hasn't ended, which is held back.
 #[derive(Drop)]
 pub(crate) struct Inbox {
     bytes: [u8; ROOM],
@@ -59,7 +59,7 @@ impl Inbox {
         self.given == self.whole
     }
 
-    /// Reads once, behind the front of the answer that hasn't ended, and says how many bytes came, which are
+    /// Reads once, after the front of the answer that hasn't ended, and says how many bytes came, which are
     /// noted.
     pub(crate) fn fill<R: Read>(&mut self, reader: &mut R, came: &mut History) -> io::Result<usize>
         requires empty { self.old.ready ≡ [] }
@@ -108,7 +108,7 @@ impl Inbox {
     }
 }
 
-// These bytes, and room for others behind them.
+// These bytes, and room for others after them.
 fn room_behind(front: &[u8]) -> [u8; ROOM]
     requires { length front.now ≤ 4_096 }
     ensures { take (length front.now) result ≡ front.now }
@@ -118,7 +118,7 @@ fn room_behind(front: &[u8]) -> [u8; ROOM]
     bytes
 }
 
-// Reads once, into the places behind the first ones, and notes what came.
+// Reads once, into the places after the first ones, and notes what came.
 fn read_behind<R: Read>(
     reader: &mut R,
     bytes: &mut [u8],
@@ -140,7 +140,7 @@ fn read_behind<R: Read>(
     Ok(n)
 }
 
-// How many of the bytes are those of whole answers, one behind the other; all of them where one stands in an
+// How many of the bytes are those of whole answers, one after the other; all of them where one stands in an
 // answer's first place with which none begins.
 fn whole_len(bytes: &[u8]) -> usize
     ensures within { result ≤ length bytes.now }

@@ -4,8 +4,8 @@ ghost use Rattle.std.specs.Prelude.{◌≡◌, ◌+◌, ◌-◌, ◌∷◌, ◌+
 ghost use Rattle.host_edge.specs.Ledgers.{kept_in, lent_in, named_in, served_in, visiting_in};
 ghost use Rattle.wan_edge.specs.Fleets.{marked, with_one, without};
 
-use crate::history::{Bytes, history_of};
 use crate::{TcpGuest, TcpPort};
+use byte_history::{Bytes, history_of};
 use std::snapshot::Snapshot;
 
 /// The ports that were given, each by a name, and given back.

@@ -27,7 +27,6 @@ mod file_disk;
 mod file_log;
 mod fleet_file;
 mod front;
-mod history;
 mod inbox;
 mod ledger;
 mod locked_file;

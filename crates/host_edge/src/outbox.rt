@@ -1,7 +1,7 @@
 ghost use Rattle.std.specs.Prelude.{◌≡◌};
 ghost use Rattle.host_edge.specs.Outboxes.{nothing_sent};
 
-use crate::history::{Count, History};
+use byte_history::{Count, History};
 
 /// What was sent over one connection, and how often nothing of an offer was, for want of time. It is whole
 /// until a part of an offer alone goes out, or the connection ends.

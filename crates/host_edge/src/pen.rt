@@ -2,8 +2,8 @@ ghost use Rattle.std.specs.Prelude.{◌≡◌, ◌≢◌, ◌<◌, ◌≤◌, []
 ghost use Rattle.std.specs.IoError.{error_kind};
 ghost use Rattle.host_edge.specs.Histories.{Carries};
 
-use crate::history::History;
 use crate::unbroken::write_awaited;
+use byte_history::History;
 use std::io::{self, ErrorKind, Write};
 use std::time::Clock;
 

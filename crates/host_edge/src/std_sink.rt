@@ -60,6 +60,6 @@ impl<R: Clock> Sink for StdSink<R> {
             Stream::Output(pen) => pen.write(&self.rt, from),
             Stream::Error(pen) => pen.write(&self.rt, from),
         };
-        self.faults.counted(answer)
+        self.faults.count_failure(answer)
     }
 }

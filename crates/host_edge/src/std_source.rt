@@ -38,6 +38,6 @@ impl<R: Clock> Source for StdSource<R> {
 
     fn read(&mut self, into: &mut [u8]) -> Result<usize, Failed> {
         let answer = self.tap.read(&self.rt, into);
-        self.faults.counted(answer)
+        self.faults.count_failure(answer)
     }
 }

@@ -3,8 +3,8 @@ ghost use Rattle.std.specs.Io.KnownBytes.{IsAtEnd};
 ghost use Rattle.std.specs.IoError.{error_kind};
 ghost use Rattle.host_edge.specs.Histories.{Gives};
 
-use crate::history::History;
 use crate::unbroken::read_awaited;
+use byte_history::History;
 use std::io::{self, ErrorKind, Read};
 use std::time::Clock;
 

@@ -83,7 +83,7 @@ impl<R: Net + Files<File = File> + Clock + Copy> Fleet for TcpFleet<R> {
 
     fn port(&mut self, switch: u32, name: &str) -> Result<TcpPort<R>, Failed> {
         let answer = open_port(self.alloc, &self.rt, &mut self.switches, name, self.limit);
-        let port = self.faults.counted(answer)?;
+        let port = self.faults.count_failure(answer)?;
         self.loans = self.loans.given(switch, name);
         Ok(port)
     }
@@ -100,7 +100,7 @@ impl<R: Net + Files<File = File> + Clock + Copy> Fleet for TcpFleet<R> {
             &mut self.entrance,
             seated,
         );
-        self.faults.counted(answer)
+        self.faults.count_failure(answer)
     }
 
     fn guest(&mut self) -> Result<Option<TcpGuest<TcpStream>>, Failed> {
@@ -111,7 +111,7 @@ impl<R: Net + Files<File = File> + Clock + Copy> Fleet for TcpFleet<R> {
             &mut self.entrance,
             self.limit.whole(),
         );
-        let stream = self.faults.counted(answer)?;
+        let stream = self.faults.count_failure(answer)?;
         self.visits = self.visits.given();
         Ok(Some(TcpGuest::new(stream)))
     }

@@ -5,9 +5,9 @@ ghost use Rattle.wan_edge.specs.Streams.{Appends, Rose};
 
 use crate::farewell::take_leave;
 use crate::faults::Faults;
-use crate::history::History;
 use crate::time_limit::TimeLimit;
 use crate::unbroken::{read_noted, write_noted};
+use byte_history::History;
 use std::io::{Read, Write};
 use std::net::OpenStream;
 use std::os::fd::{AsRawFd, RawFd};
@@ -85,7 +85,7 @@ impl<S: Read + Write> Source for TcpGuest<S> {
             self.old.taken self.new.taken }
     {
         let answer = read_noted(&mut self.stream, into, &mut self.taken);
-        self.read_faults.counted(answer)
+        self.read_faults.count_failure(answer)
     }
 }
 
@@ -114,7 +114,7 @@ impl<S: Read + Write> Sink for TcpGuest<S> {
             self.old.written self.new.written }
     {
         let answer = write_noted(&mut self.stream, from, &mut self.written);
-        self.write_faults.counted(answer)
+        self.write_faults.count_failure(answer)
     }
 }
 

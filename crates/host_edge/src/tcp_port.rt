@@ -6,8 +6,8 @@ ghost use Rattle.wan_edge.specs.Streams.{Appends};
 
 use crate::connection::{Connection, is_late};
 use crate::dialer::Dialer;
-use crate::history::{Count, History};
 use crate::time_limit::rest_behind;
+use byte_history::{Count, History};
 use std::fs::File;
 use std::io::{self, ErrorKind};
 use std::net::{Net, TcpStream};

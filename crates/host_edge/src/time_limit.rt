@@ -46,7 +46,7 @@ impl TimeLimit {
     }
 }
 
-/// How long a rest lasts behind a moment: a quarter of what has passed since, so that a thing that comes soon
+/// How long a rest lasts after a moment: a quarter of what has passed since, so that a thing that comes soon
 /// is seen soon, and never longer than a millisecond.
 pub(crate) fn rest_behind<R: Clock>(rt: &R, since: Option<Instant>) -> Duration {
     let most = Duration::from_millis(REST);

@@ -13,7 +13,7 @@ use wan_edge::{Failed, Source};
 /// A file that another process may write meanwhile, as a source, which tells what was taken: the bytes that the
 /// system says it gave, in order.
 ///
-/// The file is opened by the first read, and by the first one behind a rewinding, for reading alone: it isn't made
+/// The file is opened by the first read, and by the first one after a rewinding, for reading alone: it isn't made
 /// where it isn't there, its lock isn't asked for, and nothing is written or synced. At a path that names no
 /// regular file each read fails.
 #[derive(Drop)]
@@ -80,7 +80,7 @@ impl<R: Files<File = File> + Clock> Source for WatchedFile<R> {
 
     fn read(&mut self, into: &mut [u8]) -> Result<usize, Failed> {
         let answer = self.give(into);
-        self.faults.counted(answer)
+        self.faults.count_failure(answer)
     }
 }
 

@@ -7,7 +7,7 @@ use Rattle.intent_journal.specs.Images.{first_side, is_live, is_placed, journal_
 use Rattle.intent_journal.specs.States.{Home, IsAlone, Stands, with_more}
 use Rattle.intent_journal.proofs.Headers.{same_byte, same_slot}
 
--- a part stands behind the slots
+-- a part stands after the slots
 pub placed_start : (slot : Slot) → is_placed slot ≡ true → 35 ≤ slot.start
 unfolding is_placed
 placed_start slot placed = grind (arith, nat_tests, placed)
@@ -49,7 +49,7 @@ module _ (home : Home) (image : List ℕ) (alone : IsAlone home image) where
       (λ sides. second_part image home.slot (dead_slot image (slot_at first_side image) (subst (λ (n : ℕ). byte_at n image ≢ open_slot) sides.1 closed)) (subst (λ (n : ℕ). slot_at n image ≡ home.slot) sides.0 is) live)
       alone.sides
 
-  -- the image keeps what its front does, and the batches behind
+  -- the image keeps what its front does, and the batches after
   pub alone_keeps : (front tail : List ℕ) (kept : Kept) → Stands home.slot front kept → drop home.slot.start image ≡ front ++ tail → 0 < length tail
       → journal_in image ≡ Some (with_more kept (batches_of (take (size_of home.slot - length front) tail)))
   alone_keeps front tail kept stands part some =

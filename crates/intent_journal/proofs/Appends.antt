@@ -51,7 +51,7 @@ module _ (gate end entries most capacity : ℕ) (room : HasRoom gate end entries
       let done = says kept.rest.0 (entry_rows batch) kept.rest.1 (body_fits kept.rest.0 kept.rest.2) in
       record { now = done.now; is_told = done.is_told; durable = done.durable; keeps = done.keeps }
 
-  -- the journal is at rest behind the batch
+  -- the journal is at rest after the batch
   pub kept_after : (told told_new : Option (List ℕ)) (left left_new : List ℕ → Type 0) → IsKept gate end told left → KeepsTelling told told_new → IsDurable told_new left_new
       → IfSome told (λ image. (home : Home) (rows : List (List ℕ)) → IsAtRest home gate image → IsBody home gate rows body → IsCommitted home gate rows body image told_new left_new)
       → IsKept (gate + length body) end told_new left_new

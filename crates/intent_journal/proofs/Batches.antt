@@ -54,14 +54,14 @@ batches_fuel (suc f) (suc g) (gate ∷ rest) few also =
     ap (λ (l : List (List ℕ)). if (gate == open_batch) && nat_lt (4 + 9 * n) (length rest) then rows n (drop 4 rest) ++ l else [])
     (batches_fuel f g behind (omega (arith, few, length-drop (4 + 9 * n) rest)) (omega (arith, also, length-drop (4 + 9 * n) rest)))
 
--- none behind a closed gate
+-- none after a closed gate
 pub batches_closed : (mark k : ℕ) (tail : List ℕ) → mark ≢ open_batch → batches_of (take k (mark ∷ tail)) ≡ []
 batches_closed mark zero tail closed = refl
 batches_closed mark (suc k) tail closed =
     let shut : (mark == open_batch) ≡ false = grind (arith, nat_tests, closed) in
     rw shut refl
 
--- a batch that is whole, with a byte behind it, and then those behind
+-- a batch that is whole, with a byte after it, and then those after
 pub batches_step : (rest : List ℕ) → 4 + 9 * number_4 rest < length rest
     → batches_of (open_batch ∷ rest) ≡ rows (number_4 rest) (drop 4 rest) ++ batches_of (drop (4 + 9 * number_4 rest) rest)
 batches_step rest whole =
@@ -69,7 +69,7 @@ batches_step rest whole =
     let test : nat_lt (4 + 9 * number_4 rest) (length rest) ≡ true = lt-ltb _ _ whole in
     rw test (ap (λ (l : List (List ℕ)). rows (number_4 rest) (drop 4 rest) ++ l) (batches_fuel (length rest) (length behind) behind (omega (arith, length-drop (4 + 9 * number_4 rest) rest)) (omega arith)))
 
--- a batch that was written behind an open gate counts
+-- a batch that was written after an open gate counts
 pub batches_open : (batch : List (List ℕ)) (tail : List ℕ) (k : ℕ) → AreRows batch → length batch < 2 ^ 32 → 0 < length tail → 1 + length (batch_body batch) < k
     → batches_of (take k (open_batch ∷ (batch_body batch ++ tail))) ≡ batch ++ batches_of (take (k - (1 + length (batch_body batch))) tail)
 batches_open batch tail zero are few some room = absurd (omega (arith, room))

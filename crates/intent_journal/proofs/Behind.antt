@@ -1,4 +1,4 @@
--- What stands behind the list of a journal, and what is read there.
+-- What stands after the list of a journal, and what is read there.
 use Rattle.std.proofs.Common.{◌≡◌, Bool, true, false, if◌then◌else◌, ℕ, List, ◌++◌, drop, Option, Some, None, IfSome, sym, ap, ◌∙◌}
 use Rattle.std.proofs.lemmas.List.{append-nil}
 use Rattle.rollout_rules.specs.declared.op.Entry.{Entry}

@@ -37,7 +37,7 @@ short_blank c short = grind (arith, nat_tests, short)
 pub few_of_blank : (image : List ℕ) → IsBlank image → length image ≤ blank_most
 few_of_blank image blank = blank_few (length image) blank_most (byte_at 0 image) open_journal (keeps_nothing (live_part (opened image))) one_most blank
 
--- what begins with 0 is blank, whatever is written behind that byte
+-- what begins with 0 is blank, whatever is written after that byte
 pub clear_blank : (c : List ℕ) → IsClear c → IsBlank c
 clear_blank c clear = is_blank_by c clear.few (inl clear.first)
 

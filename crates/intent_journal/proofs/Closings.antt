@@ -45,11 +45,11 @@ side_small this other (inr sides) = (omega (arith, sides.0), omega (arith, sides
 pub torn_length : (at n : ℕ) (image c : List ℕ) → at + n ≤ length image → Torn at n image c → length c ≡ length image
 torn_length at n image c inside torn = omega (arith, torn.no_shorter, torn.no_longer, inside)
 
--- nothing is added where no batch is behind
+-- nothing is added where no batch is after
 pub keeps_no_more : (kept : Kept) (more : List (List ℕ)) → more ≡ [] → Some (with_more kept more) ≡ Some kept
 keeps_no_more kept more none = ap (λ (m : List (List ℕ)). Some (with_more kept m)) none ∙ ap Some (with_more-nothing kept)
 
--- where one slot is open, and no batch is behind the list
+-- where one slot is open, and no batch is after the list
 pub cut_keeps : (found : Found) (image : List ℕ) → (is : IsCut found image) → journal_in image ≡ Some is.kept
 cut_keeps found image is =
     alone_keeps (home_of found) image is.alone is.front (is.mark ∷ is.behind) is.kept is.stands is.part (omega arith)
@@ -234,7 +234,7 @@ module _ (found : Found) (image : List ℕ) (is : IsClosed found image) where
   wide_torn short c torn =
       torn_wider (end_of found - 1) 1 (found.gate + 1) (end_of found - (found.gate + 1)) image c (gate_before short) (omega (arith, gate_before short)) torn
 
-  -- where it doesn't, its last byte is written behind the image
+  -- where it doesn't, its last byte is written after the image
   pub fill_torn : found.length < end_of found → (c : List ℕ) → Torn (end_of found - 1) 1 image c → IsOld (journal_in image) c
   fill_torn short c torn = first_crash (home_of found) found.gate (end_of found - (found.gate + 1)) image c is.0 (wide_torn short c torn)
 

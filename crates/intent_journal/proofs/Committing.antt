@@ -12,7 +12,7 @@ use Rattle.intent_journal.proofs.Alone.{alone_keeps, alone_same, placed_start}
 use Rattle.intent_journal.proofs.Batches.{batches_closed}
 use Rattle.intent_journal.proofs.Fronts.{Stands-more, length-longer, longer, with_more-nothing}
 
--- a torn write behind the slots leaves them
+-- a torn write after the slots leaves them
 torn_alone : (home : Home) (image new : List ℕ) (at n : ℕ) → IsAlone home image → 35 ≤ at → at ≤ length image → Torn at n image new → IsAlone home new
 torn_alone home image new at n alone behind inside torn =
     let same : take 35 new ≡ take 35 image =
@@ -35,7 +35,7 @@ module _ (home : Home) (gate : ℕ) (image : List ℕ) (rest : IsAtRest home gat
       ∙ ap (λ (more : List (List ℕ)). Some (with_more rest.kept more)) (batches_closed rest.mark (size_of home.slot - length rest.front) rest.behind rest.closed)
       ∙ ap Some (with_more-nothing rest.kept)
 
-  -- a write behind the gate leaves it at rest, and what it keeps
+  -- a write after the gate leaves it at rest, and what it keeps
   pub torn_rest : (n : ℕ) (new : List ℕ) → Torn (gate + 1) n image new → (r : IsAtRest home gate new) × (r.kept ≡ rest.kept) × (r.front ≡ rest.front)
   torn_rest n new torn =
       let long = rest_long in
@@ -114,7 +114,7 @@ module _ (home : Home) (gate : ℕ) (batch : List (List ℕ)) (body : List ℕ) 
         at = stage.at;
       }
 
-  -- behind an open gate the batch counts, and the journal is at rest behind it
+  -- after an open gate the batch counts, and the journal is at rest after it
   pub opened_rest : (front more : List ℕ) → IsAlone home image → Stands home.slot front kept → drop home.slot.start image ≡ front ++ (open_batch ∷ (batch_body batch ++ 0 ∷ more))
       → gate ≡ home.slot.start + length front → (r : IsAtRest home (gate + length body) image) × (r.kept ≡ with_more kept batch)
   opened_rest front more alone stands part at =
@@ -179,7 +179,7 @@ opened_part start gate image front rest mark behind inside at part =
     ∙ ap (written (gate - start) (open_batch ∷ [])) part
     ∙ written-behind front (mark ∷ rest) (open_batch ∷ []) (gate - start) at
 
--- with both the journal is at rest behind the batch
+-- with both the journal is at rest after the batch
 pub both_done : (home : Home) (gate : ℕ) (batch : List (List ℕ)) (body image now : List ℕ) → IsAtRest home gate image → IsBody home gate batch body
     → now ≡ written gate (open_batch ∷ []) (written (gate + 1) body image)
     → IsAtRest home (gate + length body) now × (journal_in now ≡ added (journal_in image) batch)

@@ -13,7 +13,7 @@ use Rattle.intent_journal.proofs.NewParts.{Stands-new, length-new_front}
 use Rattle.intent_journal.proofs.Rows.{entry_rows-are, length-entry_rows}
 use Rattle.intent_journal.proofs.Switches.{keeps_is, not_open}
 
--- a row of pieces and what stands behind them
+-- a row of pieces and what stands after them
 pieces : (a b c d e z : List ℕ) → (a ++ (b ++ (c ++ d))) ++ (e ++ z) ≡ (a ++ (b ++ (c ++ (d ++ e)))) ++ z
 pieces a b c d e z =
     append_assoc a (b ++ (c ++ d)) (e ++ z)

@@ -1,4 +1,4 @@
--- A batch behind the front of a part joins the front.
+-- A batch after the front of a part joins the front.
 use Rattle.std.proofs.Common.{◌≡◌, ℕ, ◌+◌, ◌-◌, ◌<◌, ◌^◌, List, [], ◌∷◌, ◌++◌, length, take, sym, ◌∙◌, ap, arith, length-append}
 use Rattle.std.proofs.lemmas.List.{append_assoc, append-nil}
 use Rattle.intent_journal.specs.Parts.{Kept, Slot, batch_body, batches_of, is_whole, kept_in, open_batch, size_of}

@@ -11,7 +11,7 @@ use Rattle.disk_model.proofs.Tearing.{drop-written}
 use Rattle.intent_journal.specs.Numbers.{byte_at, number_8}
 use Rattle.intent_journal.specs.Images.{slot_at}
 
--- the image in front of a byte, that byte and what stands behind it
+-- the image in front of a byte, that byte and what stands after it
 around : (at : ℕ) (image : List ℕ) → at < length image → image ≡ take at image ++ (byte_at at image ∷ drop (at + 1) image)
 around at image inside = sym (take-append-drop at image) ∙ ap (λ (l : List ℕ). take at image ++ l) (drop_more image at 0 inside)
 
@@ -69,6 +69,6 @@ torn_wider at n from k old new low high torn = record {
       ∙ drop-drop (from + k - (at + n)) (at + n) old ∙ ap (λ (i : ℕ). drop i old) is;
 }
 
--- a torn write within an image, behind its slots, leaves them
+-- a torn write within an image, after its slots, leaves them
 pub torn_front : (at n : ℕ) (image c : List ℕ) → 35 ≤ at → at ≤ length image → Torn at n image c → take 35 c ≡ take 35 image
 torn_front at n image c behind inside torn = sym (take-take 35 at c behind) ∙ ap (take 35) (torn.before inside) ∙ take-take 35 at image behind

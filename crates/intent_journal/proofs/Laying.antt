@@ -35,7 +35,7 @@ pub second_placed : (start size : ℕ) → 35 ≤ start → start < 2 ^ 62 → s
 unfolding is_placed
 second_placed start size low high small = grind (arith, nat_tests, low, high, small, second_size start size)
 
--- where the new part stands: in front of the live one, or behind it
+-- where the new part stands: in front of the live one, or after it
 pub either_start : (found : Found) (size : ℕ) → ((35 + size ≤ found.start) × (new_start found size ≡ 35)) ⊎ (new_start found size ≡ end_of found)
 either_start found size = ⊎_elim
     (λ fits. inl (grind (arith, nat_tests, fits), ap (λ (b : Bool). if b then 35 else end_of found) fits))

@@ -1,4 +1,4 @@
--- A journal that is made of a blank image: what stands before its gate is opened, and behind.
+-- A journal that is made of a blank image: what stands before its gate is opened, and after.
 use Rattle.std.proofs.Common.{◌≡◌, inl, inr, ⊎_elim, ◌==◌, true, ℕ, ◌+◌, ◌*◌, ◌<◌, ◌≤◌, ◌^◌, ◌∷◌, [], List, ◌++◌, length, drop, get_or, replicate, Option, Some, None, IfSome, refl, sym, ◌∙◌, ap, arith, length-append}
 use Rattle.std.proofs.lemmas.Bool.{cases_eq}
 use Rattle.std.proofs.lemmas.List.{append_assoc, drop-drop, drop_at, get_or-drop}
@@ -22,7 +22,7 @@ use Rattle.intent_journal.proofs.NewParts.{Stands-new, length-new_front}
 use Rattle.intent_journal.proofs.Switches.{moved_keeps}
 use Rattle.intent_journal.proofs.Gates.{written_one}
 
--- what stands behind a head, from the place where it ends
+-- what stands after a head, from the place where it ends
 behind_head : (bytes head rest : List ℕ) (place long : ℕ) → drop place bytes ≡ head ++ rest → length head ≡ long → drop (place + long) bytes ≡ rest
 behind_head bytes head rest place long there is = sym (drop-drop long place bytes) ∙ ap (drop long) there ∙ drop_at head rest long is
 
@@ -36,7 +36,7 @@ long_slots size =
       long_8 (2 ^ 62 + size),
     )
 
--- an image behind whose open gate these slots and this part stand
+-- an image after whose open gate these slots and this part stand
 module _ (part : Planned) (image behind : List ℕ) (stands : Stands (first_home part).slot (new_front part.kept) part.kept) (placed : is_placed (first_home part).slot ≡ true)
     (small : part.size ≤ 1000000000) (gate : byte_at 0 image ≡ open_journal) (there : drop 1 image ≡ slots_bytes part.size ++ (new_front part.kept ++ (0 ∷ behind))) where
   abbrev rest : List ℕ
@@ -84,7 +84,7 @@ module _ (part : Planned) (image behind : List ℕ) (stands : Stands (first_home
         there = at_part;
       }
 
--- the slots are written behind the first byte
+-- the slots are written after the first byte
 pub slots_clear : (image c : List ℕ) → IsClear image → Torn 1 34 image c → IsClear c
 unfolding blank_most
 slots_clear image c clear torn = clear_torn 1 34 image c (omega arith) (omega arith) clear torn
@@ -146,7 +146,7 @@ module _ (part : Planned) (image : List ℕ) (is : IsReady part image) (rows : p
       let now = written 0 (open_journal ∷ []) image in
       made_moved part now is.behind is.stands is.placed is.small (written_one 0 open_journal image) ((Torn-written 0 (open_journal ∷ []) image).after ∙ is.there)
 
--- two writes and one sync behind the first byte, done or not
+-- two writes and one sync after the first byte, done or not
 module _ {D : Type 0} (trace : D → DiskTrace) where
   pub slots_run : (told : Option (List ℕ)) (old mid : D) (at n : ℕ) → ((c : List ℕ) → (trace old).left_since (trace old).moment c → (trace old).may_leave c) → Holds IsClear told (trace old).may_leave
       → Within (trace mid).may_leave (Stepped (Torn at n) (trace old).may_leave) → GoesOn (trace old) (trace mid) (trace mid).may_leave

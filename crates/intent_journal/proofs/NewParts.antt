@@ -1,4 +1,4 @@
--- A part of the second format as it is written anew: whatever stands behind it, it keeps what it was written for.
+-- A part of the second format as it is written anew: whatever stands after it, it keeps what it was written for.
 use Rattle.std.proofs.Common.{◌≡◌, ◌&&◌, nat_lt, Bool, true, ℕ, ◌+◌, ◌-◌, ◌*◌, ◌<◌, List, [], ◌∷◌, ◌++◌, length, take, drop, if◌then◌else◌, refl, sym, ◌∙◌, ap, arith, length-append}
 use Rattle.std.proofs.lemmas.Bool.{lt-ltb}
 use Rattle.std.proofs.lemmas.List.{append_assoc, drop-drop, drop_at, take_at}
@@ -22,7 +22,7 @@ numbers-number_bytes (n ∷ ns) tail small =
     ∙ ap (λ (l : List ℕ). n ∷ numbers (length ns) l) rest
     ∙ ap (λ (l : List ℕ). n ∷ l) (numbers-number_bytes ns tail small.1)
 
--- what stands behind a head, from the place where it ends
+-- what stands after a head, from the place where it ends
 next : (bytes head rest : List ℕ) (place long : ℕ) → drop place bytes ≡ head ++ rest → length head ≡ long → drop (place + long) bytes ≡ rest
 next bytes head rest place long there is = sym (drop-drop long place bytes) ∙ ap (drop long) there ∙ drop_at head rest long is
 

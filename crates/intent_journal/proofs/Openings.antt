@@ -130,7 +130,7 @@ module _ {D : Type 0} (trace : D → DiskTrace) (digest : Digest) where
     count = omega arith;
   }
 
-  -- where memory ran out behind the opening, the disk is as the opening left it
+  -- where memory ran out after the opening, the disk is as the opening left it
   pub left_opened : (r : Rollout) (old new : D) → IsOpenedOn trace r digest old new → IsLeft trace r digest old fault.Memory new
   left_opened r old new opened = record {
     refusal = told_all (trace old).bytes (λ all. IsCause fault.Memory digest (verdict r digest all)) (λ all. tt);

@@ -9,7 +9,7 @@ use Rattle.disk_model.proofs.Running.{LeavesOnly-chain, LeavesOnly-durable, Leav
 use Rattle.disk_model.proofs.Telling.{at_told, told_by}
 use Rattle.intent_journal.specs.Phases.{Holds}
 
--- what stands behind a write that was done and synced
+-- what stands after a write that was done and synced
 pub write_holds : (S T : List ℕ → Type 0) (at : ℕ) (bytes : List ℕ) (told now : Option (List ℕ)) (left left_now : List ℕ → Type 0)
     → ((image : List ℕ) → S image → T (written at bytes image)) → Holds S told left → Writes at bytes told now → IsDurable now left_now → Holds T now left_now
 write_holds S T at bytes None None left left_now becomes holds writes durable = tt
@@ -27,7 +27,7 @@ pub write_ok : {X E : Type 0} (S T : List ℕ → Type 0) (at : ℕ) (bytes : Li
 write_ok S T at bytes told now left left_now (Ok x) becomes holds writes durable = write_holds S T at bytes told now left left_now becomes holds writes durable
 write_ok S T at bytes told now left left_now (Err e) becomes holds writes durable = tt
 
--- and behind two writes, of which the second was synced
+-- and after two writes, of which the second was synced
 pub writes_ok : {X E : Type 0} (S T : List ℕ → Type 0) (at then_at : ℕ) (bytes later : List ℕ) (told between now : Option (List ℕ)) (left left_now : List ℕ → Type 0) (result : Result X E)
     → ((image : List ℕ) → S image → T (written then_at later (written at bytes image))) → Holds S told left → Writes at bytes told between
     → OnOk result (Writes then_at later between now) → OnOk result (IsDurable now left_now) → OnOk result (Holds T now left_now)
@@ -69,7 +69,7 @@ module _ {D : Type 0} (trace : D → DiskTrace) where
   weaker_run P Q None old new weaker run = tt
   weaker_run P Q (Some image) old new weaker run = LeavesOnly-weaker trace old new (P image) (Q image) run (λ c. weaker image c)
 
-  -- one run behind another
+  -- one run after another
   pub chained_run : (P Q R : List ℕ → List ℕ → Type 0) (told between : Option (List ℕ)) (old mid new : D) → KeepsTelling told between
       → ((image c : List ℕ) → P image c → R image c) → ((image m c : List ℕ) → P image m → Q m c → R image c)
       → IfSome between (trace mid).may_leave → ((t : ℕ) (c : List ℕ) → t ≤ (trace mid).moment → (trace mid).may_leave c → (trace mid).left_since t c)

@@ -1,4 +1,4 @@
--- Pieces of an image that are read one behind the other.
+-- Pieces of an image that are read one after the other.
 use Rattle.std.proofs.Common.{◌≡◌, Bool, false, nat_lt, ℕ, zero, suc, ◌+◌, ◌≤◌, List, [], ◌∷◌, ◌++◌, length, take, drop, Option, Some, None, IfSome, refl, sym, subst, ◌∙◌, ap, arith}
 use Rattle.std.proofs.Math.Seq.{take-add}
 use Rattle.std.proofs.lemmas.List.{append-nil, take_all}

@@ -45,7 +45,7 @@ cause_of_reading BadStart told old new cause = absurd cause
 pub cause_of_memory : (fault : JournalFault) (told : Option (List ℕ)) (old new : ℕ) → IsMemory fault → IsPlacingFault fault told old new
 cause_of_memory fault told old new memory = subst (λ (f : JournalFault). IsPlacingFault f told old new) (sym memory) tt
 
--- a cause behind other calls
+-- a cause after other calls
 pub cause_later : (fault : JournalFault) (told before : Option (List ℕ)) (old mid new : ℕ) → told ≡ before → old ≤ mid → IsPlacingFault fault told mid new → IsPlacingFault fault before old new
 cause_later Disk told before old mid new same later cause = ⊎_elim (λ rose. inl (omega (arith, rose, later))) inr cause
 cause_later Memory told before old mid new same later cause = tt

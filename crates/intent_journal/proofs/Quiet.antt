@@ -1,4 +1,4 @@
--- Calls of a disk that write nothing, one behind the other.
+-- Calls of a disk that write nothing, one after the other.
 use Rattle.std.proofs.Common.{◌≡◌, inl, inr, arith, ℕ, ◌≤◌, List, Option, Some, None, refl, sym, ◌∙◌}
 use Rattle.disk_model.specs.Traces.{DiskTrace}
 use Rattle.disk_model.specs.Crashes.{IsDurable, Within}

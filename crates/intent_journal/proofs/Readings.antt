@@ -1,4 +1,4 @@
--- What was read of a journal is what the writes behind it rest on.
+-- What was read of a journal is what the writes after it rest on.
 use Rattle.std.proofs.Common.{◌≡◌, ◌⊎◌, inl, inr, ⊎_elim, if◌then◌else◌, ◌==◌, ℕ, suc, ◌+◌, ◌-◌, List, ◌∷◌, ◌++◌, length, take, drop, Some, sym, subst, ◌∙◌, ap, arith, take-append-drop}
 use Rattle.std.proofs.lemmas.List.{length-take-le}
 use Rattle.std.proofs.Math.Seq.{drop-cons}

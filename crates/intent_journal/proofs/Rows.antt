@@ -25,12 +25,12 @@ pub length-entry_rows : (entries : List Entry) → length (entry_rows entries) �
 length-entry_rows [] = refl
 length-entry_rows (entry ∷ later) = omega (arith, length-entry_rows later)
 
--- a kind, an item and a number, put one behind the other
+-- a kind, an item and a number, put one after the other
 pub row_in_turn : (old row item number : List ℕ) (kind : ℕ) → row ≡ kind ∷ (item ++ number) → ((old ++ kind ∷ []) ++ item) ++ number ≡ old ++ row
 row_in_turn old row item number kind is =
     append_assoc (old ++ kind ∷ []) item number ∙ append_assoc old (kind ∷ []) (item ++ number) ∙ ap (λ (l : List ℕ). old ++ l) (sym is)
 
--- the first of the entries that are left is put behind those that were put
+-- the first of the entries that are left is put after those that were put
 pub put_next : (old new total : List ℕ) (rest : List Entry) (d : Entry) → 0 < length rest → old ++ joined (entry_rows rest) ≡ total → new ≡ old ++ row_of (get_or rest 0 d)
     → new ++ joined (entry_rows (take (length rest - 1) (drop 1 rest))) ≡ total
 put_next old new total [] d some stood put = absurd (omega (arith, some))
@@ -40,7 +40,7 @@ put_next old new total (entry ∷ later) d some stood put =
     ∙ append_assoc old (row_of entry) (joined (entry_rows later))
     ∙ stood
 
--- an operation whose numbers were written behind a kind is read
+-- an operation whose numbers were written after a kind is read
 op_in-bytes : (op : Op) (kind : ℕ) → (op.item < 2 ^ 32) × (op.number < 2 ^ 32) → op_in (kind ∷ op_bytes op) ≡ op
 op_in-bytes op kind small =
     let item = number_4-bytes_4 op.item (bytes_4 op.number) small.0 in

@@ -21,7 +21,7 @@ use Rattle.intent_journal.proofs.Committing.{rest_keeps}
 use Rattle.intent_journal.proofs.Fronts.{with_more-nothing}
 use Rattle.intent_journal.proofs.Gates.{agreed_slot, torn_same, written_one}
 
--- a part with a closed gate behind its front, in an open slot
+-- a part with a closed gate after its front, in an open slot
 module _ (slot : Slot) (image front behind : List ℕ) (mark : ℕ) (kept : Kept) (stands : Stands slot front kept) (part : drop slot.start image ≡ front ++ (mark ∷ behind)) where
   pub live_is : slot.gate ≡ open_slot → is_placed slot ≡ true → is_live slot image ≡ true
   live_is gate placed =
@@ -159,7 +159,7 @@ module _ (found : Found) (part : Planned) (image : List ℕ) (is : IsBoth found 
         there = Torn-beyond (new_start found part.size) found.this 1 image c (omega (arith, new, small.0)) torn ∙ is.there;
       }
 
--- the new part is at rest behind its list
+-- the new part is at rest after its list
 module _ (home : Home) (part : Planned) (image : List ℕ) (is : IsMoved home part image) where
   pub moved_rest : (r : IsAtRest home (home.slot.start + length (new_front part.kept)) image) × (r.kept ≡ part.kept)
   moved_rest = (

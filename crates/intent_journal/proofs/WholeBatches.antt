@@ -27,7 +27,7 @@ rows_next old new total n i rest later more read is stood =
     ∙ sym (ap (λ (k : ℕ). with_rows old (rows k rest)) left)
     ∙ stood
 
--- a batch that stands there, with a byte behind it, counts
+-- a batch that stands there, with a byte after it, counts
 pub batches_raw : (body tail : List ℕ) (k n : ℕ) → number_4 body ≡ n → length body ≡ 4 + 9 * n → 0 < length tail → 1 + length body < k
     → batches_of (take k (open_batch ∷ (body ++ tail))) ≡ rows n (drop 4 body) ++ batches_of (take (k - (1 + length body)) tail)
 batches_raw body tail zero n is long some room = absurd (omega (arith, room))

@@ -27,7 +27,7 @@ slot_at side image = record {
   field = number_8 (drop (side + 9) image);
 }
 
--- a part may stand there: behind the slots, and of a size within the limit
+-- a part may stand there: after the slots, and of a size within the limit
 unfoldable pub is_placed : Slot → Bool
 is_placed slot = nat_le first_start slot.start && (nat_lt slot.start (2 ^ 62) && nat_le (size_of slot) 1000000000)
 

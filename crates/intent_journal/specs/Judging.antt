@@ -14,7 +14,7 @@ use Rattle.intent_journal.specs.Phases.{IsFound}
 use Rattle.intent_journal.specs.Reading.{IsRead, live_side, nothing_read, with_rows}
 use Rattle.intent_journal.specs.Verdicts.{Stands, judged_journal, judged_part, start_of, with_history}
 
--- The part is the rollout's, with this start and list; behind the list stands this gate, and the graph was brought there.
+-- The part is the rollout's, with this start and list; after the list stands this gate, and the graph was brought there.
 pub record IsJudgedPart (slot : Slot) (part : List ℕ) (digest : Digest) (start : List ℕ) (list : List Entry) (gate : ℕ) (old new : Followed) : Type 0 where
   pub stands : judged_part old.rollout digest slot part ≡ Stands start list
   pub read : IsRead slot part (record { entries = list; whole = true }) gate
@@ -35,7 +35,7 @@ BeforeList (Illegal place) holds = ⊤
 BeforeList Disk holds = ⊤
 BeforeList Memory holds = ⊤
 
--- a fault of the list, or want of memory
+-- a fault of the list, or lack of memory
 abbrev pub IsOfList : JournalFault → Type 0
 IsOfList (Illegal place) = ⊤
 IsOfList Memory = ⊤
@@ -64,8 +64,8 @@ entries_at image (Some side) = part_entries (slot_at side image) (drop (slot_at 
 abbrev pub IsAlong : List ℕ → List Entry → Followed → Followed → Type 0
 IsAlong start entries old new = (new ≡ old) ⊎ ((n : ℕ) × (new ≡ with_history old start (take n entries)))
 
--- What a refusal leaves of a graph, by the start and the entries that were read. An entry that isn't legal leaves it behind those ahead of that entry;
--- what is refused before the list leaves it as it was; a failure of the disk and want of memory leave it on the way.
+-- What a refusal leaves of a graph, by the start and the entries that were read. An entry that isn't legal leaves it after those ahead of that entry;
+-- what is refused before the list leaves it as it was; a failure of the disk and lack of memory leave it on the way.
 abbrev pub LeavesGraph : List ℕ → List Entry → JournalFault → Followed → Followed → Type 0
 LeavesGraph start entries (NotJournal first) old new = new ≡ old
 LeavesGraph start entries (OtherPlan kept wanted) old new = new ≡ old

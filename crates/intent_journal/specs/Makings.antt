@@ -25,7 +25,7 @@ IsBlankOrTorn before c = IsBlank c ⊎ ((keeps_nothing (live_part (opened before
 abbrev pub IsBlankOrNew : Kept → List ℕ → Type 0
 IsBlankOrNew new c = IsBlank c ⊎ (journal_in c ≡ Some new)
 
--- The first byte is 0, and the image isn't too long to be blank, whatever stands behind that byte.
+-- The first byte is 0, and the image isn't too long to be blank, whatever stands after that byte.
 pub record IsClear (image : List ℕ) : Type 0 where
   pub some : 0 < length image
   pub first : byte_at 0 image ≡ 0

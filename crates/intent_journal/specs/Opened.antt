@@ -27,7 +27,7 @@ pub record HasRoom (gate end entries most capacity : ℕ) : Type 0 where
   pub small : end < 2 ^ 63
   pub in_memory : 5 + 9 * most ≤ capacity
 
--- these entries stand behind those that were kept, and a crash leaves them
+-- these entries stand after those that were kept, and a crash leaves them
 pub record HasAdded (batch : List Entry) (before : List ℕ) (told : Option (List ℕ)) (left : List ℕ → Type 0) : Type 0 where
   pub now : List ℕ
   pub is_told : told ≡ Some now

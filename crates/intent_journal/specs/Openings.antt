@@ -57,7 +57,7 @@ pub record IsOpenFor {D : Type 0} (r : Rollout) (list : List Entry) (journal : O
   pub count : journal.entries ≡ length list
   pub most : journal.most ≡ 2 * op_total r
 
--- The disk is at rest behind this list, and there is room for two entries of each operation.
+-- The disk is at rest after this list, and there is room for two entries of each operation.
 pub record IsMadeReady (r : Rollout) (list : List Entry) (gate end entries capacity : ℕ) (told : Option (List ℕ)) (left : List ℕ → Type 0) : Type 0 where
   pub at_rest : IsKept gate end told left
   pub room : HasRoom gate end (length list) entries capacity
@@ -65,7 +65,7 @@ pub record IsMadeReady (r : Rollout) (list : List Entry) (gate end entries capac
 
 -- No journal of this rollout was opened, for this cause, and the disk was left so.
 pub record IsLeft {D : Type 0} (trace : D → DiskTrace) (r : Rollout) (digest : Digest) (old : D) (cause : JournalFault) (new : D) : Type 0 where
-  -- the cause is what the image was judged to be; a failure of the disk and want of memory say nothing of it
+  -- the cause is what the image was judged to be; a failure of the disk and lack of memory say nothing of it
   pub refusal : IfSome (trace old).bytes (λ image. IsCause cause digest (verdict r digest image))
   -- a journal that is refused was not written on
   pub unwritten : OnRefusal cause (((trace new).bytes ≡ (trace old).bytes) × Within (trace new).may_leave (trace old).may_leave)

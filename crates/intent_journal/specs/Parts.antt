@@ -35,7 +35,7 @@ numbers (suc n) bytes = number_4 bytes ∷ numbers n (drop 4 bytes)
 abbrev pub starts_in : Slot → List ℕ → List ℕ
 starts_in slot part = numbers (start_count slot part) (drop 40 part)
 
--- where the count of the list's entries stands, how many there are, and where the gate behind them stands
+-- where the count of the list's entries stands, how many there are, and where the gate after them stands
 abbrev pub count_place : Slot → List ℕ → ℕ
 count_place slot part = if is_second slot then 40 + 4 * start_count slot part else 32
 
@@ -45,7 +45,7 @@ count_of slot part = number_4 (drop (count_place slot part) part)
 abbrev pub first_gate : Slot → List ℕ → ℕ
 first_gate slot part = count_place slot part + 4 + 9 * count_of slot part
 
--- The list and the gate behind it are all there, and within the part's size.
+-- The list and the gate after it are all there, and within the part's size.
 abbrev pub is_whole : Slot → List ℕ → Bool
 is_whole slot part = nat_lt (first_gate slot part) (size_of slot) && nat_lt (first_gate slot part) (length part)
 
@@ -58,7 +58,7 @@ rows (suc n) bytes = take 9 bytes ∷ rows n (drop 9 bytes)
 abbrev pub open_batch : ℕ
 open_batch = 0x47
 
--- the entries of the batches from this gate on, up to the first gate that is closed or whose batch has no whole body with a byte behind it
+-- the entries of the batches from this gate on, up to the first gate that is closed or whose batch has no whole body with a byte after it
 abbrev pub batches : ℕ → List ℕ → List (List ℕ)
 batches zero bytes = []
 batches (suc fuel) [] = []
@@ -99,16 +99,16 @@ listed_in slot part = record {
   rows = rows (count_of slot part) (drop (count_place slot part + 4) part);
 }
 
--- rows, one behind the other
+-- rows, one after the other
 abbrev pub joined : List (List ℕ) → List ℕ
 joined [] = []
 joined (row ∷ later) = row ++ joined later
 
--- the bytes of a batch behind its gate: how many entries, and each of them
+-- the bytes of a batch after its gate: how many entries, and each of them
 abbrev pub batch_body : List (List ℕ) → List ℕ
 batch_body batch = bytes_4 (length batch) ++ joined batch
 
--- numbers of four bytes, one behind the other
+-- numbers of four bytes, one after the other
 abbrev pub number_bytes : List ℕ → List ℕ
 number_bytes [] = []
 number_bytes (n ∷ later) = bytes_4 n ++ number_bytes later

@@ -19,7 +19,7 @@ home_of found = record { this = found.this; other = found.other; slot = record {
 abbrev pub end_of : Found → ℕ
 end_of found = found.start + size_of (home_of found).slot
 
--- This was found of the image: its live slot, whether the other slot is open too, the gate behind the whole list, and whether that is
+-- This was found of the image: its live slot, whether the other slot is open too, the gate after the whole list, and whether that is
 -- an open one, of a batch that is cut.
 pub record IsFound (found : Found) (image : List ℕ) : Type 0 where
   pub sides : ((found.this ≡ first_side) × (found.other ≡ second_side)) ⊎ ((found.this ≡ second_side) × (found.other ≡ first_side))
@@ -80,7 +80,7 @@ pub record IsPlanned (part : Planned) (bytes : List ℕ) : Type 0 where
   pub fits : length bytes ≤ part.size
   pub small : part.size ≤ 1000000000
 
--- One slot is open, of the second format; the count of its part has the whole list, and the gate behind it is closed.
+-- One slot is open, of the second format; the count of its part has the whole list, and the gate after it is closed.
 pub record IsFresh (kept : Kept) (image : List ℕ) : Type 0 where
   pub home : Home
   pub more : List ℕ

@@ -1,4 +1,4 @@
--- What is read of an image: its live slot, the rows of that slot's part, and the gate behind them.
+-- What is read of an image: its live slot, the rows of that slot's part, and the gate after them.
 use Rattle.std.specs.Prelude.{◌≡◌, ℕ, ◌+◌, ◌-◌, ◌*◌, ◌<◌, ◌≤◌, ◌==◌, ◌&&◌, nat_lt, Bool, true, false, List, [], ◌∷◌, ◌++◌, length, take, drop, Option, Some, None, if◌then◌else◌}
 use Rattle.rollout_rules.specs.declared.op.Entry.{Entry}
 use Rattle.intent_journal.specs.Numbers.{byte_at, number_4}
@@ -41,7 +41,7 @@ entries_of image = with_rows nothing_read (list_of image)
 abbrev pub Lists : List Entry → List ℕ → Type 0
 Lists list image = entries_of image ≡ record { entries = list; whole = true }
 
--- how many entries the batch behind a gate has, where the gate is open, the batch is whole and a byte stands behind it
+-- how many entries the batch after a gate has, where the gate is open, the batch is whole and a byte stands after it
 abbrev pub batch_at : List ℕ → ℕ → Option ℕ
 batch_at bytes gate =
     if (byte_at gate bytes == open_batch) && nat_lt (4 + 9 * number_4 (drop (gate + 1) bytes)) (length (drop (gate + 1) bytes))
@@ -63,7 +63,7 @@ pub record Walks (bytes : List ℕ) (from gate : ℕ) (old new : Listed) : Type 
   pub are : batches_of (drop from bytes) ≡ rows ++ batches_of (drop gate bytes)
   pub stands : (slot : Slot) (kept : Kept) → length bytes ≤ size_of slot → Stands slot (take from bytes) kept → Stands slot (take gate bytes) (with_more kept rows)
 
--- All rows of a part were read, and this is the gate behind them: no further batch counts.
+-- All rows of a part were read, and this is the gate after them: no further batch counts.
 pub record IsRead (slot : Slot) (part : List ℕ) (listed : Listed) (gate : ℕ) : Type 0 where
   pub all : listed ≡ with_rows nothing_read (part_rows slot part)
   pub within : gate < length part

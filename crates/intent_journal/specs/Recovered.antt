@@ -23,7 +23,7 @@ IsBroughtTo (OfAnother bytes migration) list old new = ⊥
 IsBroughtTo NoStart list old new = ⊥
 IsBroughtTo (NotLegal place) list old new = ⊥
 
--- the fault is that of this verdict; a failure of the disk and want of memory say nothing of the image
+-- the fault is that of this verdict; a failure of the disk and lack of memory say nothing of the image
 abbrev pub IsCause : JournalFault → Digest → Verdict → Type 0
 IsCause Disk digest v = ⊤
 IsCause Memory digest v = ⊤
@@ -41,7 +41,7 @@ kept_for r digest (OfAnother bytes migration) = None
 kept_for r digest NoStart = None
 kept_for r digest (NotLegal place) = None
 
--- An image that the writes behind this verdict leave: where the image found was blank, a blank one or the new journal, and else one
+-- An image that the writes after this verdict leave: where the image found was blank, a blank one or the new journal, and else one
 -- that keeps what it kept or what the new part does.
 abbrev pub MayBeLeft : Rollout → Digest → List ℕ → Verdict → List ℕ → Type 0
 MayBeLeft r digest image Fresh c = IsBlankOrMade (kept_of digest (no_start r.problem) []) image c

@@ -7,7 +7,7 @@ use Rattle.intent_journal.specs.Images.{first_side, first_start, is_placed, open
 use Rattle.intent_journal.specs.Phases.{Planned, end_of, home_of, slot_for}
 use Rattle.intent_journal.specs.States.{Home, IsAlone, IsAtRest, Stands}
 
--- The other slot is closed. The gate behind the whole list may be an open one, of a batch that is cut.
+-- The other slot is closed. The gate after the whole list may be an open one, of a batch that is cut.
 pub record IsCut (found : Found) (image : List ℕ) : Type 0 where
   pub alone : IsAlone (home_of found) image
   pub front : List ℕ
@@ -29,7 +29,7 @@ IsClosed found image = IsAtRest (home_of found) found.gate image × (found.lengt
 abbrev pub IsFilled : Found → List ℕ → Type 0
 IsFilled found image = IsAtRest (home_of found) found.gate image × (end_of found ≤ length image)
 
--- A new part stands in front of the live one where there is room for it, else behind it.
+-- A new part stands in front of the live one where there is room for it, else after it.
 abbrev pub new_start : Found → ℕ → ℕ
 new_start found size = if nat_le (first_start + size) found.start then first_start else end_of found
 
@@ -40,7 +40,7 @@ new_slot found part = slot_for (new_start found part.size) part.size
 abbrev pub new_home : Found → Planned → Home
 new_home found part = record { this = found.other; other = found.this; slot = new_slot found part }
 
--- The journal is at rest, and the new part stands beside the live one, with a closed gate behind its list.
+-- The journal is at rest, and the new part stands beside the live one, with a closed gate after its list.
 pub record IsLaid (found : Found) (part : Planned) (image : List ℕ) : Type 0 where
   pub rest : IsAtRest (home_of found) found.gate image
   pub placed : is_placed (new_slot found part) ≡ true

@@ -6,11 +6,11 @@ use Rattle.intent_journal.specs.Numbers.{byte_at}
 use Rattle.intent_journal.specs.Parts.{Kept, Slot, batch_body, batches_of, is_whole, kept_in, open_batch, size_of}
 use Rattle.intent_journal.specs.Images.{first_side, is_placed, journal_in, open_journal, open_slot, second_side, slot_at}
 
--- the same with these rows behind the list
+-- the same with these rows after the list
 abbrev pub with_more : Kept → List (List ℕ) → Kept
 with_more kept more = record kept { rows = kept.rows ++ more }
 
--- Whatever stands behind this front of a part, the part keeps this, and the batches that stand there.
+-- Whatever stands after this front of a part, the part keeps this, and the batches that stand there.
 pub record Stands (slot : Slot) (front : List ℕ) (kept : Kept) : Type 0 where
   pub fits : length front < size_of slot
   pub whole : (tail : List ℕ) → 0 < length tail → is_whole slot (front ++ tail) ≡ true
@@ -31,7 +31,7 @@ pub record IsAlone (home : Home) (image : List ℕ) : Type 0 where
   pub placed : is_placed home.slot ≡ true
   pub other_closed : byte_at home.other image ≢ open_slot
 
--- One slot is open, and at this gate its part ends: the gate is closed, and behind it stands anything.
+-- One slot is open, and at this gate its part ends: the gate is closed, and after it stands anything.
 pub record IsAtRest (home : Home) (gate : ℕ) (image : List ℕ) : Type 0 where
   pub alone : IsAlone home image
   pub front : List ℕ
@@ -52,14 +52,14 @@ abbrev pub AreRows : List (List ℕ) → Type 0
 AreRows [] = ⊤
 AreRows (row ∷ later) = (length row ≡ 9) × AreRows later
 
--- These bytes are those of a batch and of a closed gate behind it, and there is room for them behind this gate.
+-- These bytes are those of a batch and of a closed gate after it, and there is room for them after this gate.
 pub record IsBody (home : Home) (gate : ℕ) (batch : List (List ℕ)) (body : List ℕ) : Type 0 where
   pub are_rows : AreRows batch
   pub few : length batch < 2 ^ 32
   pub is : body ≡ batch_body batch ++ 0 ∷ []
   pub room : gate + length body < home.slot.start + size_of home.slot
 
--- what a journal keeps, with this batch behind it
+-- what a journal keeps, with this batch after it
 abbrev pub added : Option Kept → List (List ℕ) → Option Kept
 added kept batch = option_map (λ k. with_more k batch) kept
 
@@ -67,7 +67,7 @@ added kept batch = option_map (λ k. with_more k batch) kept
 abbrev pub IsBeforeOrAfter : Option Kept → List (List ℕ) → List ℕ → Type 0
 IsBeforeOrAfter kept batch image = (journal_in image ≡ kept) ⊎ (journal_in image ≡ added kept batch)
 
--- A batch and a closed gate were written behind this gate, which may be anything.
+-- A batch and a closed gate were written after this gate, which may be anything.
 pub record IsStaged (home : Home) (gate : ℕ) (batch : List (List ℕ)) (kept : Kept) (image : List ℕ) : Type 0 where
   pub alone : IsAlone home image
   pub front : List ℕ
@@ -77,7 +77,7 @@ pub record IsStaged (home : Home) (gate : ℕ) (batch : List (List ℕ)) (kept :
   pub part : drop home.slot.start image ≡ front ++ (mark ∷ (batch_body batch ++ 0 ∷ more))
   pub at : gate ≡ home.slot.start + length front
 
--- The batch is on the disk: a crash leaves what a read gives, which is at rest behind the batch and keeps what was kept with it.
+-- The batch is on the disk: a crash leaves what a read gives, which is at rest after the batch and keeps what was kept with it.
 pub record IsCommitted (home : Home) (gate : ℕ) (batch : List (List ℕ)) (body before : List ℕ) (told : Option (List ℕ)) (left : List ℕ → Type 0) : Type 0 where
   pub now : List ℕ
   pub is_told : told ≡ Some now

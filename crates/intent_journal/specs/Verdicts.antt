@@ -66,7 +66,7 @@ judged_journal r digest image = if byte_at 0 image == open_journal then judged_a
 abbrev pub verdict : Rollout → Digest → List ℕ → Verdict
 verdict r digest image = if is_blank image then Fresh else judged_journal r digest image
 
--- a fault is that of this verdict; want of memory says nothing
+-- a fault is that of this verdict; lack of memory says nothing
 abbrev pub IsRefusal : JournalFault → Digest → Verdict → Type 0
 IsRefusal (NotJournal first) digest v = v ≡ NoJournal first
 IsRefusal (OtherPlan kept wanted) digest v = (v ≡ OfAnother kept.bytes kept.migration) × (wanted ≡ digest)

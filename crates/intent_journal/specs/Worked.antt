@@ -21,11 +21,11 @@ first_front = replicate 32 7 ++ replicate 4 0
 abbrev pub second_front : List ℕ
 second_front = replicate 32 7 ++ (0 ∷ 0 ∷ 0 ∷ 5 ∷ 0 ∷ 0 ∷ 0 ∷ 1 ∷ 0 ∷ 0 ∷ 0 ∷ 3 ∷ 0 ∷ 0 ∷ 0 ∷ 0 ∷ [])
 
--- a batch of one entry with this gate, and a closed gate behind it
+-- a batch of one entry with this gate, and a closed gate after it
 abbrev pub one_batch : ℕ → List ℕ
 one_batch gate = gate ∷ 0 ∷ 0 ∷ 0 ∷ 1 ∷ (begin_row ++ (0 ∷ []))
 
--- journals whose first slot is open, with these bytes behind the part's front
+-- journals whose first slot is open, with these bytes after the part's front
 abbrev pub first_image : List ℕ → List ℕ
 first_image behind = 0x54 ∷ (slot_bytes 35 (replicate 7 0) 65 ++ (no_slot ++ (first_front ++ behind)))
 

@@ -5,7 +5,7 @@ ghost use Rattle.intent_journal.specs.Parts.{batch_body};
 
 use rollout_rules::{Entry, Op};
 
-/// Fills the room of an append with the bytes of a batch behind its gate: how many entries, each of them,
+/// Fills the room of an append with the bytes of a batch after its gate: how many entries, each of them,
 /// and a closed gate. It takes no memory.
 pub(crate) fn fill(body: &mut Vec<u8>, batch: &[Entry])
     requires room { 5 + 9 * length batch.now ≤ vec_capacity body.old }

@@ -10,20 +10,20 @@ pub(crate) struct Found {
     /// Where the live part starts, and the field of its size.
     pub start: u64,
     pub field: u64,
-    /// The gate behind the list.
+    /// The gate after the list.
     pub gate: u64,
     /// How many bytes the image has.
     pub length: u64,
     /// Whether the other slot's gate is open.
     pub also: bool,
-    /// Whether the gate behind the list is open, and its batch cut.
+    /// Whether the gate after the list is open, and its batch cut.
     pub cut: bool,
 }
 
 // What the field of a size has more where the part is of the second format.
 const SECOND: u64 = 1 << 62;
 
-// Where a live part starts no later, a new one can stand behind it.
+// Where a live part starts no later, a new one can stand after it.
 pub(crate) const LATEST_START: u64 = 1 << 61;
 
 impl Found {

@@ -17,7 +17,7 @@ use wan_edge::Failed;
 #[derive(Drop)]
 pub struct Journal<D: Disk> {
     disk: D,
-    // The closed gate behind the list, and where its part ends.
+    // The closed gate after the list, and where its part ends.
     gate: u64,
     end: u64,
     entries: u32,
@@ -93,7 +93,7 @@ impl<D: Disk> Journal<D> {
         &self.disk
     }
 
-    /// The place of the gate behind the list, from which on the batches of later appends stand. While the
+    /// The place of the gate after the list, from which on the batches of later appends stand. While the
     /// journal lives it is a byte of the image, and closed.
     pub fn gate(&self) -> u64
         ensures { self.now.live ≡ true
@@ -109,7 +109,7 @@ impl<D: Disk> Journal<D> {
         self.disk
     }
 
-    /// Puts a batch behind the list. A crash at any moment leaves the list as it was, or with the whole
+    /// Puts a batch after the list. A crash at any moment leaves the list as it was, or with the whole
     /// batch; after `Ok` the batch is there. After a failure the journal takes no other. It takes no
     /// memory.
     pub fn append(&mut self, batch: &[Entry]) -> Result<(), Failed>

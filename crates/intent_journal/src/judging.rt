@@ -93,7 +93,7 @@ fn judge_side(
     })
 }
 
-// What was found of an image, with the gate behind the list of the live part.
+// What was found of an image, with the gate after the list of the live part.
 pub(crate) fn found_at(image: &[u8], side: usize, slot: &Slot, gate: usize) -> Found
     requires journal { numbers.byte_at 0 image.now ≡ open_journal }
     requires side { reading.live_side image.now ≡ Some side }
@@ -127,7 +127,7 @@ fn other_side(side: usize) -> usize
     }
 }
 
-// What a part keeps that was judged, and where in it the gate behind its list stands.
+// What a part keeps that was judged, and where in it the gate after its list stands.
 #[derive(Drop)]
 struct KeptPart {
     start: Vec<u32>,

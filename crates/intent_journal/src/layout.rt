@@ -13,7 +13,7 @@ pub(crate) const FIRST_START: u64 = 35;
 // What the field of a size has more where the part is of the second format.
 const SECOND: u64 = 1 << 62;
 
-/// The bytes of a slot behind its gate: where its part starts, and its size in the second format.
+/// The bytes of a slot after its gate: where its part starts, and its size in the second format.
 #[tactic(auto, unfolding(crate::specs::Numbers::bytes_8))]
 pub(crate) fn name_bytes(start: u64, size: u64) -> [u8; 16]
     requires { size ≤ 1000000000 }

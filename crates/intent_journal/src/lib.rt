@@ -9,7 +9,7 @@
 //! no journal, one of another plan or migration, its start is none of the plan, or its list isn't legal at
 //! a place. What is refused is refused before the first write. A blank image is made a journal, and else
 //! the list is written anew into a new part; a graph is brought to the start and the list. [`place`] puts
-//! a journal with another start in the place of any other. [`entries_behind`] reads the batches that came behind
+//! a journal with another start in the place of any other. [`entries_behind`] reads the batches that came after
 //! a gate, for whoever has read all before it.
 //!
 //! [`list_of`] reads the list that an image stands for, and no more.

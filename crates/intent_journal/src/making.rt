@@ -55,7 +55,7 @@ fn clear_gate<D: Disk>(disk: &mut D, cleared: bool) -> Result<(), Failed>
     Ok(())
 }
 
-// Writes the slots and the first part behind the first byte.
+// Writes the slots and the first part after the first byte.
 fn lay_first<D: Disk>(disk: &mut D, part: &NewPart) -> Result<(), Failed>
     requires clear { Holds IsClear (D.told disk.old).bytes (D.told disk.old).may_leave }
     requires empty { part.now.kept.rows ≡ [] }

@@ -55,7 +55,7 @@ pub(crate) fn entry_count(slot: &Slot, part: &[u8]) -> u32
     number_of_4(from_place(part, count_place(slot, part)))
 }
 
-/// Where the gate behind a part's list stands.
+/// Where the gate after a part's list stands.
 pub(crate) fn first_gate(slot: &Slot, part: &[u8]) -> usize
     ensures gate { result ≡ parts.first_gate slot.now part.now }
     ensures small { result ≤ 2 ^ 37 }
@@ -63,7 +63,7 @@ pub(crate) fn first_gate(slot: &Slot, part: &[u8]) -> usize
     count_place(slot, part) + 4 + 9 * entry_count(slot, part) as usize
 }
 
-/// Whether a part's list and the gate behind it are all there.
+/// Whether a part's list and the gate after it are all there.
 pub(crate) fn is_whole(slot: &Slot, part: &[u8]) -> bool
     ensures { result ≡ parts.is_whole slot.now part.now }
 {

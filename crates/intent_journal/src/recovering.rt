@@ -43,7 +43,7 @@ struct Ready {
 /// Opens the journal of a rollout on a disk; on one that is blank it makes one. The graph is brought to
 /// the start and the list, which come back, and memory is taken for all later appends. Before the first
 /// write it refuses what is no journal, one of another plan, a start that isn't sound, and a list that
-/// isn't legal. After `Ok` each image that a crash may leave keeps the list. Behind an entry that isn't
+/// isn't legal. After `Ok` each image that a crash may leave keeps the list. After an entry that isn't
 /// legal the graph has the start and the entries ahead of it; after every other refusal of the image it is
 /// as it was. Where the disk failed or memory ran out it is as it was, or has the start and a front of
 /// the list.
@@ -67,13 +67,13 @@ pub fn recover<D: Disk>(
 {
     let mut disk = disk;
     match open(alloc, &mut disk, digest, graph) {
-        Ok(ready) => Ok(opened(disk, ready)),
+        Ok(ready) => Ok(into_journal(disk, ready)),
         Err(cause) => Err(Unopened { disk, cause }),
     }
 }
 
 // The open journal that owns this disk, and its list.
-fn opened<D: Disk>(disk: D, ready: Ready) -> (Journal<D>, EntryList)
+fn into_journal<D: Disk>(disk: D, ready: Ready) -> (Journal<D>, EntryList)
     requires kept { IsKept ready.rest.gate ready.rest.end (D.told disk).bytes
         (D.told disk).may_leave }
     requires room { HasRoom ready.rest.gate ready.rest.end (length ready.list) ready.most

@@ -12,7 +12,7 @@ use crate::new_part::NewPart;
 use disk_model::{Disk, put};
 use wan_edge::Failed;
 
-/// Where a journal is at rest: the closed gate behind its list, and the end of its part.
+/// Where a journal is at rest: the closed gate after its list, and the end of its part.
 #[derive(Clone, Copy, Debug, PartialEq, Eq)]
 pub(crate) struct Rest {
     pub gate: u64,
@@ -118,7 +118,7 @@ fn switch_parts<D: Disk>(disk: &mut D, found: &Found, part: &NewPart) -> Result<
     put(disk, found.this, &[0])
 }
 
-// In front of the live part where there is room for it, else behind.
+// In front of the live part where there is room for it, else after.
 fn place_of(found: &Found, part: &NewPart) -> u64
     requires { end_of found.now < 2 ^ 62 }
     ensures { result ≡ new_start found.now part.now.size }

@@ -13,7 +13,7 @@ use std::alloc::Global;
 
 pub(crate) const OPEN_BATCH: u8 = 0x47;
 
-/// Reads the rows of a part, and finds the gate behind them.
+/// Reads the rows of a part, and finds the gate after them.
 pub(crate) fn read_list(alloc: Global, slot: &Slot, part: &[u8]) -> Result<(Listed, usize), Memory>
     requires { IsTrue (parts.is_whole slot.now part.now) }
     ensures { IfOk result (λ r. IsRead slot.now part.now r.0 r.1) }
@@ -49,7 +49,7 @@ fn whole_of(listed: Listed) -> Option<EntryList>
     }
 }
 
-// Reads the rows of the batches from a gate on, and finds the gate behind them.
+// Reads the rows of the batches from a gate on, and finds the gate after them.
 fn walk(listed: &mut Listed, bytes: &[u8], from: usize) -> Result<usize, Memory>
     requires { from < length bytes.now }
     ensures walks { IfOk result (λ gate. Walks bytes.now from gate listed.old listed.new) }
@@ -63,7 +63,7 @@ fn walk(listed: &mut Listed, bytes: &[u8], from: usize) -> Result<usize, Memory>
     Ok(gate)
 }
 
-// How many entries the batch behind a gate has, where the gate is open and the batch whole.
+// How many entries the batch after a gate has, where the gate is open and the batch whole.
 fn batch_at(bytes: &[u8], gate: usize) -> Option<u32>
     requires { gate < length bytes.now }
     ensures { result ≡ reading.batch_at bytes.now gate }

@@ -47,7 +47,7 @@ pub fn an_image_that_begins_with_0_is_blank()
     ensures { is_blank (second_image 0 (one_batch 0x47)) ≡ true }
 {}
 
-/// The gate was torn while the journal was made. Behind an entry it would be no longer being made.
+/// The gate was torn while the journal was made. After an entry it would be no longer being made.
 #[tactic(auto, unfolding(crate::specs::Images::is_placed, crate::specs::Images::blank_most, crate::specs::Numbers::number_4, crate::specs::Numbers::number_8))]
 pub fn a_torn_gate_before_the_empty_list_is_blank()
     ensures empty { is_blank (second_image 7 (0 ∷ [])) ≡ true }

@@ -4,8 +4,7 @@ use Rattle.std.proofs.lemmas.Slice.Eq.{bytes_eq-Decides}
 use Rattle.serde_json.specs.Data.{Data, Members, put}
 use Rattle.serde_json.specs.Find.{get_member}
 use Rattle.serde_json.proofs.Views.{get_member-put, get_member-put_other}
-use Rattle.json_data.specs.declared.node.Node.{Node}
-use Rattle.json_data.specs.Nodes.{first, behind, key_of, value_at, members_at}
+use Rattle.json_data.specs.Nodes.{Entry, first, behind, key_of, value_at, members_at}
 use Rattle.json_data.specs.Found.{found_by}
 
 one_put : (name k : List ℕ) (d : Data) (ms : Members) (b : Bool) → bytes_eq k name ≡ b → (if b then Some d else get_member name ms) ≡ get_member name (put k d ms)
@@ -15,7 +14,7 @@ one_put name k d ms true e =
 one_put name k d ms false e =
     sym (get_member-put_other name k d ms (λ same. true≢false (sym ((bytes_eq-Decides k name).1 (sym same)) ∙ e)))
 
-pub found_is : (name : List ℕ) (count : ℕ) (ns : List Node) (ms : Members) → found_by name count ns (get_member name ms) ≡ get_member name (members_at count ns ms)
+pub found_is : (name : List ℕ) (count : ℕ) (ns : List Entry) (ms : Members) → found_by name count ns (get_member name ms) ≡ get_member name (members_at count ns ms)
 unfolding members_at
 found_is name zero ns ms = refl
 found_is name (suc count) [] ms = refl
@@ -23,7 +22,7 @@ found_is name (suc count) (key ∷ ns) ms =
     ap (found_by name count (behind ns)) (one_put name (key_of key) (value_at ns) ms (bytes_eq (key_of key) name) refl)
     ∙ found_is name count (behind ns) (put (key_of key) (value_at ns) ms)
 
-pub found_next : (name : List ℕ) (count : ℕ) (ns : List Node) (found : Option Data) → 0 < count → 0 < length ns
+pub found_next : (name : List ℕ) (count : ℕ) (ns : List Entry) (found : Option Data) → 0 < count → 0 < length ns
     → found_by name count ns found ≡ found_by name (count - 1) (behind (drop 1 ns)) (if bytes_eq (key_of (first ns)) name then Some (value_at (drop 1 ns)) else found)
 found_next name zero ns found some more = absurd (omega arith)
 found_next name (suc count) [] found some more = absurd (omega arith)
@@ -31,15 +30,15 @@ found_next name (suc count) (n ∷ ns) found some more =
     let same : count ≡ suc count - 1 = omega arith in
     ap (λ k. found_by name k (behind ns) (if bytes_eq (key_of n) name then Some (value_at ns) else found)) same
 
-pub found_ended : (name : List ℕ) (count : ℕ) (ns : List Node) (found : Option Data) → count ≡ 0 → found_by name count ns found ≡ found
+pub found_ended : (name : List ℕ) (count : ℕ) (ns : List Entry) (found : Option Data) → count ≡ 0 → found_by name count ns found ≡ found
 found_ended name count ns found none = ap (λ k. found_by name k ns found) none
 
-pub found_past : (name : List ℕ) (count : ℕ) (ns : List Node) (found : Option Data) → length ns ≡ 0 → found_by name count ns found ≡ found
+pub found_past : (name : List ℕ) (count : ℕ) (ns : List Entry) (found : Option Data) → length ns ≡ 0 → found_by name count ns found ≡ found
 found_past name zero ns found none = refl
 found_past name (suc count) [] found none = refl
 found_past name (suc count) (n ∷ ns) found none = absurd (omega arith)
 
-module _ (name : List ℕ) (count : ℕ) (ns value next : List Node) (key : Node) (found later : Option Data) (some : 0 < count) (more : 0 < length ns) (rest : value ≡ drop 1 ns) (is_first : key ≡ first ns) (passed : next ≡ behind value) where
+module _ (name : List ℕ) (count : ℕ) (ns value next : List Entry) (key : Entry) (found later : Option Data) (some : 0 < count) (more : 0 < length ns) (rest : value ≡ drop 1 ns) (is_first : key ≡ first ns) (passed : next ≡ behind value) where
   -- the same, after one key and its value
   step : (named : Bool) → named ≡ bytes_eq (key_of key) name → later ≡ (if named then Some (value_at value) else found) → found_by name (count - 1) next later ≡ found_by name count ns found
   step named is chosen =

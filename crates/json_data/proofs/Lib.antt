@@ -1,6 +1,9 @@
 mod Values
 mod Grown
 mod Reading
+mod Spots
+mod Seen
+mod Pieces
 mod Found
 mod PlainBytes
 mod PlainTail

@@ -1,7 +1,7 @@
 -- The bytes between two places of a plain text, piece by piece.
-use Rattle.std.proofs.Common.{◌≡◌, ℕ, ◌+◌, ◌<◌, ◌≤◌, ◌⊎◌, Bool, true, false, not, ◌&&◌, ◌||◌, cond, ◌==◌, List, [], ◌∷◌, ◌++◌, length, take, drop, get_or, refl, sym, ap, ◌∙◌, subst, ⊎_elim, arith, append_assoc, append-nil, take-add, length-drop, get_or-take, get_or-drop, lt_of_not-le}
+use Rattle.std.proofs.Common.{◌≡◌, ℕ, ◌+◌, ◌-◌, ◌<◌, ◌≤◌, ◌⊎◌, inl, inr, nat_lt, Bool, true, false, ◌&&◌, cond, ◌==◌, List, [], ◌∷◌, ◌++◌, length, take, drop, get_or, refl, sym, ap, ap₂, ◌∙◌, subst, IsCharBoundary, ⊎_elim, arith, append_assoc, append-nil, take-add, length-drop, get_or-take, get_or-drop, lt_of_not-le}
 use Rattle.std.proofs.lemmas.List.{drop_more, get_or_default, get_or_past, length-take-le}
-use Rattle.std.proofs.lemmas.Bool.{ne_eqb, le-ltb, cases_eq, eqb-true}
+use Rattle.std.proofs.lemmas.Bool.{cases_eq, cases_Bool, ltb-true, ltb-false, eqb-true}
 use Rattle.std.proofs.lemmas.Slice.Eq.{bytes_eq-Decides}
 use Rattle.std.specs.Str.{bytes_eq}
 use Rattle.json.specs.Token.{Token}
@@ -9,7 +9,9 @@ use Rattle.json.specs.Run.{is_plain}
 use Rattle.json.specs.Print.{token_text, escape, quoted, begins, IsNumber}
 use Rattle.json.proofs.Printed.Plain.{escape_on_plain}
 use Rattle.json.proofs.Printed.Tokens.{IsGap-append}
-use Rattle.json_data.specs.Plain.{IsPlainUpTo, IsGapUpTo, IsMark, IsWordText, IsLexeme, IsNextToken}
+use Rattle.json_data.specs.Nodes.{piece}
+use Rattle.json_data.proofs.Pieces.{piece_is}
+use Rattle.json_data.specs.Plain.{ArePlain, IsPlainUpTo, IsGapUpTo, IsMark, IsWordText, IsLexeme, IsNextToken}
 
 first_of : (x : ℕ) (xs : List ℕ) → take 1 (x ∷ xs) ≡ x ∷ []
 first_of x [] = refl
@@ -30,21 +32,36 @@ and_at P n below here k lt = ⊎_elim (λ e. subst P (sym e) here) (λ other. be
 
 -- ---- a string
 
-a_plain : (x : ℕ) → (x ≡ 34 → ⊥) → (x ≡ 92 → ⊥) → 32 ≤ x → is_plain x ≡ true
-a_plain x quote slash large = λ i. not (ne_eqb x 34 quote i || ne_eqb x 92 slash i || le-ltb x 32 large i)
+either_side : (k size : ℕ) → (k < size) ⊎ (size ≤ k)
+either_side k size = ⊎_elim (λ lt. inl (ltb-true k size lt)) (λ le. inr (ltb-false k size le)) (cases_Bool (nat_lt k size))
 
--- bytes before the first quote or backslash, none of them a control byte
-pub plain_front : (d : List ℕ) (size : ℕ) → ((k : ℕ) → k < size → get_or d k 0 ≡ 34 → ⊥) → ((k : ℕ) → k < size → get_or d k 0 ≡ 92 → ⊥) → ((k : ℕ) → k < size → 32 ≤ get_or d k 0)
-    → size ≤ length d → escape (take size d) ≡ take size d
-plain_front d size quotes slashes large le =
-    let long : length (take size d) ≡ size = length-take-le size d le in
+-- bytes that stand in a string as they are
+pub plain_front : (d : List ℕ) (size : ℕ) → ArePlain d size → escape (take size d) ≡ take size d
+plain_front d size plain =
+    let long : length (take size d) ≡ size = length-take-le size d plain.1 in
     escape_on_plain true (take size d)
-    (λ k low high.
-    let lt : k < size = omega (arith, high, long) in
-    ap is_plain (get_or-take size d k 0 lt) ∙ a_plain (get_or d k 0) (quotes k lt) (slashes k lt) (large k lt))
+    (λ k low high. (let lt : k < size = omega (arith, high, long) in ap is_plain (get_or-take size d k 0 lt) ∙ plain.0 k lt))
 
-pub string_is : (d inner s : List ℕ) (at size : ℕ) → get_or d at 32 ≡ 34 → inner ≡ drop (at + 1) d → IsPlainUpTo inner size → s ≡ take size inner → IsLexeme d at (Token.string s) (at + 1 + size + 1)
-string_is d inner s at size opening is plain cut =
+pub plain_one : (d : List ℕ) (size : ℕ) (b : Bool) → ArePlain d size → size < length d → b ≡ is_plain (get_or d size 0) → b ≡ true → ArePlain d (size + 1)
+plain_one d size b plain lt is truth = (and_at (λ k. is_plain (get_or d k 0) ≡ true) size plain.0 (sym is ∙ truth), omega (arith, lt))
+
+-- a byte of a block of 32 from a place on
+pub block_byte : (d block : List ℕ) (from k : ℕ) → block ≡ take 32 (drop from d) → k < 32 → get_or d (from + k) 0 ≡ get_or block k 0
+block_byte d block from k is near = sym (ap (λ xs. get_or xs k 0) is ∙ get_or-take 32 (drop from d) k 0 near ∙ get_or-drop from d k 0)
+
+-- a block of 32 after them
+pub plain_block : (d : List ℕ) (size : ℕ) → ArePlain d size → size + 32 ≤ length d → ((k : ℕ) → k < 32 → is_plain (get_or d (size + k) 0) ≡ true) → ArePlain d (size + 32)
+plain_block d size plain le more = (
+  λ k lt. ⊎_elim
+      (λ before. plain.0 k before)
+      (λ past. (let place : size + (k - size) ≡ k = omega (arith, past) in ap (λ i. is_plain (get_or d i 0)) (sym place) ∙ more (k - size) (omega (arith, lt, past))))
+      (either_side k size),
+  le,
+)
+
+pub string_is : (d inner s : List ℕ) (at size : ℕ) → get_or d at 32 ≡ 34 → inner ≡ drop (at + 1) d → IsPlainUpTo inner size → s ≡ take size inner → IsCharBoundary d (at + 1) → IsCharBoundary inner size
+    → IsLexeme d at (Token.string s) (at + 1 + size + 1)
+string_is d inner s at size opening is plain cut opens closes =
     let here : at < length d = inside d at 34 opening (λ e. omega (arith, e)) in
     let closing : get_or d (at + 1 + size) 32 ≡ 34 = sym (get_or-drop (at + 1) d size 32) ∙ ap (λ xs. get_or xs size 32) (sym is) ∙ plain.0 in
     let within : at + 1 + size < length d = inside d (at + 1 + size) 34 closing (λ e. omega (arith, e)) in
@@ -52,10 +69,14 @@ string_is d inner s at size opening is plain cut =
     let filled : take (at + 1 + size) d ≡ take (at + 1) d ++ s = take-add (at + 1) size d ∙ ap (λ xs. take (at + 1) d ++ xs) (ap (take size) (sym is) ∙ sym cut) in
     let closed : take (at + 1 + size + 1) d ≡ take (at + 1 + size) d ++ 34 ∷ [] = a_byte d (at + 1 + size) 34 within closing in
     let same : escape s ≡ s = ap escape cut ∙ plain.1 ∙ sym cut in
+    let long : length s ≡ size = ap length cut ∙ length-take-le size inner plain.2 in
+    let start : at + 1 + size + 1 - 1 - length s ≡ at + 1 = omega (arith, long) in
+    let found : piece (at + 1) size d ≡ s = piece_is d inner (at + 1) size is opens closes ∙ sym cut in
     record {
       bytes = closed ∙ ap (λ xs. xs ++ 34 ∷ []) (filled ∙ ap (λ xs. xs ++ s) opened ∙ append_assoc (take at d) (34 ∷ []) s) ∙ append_assoc (take at d) (34 ∷ s) (34 ∷ [])
           ∙ ap (λ xs. take at d ++ (34 ∷ (xs ++ 34 ∷ []))) (sym same);
       printable = tt;
+      placed = (omega (arith, long), ap₂ (λ place many. piece place many d) start long ∙ found);
       ahead = omega arith;
       high = omega (arith, within);
     }
@@ -63,9 +84,11 @@ string_is d inner s at size opening is plain cut =
 pub key_is : (d s : List ℕ) (at end : ℕ) → IsLexeme d at (Token.string s) end → get_or d end 32 ≡ 58 → IsLexeme d at (Token.key s) (end + 1)
 key_is d s at end text colon =
     let within : end < length d = inside d end 58 colon (λ e. omega (arith, e)) in
+    let start : end + 1 - 2 - length s ≡ end - 1 - length s = omega (arith, text.placed.0) in
     record {
       bytes = a_byte d end 58 within colon ∙ ap (λ xs. xs ++ 58 ∷ []) text.bytes ∙ append_assoc (take at d) (quoted s) (58 ∷ []);
       printable = tt;
+      placed = (omega (arith, text.placed.0), ap (λ place. piece place (length s) d) start ∙ text.placed.1);
       ahead = omega (arith, text.ahead);
       high = omega (arith, within);
     }
@@ -75,28 +98,29 @@ key_is d s at end text colon =
 pub mark_is : (d : List ℕ) (at byte : ℕ) (t : Token) → byte ≡ get_or d at 32 → IsMark byte t → IsLexeme d at t (at + 1)
 mark_is d at byte t is mark =
     let within : at < length d = inside d at byte (sym is) (λ e. omega (arith, e, mark.large)) in
-    record { bytes = a_byte d at byte within (sym is) ∙ ap (λ xs. take at d ++ xs) (sym mark.text); printable = mark.printable; ahead = omega arith; high = omega (arith, within) }
+    record { bytes = a_byte d at byte within (sym is) ∙ ap (λ xs. take at d ++ xs) (sym mark.text); printable = mark.printable; placed = mark.placed d (at + 1); ahead = omega arith; high = omega (arith, within) }
 
 pub word_is : (d back word : List ℕ) (at size : ℕ) (t : Token) → back ≡ drop at d → word ≡ take size back → size ≤ length back → 0 < size → IsWordText word t → IsLexeme d at t (at + size)
 word_is d back word at size t is cut few some text =
     record {
       bytes = take-add at size d ∙ ap (λ xs. take at d ++ xs) (ap (take size) (sym is) ∙ sym cut ∙ sym text.text);
       printable = text.printable;
+      placed = text.placed d (at + size);
       ahead = omega (arith, some);
       high = omega (arith, few, some, ap length is, length-drop at d);
     }
 
 pub number_word : (word : List ℕ) → IsNumber word → IsWordText word (Token.number word)
-number_word word is = record { text = refl; printable = is }
+number_word word is = record { text = refl; printable = is; placed = λ all to. tt }
 
 pub true_word : (word : List ℕ) → bytes_eq word (116 ∷ 114 ∷ 117 ∷ 101 ∷ []) ≡ true → IsWordText word (Token.boolean true)
-true_word word is = record { text = sym ((bytes_eq-Decides word (116 ∷ 114 ∷ 117 ∷ 101 ∷ [])).0 is); printable = tt }
+true_word word is = record { text = sym ((bytes_eq-Decides word (116 ∷ 114 ∷ 117 ∷ 101 ∷ [])).0 is); printable = tt; placed = λ all to. tt }
 
 pub false_word : (word : List ℕ) → bytes_eq word (102 ∷ 97 ∷ 108 ∷ 115 ∷ 101 ∷ []) ≡ true → IsWordText word (Token.boolean false)
-false_word word is = record { text = sym ((bytes_eq-Decides word (102 ∷ 97 ∷ 108 ∷ 115 ∷ 101 ∷ [])).0 is); printable = tt }
+false_word word is = record { text = sym ((bytes_eq-Decides word (102 ∷ 97 ∷ 108 ∷ 115 ∷ 101 ∷ [])).0 is); printable = tt; placed = λ all to. tt }
 
 pub null_word : (word : List ℕ) → bytes_eq word (110 ∷ 117 ∷ 108 ∷ 108 ∷ []) ≡ true → IsWordText word Token.null
-null_word word is = record { text = sym ((bytes_eq-Decides word (110 ∷ 117 ∷ 108 ∷ 108 ∷ [])).0 is); printable = tt }
+null_word word is = record { text = sym ((bytes_eq-Decides word (110 ∷ 117 ∷ 108 ∷ 108 ∷ [])).0 is); printable = tt; placed = λ all to. tt }
 
 -- ---- what stands before a token
 
@@ -120,6 +144,7 @@ behind_gap d from place t to before is = record {
   blank = before.blank;
   bytes = is.bytes ∙ ap (λ xs. xs ++ token_text t) before.bytes ∙ append_assoc (take from d) before.gap (token_text t);
   printable = is.printable;
+  placed = is.placed;
   ahead = omega (arith, before.low, is.ahead);
   high = is.high;
 }
@@ -131,6 +156,7 @@ without_comma d from ended t to none next = record {
   blank = next.blank;
   bytes = next.bytes ∙ ap (λ b. take from d ++ (cond b (44 ∷ []) [] ++ (next.gap ++ token_text t))) (sym none);
   printable = next.printable;
+  placed = next.placed;
   ahead = next.ahead;
   high = next.high;
 }
@@ -145,6 +171,7 @@ behind_comma d from ended t to comma some next =
       bytes = next.bytes ∙ ap (λ xs. xs ++ (next.gap ++ token_text t)) (a_byte d from 44 within comma) ∙ append_assoc (take from d) (44 ∷ []) (next.gap ++ token_text t)
           ∙ ap (λ b. take from d ++ (cond b (44 ∷ []) [] ++ (next.gap ++ token_text t))) (sym some);
       printable = next.printable;
+      placed = next.placed;
       ahead = omega (arith, next.ahead);
       high = next.high;
     }

@@ -235,7 +235,7 @@ object_at d from depth count found at ended t to so_far next is =
       read = object_reads depth so_far.spaced count found next.gap so_far.read so_far.few;
     }
 
--- the same value, at a depth and behind a token that are these
+-- the same value, at a depth and after a token that are these
 pub value_again : (d : List ℕ) (from one depth : ℕ) (t u : Token) (x : Data) (to : ℕ) → one ≡ depth → t ≡ u → IsValueAt d from one t x to → IsValueAt d from depth u x to
 value_again d from one depth t u x to deep same is = subst (λ v. IsValueAt d from depth v x to) same (subst (λ k. IsValueAt d from k t x to) deep is)
 
@@ -245,7 +245,7 @@ take_none : (d : List ℕ) → take 0 d ≡ []
 take_none [] = refl
 take_none (x ∷ d) = refl
 
--- a text that is one value, and blanks behind it
+-- a text that is one value, and blanks after it
 pub whole_plain : (d : List ℕ) (t : Token) (at : ℕ) (x : Data) (end last : ℕ) → IsNextToken d 0 false t at → IsValueAt d at 127 t x end → IsGapUpTo d end last → last ≡ length d → data_in d ≡ Some x
 whole_plain d t at x end last next is behind all =
     let ps = (next.gap, t) ∷ is.spaced in

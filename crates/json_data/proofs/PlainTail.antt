@@ -1,4 +1,4 @@
--- Blanks behind the last token of a plain text change none of its tokens.
+-- Blanks after the last token of a plain text change none of its tokens.
 use Rattle.std.proofs.Common.{◌≡◌, ℕ, Bool, true, false, cond, ◌&&◌, List, [], ◌∷◌, ◌++◌, refl, sym, ap, ap₂, ◌∙◌, append_assoc, append-nil, inl, inr}
 use Rattle.json.specs.Token.{Token, begin_object, end_object, begin_array, end_array, key, string, number, boolean, null, bad}
 use Rattle.json.specs.Word.{ends_word, word}
@@ -53,7 +53,7 @@ lex-gap [] r h = refl
 lex-gap (x ∷ g) r (inl e, h) = rw e (lex-gap g r h)
 lex-gap (x ∷ g) r (inr e, h) = rw e (lex-gap g r h)
 
--- ---- behind a value a word has ended
+-- ---- after a value a word has ended
 
 tail_ends : (tail : List ℕ) → IsGap tail → ends_word tail ≡ true
 tail_ends [] h = refl

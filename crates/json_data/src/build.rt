@@ -1,9 +1,10 @@
-ghost use Rattle.std.specs.Prelude.{◌≡◌, ◌≢◌, ◌<◌, List, [], ◌∷◌, ◌++◌, length, None, OnOk, Some, Err};
+ghost use Rattle.std.specs.Prelude.{◌≡◌, ◌≢◌, ◌<◌, List, [], ◌∷◌, ◌++◌, length, map, None, OnOk, Some, Err};
 ghost use Rattle.json.specs.Json.{value, items, members};
 ghost use Rattle.serde_json.specs.Data.{Data, Members, array, object, no_members};
 ghost use Rattle.serde_json.specs.Read.{of_json, of_items, of_members, converted};
 ghost use Rattle.serde_json.specs.View.{items_of};
 ghost use Rattle.json_data.specs.Growth.{GrowsByValue};
+ghost use Rattle.json_data.specs.Nodes.{entry};
 
 use crate::fault::DataFault;
 use crate::node::Node;
@@ -18,7 +19,8 @@ pub(crate) fn read<'a>(
     depth: usize,
     nodes: &mut Vec<Node<'a>>,
 ) -> Result<(), DataFault>
-    ensures ok { OnOk result ((d : Data) × GrowsByValue d nodes.old.items nodes.new.items
+    ensures ok { OnOk result ((d : Data)
+        × GrowsByValue d (map entry nodes.old.items) (map entry nodes.new.items)
         × (converted of_json (value depth reader.old) ≡ Some (d, reader.new))) }
     ensures shorter { OnOk result (length reader.new < length reader.old) }
     ensures err { result ≡ Err DataFault.NotJson
@@ -68,7 +70,7 @@ fn read_items<'a>(
     nodes: &mut Vec<Node<'a>>,
 ) -> Result<(), DataFault>
     ensures ok { OnOk result ((ds : List Data)
-        × GrowsByValue (array (items_of ds)) nodes.old.items nodes.new.items
+        × GrowsByValue (array (items_of ds)) (map entry nodes.old.items) (map entry nodes.new.items)
         × (converted of_items (items (value depth) (length reader.old) reader.old)
         ≡ Some (items_of ds, reader.new))) }
     ensures shorter { OnOk result (length reader.new < length reader.old) }
@@ -94,7 +96,7 @@ fn read_members<'a>(
     nodes: &mut Vec<Node<'a>>,
 ) -> Result<(), DataFault>
     ensures ok { OnOk result ((found : Members)
-        × GrowsByValue (object found) nodes.old.items nodes.new.items
+        × GrowsByValue (object found) (map entry nodes.old.items) (map entry nodes.new.items)
         × (converted (λ ms. of_members ms no_members)
         (members (value depth) (length reader.old) reader.old) ≡ Some (found, reader.new))) }
     ensures shorter { OnOk result (length reader.new < length reader.old) }

@@ -4,8 +4,10 @@ ghost use Rattle.serde_json.specs.Read.{read as data_in};
 use crate::build::read;
 use crate::element::Element;
 use crate::fault::DataFault;
-use crate::node::Node;
+use crate::kept::kept_spots;
 use crate::plain_value::read_plain;
+use crate::spot::Spot;
+use crate::texts::Texts;
 use json::{Reader, Scratch};
 use std::alloc::Global;
 
@@ -15,7 +17,8 @@ const MOST_DEPTH: usize = 127;
 /// One value of a text, with all in it.
 #[derive(Drop)]
 pub struct Document<'a> {
-    nodes: Vec<Node<'a>>,
+    texts: Texts<'a>,
+    nodes: Vec<Spot>,
 }
 
 impl<'a> Document<'a> {
@@ -53,7 +56,13 @@ impl<'a> Document<'a> {
         ensures err { result ≡ Err DataFault.NotJson → data_in text.now ≡ None }
     {
         match read_plain(alloc, text) {
-            Ok(nodes) => Ok(Document { nodes }),
+            Ok(nodes) => Ok(Document {
+                texts: Texts {
+                    text,
+                    kept: Vec::new(alloc),
+                },
+                nodes,
+            }),
             Err(_) => Document::read_text(alloc, text, scratch),
         }
     }
@@ -67,18 +76,22 @@ impl<'a> Document<'a> {
         ensures err { result ≡ Err DataFault.NotJson → data_in text.now ≡ None }
     {
         let mut reader = Reader::new(text, scratch)?;
-        let mut nodes = Vec::new(alloc);
-        read(&mut reader, MOST_DEPTH, &mut nodes)?;
+        let mut kept = Vec::new(alloc);
+        read(&mut reader, MOST_DEPTH, &mut kept)?;
         if reader.next().is_some() {
             return Err(DataFault::NotJson);
         }
-        Ok(Document { nodes })
+        let nodes = kept_spots(alloc, &kept)?;
+        Ok(Document {
+            texts: Texts { text, kept },
+            nodes,
+        })
     }
 
     /// The value itself.
     pub fn root(&self) -> Element<'_, 'a>
         ensures { view result ≡ data_of self.now }
     {
-        Element::first(self.nodes.as_slice())
+        Element::first(&self.texts, self.nodes.as_slice())
     }
 }

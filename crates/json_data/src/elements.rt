@@ -1,26 +1,28 @@
 ghost use Rattle.std.specs.Prelude.{◌≡◌, MatchOption};
 ghost use Rattle.serde_json.specs.Data.{no_items, item};
 ghost use Rattle.serde_json.specs.Events.{items_len};
-ghost use Rattle.json_data.specs.Nodes.{items_at};
+ghost use Rattle.json_data.specs.Nodes.{items_at, entries};
 
 use crate::element::Element;
-use crate::node::{Node, behind};
+use crate::spot::{Spot, behind};
+use crate::texts::Texts;
 
 /// What is left of an array's elements.
 #[derive(Clone, Copy, Drop)]
 pub struct Elements<'t, 'a> {
     left: usize,
+    texts: &'t Texts<'a>,
     // From the next one's first node on.
-    nodes: &'t [Node<'a>],
+    nodes: &'t [Spot],
 }
 
 impl<'t, 'a> Elements<'t, 'a> {
     ghost use Rattle.json_data.specs.View.{view, items_view};
 
-    pub(crate) fn first(left: usize, nodes: &'t [Node<'a>]) -> Elements<'t, 'a>
-        ensures { items_view result ≡ items_at left nodes.now }
+    pub(crate) fn first(left: usize, texts: &'t Texts<'a>, nodes: &'t [Spot]) -> Elements<'t, 'a>
+        ensures { items_view result ≡ items_at left (entries texts.now nodes.now) }
     {
-        Elements { left, nodes }
+        Elements { left, texts, nodes }
     }
 
     /// How many are left.
@@ -42,7 +44,7 @@ impl<'t, 'a> Elements<'t, 'a> {
         }
         let nodes = self.nodes;
         self.left -= 1;
-        self.nodes = behind(nodes);
-        Some(Element::first(nodes))
+        self.nodes = behind(self.texts, nodes);
+        Some(Element::first(self.texts, nodes))
     }
 }

@@ -14,7 +14,7 @@ pub(crate) fn number_of(text: &str) -> Option<Number>
     if has_minus(bytes) {
         negative(&Numeral::scan(&bytes[1..]))
     } else {
-        unsigned(&Numeral::scan(bytes))
+        read_unsigned(&Numeral::scan(bytes))
     }
 }
 
@@ -27,7 +27,7 @@ fn has_minus(bytes: &[u8]) -> bool
 }
 
 #[inline(always)]
-fn unsigned(numeral: &Numeral<'_>) -> Option<Number>
+fn read_unsigned(numeral: &Numeral<'_>) -> Option<Number>
     ensures { option_map number_view result ≡ number_from false numeral.now }
 {
     match numeral.to_u64() {

@@ -1,15 +1,15 @@
 //! The tokens of a text in which blanks alone stand before a token, and nothing in a string is escaped: each
 //! is read where it stands, and where a text isn't so, that is all that is said of it.
-ghost use Rattle.std.specs.Prelude.{◌≡◌, ◌<◌, ◌≤◌, ◌⊎◌, ◌+◌, ◌&&◌, ◌==◌, cond, ℕ, IsTrue, IfOk, IfSome, length, take, drop, get_or, false};
-ghost use Rattle.std.specs.Str.{bytes_eq};
+ghost use Rattle.std.specs.Prelude.{◌≡◌, ◌<◌, ◌≤◌, ◌⊎◌, ◌+◌, ◌&&◌, ◌==◌, cond, ℕ, IsTrue, IfOk, IfSome, length, take, drop, get_or, false, true};
+ghost use Rattle.std.specs.Str.{bytes_eq, IsCharBoundary};
 ghost use Rattle.json.specs.Token.{end_array, end_object, key};
 ghost use Rattle.json.specs.Print.{begins};
 ghost use Rattle.json.specs.Reads.{token_of};
-ghost use Rattle.json_data.specs.Plain.{IsPlainUpTo, IsGapUpTo, IsMark, IsWordText, IsLexeme, IsNextToken};
+ghost use Rattle.json.specs.Run.{is_plain};
+ghost use Rattle.json_data.specs.Plain.{ArePlain, IsPlainUpTo, IsGapUpTo, IsMark, IsWordText, IsLexeme, IsNextToken};
 
 use crate::unread::Unread;
 use json::{Token, is_number};
-use memchr::memchr2;
 
 /// The next token and where it ends. Where a value has just `ended`, a comma stands before all but a bracket
 /// that closes, and else none.
@@ -31,7 +31,7 @@ pub(crate) fn token_at<'a>(
     Err(Unread::NotPlain)
 }
 
-/// Whether a comma stands at a place, and the place behind it, if it does.
+/// Whether a comma stands at a place, and the place after it, if it does.
 #[inline(always)]
 fn comma_at(text: &str, from: usize) -> (bool, usize)
     requires { from ≤ length text.now }
@@ -71,7 +71,7 @@ fn begins_value(token: Token<'_>) -> bool
     }
 }
 
-/// The token behind the blanks from a place on.
+/// The token after the blanks from a place on.
 #[inline(always)]
 fn behind_gap<'a>(text: &'a str, from: usize) -> Result<(Token<'a>, usize), Unread>
     requires { from ≤ length text.now }
@@ -117,7 +117,7 @@ fn is_blank(byte: u8) -> bool
     }
 }
 
-/// The byte at a place, or a blank behind the end.
+/// The byte at a place, or a blank after the end.
 #[inline(always)]
 fn byte_at(text: &str, place: usize) -> u8
     ensures { result ≡ get_or text.now place 32 }
@@ -182,7 +182,7 @@ fn string_at<'a>(text: &'a str, at: usize) -> Result<(Token<'a>, usize), Unread>
     Ok((Token::String(content), end))
 }
 
-/// How many bytes stand before the quote that closes a string, of which this is the text behind the quote that
+/// How many bytes stand before the quote that closes a string, of which this is the text after the quote that
 /// opens it.
 #[inline(always)]
 fn plain_size(text: &str) -> Result<usize, Unread>
@@ -198,37 +198,89 @@ fn plain_bytes(bytes: &[u8]) -> Result<usize, Unread>
     ensures plain { IfOk result (λ size. IsPlainUpTo bytes.now size) }
     ensures within { IfOk result (λ size. size < length bytes.now) }
 {
-    let Some(size) = memchr2(b'"', b'\\', bytes) else {
-        return Err(Unread::NotPlain);
-    };
-    if byte_of(bytes, size) != b'"' {
-        return Err(Unread::NotPlain);
-    }
-    if has_no_control(bytes, size) {
+    let size = plain_end(bytes);
+    if byte_of(bytes, size) == b'"' {
         return Ok(size);
     }
     Err(Unread::NotPlain)
 }
 
-/// Whether none of the first bytes is a control byte. It looks at each of them whatever it has found, so that
-/// several can be looked at at once.
+/// How many bytes stand before the first that ends a string or has no place in it as it is.
 #[inline(always)]
-fn has_no_control(bytes: &[u8], size: usize) -> bool
-    requires { size ≤ length bytes.now }
-    ensures { IsTrue result → (k : ℕ) → k < size → 32 ≤ get_or bytes.now k 0 }
+fn plain_end(bytes: &[u8]) -> usize
+    ensures { ArePlain bytes.now result }
 {
-    let mut none = true;
-    for place in 0..size {
-        none = is_no_control(bytes[place]) & none;
+    let mut end = plain_blocks(bytes);
+    'each: while end < bytes.len() {
+        if !is_plain(bytes[end]) {
+            return end;
+        }
+        end += 1;
     }
-    none
+    end
+}
+
+/// How many bytes stand before the first block of 32 of which not all are there and plain.
+#[inline(always)]
+fn plain_blocks(bytes: &[u8]) -> usize
+    ensures { ArePlain bytes.now result }
+{
+    let mut end = 0;
+    'each: while end < bytes.len() {
+        if !has_plain_block(bytes, end) {
+            return end;
+        }
+        end += 32;
+    }
+    end
+}
+
+/// Whether 32 plain bytes stand from a place on.
+#[inline(always)]
+fn has_plain_block(bytes: &[u8], from: usize) -> bool
+    requires { from ≤ length bytes.now }
+    ensures { IsTrue result → (from + 32 ≤ length bytes.now)
+        × ((k : ℕ) → k < 32 → is_plain (get_or bytes.now (from + k) 0) ≡ true) }
+{
+    match block_at(bytes, from) {
+        Some(block) => are_plain(block),
+        None => false,
+    }
 }
 
 #[inline(always)]
-fn is_no_control(byte: u8) -> bool
-    ensures { IsTrue result → 32 ≤ byte }
+fn block_at(bytes: &[u8], from: usize) -> Option<&[u8]>
+    requires { from ≤ length bytes.now }
+    ensures value { IfSome result (λ block. block.now ≡ take 32 (drop from bytes.now)) }
+    ensures size { IfSome result (λ block. length block.now ≡ 32) }
+    ensures room { IfSome result (λ block. from + 32 ≤ length bytes.now) }
 {
-    byte >= b' '
+    if bytes.len() - from < 32 {
+        return None;
+    }
+    Some(&bytes[from..from + 32])
+}
+
+/// Whether all bytes are plain. It looks at each of them whatever it has found, so that several can be looked
+/// at at once.
+#[inline(always)]
+fn are_plain(block: &[u8]) -> bool
+    ensures { IsTrue result → (k : ℕ) → k < length block.now
+        → is_plain (get_or block.now k 0) ≡ true }
+{
+    let mut all = true;
+    for place in 0..block.len() {
+        all = is_plain(block[place]) & all;
+    }
+    all
+}
+
+/// Whether a byte may stand in a string as it is: it is no quote, no backslash and no control byte.
+#[inline(always)]
+fn is_plain(byte: u8) -> bool
+    ensures { result ≡ is_plain byte }
+{
+    !((byte == b'"') | (byte == b'\\') | (byte < b' '))
 }
 
 /// The number or the literal at a place.
@@ -316,6 +368,7 @@ fn is_word(word: &str, name: &str) -> bool
 fn text_behind<'a>(text: &'a str, place: usize) -> Result<&'a str, Unread>
     ensures back { IfOk result (λ s. s.now ≡ drop place text.now) }
     ensures size { IfOk result (λ s. length s.now + place ≡ length text.now) }
+    ensures cut { IfOk result (λ s. IsCharBoundary text.now place) }
 {
     match text.split_at_checked(place) {
         Some(parts) => Ok(parts.1),
@@ -325,7 +378,8 @@ fn text_behind<'a>(text: &'a str, place: usize) -> Result<&'a str, Unread>
 
 #[inline(always)]
 fn text_before<'a>(text: &'a str, place: usize) -> Result<&'a str, Unread>
-    ensures { IfOk result (λ s. s.now ≡ take place text.now) }
+    ensures front { IfOk result (λ s. s.now ≡ take place text.now) }
+    ensures cut { IfOk result (λ s. IsCharBoundary text.now place) }
 {
     match text.split_at_checked(place) {
         Some(parts) => Ok(parts.0),

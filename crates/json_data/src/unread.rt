@@ -3,10 +3,10 @@ use std::alloc::AllocFailed;
 /// Why a text isn't read where it stands.
 #[derive(Clone, Copy, Debug, Drop)]
 pub(crate) enum Unread {
-    /// It may be JSON, but it isn't plain: a string has an escape, or something else than blanks stands before
-    /// a token.
+    /// It may be JSON, but it isn't plain: a string has an escape, something else than blanks stands before a
+    /// token, or a number isn't a whole one below 2^64.
     NotPlain,
-    /// Memory ran out.
+    /// Memory ran out, or a place doesn't fit 32 bits.
     Memory,
 }
 

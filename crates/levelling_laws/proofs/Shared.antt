@@ -16,15 +16,15 @@ use Rattle.rollout_rules.specs.declared.op.Entry.TheVariants.{Begin, Done}
 use Rattle.rollout_laws.specs.Waiting.{NothingFlies}
 use Rattle.rollout_laws.proofs.Histories.{with_none, with_both, begun-with, front_follows, is_legal-append}
 use Rattle.rollout_laws.proofs.Released.{held-none}
-use Rattle.shared_history.specs.Batches.{same_op, same_entry, same_entries, dones_ahead, behind_dones, ends, items_rise, is_batch}
-use Rattle.shared_history.specs.Notes.{is_stopped}
-use Rattle.shared_history.specs.Histories.{Opening, segment_of, added, history_of}
-use Rattle.shared_history.specs.Legal.{is_empty, is_turn, may_say, may_go_on, is_legal_shared}
-use Rattle.shared_history.specs.declared.note.What.{What}
-use Rattle.shared_history.specs.declared.note.What.TheVariants as what
-use Rattle.shared_history.specs.declared.note.Written.{Written}
-use Rattle.shared_history.proofs.Going.{front_is_legal, next_may_be}
-use Rattle.shared_history.proofs.Lists.{history-next, list-is_legal}
+use Rattle.shared_book.specs.Batches.{same_op, same_entry, same_entries, dones_ahead, behind_dones, ends, items_rise, is_batch}
+use Rattle.shared_book.specs.Notes.{is_stopped}
+use Rattle.shared_book.specs.Histories.{Opening, segment_of, added, history_of}
+use Rattle.shared_book.specs.Legal.{is_empty, is_turn, may_say, may_go_on, is_legal_shared}
+use Rattle.shared_book.specs.declared.note.What.{What}
+use Rattle.shared_book.specs.declared.note.What.TheVariants as what
+use Rattle.shared_book.specs.declared.note.Written.{Written}
+use Rattle.shared_book.proofs.Going.{front_is_legal, next_may_be}
+use Rattle.shared_book.proofs.Lists.{history-next, list-is_legal}
 use Rattle.rollback_plan.specs.Levels.{ceiling, BegunTo, BegunUpTo, is_levelled, HoldsFrom}
 use Rattle.rollback_plan.specs.Turns.{BegunSoFar, HasComeSoFar, comes_to}
 use Rattle.rollback_plan.proofs.Ceilings.{ceiling-most, begun-up_to_ceiling, ceiling-least}

@@ -17,9 +17,9 @@ ghost use Rattle.rollout_rules.specs.History.{begins_in, with_entries};
 ghost use Rattle.rollout_rules.specs.Legal.{may_begin, is_finished};
 ghost use Rattle.rollout_rules.specs.Release.{next_op, view_of, is_held_back};
 ghost use Rattle.rollout_laws.specs.Waiting.{NothingFlies};
-ghost use Rattle.shared_history.specs.Histories.{Opening, added, history_of};
-ghost use Rattle.shared_history.specs.Legal.{is_legal_shared};
-ghost use Rattle.shared_history.specs.declared.note.Written.{Written};
+ghost use Rattle.shared_book.specs.Histories.{Opening, added, history_of};
+ghost use Rattle.shared_book.specs.Legal.{is_legal_shared};
+ghost use Rattle.shared_book.specs.declared.note.Written.{Written};
 ghost use Rattle.rollback_plan.specs.Levels.{ceiling, BegunUpTo, is_levelled, HoldsFrom};
 ghost use Rattle.rollback_plan.specs.Turns.{BegunSoFar, HasComeSoFar};
 
@@ -127,7 +127,7 @@ pub fn a_shared_history_comes_so_far()
         → HasComeSoFar o.rollout.problem o.rollout.plan o.found s (history_of o ws) }
 {}
 
-/// A policy that holds from stage 0 on holds all back. Under it nothing is begun: neither in the list behind the
+/// A policy that holds from stage 0 on holds all back. Under it nothing is begun: neither in the list after the
 /// one found, nor among the entries of the next note, those of a batch of which an append failed.
 pub fn a_drained_history_begins_nothing()
     ensures list { (o : Opening) (ws : List Written) (n : ℕ)

@@ -35,7 +35,7 @@ impl<T> Many<T> {
         }
     }
 
-    /// Adds an element at the end. Want of memory changes nothing.
+    /// Adds an element at the end. Lack of memory changes nothing.
     pub fn push(&mut self, element: T) -> Result<(), AllocError>
     where
         T: Drop,
@@ -46,7 +46,7 @@ impl<T> Many<T> {
         Ok(())
     }
 
-    /// Adds a row of elements at the end, in one growth. Want of memory changes nothing.
+    /// Adds a row of elements at the end, in one growth. Lack of memory changes nothing.
     pub fn extend_from_slice(&mut self, elements: &[T]) -> Result<(), AllocError>
     where
         T: Copy,

@@ -36,7 +36,7 @@ impl Text {
         }
     }
 
-    /// A text with room for so many bytes, so that it isn't moved until it has more. An Err is want of memory.
+    /// A text with room for so many bytes, so that it isn't moved until it has more. An Err is lack of memory.
     pub fn with_capacity(alloc: Global, bytes: usize) -> Result<Self, AllocError>
         ensures { IfOk result (λ text. text ≡ []) }
     {
@@ -45,7 +45,7 @@ impl Text {
         })
     }
 
-    /// Adds a piece at the end. Want of memory changes nothing.
+    /// Adds a piece at the end. Lack of memory changes nothing.
     pub fn push_str(&mut self, piece: &str) -> Result<(), AllocError>
         ensures ok { OnOk result (self.new ≡ self.old ++ piece.now) }
         ensures err { OnErr result (self.new ≡ self.old) }

@@ -127,7 +127,7 @@ each_offered bytes earlier (c ∷ commands) later rest split =
     })
     (each_offered bytes (earlier ++ c ∷ []) commands later rest (subst (λ (cs : List CommandFrame). Splits command_bytes IsCommand bytes cs rest) (sym (append_assoc earlier (c ∷ []) (commands ++ later))) split))
 
--- the whole commands behind the earlier ones, the first of them apart
+-- the whole commands after the earlier ones, the first of them apart
 pub parts_of : (earlier : List CommandFrame) (taken_now : List ℕ) (held held_now : Holdings) (back back_now : Back) (front : TakesBehind (AreFirstAnswered held held_now back back_now) earlier taken_now) → HasCommands taken_now (earlier ++ (front.so.first ++ (front.so.unanswered ++ front.so.later)))
 parts_of earlier taken_now held held_now back back_now front = subst (λ (cs : List CommandFrame). HasCommands taken_now (earlier ++ cs)) front.so.parts front.has
 

@@ -22,7 +22,7 @@ module _ (Holds : List CommandFrame → Type 0) (earlier : List CommandFrame) wh
   out_behind before now out behind = record { commands = behind.commands; has = out.none (earlier ++ behind.commands) behind.has; so = behind.so }
 
 module _ (before now : Stream) (c : CommandFrame) (gives : GivesNext before now c) (earlier : List CommandFrame) where
-  -- one command more, of which this holds behind those of which that did
+  -- one command more, of which this holds after those of which that did
   pub one_behind : (Held Holds : List CommandFrame → Type 0) → ((cs : List CommandFrame) → Held cs → Holds (cs ++ c ∷ [])) → TakesBehind Held earlier before.taken → TakesBehind Holds earlier now.taken
   one_behind Held Holds on behind = record {
     commands = behind.commands ++ c ∷ [];
@@ -71,7 +71,7 @@ module _ (before now : Stream) (found : Option CommandFrame) (given : IfSome fou
       at (Some c) gives out = one_more before now c gives earlier
       at None gives out = out_behind (λ commands. Unit {0}) earlier before now out
 
--- what holds of all that was taken behind the commands that came before
+-- what holds of all that was taken after the commands that came before
 pub all_came : (Holds : List CommandFrame → Type 0) (stream middle now : Stream) (earlier : List CommandFrame) → HasCommands stream.taken earlier → stream.pending ≡ [] → middle.taken ≡ stream.taken
     → ((before : List CommandFrame) → HasCommands middle.taken before → TakesBehind Holds before now.taken) → now.pending ≡ [] → Came Holds (offered_of stream) (offered_of now)
 all_came Holds stream middle now earlier has none same takes all = record {

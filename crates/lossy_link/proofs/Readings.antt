@@ -11,7 +11,7 @@ use Rattle.lossy_link.specs.Incoming.{Advances, GivesNext, GoesOnAs, HasCommands
 use Rattle.lossy_link.proofs.Ordered.{one_split}
 use Rattle.lossy_link.proofs.Taking.{goes_on_begins_none}
 
--- the commands that the reader stands behind are the only ones
+-- the commands that the reader stands after are the only ones
 same_commands : (taken : List ℕ) (reader : Reader) (is : IsReading taken reader) (commands : List CommandFrame) → HasCommands taken commands → is.commands ≡ commands
 same_commands taken reader is commands has =
     one_split is.commands commands is.rest has.rest is.whole.fit has.whole.fit (goes_on_begins_none reader.live reader.kept is.rest is.goes_on) has.no_more (sym is.whole.parts ∙ has.whole.parts)
@@ -19,7 +19,7 @@ same_commands taken reader is commands has =
 stream_of : List ℕ → List ℕ → Stream
 stream_of taken pending = record { taken = taken; pending = pending }
 
--- the bytes taken, and those behind them
+-- the bytes taken, and those after them
 abbrev pub stream_at : List ℕ → ℕ → Stream
 stream_at offered taken = record { taken = take taken offered; pending = drop taken offered }
 

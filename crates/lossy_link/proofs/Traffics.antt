@@ -23,7 +23,7 @@ after-replicate held n c = at_suc held n ∙ ap (λ (k : ℕ). after_commands he
     at_suc h zero = refl
     at_suc h (suc k) = at_suc (after_command h c) k
 
--- one more of the same behind the others
+-- one more of the same after the others
 pub append-replicate : {T : Type 0} (xs : List T) (n : ℕ) (x : T) → (xs ++ replicate n x) ++ x ∷ [] ≡ xs ++ replicate (n + 1) x
 append-replicate {T} xs n x = append_assoc xs (replicate n x) (x ∷ []) ∙ ap (λ (ys : List T). xs ++ ys) (replicate-append-replicate n 1 x)
 
@@ -50,7 +50,7 @@ module _ (ws : List Waiting) (i : ℕ) (w : Waiting) (inside : i < length ws) (h
   pub one_late : is_there w ≡ false → arriving (take i ws) ≡ arriving (take (i + 1) ws)
   one_late is = sym (append-nil (arriving (take i ws))) ∙ ap (λ (xs : List ℕ). arriving (take i ws) ++ xs) (sym (only_late w is)) ∙ sym (arriving-append (take i ws) (w ∷ [])) ∙ ap arriving (sym looked)
 
--- bytes that were given go on behind those that were before
+-- bytes that were given go on after those that were before
 pub given_further : (bytes : List ℕ) (given n : ℕ) (b : Back) → take given bytes ≡ b.heard → drop given bytes ≡ b.due → (n_heard : take (given + n) bytes ≡ b.heard ++ take n b.due) × (drop (given + n) bytes ≡ drop n b.due)
 given_further bytes given n b heard due =
     (take-add given n bytes ∙ ap₂ (λ (xs ys : List ℕ). xs ++ take n ys) heard due, sym (drop-drop n given bytes) ∙ ap (λ (xs : List ℕ). drop n xs) due)

@@ -1,6 +1,6 @@
 -- What a fleet in memory is seen as.
 use Rattle.std.specs.Prelude.{ℕ, ◌+◌, ◌-◌, ◌<◌, ◌≤◌, ◌^◌, Bool, List, [], ◌∷◌, ◌++◌, Option, Some, None}
-use Rattle.lossy_link.specs.Berths.{Places}
+use Rattle.lossy_link.specs.PortPlaces.{Places}
 use Rattle.lossy_link.specs.Guests.{Visit}
 use Rattle.lossy_link.specs.Names.{NameRows}
 

@@ -19,7 +19,7 @@ pub record HasCommands (bytes : List ℕ) (commands : List CommandFrame) : Type 
   pub whole : Splits command_bytes IsCommand bytes commands rest
   pub no_more : BeginsNoCommand rest
 
--- behind these commands further ones were taken, and this holds of them
+-- after these commands further ones were taken, and this holds of them
 pub record TakesBehind (Holds : List CommandFrame → Type 0) (earlier : List CommandFrame) (taken_now : List ℕ) : Type 0 where
   pub commands : List CommandFrame
   pub has : HasCommands taken_now (earlier ++ commands)
@@ -53,17 +53,17 @@ pub record IsReadOut (before now : Stream) : Type 0 where
   pub all : now ≡ record { taken = offered_of before; pending = [] }
   pub none : (commands : List CommandFrame) → HasCommands before.taken commands → HasCommands now.taken commands
 
--- Behind the whole commands stands what the reader keeps, or what no command begins with.
+-- After the whole commands stands what the reader keeps, or what no command begins with.
 abbrev pub GoesOnAs : Bool → List ℕ → List ℕ → Type 0
 GoesOnAs true kept rest = (rest ≡ kept) × IsCutCommand kept
 GoesOnAs false kept rest = (fault : FrameFault) × IsCommandFault rest fault
 
--- What the reader makes of more bytes, behind what it goes on with: with them that is a command, or it goes on with both.
+-- What the reader makes of more bytes, after what it goes on with: with them that is a command, or it goes on with both.
 abbrev pub Advances : List ℕ → List ℕ → Option CommandFrame → Reader → Type 0
 Advances rest bytes (Some c) reader = (command_bytes c ≡ rest ++ bytes) × IsCommand c × GoesOnAs reader.live reader.kept []
 Advances rest bytes None reader = GoesOnAs reader.live reader.kept (rest ++ bytes)
 
--- the reader goes on behind the whole commands in the bytes taken
+-- the reader goes on after the whole commands in the bytes taken
 pub record IsReading (taken : List ℕ) (reader : Reader) : Type 0 where
   pub commands : List CommandFrame
   pub rest : List ℕ

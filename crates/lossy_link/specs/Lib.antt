@@ -1,5 +1,5 @@
 pub mod Aliens
-pub mod Berths
+pub mod PortPlaces
 pub mod Counting
 pub mod Faithful
 pub mod FleetState

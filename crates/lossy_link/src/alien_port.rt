@@ -119,7 +119,7 @@ impl Port for AlienPort {
 
     ghost prompt_is_honest = { λ _ prompt. prompt };
 
-    /// Takes all the bytes and answers each whole command, or fails for want of memory.
+    /// Takes all the bytes and answers each whole command, or fails for lack of memory.
     fn offer(&mut self, from: &[u8]) -> Result<(), Failed>
         ensures all { OnOk result
             (Appends (Some self.old.offered) from.now (Some self.new.offered)) }

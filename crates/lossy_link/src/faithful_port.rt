@@ -180,7 +180,7 @@ impl Port for FaithfulPort {
 
     ghost prompt_is_honest = { λ _ _. refl };
 
-    /// Takes all the bytes and answers each whole command, or fails for want of memory: on the way, or
+    /// Takes all the bytes and answers each whole command, or fails for lack of memory: on the way, or
     /// in an earlier call.
     fn offer(&mut self, from: &[u8]) -> Result<(), Failed>
         ensures all { OnOk result

@@ -28,7 +28,7 @@ const LOOKS: u32 = 1_000_000;
 /// One half of a gate, which is open for good once both halves were inside a hear at once.
 ///
 /// All crossings of the gate have one order; a half has seen a beginning of it, and what other threads do
-/// behind that is not known.
+/// after that is not known.
 #[derive(Drop)]
 pub struct Gate {
     word: Arc<Word<Crossing, u64, Law>, Global>,

@@ -42,7 +42,7 @@ impl Incoming {
         }
     }
 
-    /// Adds bytes behind those that came before. Want of memory changes nothing.
+    /// Adds bytes after those that came before. Lack of memory changes nothing.
     pub(crate) fn accept(&mut self, bytes: &[u8]) -> Result<(), Memory>
         ensures ok { OnOk result
             (self.new

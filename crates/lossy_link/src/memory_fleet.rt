@@ -1,20 +1,20 @@
 ghost use Rattle.std.specs.Prelude.{◌≡◌, ◌<◌, [], ◌∷◌, ◌++◌, true, false, None, Some, is_err, IfOk, IsOk, OnErr, OnOk};
-ghost use Rattle.lossy_link.specs.Berths.{kept_at, lent_at, waiting_at};
+ghost use Rattle.lossy_link.specs.PortPlaces.{kept_at, lent_at, waiting_at};
 ghost use Rattle.lossy_link.specs.FleetState.{after_guest, after_visit, first_guest};
 ghost use Rattle.lossy_link.specs.Names.{name_at};
 ghost use Rattle.wan_edge.specs.FailingTurns.{one_more};
 ghost use Rattle.wan_edge.specs.Fleets.{WaitsFor, marked, with_one, without};
 
-mod berth;
-mod berths;
 mod guest_queue;
 mod names;
+mod port_place;
+mod port_places;
 
 use crate::MemoryGuest;
-use berths::Berths;
 use guest_queue::GuestQueue;
 use lists::{Memory, Text};
 use names::Names;
+use port_places::PortPlaces;
 use std::alloc::Global;
 use std::marker::Model;
 use wan_edge::{Failed, Fleet, Port, Waited};
@@ -25,7 +25,7 @@ use wan_edge::{Failed, Fleet, Port, Waited};
 /// Memory is taken where a switch is called, or a port or a guest is put, and nowhere else.
 #[derive(Debug, Drop)]
 pub struct MemoryFleet<P> {
-    berths: Berths<P>,
+    berths: PortPlaces<P>,
     names: Names,
     guests: GuestQueue,
     guests_fail: bool,
@@ -58,7 +58,7 @@ impl<P> MemoryFleet<P> {
             } }
     {
         MemoryFleet {
-            berths: Berths::new(alloc),
+            berths: PortPlaces::new(alloc),
             names: Names::new(alloc),
             guests: GuestQueue::new(alloc),
             guests_fail: false,
@@ -66,7 +66,7 @@ impl<P> MemoryFleet<P> {
         }
     }
 
-    /// Calls a switch by this name, and by no other. Want of memory changes nothing.
+    /// Calls a switch by this name, and by no other. Lack of memory changes nothing.
     pub fn call(&mut self, switch: u32, name: Text) -> Result<(), Memory>
         ensures ok { OnOk result
             (name_at self.new.names ≡ with_one (name_at self.old.names) switch name) }
@@ -77,7 +77,7 @@ impl<P> MemoryFleet<P> {
     }
 
     /// Lets this port wait for the switch. One that waited, perhaps since it was given back, is dropped;
-    /// one that is lent can still be given back. Want of memory changes nothing but drops this port.
+    /// one that is lent can still be given back. Lack of memory changes nothing but drops this port.
     pub fn put(&mut self, switch: u32, port: P) -> Result<(), Memory>
     where
         P: Drop,
@@ -108,7 +108,7 @@ impl<P> MemoryFleet<P> {
         self.berths.clear(switch);
     }
 
-    /// Adds a guest to those that come. Want of memory changes nothing but drops the guest.
+    /// Adds a guest to those that come. Lack of memory changes nothing but drops the guest.
     pub fn put_guest(&mut self, guest: MemoryGuest) -> Result<(), Memory>
         ensures ok { OnOk result
             (self.new

@@ -74,7 +74,7 @@ impl Port for NoisePort {
 
     ghost prompt_is_honest = { λ _ prompt. prompt };
 
-    /// Takes all the bytes, or fails for want of memory and takes none.
+    /// Takes all the bytes, or fails for lack of memory and takes none.
     fn offer(&mut self, from: &[u8]) -> Result<(), Failed>
         ensures ok { OnOk result
             (self.new ≡ record self.old { offered = self.old.offered ++ from.now }) }

@@ -45,7 +45,7 @@ impl Model for ScriptPort {
 }
 
 impl ScriptPort {
-    /// The first whole command that is offered meets the first fate, and so on; behind the last fate each
+    /// The first whole command that is offered meets the first fate, and so on; after the last fate each
     /// command comes once, and is answered once and at once.
     pub fn new(alloc: Global, fates: FateList) -> Self
         ensures { IsFresh fates result }
@@ -124,7 +124,7 @@ impl Port for ScriptPort {
 
     ghost prompt_is_honest = { λ _ _. refl };
 
-    /// Takes all the bytes and sends each whole command to its fate, or fails for want of memory.
+    /// Takes all the bytes and sends each whole command to its fate, or fails for lack of memory.
     fn offer(&mut self, from: &[u8]) -> Result<(), Failed>
         ensures all { OnOk result
             (Appends (Some self.old.offered) from.now (Some self.new.offered)) }

@@ -36,7 +36,7 @@ impl WayBack {
         }
     }
 
-    /// Adds the bytes of an answer of this migration. Want of memory changes nothing.
+    /// Adds the bytes of an answer of this migration. Lack of memory changes nothing.
     pub(crate) fn add(&mut self, migration: u32, answer: &Answer) -> Result<(), Memory>
         ensures ok { OnOk result
             (self.new ≡ with_due self.old (answer_bytes (migration, answer.now))) }

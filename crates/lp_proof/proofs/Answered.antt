@@ -8,7 +8,7 @@ use Rattle.fraction_lp.specs.Dictionary.{end_of, IsEndUnlessMemory}
 use Rattle.fraction_lp.specs.declared.answer.LpAnswer.{LpAnswer}
 use Rattle.fraction_lp.specs.declared.answer.LpAnswer.TheVariants as lp
 use Rattle.step_lp.specs.Program.{move_program}
-use Rattle.step_proof.specs.declared.proof.Proof.TheVariants.{Plain}
+use Rattle.fraction_lp.specs.declared.proof.Proof.TheVariants.{Plain}
 use Rattle.lp_proof.specs.Shown.{is_built, is_plain}
 use Rattle.lp_proof.specs.Least.{by_link, by_end, by_program, least_of, IsAnswered, IsTried}
 use Rattle.lp_proof.specs.declared.least.Least.{Least}
@@ -68,7 +68,7 @@ tried p q e = let built : IsBuilt p q = built-parts p q e in record { least = bu
 
 -- ---- from the end that was answered to the end of the method
 
--- want of memory answers nothing
+-- lack of memory answers nothing
 of_memory : (result wanted : Least) → IsAnswered result Memory → IsAnswered result wanted
 of_memory (Shown proof) wanted e = cc
 of_memory (Fewer plan) wanted e = cc

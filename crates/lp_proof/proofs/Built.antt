@@ -22,8 +22,8 @@ use Rattle.fraction_lp.specs.Excluding.{excludes}
 use Rattle.fraction_lp.proofs.Excluded.{excluded-certificate, excluded-formed, certificate-excludes}
 use Rattle.step_lp.specs.Program.{unknowns, row_of, limits, move_program, cells}
 use Rattle.step_lp.proofs.Sizes.{length-coefficients}
-use Rattle.step_proof.specs.declared.proof.Proof.{Proof}
-use Rattle.step_proof.specs.declared.proof.Proof.TheVariants.{Plain, Link, Rows}
+use Rattle.fraction_lp.specs.declared.proof.Proof.{Proof}
+use Rattle.fraction_lp.specs.declared.proof.Proof.TheVariants.{Plain, Link, Rows}
 use Rattle.lp_proof.specs.Shown.{greater_end, direct_load, NeedsTwo, HasMultipliers, ShowsLeast, IsFormed, is_plain, is_overloaded, needs_two, is_built, has_multipliers, shows_least}
 use Rattle.lp_proof.specs.Least.{overload_at, first_overloaded}
 

@@ -69,7 +69,7 @@ module _ (p : Problem) (plan : Plan) where
   pub stand-last : (a : ℕ) → rate_steps p plan ≤ a → stand_at p plan a ≡ last_stage plan
   stand-last a all = omega (arith, stand-most a, stand-past a (last_stage plan) (omega arith) all)
 
-  -- a rate step more brings the rates of the stage behind
+  -- a rate step more brings the rates of the stage after
   pub stand-next : (a t : ℕ) → t < length p.tunnels → rate_at plan (next_stage plan (stand_at p plan a)) t ≡ rate_at plan (stand_at p plan (a + 1)) t
   stand-next a t lt = elim (cases_lt (stand_at p plan a) (last_stage plan)) as (λ c. rate_at plan (next_stage plan (stand_at p plan a)) t ≡ rate_at plan (stand_at p plan (a + 1)) t) [
     | inl before ↦

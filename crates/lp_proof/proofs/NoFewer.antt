@@ -14,8 +14,8 @@ use Rattle.fraction_lp.specs.Ratio.{Ratio}
 use Rattle.fraction_lp.proofs.Farkas.{no_feasible_point}
 use Rattle.step_lp.specs.Program.{move_program}
 use Rattle.step_lp.proofs.Both.{move_is_feasible}
-use Rattle.step_proof.specs.declared.proof.Proof.{Proof}
-use Rattle.step_proof.specs.declared.proof.Proof.TheVariants.{Plain, Link, Rows}
+use Rattle.fraction_lp.specs.declared.proof.Proof.{Proof}
+use Rattle.fraction_lp.specs.declared.proof.Proof.TheVariants.{Plain, Link, Rows}
 use Rattle.lp_proof.specs.RateSteps.{rate_steps, TakesAtLeast}
 use Rattle.lp_proof.specs.Shown.{greater_end, direct_load, NeedsTwo, HasMultipliers, ShowsLeast}
 use Rattle.lp_proof.proofs.Opened.{MovesWithin, moves_within}

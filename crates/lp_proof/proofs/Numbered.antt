@@ -186,7 +186,7 @@ module _ (p : Problem) (plan : Plan) (q : ℕ) (net : IsNetwork p) (within : Mov
       first_or (nat_lt b (rate_blocks q)) (level p plan (b + 1) t)
       (max (level p plan (b - rate_blocks q) t) (level p plan (b - rate_blocks q + 1) t)) (lt-ltb b (rate_blocks q) low)
 
-  -- the top of a used tunnel is the larger of its rates before and behind the step
+  -- the top of a used tunnel is the larger of its rates before and after the step
   top-level : (s t : ℕ) → used_at p t ≡ true → top_in q (numbers p plan q) s t ≡ max (level p plan s t) (level p plan (s + 1) t)
   top-level s t used = as_used (used_at p t) (number_of p plan q (rate_blocks q + s) t) used ∙ top-number s t
 

@@ -10,7 +10,7 @@ use Rattle.fraction_lp.specs.Excluding.{excludes}
 use Rattle.fraction_lp.specs.declared.answer.LpAnswer.{LpAnswer}
 use Rattle.fraction_lp.specs.declared.answer.LpAnswer.TheVariants as lp
 use Rattle.step_lp.specs.Program.{move_program}
-use Rattle.step_proof.specs.declared.proof.Proof.TheVariants.{Plain, Link, Rows}
+use Rattle.fraction_lp.specs.declared.proof.Proof.TheVariants.{Plain, Link, Rows}
 use Rattle.lp_proof.specs.Shown.{is_overloaded, is_built, shows_least}
 use Rattle.lp_proof.specs.declared.least.Least.{Least}
 use Rattle.lp_proof.specs.declared.least.Least.TheVariants.{Shown, Fewer, Point, Wide, Overflow, Spent, Memory}
@@ -49,7 +49,7 @@ by_program p q = if is_built p q then by_end p q (end_of (move_program p (q - 1)
 abbrev pub least_of : Problem → ℕ → Least
 least_of p q = if nat_lt q 2 then Shown Plain else if q == 2 then by_link p else by_program p q
 
--- the answer is the one wanted; want of memory says nothing
+-- the answer is the one wanted; lack of memory says nothing
 abbrev pub IsAnswered : Least → Least → Type 0
 IsAnswered (Shown proof) wanted = wanted ≡ Shown proof
 IsAnswered (Fewer plan) wanted = wanted ≡ Fewer plan

@@ -5,7 +5,7 @@ use Rattle.rollout_rules.specs.Wan.{Problem, Plan, rate_at, last_stage}
 use Rattle.rollout_rules.specs.Valid.{is_valid_plan}
 use Rattle.step_lp.specs.Program.{used_at}
 
--- whether a tunnel has the same rate at the stage behind
+-- whether a tunnel has the same rate at the stage after
 abbrev pub stays_at : Plan → ℕ → ℕ → Bool
 stays_at plan s t = rate_at plan s t == rate_at plan (s + 1) t
 

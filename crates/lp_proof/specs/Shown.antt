@@ -7,8 +7,8 @@ use Rattle.fraction_lp.specs.Ratio.{Ratio}
 use Rattle.fraction_lp.specs.Program.{IsCertificate}
 use Rattle.fraction_lp.specs.Excluding.{excludes, AreFormed}
 use Rattle.step_lp.specs.Program.{move_program, cells}
-use Rattle.step_proof.specs.declared.proof.Proof.{Proof}
-use Rattle.step_proof.specs.declared.proof.Proof.TheVariants.{Plain, Link, Rows}
+use Rattle.fraction_lp.specs.declared.proof.Proof.{Proof}
+use Rattle.fraction_lp.specs.declared.proof.Proof.TheVariants.{Plain, Link, Rows}
 
 -- ---- in the subject's terms
 

@@ -44,7 +44,7 @@ without_the_path = true ∷ true ∷ false ∷ true ∷ true ∷ false ∷ []
 abbrev pub with_the_path : List Bool
 with_the_path = true ∷ true ∷ true ∷ true ∷ true ∷ true ∷ []
 
--- two steps by way of that path, which is installed before and removed behind
+-- two steps by way of that path, which is installed before and removed after
 abbrev pub by_the_path : Plan
 by_the_path = record {
   scale = 1;

@@ -2,12 +2,11 @@ ghost use Rattle.std.specs.Prelude.{◌≡◌, ◌<◌, IfOk};
 ghost use Rattle.lp_proof.specs.Shown as spec;
 
 use crate::direct::is_overloaded;
-use fraction_lp::{FractionList, excludes};
+use fraction_lp::{FractionList, Proof, excludes};
 use lists::Memory;
 use scratch_plan::has_equal_rates;
 use std::alloc::Global;
 use step_lp::{build, cells};
-use step_proof::Proof;
 use wan_model::Problem;
 
 /// The rate steps up to which a program may be built for one step less.

@@ -23,7 +23,7 @@ fn moves_rates(plan: &CheckedPlan, s: usize) -> bool
     !all_stay(plan, s)
 }
 
-// Whether every tunnel has the same rate at the stage behind.
+// Whether every tunnel has the same rate at the stage after.
 fn all_stay(plan: &CheckedPlan, s: usize) -> bool
     requires { s < last_stage plan.now.plan }
     ensures { result

@@ -3,7 +3,7 @@
 ghost use Rattle.std.specs.Prelude.{ℕ, IsTrue};
 ghost use Rattle.rollout_rules.specs.Wan.{Problem};
 ghost use Rattle.rollout_rules.specs.Network.{IsNetwork};
-ghost use Rattle.step_proof.specs.declared.proof.Proof.{Proof};
+ghost use Rattle.fraction_lp.specs.declared.proof.Proof.{Proof};
 ghost use Rattle.lp_proof.specs.RateSteps.{TakesAtLeast};
 ghost use Rattle.lp_proof.specs.Shown.{ShowsLeast, IsFormed, shows_least};
 

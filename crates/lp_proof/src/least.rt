@@ -1,5 +1,4 @@
-use fraction_lp::FractionList;
-use step_proof::Proof;
+use fraction_lp::{FractionList, Proof};
 use wan_model::Plan;
 
 /// Whether fewer rate steps are impossible, and if that isn't shown, why not.

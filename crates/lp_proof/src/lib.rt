@@ -17,6 +17,6 @@ pub mod worked;
 
 pub use checking::check_proof;
 pub use counting::rate_steps;
+pub use fraction_lp::Proof;
 pub use least::Least;
 pub use proving::prove_least;
-pub use step_proof::Proof;

@@ -12,16 +12,15 @@ ghost use Rattle.lp_proof.specs.declared.least.Least.TheVariants as answer;
 use crate::checking::is_built;
 use crate::direct::first_overloaded;
 use crate::least::Least;
-use fraction_lp::{FractionList, LpAnswer, Rows, excludes, solve};
+use fraction_lp::{FractionList, LpAnswer, Proof, Rows, excludes, solve};
 use scratch_plan::frame;
 use std::alloc::{AllocError, Global};
 use step_lp::build;
-use step_proof::Proof;
 use wan_model::Problem;
 
 /// Looks for what shows that no plan has `q - 1` rate steps. Nothing is refused of the problem, and `q` is
 /// 0 exactly where no rate differs. Each answer comes exactly where the method comes to it, and is worth
-/// what its variant says; want of memory says nothing.
+/// what its variant says; lack of memory says nothing.
 pub fn prove_least(alloc: Global, problem: &Problem, q: u32) -> Least
     requires free { refusal problem.now ≡ None }
     requires still { (q == 0) ≡ frames.has_equal_rates problem.now }

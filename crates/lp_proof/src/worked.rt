@@ -2,7 +2,7 @@
 ghost use Rattle.std.specs.Prelude.{◌≡◌, true, false, [], IsTrue};
 ghost use Rattle.rollout_rules.specs.Named.{pipe, swap, pause, three, table_network, halfway_plan, pause_plan, three_plan, table_plan};
 ghost use Rattle.rollout_rules.specs.Valid.{is_valid_plan};
-ghost use Rattle.step_proof.specs.declared.proof.Proof.TheVariants.{Plain, Link, Rows};
+ghost use Rattle.fraction_lp.specs.declared.proof.Proof.TheVariants.{Plain, Link, Rows};
 ghost use Rattle.lp_proof.specs.RateSteps.{rate_steps};
 ghost use Rattle.lp_proof.specs.Shown.{shows_least};
 ghost use Rattle.lp_proof.specs.Least.{least_of};

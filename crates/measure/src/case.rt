@@ -1,5 +1,5 @@
 //! One call of a journal, as a line says it: the call, the number of the migration, the image in hexadecimal
-//! digits (`-` for none), the call of the disk at which it stops, or behind a `!` the one call that fails
+//! digits (`-` for none), the call of the disk at which it stops, or after a `!` the one call that fails
 //! (`-` for none), and then the entries of a batch, each `b:ITEM:NUMBER` or `d:ITEM:NUMBER`.
 use anyhow::{Context, Result, bail};
 use disk_model::MemoryDisk;
@@ -38,13 +38,24 @@ enum Trouble {
 impl Case {
     pub(crate) fn of(alloc: Global, line: &str) -> Result<Case> {
         let mut words = line.split_whitespace();
-        Ok(Case {
-            call: call_of(next(&mut words)?)?,
-            migration: number(next(&mut words)?)?,
-            image: image_of(alloc, next(&mut words)?)?,
-            trouble: trouble_of(next(&mut words)?)?,
-            batch: batch_of(alloc, words)?,
-        })
+        let call = call_of(next(&mut words)?)?;
+        let migration = number(next(&mut words)?)?;
+        let digits = next(&mut words)?;
+        let trouble = trouble_of(next(&mut words)?)?;
+        let image = image_of(alloc, digits)?;
+        match batch_of(alloc, words) {
+            Ok(batch) => Ok(Case {
+                call,
+                migration,
+                image,
+                trouble,
+                batch,
+            }),
+            Err(error) => {
+                drop(image);
+                Err(error)
+            }
+        }
     }
 
     /// A disk in memory with the image and with this trouble.
@@ -99,10 +110,20 @@ fn trouble_of(word: &str) -> Result<Trouble> {
 
 fn batch_of(alloc: Global, words: SplitWhitespace<'_>) -> Result<EntryList> {
     let mut batch = EntryList::new(alloc);
+    match add_entries(&mut batch, words) {
+        Ok(()) => Ok(batch),
+        Err(error) => {
+            drop(batch);
+            Err(error)
+        }
+    }
+}
+
+fn add_entries(batch: &mut EntryList, words: SplitWhitespace<'_>) -> Result<()> {
     for word in words {
         batch.push(entry_of(word)?)?;
     }
-    Ok(batch)
+    Ok(())
 }
 
 fn entry_of(word: &str) -> Result<Entry> {

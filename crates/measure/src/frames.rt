@@ -41,18 +41,24 @@ struct Tally {
 /// Makes the bytes once, and reads them from the first to the last each time, with a new reader and a
 /// new agent. Prints how many commands there were in all, and a checksum of the answers.
 pub(crate) fn measure(rt: &HostRuntime, load: &Load) -> Result<()> {
-    let alloc = rt.alloc();
-    let bytes = all_bytes(alloc, load)?;
+    let bytes = all_bytes(rt.alloc(), load)?;
+    let tally = tally_of(rt.alloc(), &bytes, load);
+    drop(bytes);
+    let tally = tally?;
+    let sum = tally.answers.value();
+    println!(rt; "commands {}, checksum {sum:016x}", tally.commands)?;
+    Ok(())
+}
+
+fn tally_of(alloc: Global, bytes: &[u8], load: &Load) -> Result<Tally> {
     let mut tally = Tally {
         commands: 0,
         answers: Checksum::new(),
     };
     for _time in 0..load.times {
-        answer_all(alloc, &bytes, load, &mut tally)?;
+        answer_all(alloc, bytes, load, &mut tally)?;
     }
-    let sum = tally.answers.value();
-    println!(rt; "commands {}, checksum {sum:016x}", tally.commands)?;
-    Ok(())
+    Ok(tally)
 }
 
 fn all_bytes(alloc: Global, load: &Load) -> Result<Vec<u8>, AllocError> {
@@ -88,9 +94,15 @@ fn nth_migration(nth: u32, commands: u32) -> u32 {
 
 fn answer_all(alloc: Global, bytes: &[u8], load: &Load, tally: &mut Tally) -> Result<()> {
     let mut agent = Agent::new(alloc);
+    let answered = answer_pieces(&mut agent, bytes, load, tally);
+    drop(agent);
+    answered
+}
+
+fn answer_pieces(agent: &mut Agent, bytes: &[u8], load: &Load, tally: &mut Tally) -> Result<()> {
     let mut reader = CommandReader::new();
     for piece in bytes.chunks(load.piece as usize) {
-        answer_piece(&mut agent, &mut reader, piece, tally)?;
+        answer_piece(agent, &mut reader, piece, tally)?;
     }
     Ok(())
 }

@@ -5,6 +5,7 @@ ghost use Rattle.std.specs.Prelude.{◌≡◌, [], true};
 ghost use Rattle.rollout_rules.specs.History.{from_nothing};
 
 use crate::case::{Call, Case};
+use crate::printing::{print_number, print_words};
 use crate::rollout;
 use anyhow::{Context, Result};
 use dependency_graph::Graph;
@@ -28,7 +29,13 @@ pub(crate) fn measure(rt: &HostRuntime) -> Result<()> {
 
 fn answer(rt: &HostRuntime, document: &[u8], line: &str) -> Result<()> {
     let case = Case::of(rt.alloc(), line)?;
-    answer_over(rt, &case, rollout::graph(rt.alloc(), document)?)
+    let answered = answer_of(rt, document, &case);
+    drop(case);
+    answered
+}
+
+fn answer_of(rt: &HostRuntime, document: &[u8], case: &Case) -> Result<()> {
+    answer_over(rt, case, rollout::graph(rt.alloc(), document)?)
 }
 
 fn answer_over(rt: &HostRuntime, case: &Case, graph: Graph) -> Result<()>
@@ -45,12 +52,15 @@ fn answer_case(rt: &HostRuntime, case: &Case, graph: &mut Graph) -> Result<()>
 {
     let digest = rollout::digest(rt.alloc(), graph.plan(), case.migration)?;
     let disk = case.disk(rt.alloc())?;
-    print(rt, &carried_out(rt.alloc(), case, disk, &digest, graph))
+    let outcome = carried_out(rt.alloc(), case, disk, &digest, graph);
+    let printed = print(rt, &outcome);
+    drop(outcome);
+    printed
 }
 
-/// What came of a call, and the disk behind it.
+/// What came of a call, and the disk after it.
 #[derive(Drop)]
-struct Outcome {
+struct CallResult {
     end: End,
     disk: MemoryDisk,
 }
@@ -80,17 +90,17 @@ fn carried_out(
     disk: MemoryDisk,
     digest: &Digest,
     graph: &mut Graph,
-) -> Outcome
+) -> CallResult
     requires empty { graph.old.history ≡ from_nothing graph.old.rollout.problem [] }
 {
     match case.call {
-        Call::Place => placed(alloc, disk, digest, graph),
-        Call::Recover => recovered(alloc, disk, digest, graph, case.batch.as_slice()),
+        Call::Place => place_once(alloc, disk, digest, graph),
+        Call::Recover => recover_once(alloc, disk, digest, graph, case.batch.as_slice()),
     }
 }
 
 #[tactic(auto, using(crate::proofs::Starting::nothing_flies))]
-fn placed(alloc: Global, disk: MemoryDisk, digest: &Digest, graph: &Graph) -> Outcome
+fn place_once(alloc: Global, disk: MemoryDisk, digest: &Digest, graph: &Graph) -> CallResult
     requires empty { graph.now.history ≡ from_nothing graph.now.rollout.problem [] }
 {
     let mut disk = disk;
@@ -98,35 +108,40 @@ fn placed(alloc: Global, disk: MemoryDisk, digest: &Digest, graph: &Graph) -> Ou
         Ok(()) => End::Placed,
         Err(cause) => End::Fault(cause),
     };
-    Outcome { end, disk }
+    CallResult { end, disk }
 }
 
-fn recovered(
+fn recover_once(
     alloc: Global,
     disk: MemoryDisk,
     digest: &Digest,
     graph: &mut Graph,
     batch: &[Entry],
-) -> Outcome
+) -> CallResult
     requires empty { graph.old.history ≡ from_nothing graph.old.rollout.problem [] }
 {
     let most = 2 * u64::from(graph.op_total());
     match recover(alloc, disk, digest, graph) {
-        Ok((journal, list)) => appended(journal, list, batch, most),
-        Err(unopened) => Outcome {
+        Ok((journal, list)) => append_once(journal, list, batch, most),
+        Err(unopened) => CallResult {
             end: End::Fault(unopened.cause),
             disk: unopened.disk,
         },
     }
 }
 
-fn appended(journal: Journal<MemoryDisk>, list: EntryList, batch: &[Entry], most: u64) -> Outcome
+fn append_once(
+    journal: Journal<MemoryDisk>,
+    list: EntryList,
+    batch: &[Entry],
+    most: u64,
+) -> CallResult
     requires live { journal.live ≡ true }
     requires most { journal.most ≡ most }
 {
     let mut journal = journal;
     let added = add(&mut journal, batch, most);
-    Outcome {
+    CallResult {
         end: End::Open(list, added),
         disk: journal.into_disk(),
     }
@@ -149,9 +164,9 @@ fn add(journal: &mut Journal<MemoryDisk>, batch: &[Entry], most: u64) -> Added
     }
 }
 
-fn print(rt: &HostRuntime, outcome: &Outcome) -> Result<()> {
+fn print(rt: &HostRuntime, outcome: &CallResult) -> Result<()> {
     match &outcome.end {
-        End::Placed => println!(rt; "placed")?,
+        End::Placed => print_words(rt, "placed")?,
         End::Open(list, added) => print_open(rt, list.as_slice(), *added)?,
         End::Fault(cause) => print_fault(rt, *cause)?,
     }
@@ -161,38 +176,60 @@ fn print(rt: &HostRuntime, outcome: &Outcome) -> Result<()> {
 fn print_open(rt: &HostRuntime, list: &[Entry], added: Added) -> Result<()> {
     print!(rt; "open")?;
     for entry in list {
-        match entry {
-            Entry::Begin(op) => print!(rt; " b:{}:{}", op.item, op.number)?,
-            Entry::Done(op) => print!(rt; " d:{}:{}", op.item, op.number)?,
-        }
+        print_entry(rt, *entry)?;
     }
     println!(rt; "")?;
-    Ok(match added {
+    match added {
         Added::Nothing => Ok(()),
-        Added::TooMany => println!(rt; "too many entries"),
-        Added::All => println!(rt; "appended"),
-        Added::Failed => println!(rt; "failed"),
-    }?)
+        Added::TooMany => print_words(rt, "too many entries"),
+        Added::All => print_words(rt, "appended"),
+        Added::Failed => print_words(rt, "failed"),
+    }
+}
+
+fn print_entry(rt: &HostRuntime, entry: Entry) -> Result<()> {
+    let (kind, op) = match entry {
+        Entry::Begin(op) => ('b', op),
+        Entry::Done(op) => ('d', op),
+    };
+    print!(rt; " {kind}:{}:{}", op.item, op.number)?;
+    Ok(())
 }
 
 fn print_fault(rt: &HostRuntime, fault: JournalFault) -> Result<()> {
-    Ok(match fault {
-        JournalFault::Disk => println!(rt; "disk"),
-        JournalFault::NotJournal(first) => println!(rt; "first byte {first}"),
-        JournalFault::OtherPlan(kept, wanted) => println!(rt;
-            "other plan {} {}",
-            kept.migration, wanted.migration
-        ),
-        JournalFault::Illegal(place) => println!(rt; "entry {place} illegal"),
-        JournalFault::BadStart => println!(rt; "start refused"),
-        JournalFault::Memory => println!(rt; "memory"),
-    }?)
+    match fault {
+        JournalFault::Disk => print_words(rt, "disk"),
+        JournalFault::NotJournal(first) => print_number(rt, "first byte", u64::from(first)),
+        JournalFault::OtherPlan(kept, wanted) => {
+            print_other(rt, kept.migration, wanted.migration)
+        }
+        JournalFault::Illegal(place) => print_illegal(rt, place),
+        JournalFault::BadStart => print_words(rt, "start refused"),
+        JournalFault::Memory => print_words(rt, "memory"),
+    }
+}
+
+fn print_other(rt: &HostRuntime, kept: u32, wanted: u32) -> Result<()> {
+    println!(rt; "other plan {kept} {wanted}")?;
+    Ok(())
+}
+
+fn print_illegal(rt: &HostRuntime, place: u32) -> Result<()> {
+    println!(rt; "entry {place} illegal")?;
+    Ok(())
 }
 
 fn print_disk(rt: &HostRuntime, disk: &MemoryDisk) -> Result<()> {
-    let alloc = rt.alloc();
-    let kept = hex::encode(alloc, disk.left(true)?.as_slice())?;
-    let synced = hex::encode(alloc, disk.left(false)?.as_slice())?;
+    let kept = digits_of(rt.alloc(), disk, true)?;
+    let synced = digits_of(rt.alloc(), disk, false)?;
     println!(rt; "calls {} kept {kept} synced {synced}", disk.calls())?;
     Ok(())
+}
+
+// The image that a crash leaves, with what wasn't synced or without it.
+fn digits_of(alloc: Global, disk: &MemoryDisk, keep: bool) -> Result<String> {
+    let image = disk.left(keep)?;
+    let digits = hex::encode(alloc, image.as_slice());
+    drop(image);
+    Ok(digits?)
 }

@@ -1,15 +1,25 @@
 //! Solving a linear program, and printing the end of the last time.
 use crate::program;
 use anyhow::{Result, bail};
-use fraction_lp::{FractionList, LpAnswer, solve};
+use fraction_lp::{FractionList, LpAnswer, Rows, solve};
+use std::mem::replace;
 
 pub(crate) fn measure(rt: &HostRuntime, times: u32) -> Result<()> {
     let rows = program::read(rt)?;
-    let mut end = solve(&rows);
+    let end = end_of(&rows, times);
+    drop(rows);
+    let printed = print(rt, &end);
+    drop(end);
+    printed
+}
+
+// The end of the last time.
+fn end_of(rows: &Rows, times: u32) -> LpAnswer {
+    let mut end = solve(rows);
     for _time in 1..times {
-        end = solve(&rows);
+        drop(replace(&mut end, solve(rows)));
     }
-    print(rt, &end)
+    end
 }
 
 fn print(rt: &HostRuntime, end: &LpAnswer) -> Result<()> {

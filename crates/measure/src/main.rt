@@ -4,6 +4,7 @@
 
 use anyhow::Result;
 use std::env;
+use std::io::Read;
 use subject::Subject;
 
 mod agent;
@@ -17,6 +18,7 @@ mod lock_turns;
 mod log;
 mod mutex_turns;
 mod nowhere;
+mod printing;
 mod program;
 mod recovery;
 mod rollout;
@@ -29,8 +31,7 @@ mod waiting;
 mod workers;
 
 fn main(rt: HostRuntime) -> Result<()> {
-    let words = env::args(&rt)?.skip(1).collect::<Vec<String>>(rt.alloc())?;
-    match subject::of(&words)? {
+    match subject_named(&rt)? {
         Subject::Linear { times } => linear::measure(&rt, times),
         Subject::Frames(load) => frames::measure(&rt, &load),
         Subject::Agent => agent::measure(&rt),
@@ -38,10 +39,23 @@ fn main(rt: HostRuntime) -> Result<()> {
         Subject::Recovery { times } => recovery::measure(&rt, times),
         Subject::Tries { times } => tries::measure(&rt, times),
         Subject::Turns(crowd) => turns::measure(&rt, &crowd),
-        Subject::Rounds(load) => rounds::measure(&rt, workers::plan(&rt)?, load),
-        Subject::Waiting { milliseconds } => {
-            waiting::measure(&rt, workers::plan(&rt)?, milliseconds)
-        }
-        Subject::Workers(crew) => workers::measure(&rt, workers::plan(&rt)?, crew),
+        Subject::Rounds(load) => rounds::measure(&rt, all_input(&rt)?, load),
+        Subject::Waiting { milliseconds } => waiting::measure(&rt, all_input(&rt)?, milliseconds),
+        Subject::Workers(crew) => workers::measure(&rt, all_input(&rt)?, crew),
     }
+}
+
+// What the program's words name.
+fn subject_named(rt: &HostRuntime) -> Result<Subject> {
+    let words = env::args(rt)?.skip(1).collect::<Vec<String>>(rt.alloc())?;
+    let subject = subject::of(&words);
+    drop(words);
+    subject
+}
+
+// All of standard input.
+fn all_input(rt: &HostRuntime) -> Result<Vec<u8>> {
+    let mut given = Vec::new(rt.alloc());
+    rt.stdin().read_to_end(&mut given)?;
+    Ok(given)
 }

@@ -5,7 +5,7 @@ ghost use Rattle.std.specs.Prelude.{◌≡◌, []};
 ghost use Rattle.rollout_rules.specs.History.{from_nothing};
 
 use crate::rollout;
-use anyhow::{Context, Result, bail};
+use anyhow::{Context, Result};
 use dependency_graph::Graph;
 use disk_model::MemoryDisk;
 use intent_journal::{Digest, recover};
@@ -28,38 +28,56 @@ fn open_text(rt: &HostRuntime, document: &[u8], image: &str, times: u32) -> Resu
 }
 
 fn open_plan(rt: &HostRuntime, plan: CheckedPlan, image: &[u8], times: u32) -> Result<()> {
-    let digest = rollout::digest(rt.alloc(), &plan, 0)?;
-    open_each_time(rt, plan, &digest, image, times)
+    match rollout::digest(rt.alloc(), &plan, 0) {
+        Ok(digest) => print_entries(rt, open_each_time(rt.alloc(), plan, &digest, image, times)),
+        Err(error) => {
+            drop(plan);
+            Err(error)
+        }
+    }
 }
 
-fn open_each_time(
-    rt: &HostRuntime,
-    plan: CheckedPlan,
-    digest: &Digest,
-    image: &[u8],
-    times: u32,
-) -> Result<()> {
-    let mut plan = plan;
-    let mut entries = 0;
-    for _time in 0..times {
-        let opened = open_over(
-            rt.alloc(),
-            rollout::graph_of(rt.alloc(), plan)?,
-            digest,
-            image,
-        );
-        plan = opened.plan;
-        entries = opened.entries?;
-    }
+fn print_entries(rt: &HostRuntime, entries: Option<usize>) -> Result<()> {
+    let entries = entries.context("no journal of this rollout")?;
     println!(rt; "entries {entries}")?;
     Ok(())
 }
 
-/// How many entries a journal has, and the plan again that it is over.
+// How many entries were found the last time.
+fn open_each_time(
+    alloc: Global,
+    plan: CheckedPlan,
+    digest: &Digest,
+    image: &[u8],
+    times: u32,
+) -> Option<usize> {
+    let mut plan = plan;
+    let mut entries = Some(0);
+    for _time in 0..times {
+        let opened = open_once(alloc, plan, digest, image)?;
+        plan = opened.plan;
+        entries = opened.entries;
+    }
+    drop(plan);
+    entries
+}
+
+/// How many entries a journal has, where it is one of this rollout, and the plan again that it is over.
 #[derive(Drop)]
 struct Opened {
-    entries: Result<usize>,
+    entries: Option<usize>,
     plan: CheckedPlan,
+}
+
+// Nothing where memory runs out for the graph.
+fn open_once(alloc: Global, plan: CheckedPlan, digest: &Digest, image: &[u8]) -> Option<Opened> {
+    match Graph::new(alloc, plan) {
+        Ok(graph) => Some(open_over(alloc, graph, digest, image)),
+        Err(plan) => {
+            drop(plan);
+            None
+        }
+    }
 }
 
 fn open_over(alloc: Global, graph: Graph, digest: &Digest, image: &[u8]) -> Opened
@@ -73,18 +91,37 @@ fn open_over(alloc: Global, graph: Graph, digest: &Digest, image: &[u8]) -> Open
 }
 
 // How many entries a journal of these bytes has.
-fn entries_of(alloc: Global, graph: &mut Graph, digest: &Digest, image: &[u8]) -> Result<usize>
+fn entries_of(alloc: Global, graph: &mut Graph, digest: &Digest, image: &[u8]) -> Option<usize>
     requires empty { graph.old.history ≡ from_nothing graph.old.rollout.problem [] }
 {
+    match disk_of(alloc, image) {
+        Some(disk) => entries_on(alloc, disk, graph, digest),
+        None => None,
+    }
+}
+
+fn disk_of(alloc: Global, image: &[u8]) -> Option<MemoryDisk> {
     let mut bytes = Nums8::new(alloc);
-    bytes.extend_from_slice(image)?;
-    match recover(
-        alloc,
-        MemoryDisk::new(alloc, bytes, Turns::new(alloc)),
-        digest,
-        graph,
-    ) {
-        Ok((_, list)) => Ok(list.as_slice().len()),
-        Err(_) => bail!("no journal of this rollout"),
+    if bytes.extend_from_slice(image).is_err() {
+        drop(bytes);
+        return None;
+    }
+    Some(MemoryDisk::new(alloc, bytes, Turns::new(alloc)))
+}
+
+fn entries_on(alloc: Global, disk: MemoryDisk, graph: &mut Graph, digest: &Digest) -> Option<usize>
+    requires empty { graph.old.history ≡ from_nothing graph.old.rollout.problem [] }
+{
+    match recover(alloc, disk, digest, graph) {
+        Ok((journal, list)) => {
+            drop(journal.into_disk());
+            let entries = list.as_slice().len();
+            drop(list);
+            Some(entries)
+        }
+        Err(unopened) => {
+            drop(unopened);
+            None
+        }
     }
 }

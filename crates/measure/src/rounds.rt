@@ -76,15 +76,15 @@ struct Work<'a> {
     switches: &'a [u32],
 }
 
-/// Prints how many operations the rounds have ended.
+/// Prints how many operations the rounds of the document's rollout have ended.
 pub(crate) fn measure<R: Wait + AllocGlobal + Print>(
     rt: &R,
-    plan: CheckedPlan,
+    document: Vec<u8>,
     load: Load,
 ) -> Result<()> {
-    let switches = switches_of(rt.alloc(), &plan)?;
-    let switches = switches.as_slice();
-    let dones = dones_ranked(rt, rt.alloc(), plan, Work { load, switches })?;
+    let dones = dones_ranked(rt, rt.alloc(), document.as_slice(), load);
+    drop(document);
+    let dones = dones?;
     println!(rt; "dones {dones}")?;
     Ok(())
 }
@@ -99,7 +99,7 @@ fn switches_of(alloc: Global, plan: &CheckedPlan) -> Result<Vec<u32>, AllocError
 }
 
 // The policy ranks all alike.
-fn dones_ranked<R: Wait>(rt: &R, alloc: Global, plan: CheckedPlan, work: Work<'_>) -> Result<u64> {
+fn dones_ranked<R: Wait>(rt: &R, alloc: Global, document: &[u8], load: Load) -> Result<u64> {
     let alike: Box<dyn Fn(OpView) -> u64 + Send + Sync> = Box::new(
         alloc,
         |_view: OpView| -> u64
@@ -107,7 +107,28 @@ fn dones_ranked<R: Wait>(rt: &R, alloc: Global, plan: CheckedPlan, work: Work<'_
         { 0 },
     )?;
     let policy = Policy::new(alike);
-    dones_over(rt, alloc, rollout::graph_of(alloc, plan)?, &policy, work)
+    dones_by(rt, alloc, document, &policy, load)
+}
+
+// The same by a policy.
+fn dones_by<R: Wait>(
+    rt: &R,
+    alloc: Global,
+    document: &[u8],
+    policy: &Policy,
+    load: Load,
+) -> Result<u64> {
+    let graph = rollout::graph(alloc, document)?;
+    match switches_of(alloc, graph.plan()) {
+        Ok(switches) => {
+            let switches = switches.as_slice();
+            dones_over(rt, alloc, graph, policy, Work { load, switches })
+        }
+        Err(_) => {
+            drop(graph);
+            bail!("memory is short")
+        }
+    }
 }
 
 fn dones_over<R: Wait>(
@@ -133,14 +154,17 @@ fn dones_from<R: Wait, D: Disk + Drop>(
 ) -> Result<u64>
     requires empty { graph.history ≡ from_nothing graph.rollout.problem [] }
 {
-    match opened(alloc, graph, &digest_of("problem", "plan", 0), policy, disk) {
+    match open_book(alloc, graph, &digest_of("problem", "plan", 0), policy, disk) {
         Ok(book) => dones_of(rt, alloc, book, work),
-        Err(_) => bail!("no book is open"),
+        Err(unopened) => {
+            drop(unopened);
+            bail!("no book is open")
+        }
     }
 }
 
 /// The book of a rollout at its start, opened on a disk.
-pub(crate) fn opened<'d, D: Disk>(
+pub(crate) fn open_book<'d, D: Disk>(
     alloc: Global,
     graph: Graph,
     digest: &Digest,
@@ -192,7 +216,7 @@ fn rounds_alone<D: Disk>(alloc: Global, book: &mut Book<'_, D>, work: Work<'_>) 
     for _round in 0..work.load.rounds {
         dones = dones.wrapping_add(round_alone(book, answers.as_slice()));
         if work.load.led {
-            answers = listed(alloc, book, work.switches);
+            answers = list_answers(alloc, book, work.switches);
         }
     }
     dones
@@ -209,7 +233,7 @@ fn round_alone<D: Disk>(book: &mut Book<'_, D>, answers: &[Answer]) -> u64 {
 }
 
 // The answers to all commands of a book; none where memory runs out.
-fn listed<D: Disk>(alloc: Global, book: &Book<'_, D>, switches: &[u32]) -> Vec<Answer> {
+fn list_answers<D: Disk>(alloc: Global, book: &Book<'_, D>, switches: &[u32]) -> Vec<Answer> {
     let mut commands = CommandList::new(alloc);
     let _ = book.commands(alloc, switches, &mut commands);
     answers_to(alloc, commands.as_slice())
@@ -257,7 +281,8 @@ fn roll_named<'d, R: Wait, D: Disk, M: Marker>(
     match SharedBook::<D, M>::new(alloc, book, 1) {
         Ok((shared, pass)) => {
             let (pass, dones) = rounds_shared(rt, alloc, &shared, pass, work);
-            let (book, _notes, _halt) = shared.close(pass);
+            let (book, notes, _halt) = shared.close(pass);
+            drop(notes);
             (book, dones)
         }
         Err(book) => (book, 0),

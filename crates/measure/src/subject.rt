@@ -1,7 +1,7 @@
 use crate::frames::Load;
 use crate::rounds;
 use crate::turns::Crowd;
-use crate::workers::{Crew, Pace};
+use crate::workers::{Pace, Workload};
 use anyhow::{Context, Result, bail};
 
 const SUBJECTS: &str =
@@ -20,14 +20,14 @@ pub(crate) enum Subject {
     Journal,
     /// So many openings of the journal on standard input.
     Recovery { times: u32 },
-    /// So many releases, each behind one operation that is done.
+    /// So many releases, each after one operation that is done.
     Tries { times: u32 },
     /// Turns of threads at one value.
     Turns(Crowd),
     /// A wait for work that begins after so many milliseconds.
     Waiting { milliseconds: u32 },
     /// A rollout by workers.
-    Workers(Crew),
+    Workers(Workload),
     /// Rounds of a book.
     Rounds(rounds::Load),
 }
@@ -35,44 +35,104 @@ pub(crate) enum Subject {
 /// The subject that the words name. The program's own name isn't among them.
 pub(crate) fn of(words: &[String]) -> Result<Subject> {
     let (name, given) = words.split_first().context(SUBJECTS)?;
-    match (name.as_str(), given) {
-        ("linear", []) => Ok(Subject::Linear { times: 1 }),
-        ("linear", [times]) => Ok(Subject::Linear {
-            times: number(times)?,
-        }),
-        ("frames", [items, commands, piece, times]) => Ok(Subject::Frames(Load::new(
+    match name.as_str() {
+        "linear" => linear_of(given),
+        "frames" => frames_of(given),
+        "agent" => without_words(given, Subject::Agent),
+        "journal" => without_words(given, Subject::Journal),
+        "recovery" => recovery_of(given),
+        "tries" => tries_of(given),
+        "turns" => turns_of(given),
+        "waiting" => waiting_of(given),
+        "workers" => workers_of(given),
+        "rounds" => rounds_of(given),
+        _ => bail!(SUBJECTS),
+    }
+}
+
+fn without_words(given: &[String], subject: Subject) -> Result<Subject> {
+    if given.is_empty() {
+        Ok(subject)
+    } else {
+        drop(subject);
+        bail!(SUBJECTS)
+    }
+}
+
+// The number that is the only word.
+fn only_number(given: &[String]) -> Result<u32> {
+    match given {
+        [word] => number(word),
+        _ => bail!(SUBJECTS),
+    }
+}
+
+fn linear_of(given: &[String]) -> Result<Subject> {
+    let times = if given.is_empty() {
+        1
+    } else {
+        only_number(given)?
+    };
+    Ok(Subject::Linear { times })
+}
+
+fn frames_of(given: &[String]) -> Result<Subject> {
+    match given {
+        [items, commands, piece, times] => Ok(Subject::Frames(Load::new(
             number(items)?,
             number(commands)?,
             number(piece)?,
             number(times)?,
         )?)),
-        ("agent", []) => Ok(Subject::Agent),
-        ("journal", []) => Ok(Subject::Journal),
-        ("recovery", [times]) => Ok(Subject::Recovery {
-            times: number(times)?,
-        }),
-        ("tries", [times]) => Ok(Subject::Tries {
-            times: number(times)?,
-        }),
-        ("turns", [threads, turns, guard]) => Ok(Subject::Turns(Crowd::new(
+        _ => bail!(SUBJECTS),
+    }
+}
+
+fn recovery_of(given: &[String]) -> Result<Subject> {
+    let times = only_number(given)?;
+    Ok(Subject::Recovery { times })
+}
+
+fn tries_of(given: &[String]) -> Result<Subject> {
+    let times = only_number(given)?;
+    Ok(Subject::Tries { times })
+}
+
+fn turns_of(given: &[String]) -> Result<Subject> {
+    match given {
+        [threads, turns, guard] => Ok(Subject::Turns(Crowd::new(
             number(threads)?,
             number(turns)?,
             guard.as_str(),
         )?)),
-        ("waiting", [milliseconds]) => Ok(Subject::Waiting {
-            milliseconds: number(milliseconds)?,
-        }),
-        ("workers", [workers, rounds]) => Ok(Subject::Workers(Crew {
-            workers: number(workers)?,
-            rounds: number(rounds)?,
-            pace: Pace::AtOnce,
-        })),
-        ("workers", [workers, rounds, pace]) => Ok(Subject::Workers(Crew {
-            workers: number(workers)?,
-            rounds: number(rounds)?,
-            pace: pace_named(pace.as_str())?,
-        })),
-        ("rounds", [guard, answers, rounds]) => Ok(Subject::Rounds(rounds::Load::new(
+        _ => bail!(SUBJECTS),
+    }
+}
+
+fn waiting_of(given: &[String]) -> Result<Subject> {
+    let milliseconds = only_number(given)?;
+    Ok(Subject::Waiting { milliseconds })
+}
+
+fn workers_of(given: &[String]) -> Result<Subject> {
+    match given {
+        [workers, rounds] => crew_of(workers, rounds, Pace::AtOnce),
+        [workers, rounds, pace] => crew_of(workers, rounds, pace_named(pace)?),
+        _ => bail!(SUBJECTS),
+    }
+}
+
+fn crew_of(workers: &str, rounds: &str, pace: Pace) -> Result<Subject> {
+    Ok(Subject::Workers(Workload {
+        workers: number(workers)?,
+        rounds: number(rounds)?,
+        pace,
+    }))
+}
+
+fn rounds_of(given: &[String]) -> Result<Subject> {
+    match given {
+        [guard, answers, rounds] => Ok(Subject::Rounds(rounds::Load::new(
             guard.as_str(),
             answers.as_str(),
             number(rounds)?,

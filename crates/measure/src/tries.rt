@@ -1,4 +1,4 @@
-//! How many operations a release tries. Standard input is a document. Behind a first release one operation
+//! How many operations a release tries. Standard input is a document. After a first release one operation
 //! in flight after another is done, the first by item, each with a release of its own; what is printed is
 //! how many items are woken before it, which it tries alone, and how many operations it begins.
 ghost use Rattle.std.specs.Prelude.{◌≡◌, ◌<◌, IfSome, IsTrue};
@@ -16,7 +16,9 @@ use wan_model::{OpView, item_count};
 pub(crate) fn measure(rt: &HostRuntime, times: u32) -> Result<()> {
     let mut given = Vec::new(rt.alloc());
     rt.stdin().read_to_end(&mut given)?;
-    try_over(rt, rollout::graph(rt.alloc(), &given)?, times)
+    let graph = rollout::graph(rt.alloc(), &given);
+    drop(given);
+    try_over(rt, graph?, times)
 }
 
 fn try_over(rt: &HostRuntime, graph: Graph, times: u32) -> Result<()> {
@@ -35,18 +37,32 @@ fn try_releases(rt: &HostRuntime, graph: &mut Graph, times: u32) -> Result<()> {
         { 0 },
     )?;
     let policy = Policy::new(by_item);
-    print_releases(rt, graph, &policy, times)
+    bench_releases(rt, graph, &policy, times)
 }
 
-fn print_releases(rt: &HostRuntime, graph: &mut Graph, policy: &Policy, times: u32) -> Result<()> {
+fn bench_releases(rt: &HostRuntime, graph: &mut Graph, policy: &Policy, times: u32) -> Result<()> {
     let mut bench = Bench::new(rt.alloc(), graph)?;
-    let_go(graph, policy, &mut bench);
+    let printed = print_releases(rt, graph, policy, &mut bench, times);
+    drop(bench);
+    printed
+}
+
+fn print_releases(
+    rt: &HostRuntime,
+    graph: &mut Graph,
+    policy: &Policy,
+    bench: &mut Bench,
+    times: u32,
+) -> Result<()>
+    requires { bench.old.items ≡ item_count graph.old.rollout.problem }
+{
+    let_go(graph, policy, bench);
     for _time in 0..times {
         if !first_done(graph) {
             return Ok(());
         }
         let woken = graph.woken().len();
-        let begun = let_go(graph, policy, &mut bench);
+        let begun = let_go(graph, policy, bench);
         println!(rt; "woken {woken}, began {begun}")?;
     }
     Ok(())

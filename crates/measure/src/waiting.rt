@@ -14,15 +14,14 @@ ghost use Rattle.shared_book.specs.Opened.{IsOpened, IsOpenedOn, opening_of};
 use crate::jobs::{Job, two_jobs};
 use crate::nowhere::as_heard;
 use crate::rollout;
-use crate::rounds::opened;
+use crate::rounds::open_book;
 use anyhow::{Result, bail};
 use dependency_graph::Graph;
 use disk_model::{Disk, MemoryDisk};
 use intent_journal::digest_of;
 use order_policy::Policy;
 use rollout_book::Book;
-use shared_book::{BookPass, CallPass, Kept, Marker, SharedBook};
-use shared_history::Wake;
+use shared_book::{BookPass, CallPass, Marker, NotedBook, SharedBook, Wake};
 use std::alloc::Global;
 use std::marker::Brand;
 use std::rt::Clock;
@@ -31,7 +30,7 @@ use std::thread::{Threads, sleep};
 use std::time::Duration;
 use turn_lock::Counted;
 use wan_edge::{Nums8, Turns};
-use wan_model::{CheckedPlan, OpView};
+use wan_model::OpView;
 use wire_frames::Answer;
 
 // The flow of the first switch waits for the entries of its second tunnel. Those at its ends come at once, and that
@@ -53,7 +52,7 @@ enum Before {
 
 /// A seat with what it does.
 #[derive(Drop)]
-struct Duty<'s, R, B, V: Counted> {
+struct WaitJob<'s, R, B, V: Counted> {
     rt: &'s R,
     alloc: Global,
     book: &'s B,
@@ -69,8 +68,8 @@ struct Woken<V: Counted> {
 }
 
 impl<'s, 'd, R: Wait + Clock, D: Disk, M: Marker> Job
-    for Duty<'s, R, SharedBook<'d, D, M>, Kept<D, M>> {
-    type Output = Woken<Kept<D, M>>;
+    for WaitJob<'s, R, SharedBook<'d, D, M>, NotedBook<D, M>> {
+    type Output = Woken<NotedBook<D, M>>;
 
     ghost may_begin = { λ d. (d.book.now.homes ≡ homes_of M.opening.rollout.problem)
         × (M.opening.policy ≡ rank_by d.book.now.policy.now.answers)
@@ -82,8 +81,8 @@ impl<'s, 'd, R: Wait + Clock, D: Disk, M: Marker> Job
         × IsCounted woken.pass.calls woken.pass.pass
         × IsSamePass d.pass.pass woken.pass.pass };
 
-    fn run(self) -> Woken<Kept<D, M>> {
-        let Duty {
+    fn run(self) -> Woken<NotedBook<D, M>> {
+        let WaitJob {
             rt,
             alloc,
             book,
@@ -143,10 +142,12 @@ fn round_with<R: Wait, D: Disk, M: Marker>(
 /// Prints what the waiting seat was told.
 pub(crate) fn measure<R: Threads + Wait + Sync + Clock + AllocGlobal + Print>(
     rt: &R,
-    plan: CheckedPlan,
+    document: Vec<u8>,
     milliseconds: u32,
 ) -> Result<()> {
-    let wake = wake_ranked(rt, rt.alloc(), plan, milliseconds)?;
+    let wake = wake_ranked(rt, rt.alloc(), document.as_slice(), milliseconds);
+    drop(document);
+    let wake = wake?;
     println!(rt; "{wake:?}")?;
     Ok(())
 }
@@ -155,7 +156,7 @@ pub(crate) fn measure<R: Threads + Wait + Sync + Clock + AllocGlobal + Print>(
 fn wake_ranked<R: Threads + Wait + Sync + Clock>(
     rt: &R,
     alloc: Global,
-    plan: CheckedPlan,
+    document: &[u8],
     milliseconds: u32,
 ) -> Result<Wake> {
     let alike: Box<dyn Fn(OpView) -> u64 + Send + Sync> = Box::new(
@@ -165,11 +166,22 @@ fn wake_ranked<R: Threads + Wait + Sync + Clock>(
         { 0 },
     )?;
     let policy = Policy::new(alike);
+    wake_by(rt, alloc, document, &policy, milliseconds)
+}
+
+// The same by a policy.
+fn wake_by<R: Threads + Wait + Sync + Clock>(
+    rt: &R,
+    alloc: Global,
+    document: &[u8],
+    policy: &Policy,
+    milliseconds: u32,
+) -> Result<Wake> {
     wake_over(
         rt,
         alloc,
-        rollout::graph_of(alloc, plan)?,
-        &policy,
+        rollout::graph(alloc, document)?,
+        policy,
         milliseconds,
     )
 }
@@ -197,9 +209,12 @@ fn wake_from<R: Threads + Wait + Sync + Clock, D: Disk + Drop + Send>(
 ) -> Result<Wake>
     requires empty { graph.history ≡ from_nothing graph.rollout.problem [] }
 {
-    match opened(alloc, graph, &digest_of("problem", "plan", 0), policy, disk) {
+    match open_book(alloc, graph, &digest_of("problem", "plan", 0), policy, disk) {
         Ok(book) => Ok(wake_of(rt, alloc, book, milliseconds)),
-        Err(_) => bail!("no book is open"),
+        Err(unopened) => {
+            drop(unopened);
+            bail!("no book is open")
+        }
     }
 }
 
@@ -251,7 +266,8 @@ fn wait_named<'d, R: Threads + Wait + Sync + Clock, D: Disk + Drop + Send, M: Ma
     match SharedBook::<D, M>::new(alloc, book, 2) {
         Ok((shared, pass)) => {
             let (pass, wake) = wait_shared(rt, alloc, &shared, pass, milliseconds);
-            let (book, _notes, _halt) = shared.close(pass);
+            let (book, notes, _halt) = shared.close(pass);
+            drop(notes);
             (book, wake)
         }
         Err(book) => (book, Wake::Memory),
@@ -282,7 +298,7 @@ fn wait_shared<R: Threads + Wait + Sync + Clock, D: Disk + Drop + Send, M: Marke
     (book.join(first.pass, second.pass), second.wake)
 }
 
-// Rounds behind which only the late entry is in flight.
+// Rounds after which only the late entry is in flight.
 fn entries_begun<R: Wait, D: Disk, M: Marker>(
     rt: &R,
     alloc: Global,
@@ -309,7 +325,7 @@ fn both_woken<R: Threads + Wait + Sync + Clock, D: Disk + Drop + Send, M: Marker
     first: BookPass<D, M>,
     second: BookPass<D, M>,
     milliseconds: u32,
-) -> (Woken<Kept<D, M>>, Woken<Kept<D, M>>)
+) -> (Woken<NotedBook<D, M>>, Woken<NotedBook<D, M>>)
     requires homes { book.now.homes ≡ homes_of M.opening.rollout.problem }
     requires policy { M.opening.policy ≡ rank_by book.now.policy.now.answers }
     requires any { (answer : Answer) → M.heard answer }
@@ -320,14 +336,14 @@ fn both_woken<R: Threads + Wait + Sync + Clock, D: Disk + Drop + Send, M: Marker
         × IsSamePass first.pass result.0.pass.pass }
     ensures second { IsPassOf book.now.lock result.1.pass.pass }
 {
-    let first = Duty {
+    let first = WaitJob {
         rt,
         alloc,
         book,
         pass: first,
         before: Before::Round(milliseconds),
     };
-    let second = Duty {
+    let second = WaitJob {
         rt,
         alloc,
         book,

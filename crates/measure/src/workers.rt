@@ -1,17 +1,15 @@
-//! A rollout by workers over ports in memory, from a journal on a disk in memory. Standard input is a document.
+//! A rollout by workers over ports in memory, from a journal on a disk in memory.
 ghost use Rattle.std.specs.Prelude.{◌≡◌};
 
 use crate::rollout;
 use crate::slow_port::SlowPort;
 use anyhow::{Result, bail};
+use controller_run::{Limits, RolloutEnd, RolloutResult, run_rollout};
 use disk_model::{Disk, MemoryDisk};
 use lists::Text;
 use lossy_link::{FaithfulPort, MemoryFleet};
 use order_policy::Policy;
-use rollout_run::Limits;
-use rollout_service::{Outcome, RunAnswer, run_rollout};
 use std::alloc::Global;
-use std::io::Read;
 use std::rt::Clock;
 use std::sync::Wait;
 use std::thread::Threads;
@@ -28,7 +26,7 @@ pub(crate) enum Pace {
 
 /// So many workers at most, each of which may offer commands in so many rounds, over ports of this pace.
 #[derive(Clone, Copy)]
-pub(crate) struct Crew {
+pub(crate) struct Workload {
     pub workers: u32,
     pub rounds: u32,
     pub pace: Pace,
@@ -37,24 +35,19 @@ pub(crate) struct Crew {
 /// What the rollout was told, and how many calls the disk had.
 #[derive(Drop)]
 struct Rolled {
-    answer: RunAnswer,
+    answer: RolloutEnd,
     calls: u64,
 }
 
-/// The plan of the document on standard input.
-pub(crate) fn plan(rt: &HostRuntime) -> Result<CheckedPlan> {
-    let mut given = Vec::new(rt.alloc());
-    rt.stdin().read_to_end(&mut given)?;
-    rollout::plan(rt.alloc(), &given)
-}
-
-/// Rolls the plan out, and prints how many operations were settled and how many calls the disk had.
+/// Rolls the document's plan out, and prints how many operations were settled and how many calls the disk had.
 pub(crate) fn measure<R: Threads + Wait + Sync + Clock + AllocGlobal + Print>(
     rt: &R,
-    plan: CheckedPlan,
-    crew: Crew,
+    document: Vec<u8>,
+    crew: Workload,
 ) -> Result<()> {
-    let rolled = rolled_ranked(rt, rt.alloc(), plan, crew)?;
+    let rolled = rolled_ranked(rt, rt.alloc(), document.as_slice(), crew);
+    drop(document);
+    let rolled = rolled?;
     let printed = print(rt, &rolled);
     drop(rolled);
     printed
@@ -63,10 +56,10 @@ pub(crate) fn measure<R: Threads + Wait + Sync + Clock + AllocGlobal + Print>(
 fn print<R: Print>(rt: &R, rolled: &Rolled) -> Result<()> {
     let calls = rolled.calls;
     match &rolled.answer {
-        RunAnswer::Finished { operations, .. } => {
+        RolloutEnd::Finished { operations, .. } => {
             println!(rt; "operations {operations}, calls {calls}")?
         }
-        RunAnswer::Stopped(..) => println!(rt; "stopped, calls {calls}")?,
+        RolloutEnd::Stopped(..) => println!(rt; "stopped, calls {calls}")?,
         _ => bail!("neither finished nor stopped"),
     }
     Ok(())
@@ -76,8 +69,8 @@ fn print<R: Print>(rt: &R, rolled: &Rolled) -> Result<()> {
 fn rolled_ranked<R: Threads + Wait + Sync + Clock>(
     rt: &R,
     alloc: Global,
-    plan: CheckedPlan,
-    crew: Crew,
+    document: &[u8],
+    crew: Workload,
 ) -> Result<Rolled> {
     let alike: Box<dyn Fn(OpView) -> u64 + Send + Sync> = Box::new(
         alloc,
@@ -86,15 +79,26 @@ fn rolled_ranked<R: Threads + Wait + Sync + Clock>(
         { 0 },
     )?;
     let policy = Policy::new(alike);
-    rolled_by(rt, alloc, plan, &policy, crew)
+    rolled_by(rt, alloc, document, &policy, crew)
 }
 
+// The same by a policy.
 fn rolled_by<R: Threads + Wait + Sync + Clock>(
+    rt: &R,
+    alloc: Global,
+    document: &[u8],
+    policy: &Policy,
+    crew: Workload,
+) -> Result<Rolled> {
+    rolled_at(rt, alloc, rollout::plan(alloc, document)?, policy, crew)
+}
+
+fn rolled_at<R: Threads + Wait + Sync + Clock>(
     rt: &R,
     alloc: Global,
     plan: CheckedPlan,
     policy: &Policy,
-    crew: Crew,
+    crew: Workload,
 ) -> Result<Rolled> {
     match crew.pace {
         Pace::AtOnce => {
@@ -114,7 +118,7 @@ fn rolled_with<R: Threads + Wait + Sync, P: Port + Drop + Send>(
     alloc: Global,
     plan: CheckedPlan,
     policy: &Policy,
-    crew: Crew,
+    crew: Workload,
     fleet: Result<MemoryFleet<P>>,
 ) -> Result<Rolled> {
     match fleet {
@@ -136,15 +140,15 @@ fn rolled_over<R: Threads + Wait + Sync, P: Port + Drop + Send>(
     alloc: Global,
     plan: CheckedPlan,
     policy: &Policy,
-    crew: Crew,
+    crew: Workload,
     fleet: &mut MemoryFleet<P>,
 ) -> Rolled {
     let disk = MemoryDisk::new(alloc, Nums8::new(alloc), Turns::new(alloc));
     rolled_of(outcome_over(rt, alloc, plan, policy, crew, disk, fleet))
 }
 
-fn rolled_of(outcome: Outcome<MemoryDisk>) -> Rolled {
-    let Outcome { disk, answer } = outcome;
+fn rolled_of(outcome: RolloutResult<MemoryDisk>) -> Rolled {
+    let RolloutResult { disk, answer } = outcome;
     Rolled {
         answer,
         calls: disk.calls(),
@@ -155,13 +159,16 @@ fn rolled_of(outcome: Outcome<MemoryDisk>) -> Rolled {
 fn fleet_of(alloc: Global, problem: &Problem) -> Result<MemoryFleet<FaithfulPort>> {
     let mut fleet = MemoryFleet::new(alloc);
     for switch in 0..problem.switches().len() as u32 {
-        fleet.call(switch, copied(alloc, problem.switch_name(switch as usize))?)?;
+        fleet.call(
+            switch,
+            copy_name(alloc, problem.switch_name(switch as usize))?,
+        )?;
         fleet.put(switch, FaithfulPort::new(alloc))?;
     }
     Ok(fleet)
 }
 
-fn copied(alloc: Global, name: &str) -> Result<Text> {
+fn copy_name(alloc: Global, name: &str) -> Result<Text> {
     Ok(Text::from(String::from_str(alloc, name)?))
 }
 
@@ -173,7 +180,10 @@ fn slow_fleet_of<'r, R: Clock>(
 ) -> Result<MemoryFleet<SlowPort<'r, R>>> {
     let mut fleet = MemoryFleet::new(alloc);
     for switch in 0..problem.switches().len() as u32 {
-        fleet.call(switch, copied(alloc, problem.switch_name(switch as usize))?)?;
+        fleet.call(
+            switch,
+            copy_name(alloc, problem.switch_name(switch as usize))?,
+        )?;
         fleet.put(switch, SlowPort::new(rt, alloc))?;
     }
     Ok(fleet)
@@ -185,10 +195,10 @@ fn outcome_over<R: Threads + Wait + Sync, D: Disk + Drop + Send, F: Fleet>(
     alloc: Global,
     plan: CheckedPlan,
     policy: &Policy,
-    crew: Crew,
+    crew: Workload,
     disk: D,
     fleet: &mut F,
-) -> Outcome<D>
+) -> RolloutResult<D>
 where
     F::Port: Drop + Send,
 {

@@ -46,7 +46,7 @@ impl<P> Policies<P> {
         }
     }
 
-    /// Adds a policy under a name. Want of memory changes nothing.
+    /// Adds a policy under a name. Lack of memory changes nothing.
     pub fn add(&mut self, name: &str, policy: P) -> Result<(), Memory>
     where
         P: Drop,

@@ -1,4 +1,4 @@
--- What an answer of the checker says. Want of memory says nothing.
+-- What an answer of the checker says. Lack of memory says nothing.
 use Rattle.std.specs.Prelude.{◌≡◌, Bool, true, false, Option, Some, None, Result, Ok, Err}
 use Rattle.plan_check.specs.declared.broken.Broken.{Broken}
 use Rattle.plan_check.specs.declared.fault.PlanFault.{PlanFault}

@@ -9,7 +9,7 @@ use crate::broken::{Broken, breaks};
 use wan_model::{Plan, Problem, Spot};
 
 /// P4: the first stage and tunnel with a positive rate that isn't installed there or at the stages before
-/// and behind, where these exist.
+/// and after, where these exist.
 pub fn first_bare(problem: &Problem, plan: &Plan) -> Option<Broken>
     requires { IsShaped problem.now plan.now }
     ensures { result ≡ first_below (length plan.now.stages) (first.bare_at problem.now plan.now) }

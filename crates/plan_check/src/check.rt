@@ -7,7 +7,7 @@ use crate::broken::Broken;
 use crate::carried::first_bare;
 use crate::ends::off_side;
 use crate::fault::PlanFault;
-use crate::shape::misshapen;
+use crate::shape::shape_fault;
 use crate::steps::first_over;
 use crate::totals::first_astray;
 use lists::Memory;
@@ -30,7 +30,7 @@ pub fn check_plan(alloc: Global, problem: &Problem, plan: &Plan) -> Result<(), P
 fn first_broken(alloc: Global, problem: &Problem, plan: &Plan) -> Result<Option<Broken>, Memory>
     ensures { IfOk result (λ broken. broken ≡ first.first_broken problem.now plan.now) }
 {
-    if let Some(broken) = misshapen(problem, plan) {
+    if let Some(broken) = shape_fault(problem, plan) {
         return Ok(Some(broken));
     }
     if let Some(broken) = off_side(problem, plan, 1, 0, Side::Old) {

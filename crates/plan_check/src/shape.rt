@@ -9,7 +9,7 @@ use wan_model::{Plan, Problem};
 
 /// P0: what isn't within the limits, of the scale and the number of stages, or the first stage without a
 /// rate and a mark per tunnel.
-pub fn misshapen(problem: &Problem, plan: &Plan) -> Option<Broken>
+pub fn shape_fault(problem: &Problem, plan: &Plan) -> Option<Broken>
     ensures value { result ≡ first.misshapen problem.now plan.now }
     ensures shape { result ≡ None → IsShaped problem.now plan.now }
 {

@@ -85,7 +85,7 @@ pub fn a_capacity_is_scaled()
         ≡ Some (breaks 3 0 (spot.Link 0) 7 6) }
 {}
 
-/// What is found is the stage at which the tunnel is missing: before, here, or behind, the first of them.
+/// What is found is the stage at which the tunnel is missing: before, here, or after, the first of them.
 pub fn a_tunnel_that_carries_uninstalled_is_found()
     ensures before { first_broken table_network (without_stage 2 table_plan)
         ≡ Some (breaks 4 2 (spot.Tunnel 2) 1 2) }

@@ -6,7 +6,7 @@ use Rattle.plan_choose.specs.Choice.{chosen}
 use Rattle.plan_choose.specs.declared.chosen.Chosen.{Chosen}
 use Rattle.plan_choose.specs.declared.chosen.Unplanned.{Unplanned}
 
--- the problem itself with what is chosen for it, or with the cause; want of memory says nothing
+-- the problem itself with what is chosen for it, or with the cause; lack of memory says nothing
 abbrev pub IsChosen : Problem → Result Chosen Unplanned → Type 0
 IsChosen p (Ok c) = (c.plan.problem ≡ p) × (chosen p ≡ Ok (record { plan = c.plan.plan; rate_steps = c.rate_steps }))
 IsChosen p (Err u) = (u.problem ≡ p) × Refuses u.cause (chosen p)

@@ -5,7 +5,7 @@ use Rattle.std.proofs.lemmas.List.{flat_map_more}
 use Rattle.std.proofs.lemmas.List.Concat.{flat_map-append}
 use Rattle.rollout_rules.specs.Sums.{list_below}
 
--- a piece behind those so far
+-- a piece after those so far
 pub behind : (t before after so_far piece : List ℕ) → before ≡ t ++ so_far → after ≡ before ++ piece → after ≡ t ++ (so_far ++ piece)
 behind t before after so_far piece was told = told ∙ ap (λ x. x ++ piece) was ∙ append_assoc t so_far piece
 

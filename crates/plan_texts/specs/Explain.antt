@@ -67,7 +67,7 @@ contents_text rates = flat_map rate_text rates
 abbrev pub entry_text : ℕ → List ℕ
 entry_text content = if content == 0 then codes "remove" else codes "install"
 
--- what an item holds before an operation, and behind it: a flow's rates, or that an entry comes or goes
+-- what an item holds before an operation, and after it: a flow's rates, or that an entry comes or goes
 abbrev pub change_text : Item → List ℕ → List ℕ → List ℕ
 change_text (item.Flow f) before after = codes "rates" ++ contents_text before ++ codes " to" ++ contents_text after
 change_text (item.Entry t h) before after = entry_text (slice_index after 0)
@@ -92,7 +92,7 @@ chain_text c = codes ", chain " ++ decimal c
 abbrev pub op_text : ℕ → ℕ → ℕ → List ℕ
 op_text n j s = codes "item " ++ decimal n ++ codes " operation " ++ decimal j ++ codes ": to stage " ++ decimal s ++ codes ", "
 
--- the line of an operation: its item, by number too, its own number, the stage to which it leads, the item's content before and behind it,
+-- the line of an operation: its item, by number too, its own number, the stage to which it leads, the item's content before and after it,
 -- the longest chain that begins with it, and its needs
 abbrev pub line_of : Problem → ℕ → Item → ℕ → ℕ → List ℕ → List ℕ → ℕ → List Need → List ℕ
 line_of p n i j s before after longest needs = op_text n j s ++ change_text i before after ++ chain_text longest ++ needs_text p needs ++ codes "\n"

@@ -1,4 +1,4 @@
--- What the line of an operation has to do with a rollout: it tells the item's next operation, behind every history.
+-- What the line of an operation has to do with a rollout: it tells the item's next operation, after every history.
 use Rattle.std.specs.Prelude.{◌≡◌, ℕ, ◌+◌}
 use Rattle.std.specs.List.{list_all}
 use Rattle.rollout_rules.specs.Wan.{Problem, Plan}

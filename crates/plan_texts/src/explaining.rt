@@ -13,7 +13,7 @@ use std::alloc::Global;
 use wan_model::CheckedPlan;
 
 /// What a plan has to be done: how many items and operations it has, its stages and its scale; each item by
-/// its number, with what it is, where it is at home and how many operations it has; and behind it each of
+/// its number, with what it is, where it is at home and how many operations it has; and after it each of
 /// these by its number, with the stage to which it leads, what it brings, the longest chain that begins with
 /// it, and the items that have to stand at a stage first. Rates are in units of 1/scale. An Err is want of
 /// memory.
@@ -21,10 +21,10 @@ pub fn explain(alloc: Global, plan: &CheckedPlan) -> Result<Text, Memory>
     ensures { IfOk result (λ text. text ≡ explain_text plan.now.problem plan.now.plan) }
 {
     let lookup = looked_up(alloc, plan)?;
-    explained(alloc, plan, &lookup)
+    explain_items(alloc, plan, &lookup)
 }
 
-fn explained(alloc: Global, plan: &CheckedPlan, lookup: &Lookup) -> Result<Text, Memory>
+fn explain_items(alloc: Global, plan: &CheckedPlan, lookup: &Lookup) -> Result<Text, Memory>
     requires index { lookup.now.index ≡ plan.now }
     requires chains { lookup.now.chains ≡ plan.now }
     ensures { IfOk result (λ text. text ≡ explain_text plan.now.problem plan.now.plan) }

@@ -21,7 +21,7 @@ pub fn a_step_holds_both_of_its_ends(plan: &CheckedPlan)
     checked_plan_is_valid(plan);
 }
 
-/// Behind every history the line with an item's number and that of its next operation tells that operation:
+/// After every history the line with an item's number and that of its next operation tells that operation:
 /// the stage to which it leads, the content that the item holds and the one that it is sent, the chain that a
 /// policy sees, and items that stand at their stages exactly where the needs of the rules are met.
 pub fn each_next_operation_is_told()

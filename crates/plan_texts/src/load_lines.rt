@@ -14,7 +14,7 @@ use wan_text::{push_link, push_switch};
 
 /// The loads of a plan: its steps and scale; of each link, and of each table, how much is taken at each
 /// stage and, in parentheses between, at most in the step; and the link that is fullest in a step. Links
-/// are in units of 1/scale, tables in the widths of their entries. An Err is want of memory.
+/// are in units of 1/scale, tables in the widths of their entries. An Err is lack of memory.
 pub fn loads(alloc: Global, plan: &CheckedPlan) -> Result<Text, Memory>
     ensures { IfOk result (λ text. text ≡ loads_text plan.now.problem plan.now.plan) }
 {

@@ -102,7 +102,7 @@ fn push_chain(alloc: Global, text: &mut Text, chain: u32) -> Result<(), Memory>
     text.push_str(&part)
 }
 
-/// Adds what an operation brings: a flow's rates before and behind it, or that an entry comes or goes.
+/// Adds what an operation brings: a flow's rates before and after it, or that an entry comes or goes.
 fn push_change(
     alloc: Global,
     text: &mut Text,
@@ -126,7 +126,7 @@ fn push_change(
     }
 }
 
-/// What is done to an entry that is there behind it, or isn't.
+/// What is done to an entry that is there after it, or isn't.
 fn entry_text(there: bool) -> &'static str
     ensures { result.now ≡ spec.entry_text (if there then 1 else 0) }
 {

@@ -1,4 +1,4 @@
--- How many answers are awaited behind an offer.
+-- How many answers are awaited after an offer.
 use Rattle.std.proofs.Common.{◌≡◌, ℕ, zero, suc, ◌<◌, Bool, if◌then◌else◌, refl, ap, arith}
 use Rattle.std.proofs.lemmas.Bool.{ne_eqb}
 use Rattle.port_session.specs.Sessions.{awaited_behind}

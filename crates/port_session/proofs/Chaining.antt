@@ -40,7 +40,7 @@ reads_nothing migration a = record {
   ends = refl;
 }
 
--- a reading that goes on, and one behind it
+-- a reading that goes on, and one after it
 pub reads_on : (migration : ℕ) (a b c : Reckoning) (bytes more : List ℕ) (fault : Option SessionFault) → ReadsAnswers migration a bytes None b → ReadsAnswers migration b more fault c → ReadsAnswers migration a (bytes ++ more) fault c
 reads_on migration a b c bytes more fault first second = record {
   answers = first.answers ++ second.answers;
@@ -168,7 +168,7 @@ none_behind piece =
     let none : 0 ≡ length piece - length piece = omega arith in
     ap (λ (n : ℕ). drop n piece) none
 
--- behind the last byte
+-- after the last byte
 pub reads_whole : (migration : ℕ) (a b : Reckoning) (piece rest : List ℕ) → length rest ≡ 0 → ReadsAnswers migration a (take (length piece - length rest) piece) None b → ReadsAnswers migration a piece None b
 reads_whole migration a b piece rest empty reads = subst (λ (bytes : List ℕ). ReadsAnswers migration a bytes None b) (take_all (length piece - length rest) piece (omega (arith, empty))) reads
 

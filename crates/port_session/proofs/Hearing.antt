@@ -28,7 +28,7 @@ hears_none migration before now reckoning same = record {
   reads = reads_stopped migration reckoning reckoning [] (reads_nothing migration reckoning);
 }
 
--- a hear behind others
+-- a hear after others
 pub hears_on : (migration : ℕ) (a b c : Listening) (fault : Option SessionFault) → HearsAnswers migration a None b → HearsAnswers migration b fault c → HearsAnswers migration a fault c
 hears_on migration a b c fault first second = record {
   bytes = first.bytes ++ second.bytes;
@@ -113,7 +113,7 @@ all_moves_on (Some bytes) (Some earlier) None c told first second = absurd (true
 all_moves_on (Some bytes) (Some earlier) (Some between) None told first second = tt
 all_moves_on (Some bytes) (Some earlier) (Some between) (Some later) told first second = moves_on bytes earlier between later first second
 
--- an honest step behind others
+-- an honest step after others
 step_on : (offered heard heard_now : Option (List ℕ)) (a b c : Option Holdings) → KeepsTelling a b → IsHonestStep offered heard a b → IsHonestStep offered heard_now b c → IsHonestStep offered heard_now a c
 step_on offered heard heard_now a b c told first second = record {
   moves = all_moves_on offered a b c told first.moves second.moves;
@@ -121,7 +121,7 @@ step_on offered heard heard_now a b c told first second = record {
 }
 
 module _ (a b c : PortTrace) where
-  -- a call of an honest port behind others, or the first one
+  -- a call of an honest port after others, or the first one
   rule_on : KeepsTelling a.held b.held → b.honest ≡ a.honest → b.offered ≡ a.offered → c.offered ≡ b.offered → OnTrue a.honest ((b ≡ a) ⊎ IsHonestStep b.offered b.heard a.held b.held)
       → OnTrue b.honest (IsHonestStep c.offered c.heard b.held c.held) → OnTrue a.honest ((c ≡ a) ⊎ IsHonestStep c.offered c.heard a.held c.held)
   rule_on told same unsent_first unsent first second =

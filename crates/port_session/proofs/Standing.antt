@@ -28,7 +28,7 @@ each-stands migration bytes earlier (a ∷ later) rest parts =
     (λ same. subst (λ (m : ℕ). StandsIn (m, a.1) bytes) (eqb-true a.0 migration same) (record { earlier = earlier; later = flat_map answer_bytes later ++ rest; parts = at }))
     (each-stands migration bytes (earlier ++ answer_bytes a) later rest behind)
 
--- behind what was kept, bytes were appended that were read
+-- after what was kept, bytes were appended that were read
 joined : (earlier kept bytes whole : List ℕ) → kept ++ bytes ≡ whole → (earlier ++ kept) ++ bytes ≡ earlier ++ whole
 joined earlier kept bytes whole parts = append_assoc earlier kept bytes ∙ ap (λ (xs : List ℕ). earlier ++ xs) parts
 

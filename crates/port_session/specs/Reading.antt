@@ -36,7 +36,7 @@ pub record BeginsAnswer (migration : ℕ) (bytes : List ℕ) : Type 0 where
   pub behind : List ℕ
   pub parts : bytes ≡ answer_bytes answer ++ behind
 
--- What stands behind the answers that were read. It is kept, where reading goes on; a byte that begins no answer, where that is the fault; and where
+-- What stands after the answers that were read. It is kept, where reading goes on; a byte that begins no answer, where that is the fault; and where
 -- memory ran out, an answer that was to be told.
 abbrev pub Ends : ℕ → Option SessionFault → List ℕ → List ℕ → Type 0
 Ends migration None rest kept = rest ≡ kept
@@ -44,7 +44,7 @@ Ends migration (Some Port) rest kept = rest ≡ kept
 Ends migration (Some (NoAnswer byte)) rest kept = HasOtherKind answer_kind rest byte
 Ends migration (Some Memory) rest kept = BeginsAnswer migration rest
 
--- Behind what was kept, the whole answers at the front of these bytes were read. Those of the migration are told in order, and each that was read is
+-- After what was kept, the whole answers at the front of these bytes were read. Those of the migration are told in order, and each that was read is
 -- awaited no longer.
 pub record ReadsAnswers (migration : ℕ) (before : Reckoning) (bytes : List ℕ) (fault : Option SessionFault) (now : Reckoning) : Type 0 where
   pub answers : List AnswerFrame

@@ -8,20 +8,20 @@ use Rattle.port_session.specs.Reading.{ReadsAnswers, Reckoning, Stream, fresh_st
 use Rattle.port_session.specs.declared.fault.SessionFault.{SessionFault}
 
 -- the switch, its port, and where one stands in the port's answers
-pub record Talk (P : Type 0) : Type 0 where
+pub record SessionView (P : Type 0) : Type 0 where
   pub switch : ℕ
   pub port : P
   pub stream : Stream
 
 -- before the first round
-abbrev pub first_talk : {P : Type 0} → ℕ → P → Talk P
-first_talk switch port = record { switch = switch; port = port; stream = fresh_stream }
+abbrev pub first_session : {P : Type 0} → ℕ → P → SessionView P
+first_session switch port = record { switch = switch; port = port; stream = fresh_stream }
 
 -- where so many answers are awaited
-abbrev pub awaiting : {P : Type 0} → Talk P → P → ℕ → Talk P
+abbrev pub awaiting : {P : Type 0} → SessionView P → P → ℕ → SessionView P
 awaiting talk port count = record { switch = talk.switch; port = port; stream = record { kept = talk.stream.kept; live = talk.stream.live; awaited = count } }
 
--- How many answers are awaited behind an offer of so many commands. Where none went out, what was awaited is awaited still.
+-- How many answers are awaited after an offer of so many commands. Where none went out, what was awaited is awaited still.
 abbrev pub awaited_behind : ℕ → ℕ → ℕ
 awaited_behind before count = if count == 0 then before else count
 
@@ -62,11 +62,11 @@ pub record StaysLate (read awaited left : ℕ) (before now : PortTrace) : Type 0
   pub waits : IsOneMore before.waits now.waits
   pub unprompt : before.prompt ≡ false
 
--- How hearing ended, where so many answers were read of those awaited, and so many are awaited behind it.
+-- How hearing ended, where so many answers were read of those awaited, and so many are awaited after it.
 abbrev pub IsOver : ℕ → ℕ → ℕ → PortTrace → PortTrace → Type 0
 IsOver read awaited left before now = IsAllRead read awaited left before now ⊎ (WasQuiet left before now ⊎ StaysLate read awaited left before now)
 
--- in the bytes newly heard, behind what was kept, at least one whole answer ends
+-- in the bytes newly heard, after what was kept, at least one whole answer ends
 pub record EndsAnswer (kept : List ℕ) (before now : Option (List ℕ)) : Type 0 where
   pub bytes : List ℕ
   pub appended : Appends before bytes now

@@ -5,17 +5,17 @@
 //! Contracts see a session as its switch, its port, and where it stands in the port's answers. What is
 //! promised is said of the bytes: those newly offered are the frames of the commands in order, or a
 //! prefix of these; the answers told are exactly those of the migration among the whole answers that
-//! end in the bytes newly heard, behind what was kept of the round before. A port keeps to its rule
+//! end in the bytes newly heard, after what was kept of the round before. A port keeps to its rule
 //! through both calls.
 #![tactic(auto)]
 
 mod fault;
 mod frames;
-mod heard;
+mod port_answers;
 mod session;
 mod stream;
 pub mod worked;
 
 pub use fault::SessionFault;
-pub use heard::Heard;
+pub use port_answers::PortAnswers;
 pub use session::Session;

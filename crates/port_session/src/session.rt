@@ -4,11 +4,11 @@ ghost use Rattle.wan_edge.specs.Ports.{GoesOn};
 ghost use Rattle.wan_edge.specs.Streams.{Appends, Rose};
 ghost use Rattle.port_session.specs.Offers.{OffersUntil, frames_of};
 ghost use Rattle.port_session.specs.Standing.{HasTold};
-ghost use Rattle.port_session.specs.Sessions.{HearsAnswers, IsHeard, awaited_behind, awaiting, first_talk, listening};
+ghost use Rattle.port_session.specs.Sessions.{HearsAnswers, IsHeard, awaited_behind, awaiting, first_session, listening};
 
 use crate::SessionFault;
 use crate::frames::write_frames;
-use crate::heard::Heard;
+use crate::port_answers::PortAnswers;
 use crate::stream::{AnswerList, AnswerStream};
 use std::alloc::Global;
 use std::marker::Model;
@@ -32,9 +32,9 @@ impl<T: Port> Model for Session<T> {
     ghost use Rattle.std.specs.Prelude.{IsTrue};
     ghost use Rattle.wan_edge.specs.Frames.{IsCutAnswer};
     ghost use Rattle.port_session.specs.Standing.{EndsWith};
-    ghost use Rattle.port_session.specs.Sessions.{Talk};
+    ghost use Rattle.port_session.specs.Sessions.{SessionView};
 
-    ghost Value = { Talk T };
+    ghost Value = { SessionView T };
 
     ghost view = { λ s. record { switch = s.switch; port = s.port; stream = s.stream } };
 
@@ -46,7 +46,7 @@ impl<T: Port> Model for Session<T> {
 impl<T: Port> Session<T> {
     /// A session that has offered and heard nothing.
     pub fn new(alloc: Global, switch: u32, port: T) -> Self
-        ensures new { result ≡ first_talk switch port }
+        ensures new { result ≡ first_session switch port }
         ensures cut { IsCutAnswer result.stream.kept }
     {
         Session {
@@ -76,7 +76,7 @@ impl<T: Port> Session<T> {
     pub fn is_late(&self) -> bool
         ensures { result ≡ nat_lt 0 self.now.stream.awaited }
     {
-        self.stream.awaited() > 0
+        self.stream.count_awaited() > 0
     }
 
     /// Waits a moment, in which something may come.
@@ -130,7 +130,11 @@ impl<T: Port> Session<T> {
     ///
     /// `Port` where the port fails; `NoAnswer` exactly where that byte stands in an answer's first place;
     /// `Memory` for an answer that was to be added. What was read before is told all the same.
-    pub fn hear_all(&mut self, migration: u32, heard: &mut Heard<T>) -> Result<(), SessionFault>
+    pub fn hear_all(
+        &mut self,
+        migration: u32,
+        heard: &mut PortAnswers<T>,
+    ) -> Result<(), SessionFault>
         requires live { IsTrue self.old.stream.live }
         requires migration { heard.old.migration ≡ migration }
         ensures ok { OnOk result
@@ -189,7 +193,7 @@ impl<T: Port> Session<T> {
         ensures unsent { (T.told self.new.port).offered ≡ (T.told self.old.port).offered }
     {
         let mut buffer = [0; BUFFER];
-        while self.stream.awaited() > 0 {
+        while self.stream.count_awaited() > 0 {
             if !self.port.is_ready() {
                 return Ok(());
             }

@@ -49,7 +49,7 @@ impl AnswerStream {
         self.live
     }
 
-    pub(crate) fn awaited(&self) -> usize
+    pub(crate) fn count_awaited(&self) -> usize
         ensures { result ≡ self.now.awaited }
     {
         self.awaited
@@ -158,7 +158,7 @@ fn read_next(
     Ok(n)
 }
 
-// Adds the answer where it is of the migration. Want of memory changes nothing.
+// Adds the answer where it is of the migration. Lack of memory changes nothing.
 #[tactic(auto, unfolding(crate::specs::Reading::answers_of))]
 fn tell(frame: &(u32, Answer), migration: u32, answers: &mut AnswerList) -> Result<(), Memory>
     ensures ok { OnOk result (answers.new ≡ answers.old ++ answers_of migration (frame.now ∷ [])) }

@@ -11,7 +11,7 @@ pub fn an_answer_of_another_migration_tells_nothing()
         ≡ record { item = 5; held = 1 } ∷ [] }
 {}
 
-/// Where the last byte of an answer comes, behind the twelve that were kept, an answer ends.
+/// Where the last byte of an answer comes, after the twelve that were kept, an answer ends.
 pub fn the_last_byte_ends_an_answer()
     ensures { EndsAnswer (take 12 (answer_bytes (7, record { item = 5; held = 1 }))) (Some [])
         (Some (1 ∷ [])) }

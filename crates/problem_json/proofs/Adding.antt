@@ -15,7 +15,7 @@ goes_on r a next e = ap (λ s. s >>= next) e
 pub held-true : (b : Bool) (e : InputFault) → b ≡ true → held b e ≡ Ok tt
 held-true b e is = ap (λ c. held c e) is
 
--- one element more behind those that lead to b
+-- one element more after those that lead to b
 add_each-then : {A : Type 0} (f : Data → A → Result A InputFault) (ds : List Data) (d : Data) (a b : A) → add_each f (items_of ds) a ≡ Ok b → add_each f (items_of (ds ++ d ∷ [])) a ≡ f d b
 add_each-then {A} f [] d a b e = ends (f d a) ∙ ap (f d) (same (Ok a) refl e)
   where

@@ -1,4 +1,4 @@
--- The format of a written problem, and the lists behind it, are found at their keys.
+-- The format of a written problem, and the lists after it, are found at their keys.
 use Rattle.std.proofs.Common.{◌≡◌, ℕ, zero, suc, ◌≤◌, Bool, true, false, [], ◌==◌, if◌then◌else◌, Result, Ok, codes, refl, sym, ap, arith}
 use Rattle.std.proofs.lemmas.Bool.{eqb-true}
 use Rattle.rollout_rules.specs.Network.{IsFormat, IsWidth}

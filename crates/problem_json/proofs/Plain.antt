@@ -6,8 +6,8 @@ use Rattle.rollout_rules.specs.Wan.{Problem, Plan, Stage, tunnel_at, flow_at, tu
 use Rattle.serde_json.specs.Data.{Data, Members, no_members, member, boolean, depth, items_depth, members_depth}
 use Rattle.serde_json.specs.View.{items_of}
 use Rattle.serde_json.specs.Written.{has_float, items_have_float, members_have_float}
-use Rattle.step_proof.specs.declared.proof.Proof.{Proof}
-use Rattle.step_proof.specs.declared.proof.Proof.TheVariants as said
+use Rattle.fraction_lp.specs.declared.proof.Proof.{Proof}
+use Rattle.fraction_lp.specs.declared.proof.Proof.TheVariants as said
 use Rattle.rollout_rules.specs.declared.event.Act.{Act}
 use Rattle.rollout_rules.specs.declared.event.Act.TheVariants as act
 use Rattle.problem_json.specs.WritingScripts.{act_data, scripted_data}

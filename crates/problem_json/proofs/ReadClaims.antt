@@ -5,8 +5,8 @@ use Rattle.rollout_rules.specs.Wan.{Problem, Plan}
 use Rattle.rollout_rules.specs.Network.{IsNetwork}
 use Rattle.serde_json.specs.View.{items_of}
 use Rattle.fraction_lp.specs.Ratio.{Ratio, zero_ratio}
-use Rattle.step_proof.specs.declared.proof.Proof.{Proof}
-use Rattle.step_proof.specs.declared.proof.Proof.TheVariants.{Plain, Link, Rows}
+use Rattle.fraction_lp.specs.declared.proof.Proof.{Proof}
+use Rattle.fraction_lp.specs.declared.proof.Proof.TheVariants.{Plain, Link, Rows}
 use Rattle.problem_json.specs.GrammarResults.{◌>>=◌, add_each}
 use Rattle.problem_json.specs.GrammarValues.{member_in, text_in, number_of}
 use Rattle.problem_json.specs.GrammarDocuments.{problem_part, plan_part, document_of}

@@ -23,8 +23,8 @@ use Rattle.serde_json.proofs.Texts.{print-outline}
 use Rattle.problem_json.specs.Writing.{number_data, rate_data, list_data, name_data, switch_data, link_data, tunnel_data, flow_data, problem_data, stage_data, plan_data, document_data, AreWords, IsPlanOfWords}
 use Rattle.problem_json.proofs.Adding.{map-below}
 use Rattle.fraction_lp.specs.Ratio.{zero_ratio}
-use Rattle.step_proof.specs.declared.proof.Proof.{Proof}
-use Rattle.step_proof.specs.declared.proof.Proof.TheVariants as said
+use Rattle.fraction_lp.specs.declared.proof.Proof.{Proof}
+use Rattle.fraction_lp.specs.declared.proof.Proof.TheVariants as said
 use Rattle.problem_json.specs.declared.claim.Claim.{Claim}
 use Rattle.problem_json.specs.WithinClaims.{IsClaimWithin, IsProofWithin}
 use Rattle.problem_json.specs.WritingLeast.{fraction_text, fraction_data, claim_data, claimed_data}

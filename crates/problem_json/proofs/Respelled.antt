@@ -36,7 +36,7 @@ with_one n d m lt is fits =
 no_glyph : (d c : ℕ) → c < 48 → (48 + d == c) ≡ false
 no_glyph d c low = ne_eqb (48 + d) c (λ e. omega (arith, e, low))
 
--- the first digit of a number, and each behind it
+-- the first digit of a number, and each after it
 from_front : (m : ℕ) → m < 10 → spelled_on Front (48 + m) ≡ Top false m
 from_front m lt =
     if_false (48 + m == 45) Minus (top_with false (with_digit 0 (48 + m))) (no_glyph m 45 (omega arith))

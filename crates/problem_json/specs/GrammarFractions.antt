@@ -9,7 +9,7 @@ use Rattle.problem_json.specs.declared.spelling.Spelling.TheVariants.{Front, Min
 abbrev pub is_digit : ℕ → Bool
 is_digit c = nat_le 48 c && nat_le c 57
 
--- a number with a digit behind it, where it is at most 2^127 - 1
+-- a number with a digit after it, where it is at most 2^127 - 1
 abbrev pub grown : ℕ → ℕ → Option ℕ
 grown n d = if nat_lt (n * 10 + d) (2 ^ 127) then Some (n * 10 + d) else None
 

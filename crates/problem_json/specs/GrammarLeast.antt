@@ -3,8 +3,8 @@ use Rattle.std.specs.Prelude.{ℕ, List, [], ◌∷◌, ◌++◌, length, ok_or,
 use Rattle.serde_json.specs.Data.{Data}
 use Rattle.serde_json.specs.Find.{get}
 use Rattle.fraction_lp.specs.Ratio.{Ratio}
-use Rattle.step_proof.specs.declared.proof.Proof.{Proof}
-use Rattle.step_proof.specs.declared.proof.Proof.TheVariants as proof
+use Rattle.fraction_lp.specs.declared.proof.Proof.{Proof}
+use Rattle.fraction_lp.specs.declared.proof.Proof.TheVariants as proof
 use Rattle.problem_json.specs.GrammarResults.{◌>>=◌, add_each}
 use Rattle.problem_json.specs.GrammarValues.{text_in, list_in, number_in, number_of}
 use Rattle.problem_json.specs.Grammar.{data_in}

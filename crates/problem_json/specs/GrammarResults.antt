@@ -20,7 +20,7 @@ abbrev pub add_each : {A : Type 0} → (Data → A → Result A InputFault) → 
 add_each f no_items a = Ok a
 add_each f (item d ds) a = f d a >>= λ b. add_each f ds b
 
--- the fault that a reader answers is the grammar's; want of memory says nothing
+-- the fault that a reader answers is the grammar's; lack of memory says nothing
 abbrev pub Refuses : {A : Type 0} → InputFault → Result A InputFault → Type 0
 Refuses NotJson grammar = grammar ≡ Err NotJson
 Refuses (Missing place key) grammar = grammar ≡ Err (Missing place key)

@@ -1,8 +1,8 @@
 -- What may be said of fewer rate steps whose text can be read again.
 use Rattle.std.specs.Prelude.{ℕ, ◌^◌, ◌<◌, ◌≤◌, nat_abs, List, length, get_or}
 use Rattle.fraction_lp.specs.Ratio.{Ratio, zero_ratio}
-use Rattle.step_proof.specs.declared.proof.Proof.{Proof}
-use Rattle.step_proof.specs.declared.proof.Proof.TheVariants.{Plain, Link, Rows}
+use Rattle.fraction_lp.specs.declared.proof.Proof.{Proof}
+use Rattle.fraction_lp.specs.declared.proof.Proof.TheVariants.{Plain, Link, Rows}
 use Rattle.problem_json.specs.GrammarLeast.{largest_word, most_multipliers}
 use Rattle.problem_json.specs.declared.claim.Claim.{Claim}
 

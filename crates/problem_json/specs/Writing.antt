@@ -92,11 +92,11 @@ plan_text plan = compact_text (plan_data plan)
 unfoldable pub document_text : Problem → Plan → List ℕ
 document_text p plan = compact_text (document_data p plan)
 
--- the text of the member of a format behind another, or nothing
+-- the text of the member of a format after another, or nothing
 abbrev pub format_text : ℕ → List ℕ
 format_text format = if format == 1 then [] else codes ",\"format\":" ++ decimal format
 
--- the text of the member of a width behind a path, or nothing
+-- the text of the member of a width after a path, or nothing
 abbrev pub width_text : ℕ → ℕ → List ℕ
 width_text format width = if format == 1 then [] else codes ",\"width\":" ++ decimal width
 

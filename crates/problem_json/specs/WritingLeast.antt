@@ -4,8 +4,8 @@ use Rattle.rollout_rules.specs.Wan.{Problem, Plan}
 use Rattle.serde_json.specs.Data.{Data, string, object, no_members, member}
 use Rattle.serde_json.specs.Written.{compact_text}
 use Rattle.fraction_lp.specs.Ratio.{Ratio}
-use Rattle.step_proof.specs.declared.proof.Proof.{Proof}
-use Rattle.step_proof.specs.declared.proof.Proof.TheVariants.{Plain, Link, Rows}
+use Rattle.fraction_lp.specs.declared.proof.Proof.{Proof}
+use Rattle.fraction_lp.specs.declared.proof.Proof.TheVariants.{Plain, Link, Rows}
 use Rattle.problem_json.specs.Writing.{number_data, list_data, problem_data, plan_data}
 use Rattle.problem_json.specs.declared.claim.Claim.{Claim}
 

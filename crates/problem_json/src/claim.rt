@@ -1,5 +1,5 @@
 use crate::read::Document;
-use step_proof::Proof;
+use fraction_lp::Proof;
 
 /// What a document says of fewer rate steps: so many of them are impossible, and what shows it.
 #[derive(Debug, Drop)]

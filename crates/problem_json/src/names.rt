@@ -21,7 +21,7 @@ impl Names {
     ghost use Rattle.std.specs.Prelude.{◌≡◌, IfOk};
     ghost use Rattle.problem_json.specs.WritingNames.{AreNamesOf};
 
-    /// The names of a problem. An Err is want of memory.
+    /// The names of a problem. An Err is lack of memory.
     pub fn of(alloc: Global, problem: &Problem) -> Result<Self, Memory>
         ensures { IfOk result (λ names. AreNamesOf names problem.now) }
     {

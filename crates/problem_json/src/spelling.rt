@@ -32,11 +32,11 @@ pub(crate) enum Spelling {
 pub(crate) fn fraction_of_text(text: &str) -> Option<Fraction>
     ensures { result ≡ spec.fraction_of_text text.now }
 {
-    let spelling = spelled(text.as_bytes());
+    let spelling = spell(text.as_bytes());
     fraction_spelled(spelling)
 }
 
-fn spelled(bytes: &[u8]) -> Spelling
+fn spell(bytes: &[u8]) -> Spelling
     ensures { result ≡ spec.spelled_from so_far.Front bytes.now }
 {
     let mut spelling = Spelling::Front;
@@ -174,7 +174,7 @@ fn reduced_of(minus: bool, top: u128, bottom: u128) -> Option<Fraction>
     }
     let divisor = greatest_common_divisor(top, bottom);
     if divisor == 1 {
-        let above = signed(minus, as_signed(top));
+        let above = with_sign(minus, as_signed(top));
         return Fraction::new(above, as_signed(bottom));
     }
     None
@@ -188,7 +188,7 @@ fn as_signed(number: u128) -> i128
     number as i128
 }
 
-fn signed(minus: bool, number: i128) -> i128
+fn with_sign(minus: bool, number: i128) -> i128
     requires { nat_abs number < 2 ^ 127 }
     ensures { result ≡ spec.signed minus number }
 {

@@ -23,7 +23,7 @@ use crate::claim::Claim;
 use crate::names::Names;
 use least::push_claim;
 use lists::{Memory, Text};
-use pieces::finished;
+use pieces::utf8_text;
 use plan::push_plan;
 use problem::push_problem;
 use rollout_rules::Act;
@@ -38,7 +38,7 @@ use wan_model::{Plan, Problem};
 
 /// The text of a problem: JSON (RFC 8259) without blanks, the keys of each object in the order of their
 /// bytes, and no line feed at the end. A tunnel's rate is null where the tunnel isn't installed. It fails
-/// only for want of memory.
+/// only for lack of memory.
 pub fn write_problem(alloc: Global, problem: &Problem) -> Result<Text, Memory>
     ensures text { IfOk result (λ text. text ≡ problem_text problem.now) }
     ensures reads { IfOk result (λ text. problem_in text ≡ Ok problem.now) }
@@ -46,7 +46,7 @@ pub fn write_problem(alloc: Global, problem: &Problem) -> Result<Text, Memory>
     let names = Names::of(alloc, problem)?;
     let mut text = WholeText::with_capacity(alloc, problem_bytes(problem))?;
     push_problem(&mut text, &names, problem);
-    Ok(finished(text.finish()?))
+    Ok(utf8_text(text.finish()?))
 }
 
 /// The text of a plan, likewise. Rates are in units of 1/scale.
@@ -56,7 +56,7 @@ pub fn write_plan(alloc: Global, plan: &Plan) -> Result<Text, Memory>
 {
     let mut text = WholeText::with_capacity(alloc, plan_bytes(plan))?;
     push_plan(&mut text, plan);
-    Ok(finished(text.finish()?))
+    Ok(utf8_text(text.finish()?))
 }
 
 /// The text of a problem with a plan for it, likewise.
@@ -70,7 +70,7 @@ pub fn write_document(alloc: Global, problem: &Problem, plan: &Plan) -> Result<T
     let bytes = problem_bytes(problem).saturating_add(plan_bytes(plan));
     let mut text = WholeText::with_capacity(alloc, bytes)?;
     push_document(&mut text, &names, problem, plan);
-    Ok(finished(text.finish()?))
+    Ok(utf8_text(text.finish()?))
 }
 
 /// Pushes the same text, by the names of the problem. It takes no memory.
@@ -108,10 +108,10 @@ pub fn write_claimed(
     let bytes = problem_bytes(problem).saturating_add(plan_bytes(plan));
     let mut text = WholeText::with_capacity(alloc, bytes)?;
     push_claimed(alloc, &mut text, &names, problem, plan, claim)?;
-    Ok(finished(text.finish()?))
+    Ok(utf8_text(text.finish()?))
 }
 
-/// Pushes the same text. An Err is want of memory for a fraction.
+/// Pushes the same text. An Err is lack of memory for a fraction.
 fn push_claimed<P: Pieces>(
     alloc: Global,
     text: &mut P,
@@ -159,7 +159,7 @@ pub fn write_scripted(
         .saturating_add(script_bytes(script));
     let mut text = WholeText::with_capacity(alloc, bytes)?;
     push_scripted(&mut text, &names, problem, plan, script);
-    Ok(finished(text.finish()?))
+    Ok(utf8_text(text.finish()?))
 }
 
 /// Pushes the same text, by the names of the problem. It takes no memory.

@@ -62,7 +62,7 @@ pub record AreRows (p : Problem) (capacities : List ℕ) (old new : List (Option
   pub were : length old ≡ length p.tunnels
   pub become : length new ≡ length p.tunnels
 
--- the cause that is told is the one that was found; want of memory says nothing
+-- the cause that is told is the one that was found; lack of memory says nothing
 abbrev pub IsCause : Unleft → Option Unleft → Type 0
 IsCause (Flying item operation) found = found ≡ Some (Flying item operation)
 IsCause (Partly tunnel) found = found ≡ Some (Partly tunnel)

@@ -9,7 +9,7 @@ ghost use Rattle.retarget_plan.specs.Standing.{OldSideFits};
 
 use crate::aim::Aim;
 use crate::aimed_rows::{aimed_capacities, aimed_rates};
-use crate::leaving::{first_flying, first_partly, made};
+use crate::leaving::{first_flying, first_partly, make_problem};
 use crate::rows::left_rates;
 use crate::units::{divisor_of, factor_of};
 use crate::unleft::Unleft;
@@ -103,7 +103,7 @@ fn small_aimed(
     let capacities = aimed_capacities(alloc, plan, aim, factor)?;
     let old = left_rates(alloc, plan, graph, index, divisor)?;
     let new = aimed_rates(alloc, plan, graph, aim, factor, old.as_slice())?;
-    made(
+    make_problem(
         alloc,
         plan,
         capacities.as_slice(),

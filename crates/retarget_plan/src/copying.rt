@@ -12,7 +12,7 @@ use wan_model::Problem;
 
 /// A copy of a network in which link `l` has the l-th of these capacities, and tunnel `t` the t-th of these old
 /// and of these new rates. Time: the network.
-pub(crate) fn remade(
+pub(crate) fn remake(
     alloc: Global,
     problem: &Problem,
     capacities: &[u64],

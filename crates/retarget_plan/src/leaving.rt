@@ -6,7 +6,7 @@ ghost use Rattle.retarget_plan.specs.Leaving.{IsLeft, IsLeftUnless};
 ghost use Rattle.retarget_plan.specs.Leaving as leaving;
 ghost use Rattle.retarget_plan.specs.Standing.{GoesOnFrom, OldSideFits};
 
-use crate::copying::remade;
+use crate::copying::remake;
 use crate::limits::first_large;
 use crate::looking::{is_whole, tunnel_total};
 use crate::rows::{left_capacities, left_rates, left_targets};
@@ -88,7 +88,7 @@ fn small_left(
     let capacities = left_capacities(alloc, plan, factor)?;
     let old = left_rates(alloc, plan, graph, index, divisor)?;
     let new = left_targets(alloc, plan, factor)?;
-    made(
+    make_problem(
         alloc,
         plan,
         capacities.as_slice(),
@@ -98,7 +98,7 @@ fn small_left(
 }
 
 // The network with these numbers, unless one of them is too large.
-pub(crate) fn made(
+pub(crate) fn make_problem(
     alloc: Global,
     plan: &CheckedPlan,
     capacities: &[u64],
@@ -113,12 +113,12 @@ pub(crate) fn made(
     checked_plan_is_valid(plan);
     match first_large(capacities, old, new) {
         Some(cause) => Err(cause),
-        None => copied(alloc, plan, capacities, old, new),
+        None => copy_problem(alloc, plan, capacities, old, new),
     }
 }
 
 // The same, where none is.
-fn copied(
+fn copy_problem(
     alloc: Global,
     plan: &CheckedPlan,
     capacities: &[u64],
@@ -132,7 +132,7 @@ fn copied(
         result }
 {
     let problem = plan.problem();
-    let copy = remade(alloc, problem, capacities, old, new)?;
+    let copy = remake(alloc, problem, capacities, old, new)?;
     Ok(copy)
 }
 

@@ -62,11 +62,11 @@ fn left_rate(
     checked_plan_is_valid(plan);
     let there = is_there(plan, graph, first, tunnel);
     let rate = settled_rate(plan, graph, tunnel);
-    told(there, rate / divisor)
+    rate_where_there(there, rate / divisor)
 }
 
 // A rate, where its tunnel is there.
-fn told(there: bool, rate: u64) -> Option<u64>
+fn rate_where_there(there: bool, rate: u64) -> Option<u64>
     ensures { result ≡ if there then Some rate else None }
 {
     if there { Some(rate) } else { None }

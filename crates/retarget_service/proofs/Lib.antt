@@ -1,2 +1,3 @@
 pub mod Writings
 mod Makings
+mod JournalRooms

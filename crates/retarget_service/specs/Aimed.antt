@@ -19,7 +19,7 @@ pub record AimsFrom (r : Rollout) (h : History) (aim : Aim) (problem : Problem) 
   pub stands : StandsAt r.problem r.plan (places_of r.problem h) (divisor_of r.problem r.plan (places_of r.problem h)) problem
   pub fits : KeepsCapacities r.problem aim → OldSideFits problem
 
--- what a rollout with this history comes to: such a problem, or why there is none; want of memory says nothing
+-- what a rollout with this history comes to: such a problem, or why there is none; lack of memory says nothing
 abbrev pub MakesOf : Rollout → History → Aim → Result Problem Unwritten → Type 0
 MakesOf r h aim (Ok problem) = AimsFrom r h aim problem
 MakesOf r h aim (Err (Refused cause)) = ⊥

@@ -1,2 +1,4 @@
 pub mod Written
 pub mod Aimed
+pub mod UnleftLines
+pub mod JournalRoom

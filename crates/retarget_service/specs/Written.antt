@@ -23,14 +23,14 @@ pub record IsTextOf (problem : Problem) (text : List ℕ) : Type 0 where
   pub is : text ≡ problem_text problem ++ 10 ∷ []
   pub reads : problem_in (problem_text problem) ≡ Ok problem
 
--- the text of a problem, or none for want of memory
+-- the text of a problem, or none for lack of memory
 abbrev pub WritesProblem : Problem → Result (List ℕ) Unwritten → Type 0
 WritesProblem problem (Ok text) = IsTextOf problem text
 WritesProblem problem (Err (Refused cause)) = ⊥
 WritesProblem problem (Err (Unleft cause)) = ⊥
 WritesProblem problem (Err Memory) = ⊤
 
--- how a fault of a journal over a disk in memory is told, which fails for want of memory alone, and how one of what is left
+-- how a fault of a journal over a disk in memory is told, which fails for lack of memory alone, and how one of what is left
 abbrev pub refusal_of : JournalFault → Unwritten
 refusal_of journal.Disk = Memory
 refusal_of journal.Memory = Memory
@@ -48,7 +48,7 @@ pub record WritesLeft (r : Rollout) (h : History) (text : List ℕ) : Type 0 whe
   pub fits : OldSideFits problem
   pub written : IsTextOf problem text
 
--- what a rollout with this history comes to, as a text or without one; want of memory says nothing
+-- what a rollout with this history comes to, as a text or without one; lack of memory says nothing
 abbrev pub WritesOf : Rollout → History → Result (List ℕ) Unwritten → Type 0
 WritesOf r h (Ok text) = WritesLeft r h text
 WritesOf r h (Err (Refused cause)) = ⊥

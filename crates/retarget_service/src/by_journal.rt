@@ -41,13 +41,13 @@ fn left_known(alloc: Global, known: KnownPlan, image: Nums8) -> Result<Text, Unw
 {
     let KnownPlan { graph, digest } = known;
     let mut graph = graph;
-    let written = followed(alloc, &mut graph, &digest, image);
+    let written = follow(alloc, &mut graph, &digest, image);
     drop(graph);
     written
 }
 
 // Brings a graph without entries to the journal, and writes what is left then.
-fn followed(
+fn follow(
     alloc: Global,
     graph: &mut Graph,
     digest: &Digest,
@@ -86,12 +86,12 @@ fn left_text(alloc: Global, graph: &Graph) -> Result<Text, Unwritten>
     ensures { WritesOf graph.now.rollout graph.now.history result }
 {
     match left(alloc, graph) {
-        Ok(problem) => written(alloc, problem),
+        Ok(problem) => write_left(alloc, problem),
         Err(cause) => Err(cause_told(cause)),
     }
 }
 
-fn written(alloc: Global, problem: Problem) -> Result<Text, Unwritten>
+fn write_left(alloc: Global, problem: Problem) -> Result<Text, Unwritten>
     ensures { WritesProblem problem result }
 {
     match text_of(alloc, &problem) {

@@ -27,11 +27,11 @@ use Rattle.target_json.specs.declared.fault.TargetFault.{TargetFault}
 use Rattle.target_json.specs.declared.fault.TargetFault.TheVariants as fault
 use Rattle.wan_edge.specs.Streams.{Appends, SinkTrace, SourceTrace}
 use Rattle.text_commands.specs.Answers.{IsChosenBy, rollout_in}
-use Rattle.text_commands.specs.Endings.{ending_of_journal, ending_without, status_of}
+use Rattle.text_commands.specs.CommandEnds.{ending_of_journal, ending_without, status_of}
 use Rattle.text_commands.specs.Reading.{IsShortInput, ReadsInput}
 use Rattle.text_commands.specs.Runs.{Gives, IsTold}
-use Rattle.text_commands.specs.declared.ending.Ending.{Ending}
-use Rattle.text_commands.specs.declared.ending.Ending.TheVariants.{Done, OutOfMemory}
+use Rattle.text_commands.specs.declared.command_end.CommandEnd.{CommandEnd}
+use Rattle.text_commands.specs.declared.command_end.CommandEnd.TheVariants.{Done, OutOfMemory}
 use Rattle.text_commands.specs.declared.words.Planner.{Planner}
 use Rattle.text_commands.proofs.Answering.{rollout-gives}
 use Rattle.text_commands.proofs.Statuses.{is-done}
@@ -46,7 +46,7 @@ use Rattle.retarget_top.specs.declared.ending.Wanted.{Wanted}
 
 -- ---- the ending of status 0
 
-told-done : (e : Ending) (status : ℕ) (before now : SinkTrace) → IsTold e status before.written now.written before.faults now.faults → status ≡ 0 → e ≡ Done
+told-done : (e : CommandEnd) (status : ℕ) (before now : SinkTrace) → IsTold e status before.written now.written before.faults now.faults → status ≡ 0 → e ≡ Done
 told-done e status before now told zero = elim told.is as (λ _. e ≡ Done) [
   | inl same ↦ sym same ∙ is-done told.told (sym told.is_status ∙ zero)
   | inr memory ↦ absurd (omega (arith, told.is_status, zero, ap status_of memory.0))
@@ -107,7 +107,7 @@ aim-other (c ∷ name) p input e = shedding-other (link_named p (c ∷ name)) e
 rollout-other : (input : List ℕ) (e : RetargetEnding) → HasNoRollout input e → e ≡ Ended Done → ⊥
 rollout-other input e none done =
     let same : none.ending ≡ Done = cc (sym none.is ∙ done) in
-    let gives : Gives {A = Rollout} (Err Done) (rollout_in input) = subst (λ (x : Ending). Gives {A = Rollout} (Err x) (rollout_in input)) same none.gives in
+    let gives : Gives {A = Rollout} (Err Done) (rollout_in input) = subst (λ (x : CommandEnd). Gives {A = Rollout} (Err x) (rollout_in input)) same none.gives in
     absurd (cc (rollout-gives input Done gives))
 
 no-aim-other : (shed input : List ℕ) (e : RetargetEnding) → HasNoAim shed input e → e ≡ Ended Done → ⊥
@@ -117,7 +117,7 @@ no-aim-other shed input e none done =
 -- ---- the one way
 
 module _ {D : Type 0} (trace : D → DiskTrace) (migration : ℕ) (shed : List ℕ) (source source_now : SourceTrace) (disk disk_now : D) (sink sink_now : SinkTrace) where
-  unwritten-other : (text : List ℕ) (why : Ending) → why ≡ Done → IsUnwritten text why sink sink_now → ⊥
+  unwritten-other : (text : List ℕ) (why : CommandEnd) → why ≡ Done → IsUnwritten text why sink sink_now → ⊥
   unwritten-other text why same (inl cut) = absurd (cc (sym same ∙ cut.0))
   unwritten-other text why same (inr memory) = absurd (cc (sym same ∙ memory.0))
 
@@ -180,12 +180,12 @@ module _ {D : Type 0} (trace : D → DiskTrace) (migration : ℕ) (shed : List �
     by_wanted input read (Err e) (inl none) ends = absurd (rollout-other input e none (sym ends.0 ∙ done))
     by_wanted input read (Err e) (inr none) ends = absurd (no-aim-other shed input e none (sym ends.0 ∙ done))
 
-    by_input : (input : Result (List ℕ) Ending) → ReadsInput source input source_now → ByInput trace migration planner shed input disk disk_now ending sink sink_now
+    by_input : (input : Result (List ℕ) CommandEnd) → ReadsInput source input source_now → ByInput trace migration planner shed input disk disk_now ending sink sink_now
         → GoesElsewhere trace migration shed source source_now disk disk_now sink sink_now
     by_input (Ok input) reads ends = by_wanted input reads ends.wanted ends.wants ends.ends
     by_input (Err e) reads ends =
         let same : e ≡ Done = cc (sym ends.0 ∙ done) in
-        absurd (subst (λ (x : Ending). ReadsInput source (Err x) source_now) same reads)
+        absurd (subst (λ (x : CommandEnd). ReadsInput source (Err x) source_now) same reads)
 
   pub goes-elsewhere : (planner : Planner) (notes notes_now : SinkTrace) (status : ℕ) → RetargetPromise trace migration planner shed source source_now disk disk_now sink sink_now notes notes_now status → status ≡ 0
       → GoesElsewhere trace migration shed source source_now disk disk_now sink sink_now

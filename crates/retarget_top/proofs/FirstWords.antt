@@ -1,4 +1,4 @@
--- What is read of words by the first of them and those behind it.
+-- What is read of words by the first of them and those after it.
 use Rattle.std.proofs.Common.{◌≡◌, ℕ, suc, ◌≤◌, ◌-◌, List, [], ◌∷◌, length, map, get_or, take, take_all, drop, String, Global, string_bytes, Result, Ok, Err, IfOk, sym, ap, subst, ◌∙◌, arith}
 
 -- what holds of what was read holds where it was read

@@ -1,4 +1,3 @@
-mod JournalRooms
 mod FirstWords
 mod Placings
 mod Aiming

@@ -12,10 +12,10 @@ use Rattle.rollout_report.specs.declared.known.KnownPlan.{KnownPlan}
 use Rattle.intent_journal.specs.Parts.{Kept}
 use Rattle.intent_journal.specs.declared.fault.JournalFault.{JournalFault}
 use Rattle.rollback_service.specs.Placings.{HasPlaced, IsNotPlaced, MayPlace}
-use Rattle.text_commands.specs.Endings.{ending_of_journal}
+use Rattle.text_commands.specs.CommandEnds.{ending_of_journal}
 use Rattle.text_commands.specs.Runs.{EndsWith}
-use Rattle.text_commands.specs.declared.ending.Ending.{Ending}
-use Rattle.text_commands.specs.declared.ending.Ending.TheVariants.{Done, WriteFault}
+use Rattle.text_commands.specs.declared.command_end.CommandEnd.{CommandEnd}
+use Rattle.text_commands.specs.declared.command_end.CommandEnd.TheVariants.{Done, WriteFault}
 use Rattle.wan_edge.specs.Streams.{AppendsPart, Rose, SinkTrace}
 use Rattle.retarget_top.specs.Retargets.{IsUnwritten, Places, WritesAndPlaces, WritesNext, kept_next, next_text}
 use Rattle.retarget_top.specs.declared.ending.RetargetEnding.{RetargetEnding}
@@ -37,7 +37,7 @@ module _ {D : Type 0} (trace : D → DiskTrace) (kept : Kept) (disk disk_now : D
   placed-places r there (Ok x) is placed = record { may = may; ends = inl (refl, placed.1) }
   placed-places r there (Err cause) is placed = absurd (cc is)
 
-  pub unplaced-places : (cause : JournalFault) (told : Ending) (answer : Result Rollout JournalFault) → answer ≡ Err cause → told ≡ ending_of_journal cause → IfErr answer (λ why. IsNotPlaced trace why disk disk_now)
+  pub unplaced-places : (cause : JournalFault) (told : CommandEnd) (answer : Result Rollout JournalFault) → answer ≡ Err cause → told ≡ ending_of_journal cause → IfErr answer (λ why. IsNotPlaced trace why disk disk_now)
       → Places trace kept disk disk_now (Ended told)
   unplaced-places cause told (Ok x) is so left = absurd (cc is)
   unplaced-places cause told (Err why) is so left =
@@ -46,7 +46,7 @@ module _ {D : Type 0} (trace : D → DiskTrace) (kept : Kept) (disk disk_now : D
 
 -- ---- a text that wasn't written whole
 
-pub unwritten-end : {A : Type 0} (text other : List ℕ) (e : Ending) (sink sink_now : SinkTrace) (answer : Result A Ending) → other ≡ text → IfErr answer (λ why. (why ≡ e) × (why ≡ Done → ⊥))
+pub unwritten-end : {A : Type 0} (text other : List ℕ) (e : CommandEnd) (sink sink_now : SinkTrace) (answer : Result A CommandEnd) → other ≡ text → IfErr answer (λ why. (why ≡ e) × (why ≡ Done → ⊥))
     → EndsWith (Ok other) e sink.written sink_now.written → (e ≡ WriteFault → Rose sink.faults sink_now.faults) → IfErr answer (λ why. IsUnwritten text why sink sink_now)
 unwritten-end text other e sink sink_now (Ok a) same err ends cause = tt
 unwritten-end text other e sink sink_now (Err why) same err (inl done) cause = absurd (err.1 (err.0 ∙ done.0))

@@ -10,8 +10,8 @@ use Rattle.target_json.specs.Grammar.{target_in}
 use Rattle.target_json.specs.declared.fault.TargetFault.{TargetFault}
 use Rattle.text_commands.specs.Answers.{rollout_in}
 use Rattle.text_commands.specs.Runs.{Gives}
-use Rattle.text_commands.specs.declared.ending.Ending.{Ending}
-use Rattle.text_commands.specs.declared.ending.Ending.TheVariants.{OutOfMemory}
+use Rattle.text_commands.specs.declared.command_end.CommandEnd.{CommandEnd}
+use Rattle.text_commands.specs.declared.command_end.CommandEnd.TheVariants.{OutOfMemory}
 use Rattle.retarget_top.specs.Endings.{ending_of_target}
 use Rattle.retarget_top.specs.declared.ending.RetargetEnding.{RetargetEnding}
 use Rattle.retarget_top.specs.declared.ending.RetargetEnding.TheVariants.{Ended, NoLink}
@@ -44,7 +44,7 @@ abbrev pub aim_in : List ℕ → Problem → List ℕ → Result Aim RetargetEnd
 aim_in [] p input = toward (target_in p input)
 aim_in (c ∷ name) p input = shedding (link_named p (c ∷ name))
 
--- what is answered is this; want of memory says nothing
+-- what is answered is this; lack of memory says nothing
 abbrev pub GivesAim : Result Aim RetargetEnding → Result Aim RetargetEnding → Type 0
 GivesAim (Ok aim) wanted = wanted ≡ Ok aim
 GivesAim (Err (Ended OutOfMemory)) wanted = ⊤
@@ -58,7 +58,7 @@ pub record IsWanted (shed input : List ℕ) (w : Wanted) : Type 0 where
 
 -- It is none, or has no such aim.
 pub record HasNoRollout (input : List ℕ) (e : RetargetEnding) : Type 0 where
-  pub ending : Ending
+  pub ending : CommandEnd
   pub is : e ≡ Ended ending
   pub gives : Gives {A = Rollout} (Err ending) (rollout_in input)
 

@@ -3,8 +3,8 @@ use Rattle.retarget_service.specs.declared.unwritten.Unwritten.{Unwritten}
 use Rattle.retarget_service.specs.declared.unwritten.Unwritten.TheVariants as unwritten
 use Rattle.target_json.specs.declared.fault.TargetFault.{TargetFault}
 use Rattle.target_json.specs.declared.fault.TargetFault.TheVariants as fault
-use Rattle.text_commands.specs.Endings.{ending_of_journal}
-use Rattle.text_commands.specs.declared.ending.Ending.TheVariants.{OutOfMemory}
+use Rattle.text_commands.specs.CommandEnds.{ending_of_journal}
+use Rattle.text_commands.specs.declared.command_end.CommandEnd.TheVariants.{OutOfMemory}
 use Rattle.retarget_top.specs.declared.ending.RetargetEnding.{RetargetEnding}
 use Rattle.retarget_top.specs.declared.ending.RetargetEnding.TheVariants.{Ended, Target, Unleft}
 

@@ -1,5 +1,4 @@
 pub mod Endings
-pub mod JournalRoom
 pub mod Lines
 pub mod Aims
 pub mod Retargets

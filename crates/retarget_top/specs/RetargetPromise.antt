@@ -4,11 +4,12 @@ use Rattle.disk_model.specs.Traces.{DiskTrace}
 use Rattle.wan_edge.specs.Streams.{Rose, SinkTrace, SourceTrace}
 use Rattle.text_commands.specs.Reading.{ReadsInput}
 use Rattle.text_commands.specs.Runs.{IsTold}
-use Rattle.text_commands.specs.declared.ending.Ending.{Ending}
-use Rattle.text_commands.specs.declared.ending.Ending.TheVariants.{OutOfMemory, ReadFault}
+use Rattle.text_commands.specs.declared.command_end.CommandEnd.{CommandEnd}
+use Rattle.text_commands.specs.declared.command_end.CommandEnd.TheVariants.{OutOfMemory, ReadFault}
 use Rattle.text_commands.specs.declared.words.Planner.{Planner}
 use Rattle.retarget_top.specs.Aims.{WantsBy}
-use Rattle.retarget_top.specs.Lines.{NotesText, no_link_line, target_line, unleft_line}
+use Rattle.retarget_service.specs.UnleftLines.{unleft_line}
+use Rattle.retarget_top.specs.Lines.{NotesText, no_link_line, target_line}
 use Rattle.retarget_top.specs.Retargets.{LeavesBoth, OpensAndRetargets}
 use Rattle.retarget_top.specs.declared.ending.RetargetEnding.{RetargetEnding}
 use Rattle.retarget_top.specs.declared.ending.RetargetEnding.TheVariants.{Ended, NoLink, Target, Unleft}
@@ -25,17 +26,17 @@ pub record InputRetargets {D : Type 0} (trace : D → DiskTrace) (migration : �
   pub ends : ByWanted trace migration planner wanted disk disk_now ending sink sink_now
 
 -- the input decides, or that it wasn't read
-abbrev pub ByInput : {D : Type 0} → (D → DiskTrace) → ℕ → Planner → List ℕ → Result (List ℕ) Ending → D → D → RetargetEnding → SinkTrace → SinkTrace → Type 0
+abbrev pub ByInput : {D : Type 0} → (D → DiskTrace) → ℕ → Planner → List ℕ → Result (List ℕ) CommandEnd → D → D → RetargetEnding → SinkTrace → SinkTrace → Type 0
 ByInput trace migration planner shed (Ok input) disk disk_now ending sink sink_now = InputRetargets trace migration planner shed input disk disk_now ending sink sink_now
 ByInput trace migration planner shed (Err e) disk disk_now ending sink sink_now = (ending ≡ Ended e) × LeavesBoth disk disk_now sink sink_now
 
 pub record RunsRetarget {D : Type 0} (trace : D → DiskTrace) (migration : ℕ) (planner : Planner) (shed : List ℕ) (source source_now : SourceTrace) (disk disk_now : D) (ending : RetargetEnding) (sink sink_now : SinkTrace) : Type 0 where
-  pub input : Result (List ℕ) Ending
+  pub input : Result (List ℕ) CommandEnd
   pub reads : ReadsInput source input source_now
   pub cause : IsErrOf input ReadFault → Rose source.faults source_now.faults
   pub ends : ByInput trace migration planner shed input disk disk_now ending sink sink_now
 
--- a status and its line, or want of memory for the line
+-- a status and its line, or lack of memory for the line
 abbrev pub LineTold : ℕ → List ℕ → ℕ → SinkTrace → SinkTrace → Type 0
 LineTold number line status before now = ((status ≡ number) × NotesText line before now) ⊎ IsTold OutOfMemory status before.written now.written before.faults now.faults
 

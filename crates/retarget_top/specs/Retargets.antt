@@ -19,13 +19,13 @@ use Rattle.rollout_report.specs.Journals.{digest_for}
 use Rattle.rollout_report.specs.declared.known.KnownPlan.{KnownPlan}
 use Rattle.wan_edge.specs.Streams.{Appends, AppendsPart, Rose, SinkTrace}
 use Rattle.text_commands.specs.Answers.{IsChosenBy}
-use Rattle.text_commands.specs.Endings.{ending_of_journal, ending_without}
+use Rattle.text_commands.specs.CommandEnds.{ending_of_journal, ending_without}
 use Rattle.text_commands.specs.Safety.{IsValid}
-use Rattle.text_commands.specs.declared.ending.Ending.{Ending}
-use Rattle.text_commands.specs.declared.ending.Ending.TheVariants.{DiskFault, Done, OutOfMemory, WriteFault}
+use Rattle.text_commands.specs.declared.command_end.CommandEnd.{CommandEnd}
+use Rattle.text_commands.specs.declared.command_end.CommandEnd.TheVariants.{DiskFault, Done, OutOfMemory, WriteFault}
 use Rattle.text_commands.specs.declared.words.Planner.{Planner}
 use Rattle.retarget_top.specs.Endings.{ending_of_unwritten}
-use Rattle.retarget_top.specs.JournalRoom.{journal_room}
+use Rattle.retarget_service.specs.JournalRoom.{journal_room}
 use Rattle.retarget_top.specs.declared.ending.RetargetEnding.{RetargetEnding}
 use Rattle.retarget_top.specs.declared.ending.RetargetEnding.TheVariants.{Ended}
 use Rattle.retarget_top.specs.declared.ending.Wanted.{Wanted}
@@ -50,7 +50,7 @@ pub record LeavesBoth {D : Type 0} (disk disk_now : D) (sink sink_now : SinkTrac
 -- ---- writing and placing
 
 -- a text wasn't written, or a part of it alone
-abbrev pub IsUnwritten : List ℕ → Ending → SinkTrace → SinkTrace → Type 0
+abbrev pub IsUnwritten : List ℕ → CommandEnd → SinkTrace → SinkTrace → Type 0
 IsUnwritten text ending sink sink_now =
     ((ending ≡ WriteFault) × AppendsPart sink.written text sink_now.written × Rose sink.faults sink_now.faults) ⊎ ((ending ≡ OutOfMemory) × (sink_now.written ≡ sink.written))
 
@@ -72,7 +72,7 @@ PlacesNext trace known disk disk_now ending = Places trace (kept_known known) di
 abbrev pub WritesAndPlaces : {D : Type 0} → (D → DiskTrace) → List ℕ → Kept → D → D → RetargetEnding → SinkTrace → SinkTrace → Type 0
 WritesAndPlaces trace text kept disk disk_now ending sink sink_now =
     (Appends sink.written text sink_now.written × Places trace kept disk disk_now ending)
-    ⊎ ((why : Ending) × (ending ≡ Ended why) × IsUnwritten text why sink sink_now × (disk_now ≡ disk))
+    ⊎ ((why : CommandEnd) × (ending ≡ Ended why) × IsUnwritten text why sink sink_now × (disk_now ≡ disk))
 
 abbrev pub WritesNext : {D : Type 0} → (D → DiskTrace) → KnownPlan → D → D → RetargetEnding → SinkTrace → SinkTrace → Type 0
 WritesNext trace known disk disk_now ending sink sink_now = WritesAndPlaces trace (next_text known.graph.rollout) (kept_known known) disk disk_now ending sink sink_now

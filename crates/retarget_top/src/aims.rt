@@ -11,7 +11,7 @@ use lists::{Memory, Text};
 use retarget_plan::Aim;
 use std::alloc::Global;
 use target_json::read_target;
-use text_commands::{Ending, rollout_of};
+use text_commands::{CommandEnd, rollout_of};
 use wan_edge::Nums8;
 use wan_model::{CheckedPlan, Problem};
 
@@ -24,7 +24,7 @@ pub(crate) fn wanted_of(alloc: Global, shed: &str, input: Nums8) -> Result<Wante
         Ok(again) => wanted_with(alloc, shed, input, again),
         Err(_) => {
             drop(input);
-            Err(RetargetEnding::Ended(Ending::OutOfMemory))
+            Err(RetargetEnding::Ended(CommandEnd::OutOfMemory))
         }
     }
 }
@@ -86,7 +86,7 @@ fn aim_of(alloc: Global, shed: &str, input: &[u8], problem: &Problem) -> Result<
     match link_named(alloc, problem, shed) {
         Ok(Some(link)) => Ok(Aim::Shed(link)),
         Ok(None) => Err(RetargetEnding::NoLink),
-        Err(_) => Err(RetargetEnding::Ended(Ending::OutOfMemory)),
+        Err(_) => Err(RetargetEnding::Ended(CommandEnd::OutOfMemory)),
     }
 }
 

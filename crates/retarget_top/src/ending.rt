@@ -1,7 +1,7 @@
 use retarget_plan::{Aim, Unleft};
 use retarget_service::Unwritten;
 use target_json::TargetFault;
-use text_commands::Ending;
+use text_commands::CommandEnd;
 use wan_model::CheckedPlan;
 
 /// A rollout, and where it is to go from where it stands.
@@ -15,7 +15,7 @@ pub struct Wanted {
 /// stands.
 #[derive(Debug, Drop)]
 pub enum RetargetEnding {
-    Ended(Ending),
+    Ended(CommandEnd),
     /// The document has no target for its problem.
     Target(TargetFault),
     /// The document's problem has no link of the name that was asked for.
@@ -32,7 +32,7 @@ impl From<TargetFault> for RetargetEnding {
 
     fn from(fault: TargetFault) -> RetargetEnding {
         match fault {
-            TargetFault::Memory => RetargetEnding::Ended(Ending::OutOfMemory),
+            TargetFault::Memory => RetargetEnding::Ended(CommandEnd::OutOfMemory),
             other => RetargetEnding::Target(other),
         }
     }
@@ -46,9 +46,9 @@ impl From<Unwritten> for RetargetEnding {
 
     fn from(why: Unwritten) -> RetargetEnding {
         match why {
-            Unwritten::Refused(cause) => RetargetEnding::Ended(Ending::from(cause)),
+            Unwritten::Refused(cause) => RetargetEnding::Ended(CommandEnd::from(cause)),
             Unwritten::Unleft(cause) => RetargetEnding::Unleft(cause),
-            Unwritten::Memory => RetargetEnding::Ended(Ending::OutOfMemory),
+            Unwritten::Memory => RetargetEnding::Ended(CommandEnd::OutOfMemory),
         }
     }
 }

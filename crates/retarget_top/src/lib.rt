@@ -12,7 +12,6 @@ mod aims;
 mod choosing;
 mod ending;
 mod image;
-mod journal_room;
 mod laws;
 mod lines;
 mod placing;

@@ -14,12 +14,12 @@ use disk_model::Disk;
 use rollback_service::{Placed, place_known};
 use rollout_report::{KnownPlan, known_plan};
 use std::alloc::Global;
-use text_commands::{Ending, document_of, write_text};
+use text_commands::{CommandEnd, document_of, write_text};
 use wan_edge::Sink;
 use wan_model::CheckedPlan;
 
 /// Writes the document of a plan, and puts a journal of its rollout in the place of the one on the disk, as the
-/// migration behind that of this number. Nothing is placed unless all was written.
+/// migration after that of this number. Nothing is placed unless all was written.
 pub(crate) fn replace<K: Sink, D: Disk>(
     alloc: Global,
     migration: u32,
@@ -35,7 +35,7 @@ pub(crate) fn replace<K: Sink, D: Disk>(
     match known_plan(alloc, plan, migration + 1) {
         Ok(known) => write_and_place(alloc, known, sink, disk),
         Err(_) => Retargeted {
-            ending: RetargetEnding::Ended(Ending::OutOfMemory),
+            ending: RetargetEnding::Ended(CommandEnd::OutOfMemory),
             disk,
         },
     }
@@ -64,7 +64,7 @@ fn write_and_place<K: Sink, D: Disk>(
 }
 
 // Writes all of a plan's document, or says why not.
-fn write_next<K: Sink>(alloc: Global, plan: &CheckedPlan, sink: &mut K) -> Result<(), Ending>
+fn write_next<K: Sink>(alloc: Global, plan: &CheckedPlan, sink: &mut K) -> Result<(), CommandEnd>
     ensures ok { OnOk result
         (Appends (K.told sink.old).written (next_text plan.now) (K.told sink.new).written) }
     ensures err { IfErr result
@@ -73,17 +73,17 @@ fn write_next<K: Sink>(alloc: Global, plan: &CheckedPlan, sink: &mut K) -> Resul
 {
     match document_of(alloc, plan) {
         Ok(document) => done(write_text(sink, document.as_str())),
-        Err(_) => Err(Ending::OutOfMemory),
+        Err(_) => Err(CommandEnd::OutOfMemory),
     }
 }
 
 // An ending as a step that may fail.
-fn done(ending: Ending) -> Result<(), Ending>
-    ensures ok { OnOk result (ending ≡ Ending.Done) }
-    ensures err { IfErr result (λ other. (other ≡ ending) × (other ≢ Ending.Done)) }
+fn done(ending: CommandEnd) -> Result<(), CommandEnd>
+    ensures ok { OnOk result (ending ≡ CommandEnd.Done) }
+    ensures err { IfErr result (λ other. (other ≡ ending) × (other ≢ CommandEnd.Done)) }
 {
     match ending {
-        Ending::Done => Ok(()),
+        CommandEnd::Done => Ok(()),
         other => Err(other),
     }
 }
@@ -98,12 +98,12 @@ fn place_next<D: Disk>(alloc: Global, known: KnownPlan, disk: D) -> Retargeted<D
         Ok(plan) => {
             drop(plan);
             Retargeted {
-                ending: RetargetEnding::Ended(Ending::Done),
+                ending: RetargetEnding::Ended(CommandEnd::Done),
                 disk,
             }
         }
         Err(cause) => Retargeted {
-            ending: RetargetEnding::Ended(Ending::from(cause)),
+            ending: RetargetEnding::Ended(CommandEnd::from(cause)),
             disk,
         },
     }

@@ -10,14 +10,13 @@ use crate::aims::wanted_of;
 use crate::choosing::chosen_by;
 use crate::ending::{RetargetEnding, Wanted};
 use crate::image::read_image;
-use crate::journal_room::journal_room;
 use crate::placing::replace;
 use crate::telling::tell;
 use disk_mirror::Openable;
 use disk_model::Disk;
-use retarget_service::{Unwritten, aimed_by};
+use retarget_service::{Unwritten, aimed_by, journal_room};
 use std::alloc::Global;
-use text_commands::{Ending, Planner, read_input};
+use text_commands::{CommandEnd, Planner, read_input};
 use wan_edge::{Nums8, Sink, Source};
 use wan_model::Problem;
 
@@ -124,7 +123,7 @@ fn retarget_wanted<K: Sink, D: Openable>(
         Err(_) => {
             drop(wanted);
             Retargeted {
-                ending: RetargetEnding::Ended(Ending::DiskFault),
+                ending: RetargetEnding::Ended(CommandEnd::DiskFault),
                 disk,
             }
         }
@@ -149,7 +148,7 @@ fn retarget_opened<K: Sink, D: Disk>(
         Err(cause) => {
             drop(wanted);
             Retargeted {
-                ending: RetargetEnding::Ended(Ending::from(cause)),
+                ending: RetargetEnding::Ended(CommandEnd::from(cause)),
                 disk,
             }
         }
@@ -210,7 +209,7 @@ fn retarget_problem<K: Sink, D: Disk>(
     match chosen_by(alloc, planner, problem) {
         Ok(chosen) => replace(alloc, migration, chosen.plan, sink, disk),
         Err(missed) => Retargeted {
-            ending: RetargetEnding::Ended(Ending::from(missed)),
+            ending: RetargetEnding::Ended(CommandEnd::from(missed)),
             disk,
         },
     }

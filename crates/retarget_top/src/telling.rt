@@ -4,10 +4,11 @@ ghost use Rattle.retarget_top.specs.Lines.{NotesText};
 ghost use Rattle.retarget_top.specs.RetargetPromise.{LineTold, RetargetTold};
 
 use crate::ending::RetargetEnding;
-use crate::lines::{no_link_line, target_line, unleft_line};
+use crate::lines::{no_link_line, target_line};
 use lists::{Memory, Text};
+use retarget_service::unleft_line;
 use std::alloc::Global;
-use text_commands::{Ending, note};
+use text_commands::{CommandEnd, note};
 use wan_edge::{Sink, write_all};
 
 /// Writes the line of an ending, and answers its status; without memory for the line that is what it tells.
@@ -32,7 +33,7 @@ fn told<K: Sink>(alloc: Global, notes: &mut K, status: u8, line: Result<Text, Me
             write_line(notes, line.as_str());
             status
         }
-        Err(_) => note(alloc, notes, Ending::OutOfMemory),
+        Err(_) => note(alloc, notes, CommandEnd::OutOfMemory),
     }
 }
 

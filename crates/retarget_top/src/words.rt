@@ -42,7 +42,7 @@ fn retarget_of<'a>(words: &'a [String]) -> Option<RetargetAsked<'a>>
     }
 }
 
-// What is asked for by this word and those behind it.
+// What is asked for by this word and those after it.
 fn retarget_at<'a>(word: &str, rest: &'a [String]) -> Option<RetargetAsked<'a>>
     ensures asked { option_map asked result ≡ retarget_at word.now (map string_bytes rest.now) }
     ensures next { IfSome result (λ a. a.migration + 1 < 2 ^ 32) }

@@ -30,7 +30,7 @@ pub fn an_operation_goes_back_once_those_behind_it_are_back()
         → GoesBack p h least fewer }
 {}
 
-/// Where something is left behind the start, and nothing is on its way back or there, one of the operations that
+/// Where something is left after the start, and nothing is on its way back or there, one of the operations that
 /// are left may be taken back: so all of them may, one after the other.
 pub fn there_is_an_operation_that_may_go_back()
     ensures { (p : Problem) (plan : Plan) (h : History) (left : ℕ → ℕ)

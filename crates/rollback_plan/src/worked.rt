@@ -88,7 +88,7 @@ pub fn levelling_begins_what_stands_before_the_stage()
     ensures nothing { release ahead ahead_plan (levelling 0) (fresh []) ≡ [] }
 {}
 
-/// From stage 1 of two the way back has one operation of each flow behind it, and one before it.
+/// From stage 1 of two the way back has one operation of each flow after it, and one before it.
 pub fn a_way_back_begins_where_the_stage_left_it()
     ensures middle { back_start ahead ahead_plan 1 ≡ (1 ∷ 1 ∷ 1 ∷ []) ++ replicate 18 0 }
     ensures from_the_end { back_start ahead ahead_plan 2 ≡ replicate 21 0 }
@@ -135,7 +135,7 @@ pub fn a_rollout_turns_where_its_way_back_is_sound()
         ≡ 2 }
 {}
 
-/// What was begun behind another one's Done has to be back before that may go; what was in flight together may go
+/// What was begun after another one's Done has to be back before that may go; what was in flight together may go
 /// together.
 pub fn an_operation_waits_for_those_begun_behind_it()
     ensures last { may_go_back (λ n. 1)

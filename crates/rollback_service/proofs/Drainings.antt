@@ -7,25 +7,25 @@ use Rattle.intent_journal.specs.Openings.{IsOpenedFrom}
 use Rattle.intent_journal.specs.declared.digest.Digest.{Digest}
 use Rattle.intent_journal.specs.declared.fault.JournalFault.{JournalFault}
 use Rattle.wan_edge.specs.Ports.{PortTrace}
-use Rattle.rollout_book.specs.Chronicles.{Chronicled, IsNewBook, graph_of}
+use Rattle.rollout_book.specs.JournaledRounds.{Journaled, IsNewBook, graph_of}
 use Rattle.shared_book.specs.Opened.{opening_of}
-use Rattle.rollout_ports.specs.Berths.{FleetPorts}
-use Rattle.rollout_run.specs.declared.end.RunEnd.TheVariants as run
-use Rattle.rollout_service.specs.Outcomes.{HasRun, IfRolled, OnUnopened}
-use Rattle.rollout_service.specs.declared.answer.RunAnswer.{RunAnswer}
-use Rattle.rollout_service.specs.declared.answer.RunAnswer.TheVariants as answer
-use Rattle.rollout_service.proofs.Outcomes.{if-rolled, on-unopened}
+use Rattle.switch_ports.specs.Berths.{FleetPorts}
+use Rattle.controller_run.specs.declared.end.RunEnd.TheVariants as run
+use Rattle.controller_run.specs.RolloutEnds.{HasRun, IfRolled, OnUnopened}
+use Rattle.controller_run.specs.declared.rollout_end.RolloutEnd.{RolloutEnd}
+use Rattle.controller_run.specs.declared.rollout_end.RolloutEnd.TheVariants as answer
+use Rattle.controller_run.proofs.RolloutEnds.{if-rolled, on-unopened}
 use Rattle.rollback_plan.specs.Levels.{levelling}
 use Rattle.rollback_service.specs.Drainings.{HasDrained, HasRunFrom}
 use Rattle.rollback_service.proofs.Levellings.{never-stays}
 
 -- a run under a policy that levels at a stage, by another name of the stage
-pub run-at : {D P : Type 0} (trace : D → DiskTrace) (tell : P → PortTrace) (stage other migration rounds : ℕ) (opened : Chronicled D) (before now : FleetPorts P) (disk : D) (a : RunAnswer)
+pub run-at : {D P : Type 0} (trace : D → DiskTrace) (tell : P → PortTrace) (stage other migration rounds : ℕ) (opened : Journaled D) (before now : FleetPorts P) (disk : D) (a : RolloutEnd)
     → HasRunFrom trace tell stage migration rounds opened before now disk a → stage ≡ other → HasRunFrom trace tell other migration rounds opened before now disk a
 run-at trace tell stage other migration rounds opened before now disk a ran same = subst (λ (s : ℕ). HasRunFrom trace tell s migration rounds opened before now disk a) same ran
 
 -- without memory for the policy nothing was begun
-pub never-run : {D P : Type 0} (trace : D → DiskTrace) (tell : P → PortTrace) (stage migration rounds : ℕ) (opened : Chronicled D) (before : FleetPorts P) (disk : D)
+pub never-run : {D P : Type 0} (trace : D → DiskTrace) (tell : P → PortTrace) (stage migration rounds : ℕ) (opened : Journaled D) (before : FleetPorts P) (disk : D)
     → disk ≡ opened.disk → HasRunFrom trace tell stage migration rounds opened before before disk answer.Memory
 never-run trace tell stage migration rounds opened before disk back = record {
   policy = levelling stage;
@@ -40,7 +40,7 @@ never-run trace tell stage migration rounds opened before disk back = record {
   };
 }
 
-module _ {D P : Type 0} (trace : D → DiskTrace) (tell : P → PortTrace) (r : Rollout) (digest : Digest) (migration rounds : ℕ) (disk : D) (book : Chronicled D) (before now : FleetPorts P) (disk_now : D) (a : RunAnswer)
+module _ {D P : Type 0} (trace : D → DiskTrace) (tell : P → PortTrace) (r : Rollout) (digest : Digest) (migration rounds : ℕ) (disk : D) (book : Journaled D) (before now : FleetPorts P) (disk_now : D) (a : RolloutEnd)
     (ran : HasRunFrom trace tell 0 migration rounds book before now disk_now a) where
   -- an opening, and a run of what was opened
   pub drained-from : digest.migration ≡ migration → IsOpenedFrom trace r digest disk (graph_of book) book.entries book.disk → IsNewBook trace book

@@ -9,18 +9,18 @@ use Rattle.disk_model.specs.Traces.{DiskTrace}
 use Rattle.intent_journal.specs.Openings.{IsOpenedFrom}
 use Rattle.intent_journal.specs.declared.digest.Digest.{Digest}
 use Rattle.wan_edge.specs.Ports.{PortTrace}
-use Rattle.rollout_book.specs.Chronicles.{Chronicled, IsNewBook, graph_of}
-use Rattle.shared_history.specs.Histories.{Opening}
+use Rattle.rollout_book.specs.JournaledRounds.{Journaled, IsNewBook, graph_of}
+use Rattle.shared_book.specs.Histories.{Opening}
 use Rattle.shared_book.specs.Images.{StaysOpened}
 use Rattle.shared_book.specs.Opened.{opening_of}
 use Rattle.shared_book.proofs.Staying.{stays_alone}
-use Rattle.rollout_ports.specs.Berths.{FleetPorts}
+use Rattle.switch_ports.specs.Berths.{FleetPorts}
 use Rattle.rollout_report.specs.Journals.{digest_for}
-use Rattle.rollout_run.specs.Ran.{EndsRun}
-use Rattle.rollout_run.specs.declared.end.RunEnd.{RunEnd}
-use Rattle.rollout_run.specs.declared.end.RunEnd.TheVariants as run
-use Rattle.rollout_service.specs.Outcomes.{HasRun}
-use Rattle.rollout_service.specs.declared.answer.RunAnswer.TheVariants as answer
+use Rattle.controller_run.specs.Ran.{EndsRun}
+use Rattle.controller_run.specs.declared.end.RunEnd.{RunEnd}
+use Rattle.controller_run.specs.declared.end.RunEnd.TheVariants as run
+use Rattle.controller_run.specs.RolloutEnds.{HasRun}
+use Rattle.controller_run.specs.declared.rollout_end.RolloutEnd.TheVariants as answer
 use Rattle.rollback_plan.specs.Levels.{levelling}
 use Rattle.rollback_plan.specs.Turns.{may_turn}
 use Rattle.rollback_plan.proofs.Ceilings.{ceiling-most}
@@ -59,12 +59,12 @@ module _ (r : Rollout) (h : History) (legal : is_legal r.problem r.plan h ≡ tr
 -- ---- by the end of the run
 
 -- what is answered of the book that a run has left is what is answered of the rollout that was opened
-pub level-behind : {D P : Type 0} (tell : P → PortTrace) (homes : List ℕ) (opened closed : Chronicled D) (before now : FleetPorts P) (ran : Type 0) (start : List ℕ) (end : RunEnd)
+pub level-behind : {D P : Type 0} (tell : P → PortTrace) (homes : List ℕ) (opened closed : Journaled D) (before now : FleetPorts P) (ran : Type 0) (start : List ℕ) (end : RunEnd)
     → (ran → closed.rollout ≡ opened.rollout) → EndsRun tell homes opened closed before now ran end → level_for closed.rollout start end ≡ level_for opened.rollout start end
 level-behind tell homes opened closed before now ran start run.Finished same ends = ap (λ (r : Rollout). level.Level r start) (same ends)
 level-behind tell homes opened closed before now ran start run.Held same ends = ap (λ (r : Rollout). level.Level r start) (same ends)
 level-behind tell homes opened closed before now ran start (run.Stopped halt) same ends = ap (λ (r : Rollout). level.Stopped r halt) (same ends)
-level-behind tell homes opened closed before now ran start (run.NoPort switch) same ends = ap (λ (b : Chronicled _). level.NoPort b.rollout switch) ends.0
+level-behind tell homes opened closed before now ran start (run.NoPort switch) same ends = ap (λ (b : Journaled _). level.NoPort b.rollout switch) ends.0
 level-behind tell homes opened closed before now ran start run.Memory same ends = refl
 
 -- no port is missing but where the run says so
@@ -75,7 +75,7 @@ level-no_port r start (run.Stopped halt) other switch is = absurd (cc is)
 level-no_port r start (run.NoPort first) other switch is = cc is
 level-no_port r start run.Memory other switch is = absurd (cc is)
 
--- the way back may begin behind a level
+-- the way back may begin after a level
 start-for : (r : Rollout) (start : List ℕ) (end : RunEnd) → IsStartBack r start → MayStart (level_for r start end)
 start-for r start run.Finished may = may
 start-for r start run.Held may = may
@@ -83,18 +83,18 @@ start-for r start (run.Stopped halt) may = tt
 start-for r start (run.NoPort switch) may = tt
 start-for r start run.Memory may = tt
 
-pub start-is : {D P : Type 0} (trace : D → DiskTrace) (tell : P → PortTrace) (origin : BackFrom) (migration rounds : ℕ) (book : Chronicled D) (before now : FleetPorts P) (disk : D) (a : LevelAnswer)
+pub start-is : {D P : Type 0} (trace : D → DiskTrace) (tell : P → PortTrace) (origin : BackFrom) (migration rounds : ℕ) (book : Journaled D) (before now : FleetPorts P) (disk : D) (a : LevelAnswer)
     → IsNetwork book.rollout.problem → is_valid_plan book.rollout.problem book.rollout.plan ≡ true → IsNewBook trace book → HasRunLevelling trace tell origin migration rounds book before now disk a → MayStart a
 start-is trace tell origin migration rounds book before now disk a net valid new ran =
     let start = start_of book.rollout book.history ran.stage in
     subst MayStart (sym ran.at.under.tells) (start-for book.rollout start ran.at.under.has.end (starts-back book.rollout book.history new.legal net valid origin ran.stage ran.turns))
 
 -- a disk that wasn't called stands as it did
-pub never-stays : {D : Type 0} (trace : D → DiskTrace) (o : Opening) (opened : Chronicled D) (disk : D) → disk ≡ opened.disk → StaysOpened trace o (trace opened.disk) disk
+pub never-stays : {D : Type 0} (trace : D → DiskTrace) (o : Opening) (opened : Journaled D) (disk : D) → disk ≡ opened.disk → StaysOpened trace o (trace opened.disk) disk
 never-stays {D = D} trace o opened disk back = subst (λ (d : D). StaysOpened trace o (trace opened.disk) d) (sym back) (stays_alone trace o opened.disk)
 
 -- without memory for the policy, or to find out how far, nothing was begun
-pub never-at : {D P : Type 0} (trace : D → DiskTrace) (tell : P → PortTrace) (stage : ℕ) (start : List ℕ) (migration rounds : ℕ) (opened : Chronicled D) (before : FleetPorts P) (disk : D)
+pub never-at : {D P : Type 0} (trace : D → DiskTrace) (tell : P → PortTrace) (stage : ℕ) (start : List ℕ) (migration rounds : ℕ) (opened : Journaled D) (before : FleetPorts P) (disk : D)
     → disk ≡ opened.disk → HasRunAt trace tell stage start migration rounds opened before before disk level.Memory
 never-at trace tell stage start migration rounds opened before disk back = record {
   policy = levelling stage;
@@ -113,13 +113,13 @@ never-at trace tell stage start migration rounds opened before disk back = recor
   };
 }
 
-pub never-levelled : {D P : Type 0} (trace : D → DiskTrace) (tell : P → PortTrace) (origin : BackFrom) (migration rounds : ℕ) (opened : Chronicled D) (before : FleetPorts P) (disk : D)
+pub never-levelled : {D P : Type 0} (trace : D → DiskTrace) (tell : P → PortTrace) (origin : BackFrom) (migration rounds : ℕ) (opened : Journaled D) (before : FleetPorts P) (disk : D)
     → ((stage : ℕ) × TurnsFrom origin opened.rollout opened.history stage) → disk ≡ opened.disk → HasRunLevelling trace tell origin migration rounds opened before before disk level.Memory
 never-levelled trace tell origin migration rounds opened before disk some back =
     record { stage = some.0; turns = some.1; at = never-at trace tell some.0 (start_of opened.rollout opened.history some.0) migration rounds opened before disk back }
 
 -- where it is levelled at the stage that was found
-pub levelled-so : {D P : Type 0} (trace : D → DiskTrace) (tell : P → PortTrace) (origin : BackFrom) (stage : ℕ) (start : List ℕ) (migration rounds : ℕ) (opened : Chronicled D) (before now : FleetPorts P) (disk : D) (a : LevelAnswer)
+pub levelled-so : {D P : Type 0} (trace : D → DiskTrace) (tell : P → PortTrace) (origin : BackFrom) (stage : ℕ) (start : List ℕ) (migration rounds : ℕ) (opened : Journaled D) (before now : FleetPorts P) (disk : D) (a : LevelAnswer)
     → TurnsFrom origin opened.rollout opened.history stage → start ≡ start_of opened.rollout opened.history stage → HasRunAt trace tell stage start migration rounds opened before now disk a
     → HasRunLevelling trace tell origin migration rounds opened before now disk a
 levelled-so trace tell origin stage start migration rounds opened before now disk a turns is at =
@@ -131,7 +131,7 @@ unfolding digest_for
 known-migration r migration = refl
 
 -- an opening and a levelling of what was opened
-pub levelled-from : {D P : Type 0} (trace : D → DiskTrace) (tell : P → PortTrace) (origin : BackFrom) (r : Rollout) (digest : Digest) (migration rounds : ℕ) (disk : D) (book : Chronicled D) (before now : FleetPorts P) (disk_now : D) (a : LevelAnswer)
+pub levelled-from : {D P : Type 0} (trace : D → DiskTrace) (tell : P → PortTrace) (origin : BackFrom) (r : Rollout) (digest : Digest) (migration rounds : ℕ) (disk : D) (book : Journaled D) (before now : FleetPorts P) (disk_now : D) (a : LevelAnswer)
     → digest.migration ≡ migration → IsOpenedFrom trace r digest disk (graph_of book) book.entries book.disk → IsNewBook trace book
     → HasRunLevelling trace tell origin migration rounds book before now disk_now a
     → HasLevelled trace tell origin r digest rounds disk before now disk_now a

@@ -22,7 +22,7 @@ use Rattle.rollback_plan.proofs.Alike.{count-turned}
 use Rattle.rollback_service.specs.Levellings.{IsStartBack}
 use Rattle.rollback_service.specs.Placings.{IsNotPlaced, MayPlace, kept_from}
 
--- behind a start that alone is settled
+-- after a start that alone is settled
 pub settled-start : (n : ℕ) (start : List ℕ) → length start ≡ n → list_below n (settled (started start)) ≡ start
 settled-start n start long =
     ext_get_or 0 (list_below n (settled (started start))) start (list_below-length n (settled (started start)) ∙ sym long) (λ i inside.
@@ -52,6 +52,6 @@ module _ {D : Type 0} (trace : D → DiskTrace) (kept : Kept) (disk : D) where
   pub never-placed : ((c : List ℕ) → (trace disk).left_since (trace disk).moment c → (trace disk).may_leave c) → MayPlace trace kept disk disk
   never-placed now = record { any_moment = told-alone now (trace disk).bytes; told = refl; count = omega arith }
 
--- for want of memory
+-- for lack of memory
 pub not-placed : {D : Type 0} (trace : D → DiskTrace) (disk : D) → IsNotPlaced trace Memory disk disk
 not-placed trace disk = record { why = tt; unwritten = tt }

@@ -5,10 +5,10 @@ use Rattle.rollout_rules.specs.declared.op.OpView.{OpView}
 use Rattle.disk_model.specs.Traces.{DiskTrace}
 use Rattle.intent_journal.specs.declared.digest.Digest.{Digest}
 use Rattle.wan_edge.specs.Ports.{PortTrace}
-use Rattle.rollout_book.specs.Chronicles.{Chronicled}
-use Rattle.rollout_ports.specs.Berths.{FleetPorts}
-use Rattle.rollout_service.specs.Outcomes.{HasRolled, HasRun}
-use Rattle.rollout_service.specs.declared.answer.RunAnswer.{RunAnswer}
+use Rattle.rollout_book.specs.JournaledRounds.{Journaled}
+use Rattle.switch_ports.specs.Berths.{FleetPorts}
+use Rattle.controller_run.specs.RolloutEnds.{HasRolled, HasRun}
+use Rattle.controller_run.specs.declared.rollout_end.RolloutEnd.{RolloutEnd}
 use Rattle.rollback_service.specs.Levellings.{LevelsBy}
 
 -- A policy holds all back: each item stands at stage 0 or past it.
@@ -16,13 +16,13 @@ abbrev pub HoldsAll : (OpView → ℕ) → Type 0
 HoldsAll policy = LevelsBy 0 policy
 
 -- A book was run from its opening on, and closed, under a policy that levels at this stage.
-pub record HasRunFrom {D P : Type 0} (trace : D → DiskTrace) (tell : P → PortTrace) (stage migration rounds : ℕ) (opened : Chronicled D) (before now : FleetPorts P) (disk : D) (answer : RunAnswer) : Type 0 where
+pub record HasRunFrom {D P : Type 0} (trace : D → DiskTrace) (tell : P → PortTrace) (stage migration rounds : ℕ) (opened : Journaled D) (before now : FleetPorts P) (disk : D) (answer : RolloutEnd) : Type 0 where
   pub policy : OpView → ℕ
   pub levels : LevelsBy stage policy
   pub run : HasRun trace tell policy migration rounds opened before now disk answer
 
 -- The book of a rollout was opened on this disk, and run under a policy that holds all back.
-pub record HasDrained {D P : Type 0} (trace : D → DiskTrace) (tell : P → PortTrace) (r : Rollout) (digest : Digest) (rounds : ℕ) (disk : D) (before now : FleetPorts P) (drained : D) (answer : RunAnswer) : Type 0 where
+pub record HasDrained {D P : Type 0} (trace : D → DiskTrace) (tell : P → PortTrace) (r : Rollout) (digest : Digest) (rounds : ℕ) (disk : D) (before now : FleetPorts P) (drained : D) (answer : RolloutEnd) : Type 0 where
   pub policy : OpView → ℕ
   pub holds : HoldsAll policy
   pub rolled : HasRolled trace tell r digest policy rounds disk before now drained answer

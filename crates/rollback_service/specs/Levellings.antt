@@ -9,12 +9,12 @@ use Rattle.order_policy.specs.Answers.{is_view}
 use Rattle.disk_model.specs.Traces.{DiskTrace}
 use Rattle.intent_journal.specs.declared.digest.Digest.{Digest}
 use Rattle.wan_edge.specs.Ports.{PortTrace}
-use Rattle.rollout_book.specs.Chronicles.{Chronicled}
-use Rattle.rollout_ports.specs.Berths.{FleetPorts}
-use Rattle.rollout_run.specs.declared.end.RunEnd.{RunEnd}
-use Rattle.rollout_run.specs.declared.end.RunEnd.TheVariants as run
-use Rattle.rollout_service.specs.Outcomes.{HasRolled, HasRun}
-use Rattle.rollout_service.specs.declared.answer.RunAnswer.{RunAnswer}
+use Rattle.rollout_book.specs.JournaledRounds.{Journaled}
+use Rattle.switch_ports.specs.Berths.{FleetPorts}
+use Rattle.controller_run.specs.declared.end.RunEnd.{RunEnd}
+use Rattle.controller_run.specs.declared.end.RunEnd.TheVariants as run
+use Rattle.controller_run.specs.RolloutEnds.{HasRolled, HasRun}
+use Rattle.controller_run.specs.declared.rollout_end.RolloutEnd.{RolloutEnd}
 use Rattle.rollback_plan.specs.Levels.{ceiling, levelling}
 use Rattle.rollback_plan.specs.Turning.{back_plan, back_problem}
 use Rattle.rollback_plan.specs.Turns.{TurnsFirstAt, turn_start}
@@ -45,7 +45,7 @@ pub record IsStartBack (r : Rollout) (start : List ℕ) : Type 0 where
 abbrev pub LevelsBy : ℕ → (OpView → ℕ) → Type 0
 LevelsBy s policy = (view : OpView) → is_view view ≡ true → policy view ≡ levelling s view
 
--- The answer behind a run that ended so, under the policy that levels a rollout where its way back begins so: it is level where the run finished, and where the policy holds back the rest.
+-- The answer after a run that ended so, under the policy that levels a rollout where its way back begins so: it is level where the run finished, and where the policy holds back the rest.
 abbrev pub level_for : Rollout → List ℕ → RunEnd → LevelAnswer
 level_for r start run.Finished = level.Level r start
 level_for r start run.Held = level.Level r start
@@ -53,7 +53,7 @@ level_for r start (run.Stopped halt) = level.Stopped r halt
 level_for r start (run.NoPort switch) = level.NoPort r switch
 level_for r start run.Memory = level.Memory
 
--- the way back may begin where it does behind a level
+-- the way back may begin where it does after a level
 abbrev pub MayStart : LevelAnswer → Type 0
 MayStart (level.Level r start) = IsStartBack r start
 MayStart (level.Stopped r halt) = ⊤
@@ -61,19 +61,19 @@ MayStart (level.NoPort r switch) = ⊤
 MayStart level.Memory = ⊤
 
 -- A book was run from its opening on under this policy, and closed; the answer is the one for this start.
-pub record HasRunUnder {D P : Type 0} (trace : D → DiskTrace) (tell : P → PortTrace) (policy : OpView → ℕ) (migration rounds : ℕ) (opened : Chronicled D) (start : List ℕ) (before now : FleetPorts P) (disk : D) (answer : LevelAnswer) : Type 0 where
-  pub run : RunAnswer
+pub record HasRunUnder {D P : Type 0} (trace : D → DiskTrace) (tell : P → PortTrace) (policy : OpView → ℕ) (migration rounds : ℕ) (opened : Journaled D) (start : List ℕ) (before now : FleetPorts P) (disk : D) (answer : LevelAnswer) : Type 0 where
+  pub run : RolloutEnd
   pub has : HasRun trace tell policy migration rounds opened before now disk run
   pub tells : answer ≡ level_for opened.rollout start has.end
 
 -- the same under a policy that levels at this stage
-pub record HasRunAt {D P : Type 0} (trace : D → DiskTrace) (tell : P → PortTrace) (stage : ℕ) (start : List ℕ) (migration rounds : ℕ) (opened : Chronicled D) (before now : FleetPorts P) (disk : D) (answer : LevelAnswer) : Type 0 where
+pub record HasRunAt {D P : Type 0} (trace : D → DiskTrace) (tell : P → PortTrace) (stage : ℕ) (start : List ℕ) (migration rounds : ℕ) (opened : Journaled D) (before now : FleetPorts P) (disk : D) (answer : LevelAnswer) : Type 0 where
   pub policy : OpView → ℕ
   pub levels : LevelsBy stage policy
   pub under : HasRunUnder trace tell policy migration rounds opened start before now disk answer
 
 -- at the stage at which what the book found is levelled
-pub record HasRunLevelling {D P : Type 0} (trace : D → DiskTrace) (tell : P → PortTrace) (origin : BackFrom) (migration rounds : ℕ) (opened : Chronicled D) (before now : FleetPorts P) (disk : D) (answer : LevelAnswer) : Type 0 where
+pub record HasRunLevelling {D P : Type 0} (trace : D → DiskTrace) (tell : P → PortTrace) (origin : BackFrom) (migration rounds : ℕ) (opened : Journaled D) (before now : FleetPorts P) (disk : D) (answer : LevelAnswer) : Type 0 where
   pub stage : ℕ
   pub turns : TurnsFrom origin opened.rollout opened.history stage
   pub at : HasRunAt trace tell stage (start_of opened.rollout opened.history stage) migration rounds opened before now disk answer
@@ -81,7 +81,7 @@ pub record HasRunLevelling {D P : Type 0} (trace : D → DiskTrace) (tell : P �
 -- The book of a rollout was opened on this disk, and run as that of a rollout is, under a policy that levels at the stage at which what was found is levelled before it goes back.
 pub record HasLevelled {D P : Type 0} (trace : D → DiskTrace) (tell : P → PortTrace) (origin : BackFrom) (r : Rollout) (digest : Digest) (rounds : ℕ) (disk : D) (before now : FleetPorts P) (levelled : D) (answer : LevelAnswer) : Type 0 where
   pub policy : OpView → ℕ
-  pub run : RunAnswer
+  pub run : RolloutEnd
   pub rolled : HasRolled trace tell r digest policy rounds disk before now levelled run
   pub stage : ℕ
   pub turns : TurnsFrom origin rolled.book.rollout rolled.book.history stage

@@ -1,10 +1,10 @@
 ghost use Rattle.std.specs.Prelude.{◌≡◌};
 ghost use Rattle.rollback_service.specs.Levellings.{level_for};
 
+use controller_run::RunEnd;
 use dependency_graph::Graph;
 use lists::Ids;
-use rollout_run::RunEnd;
-use shared_history::Halt;
+use shared_book::Halt;
 use wan_model::CheckedPlan;
 
 /// How levelling has gone. The plan comes back where there is more to do with it.
@@ -17,11 +17,11 @@ pub enum LevelAnswer {
     Stopped(CheckedPlan, Halt),
     /// The fleet has no port for this switch, which is the home of an operation. Nothing was begun.
     NoPort(CheckedPlan, u32),
-    /// Memory ran out behind the opening of the journal, before anything was begun.
+    /// Memory ran out after the opening of the journal, before anything was begun.
     Memory,
 }
 
-/// The answer behind a run that ended so, under the policy that levels where the way back begins so.
+/// The answer after a run that ended so, under the policy that levels where the way back begins so.
 pub(crate) fn answer_behind(graph: Graph, start: Ids, end: RunEnd) -> LevelAnswer
     ensures { result ≡ level_for graph.rollout start end }
 {

@@ -4,21 +4,20 @@ ghost use Rattle.rollout_rules.specs.Wan.{Rollout};
 ghost use Rattle.dependency_graph.specs.Graph.{op_total};
 ghost use Rattle.intent_journal.specs.Openings.{IsLeft};
 ghost use Rattle.wan_edge.specs.Streams.{Rose};
-ghost use Rattle.rollout_book.specs.Chronicles.{IsNewBook};
-ghost use Rattle.rollout_ports.specs.Berths.{ports_of};
+ghost use Rattle.rollout_book.specs.JournaledRounds.{IsNewBook};
+ghost use Rattle.switch_ports.specs.Berths.{ports_of};
 ghost use Rattle.rollout_report.specs.Journals.{digest_for};
-ghost use Rattle.rollout_service.specs.Outcomes.{IfRolled, OnUnopened};
+ghost use Rattle.controller_run.specs.RolloutEnds.{IfRolled, OnUnopened};
 ghost use Rattle.rollback_plan.specs.Levels as levels;
 ghost use Rattle.rollback_service.specs.Drainings.{HasDrained, HasRunFrom};
 
-use crate::opening::open_chronicle;
+use crate::opening::open_rounds;
+use controller_run::{Limits, RolloutEnd, RolloutResult, run_book};
 use disk_model::Disk;
 use intent_journal::Unopened;
 use order_policy::Policy;
 use rollback_plan::levelling_rank;
-use rollout_book::{Book, Chronicle};
-use rollout_run::Limits;
-use rollout_service::{Outcome, RunAnswer, run_book};
+use rollout_book::{Book, JournaledRounds};
 use std::alloc::Global;
 use std::sync::Wait;
 use std::thread::Threads;
@@ -31,7 +30,7 @@ use wan_model::{CheckedPlan, OpView};
 pub struct Drained<D> {
     pub disk: D,
     pub operations: u32,
-    pub answer: RunAnswer,
+    pub answer: RolloutEnd,
 }
 
 /// Drains the rollout of a plan. Its journal is opened on the disk, or made where there is none yet, and the
@@ -60,25 +59,25 @@ where
         × (F.served fleet.new ≡ F.served fleet.old)
         × (F.visiting fleet.new ≡ F.visiting fleet.old) }
     ensures no_port { (r : Rollout) (switch : ℕ)
-        → result.answer ≡ RunAnswer.NoPort r switch
+        → result.answer ≡ RolloutEnd.NoPort r switch
         → Rose (F.faults fleet.old) (F.faults fleet.new) }
     ensures count { F.faults fleet.old ≤ F.faults fleet.new }
 {
-    match open_chronicle(alloc, plan, limits.migration, disk) {
+    match open_rounds(alloc, plan, limits.migration, disk) {
         Ok(chronicle) => drain(rt, alloc, chronicle, fleet, limits),
         Err(Unopened { disk, cause }) => Drained {
             disk,
             operations: 0,
-            answer: RunAnswer::Unopened(cause),
+            answer: RolloutEnd::Unopened(cause),
         },
     }
 }
 
-// Drains the rollout of a chronicle that was opened: levelling at stage 0 begins nothing.
+// Drains the rollout of journaled rounds that were opened: levelling at stage 0 begins nothing.
 fn drain<R: Wait + Threads + Sync, D: Disk + Drop + Send, F: Fleet>(
     rt: &R,
     alloc: Global,
-    chronicle: Chronicle<D>,
+    chronicle: JournaledRounds<D>,
     fleet: &mut F,
     limits: Limits,
 ) -> Drained<D>
@@ -93,12 +92,12 @@ where
         × (F.served fleet.new ≡ F.served fleet.old)
         × (F.visiting fleet.new ≡ F.visiting fleet.old) }
     ensures no_port { (r : Rollout) (switch : ℕ)
-        → result.answer ≡ RunAnswer.NoPort r switch
+        → result.answer ≡ RolloutEnd.NoPort r switch
         → Rose (F.faults fleet.old) (F.faults fleet.new) }
     ensures count { F.faults fleet.old ≤ F.faults fleet.new }
 {
     let operations = operations_of(&chronicle);
-    let Outcome { disk, answer } = run_from(rt, alloc, chronicle, 0, fleet, limits);
+    let RolloutResult { disk, answer } = run_from(rt, alloc, chronicle, 0, fleet, limits);
     Drained {
         disk,
         operations,
@@ -106,24 +105,24 @@ where
     }
 }
 
-// How many operations the rollout of a chronicle has.
-fn operations_of<D: Disk>(chronicle: &Chronicle<D>) -> u32
+// How many operations the rollout of journaled rounds has.
+fn operations_of<D: Disk>(chronicle: &JournaledRounds<D>) -> u32
     ensures { result ≡ op_total chronicle.now.rollout }
 {
     let graph = chronicle.graph();
     graph.op_total()
 }
 
-// Runs the rollout of a chronicle that was opened, under a policy that is made here and lent: longer chains
+// Runs the rollout of journaled rounds that were opened, under a policy that is made here and lent: longer chains
 // first, and nothing of what stands at this stage or past it. Without memory for it nothing is begun.
 fn run_from<R: Wait + Threads + Sync, D: Disk + Drop + Send, F: Fleet>(
     rt: &R,
     alloc: Global,
-    chronicle: Chronicle<D>,
+    chronicle: JournaledRounds<D>,
     stage: u32,
     fleet: &mut F,
     limits: Limits,
-) -> Outcome<D>
+) -> RolloutResult<D>
 where
     F::Port: Drop + Send,
     requires { IsNewBook D.told chronicle }
@@ -134,7 +133,7 @@ where
         × (F.served fleet.new ≡ F.served fleet.old)
         × (F.visiting fleet.new ≡ F.visiting fleet.old) }
     ensures no_port { (r : Rollout) (switch : ℕ)
-        → result.answer ≡ RunAnswer.NoPort r switch
+        → result.answer ≡ RolloutEnd.NoPort r switch
         → Rose (F.faults fleet.old) (F.faults fleet.new) }
     ensures count { F.faults fleet.old ≤ F.faults fleet.new }
 {
@@ -156,9 +155,9 @@ where
         Err(_) => {
             let (graph, disk) = chronicle.into_parts();
             drop(graph);
-            Outcome {
+            RolloutResult {
                 disk,
-                answer: RunAnswer::Memory,
+                answer: RolloutEnd::Memory,
             }
         }
     }

@@ -6,26 +6,26 @@ ghost use Rattle.rollout_rules.specs.Valid.{is_valid_plan};
 ghost use Rattle.intent_journal.specs.Openings.{IsLeft};
 ghost use Rattle.order_policy.specs.Answers.{rank_by};
 ghost use Rattle.wan_edge.specs.Streams.{Rose};
-ghost use Rattle.rollout_book.specs.Chronicles.{IsNewBook};
+ghost use Rattle.rollout_book.specs.JournaledRounds.{IsNewBook};
 ghost use Rattle.rollout_book.specs.Lists.{IsKeptList};
 ghost use Rattle.shared_book.specs.Opened.{IsOpened, opening_of};
-ghost use Rattle.rollout_ports.specs.Berths.{ports_of};
+ghost use Rattle.switch_ports.specs.Berths.{ports_of};
 ghost use Rattle.rollout_report.specs.Journals.{digest_for};
 ghost use Rattle.rollback_plan.specs.Levels as levels;
 ghost use Rattle.rollback_service.specs.Levellings.{HasLevelled, HasRunAt, HasRunLevelling, HasRunUnder, MayStart, level_for};
 
 use crate::answer::{LevelAnswer, answer_behind};
-use crate::opening::open_chronicle;
+use crate::opening::open_rounds;
 use crate::origin::BackFrom;
 use crate::turn::{Turn, turn_of};
+use controller_run::{Limits, RunEnd, run};
 use dependency_graph::checked_plan_is_valid;
 use disk_model::Disk;
 use intent_journal::Unopened;
 use lists::Ids;
 use order_policy::Policy;
 use rollback_plan::levelling_rank;
-use rollout_book::{Book, Chronicle};
-use rollout_run::{Limits, RunEnd, run};
+use rollout_book::{Book, JournaledRounds};
 use std::alloc::Global;
 use std::sync::Wait;
 use std::thread::Threads;
@@ -76,17 +76,17 @@ where
     ensures count { F.faults fleet.old ≤ F.faults fleet.new }
 {
     checked_plan_is_valid(&plan);
-    match open_chronicle(alloc, plan, limits.migration, disk) {
+    match open_rounds(alloc, plan, limits.migration, disk) {
         Ok(chronicle) => Ok(level(rt, alloc, chronicle, origin, fleet, limits)),
         Err(unopened) => Err(unopened),
     }
 }
 
-// Levels the rollout of a chronicle that was opened. Without memory to find out how far, nothing is begun.
+// Levels the rollout of journaled rounds that were opened. Without memory to find out how far, nothing is begun.
 fn level<R: Wait + Threads + Sync, D: Disk + Drop + Send, F: Fleet>(
     rt: &R,
     alloc: Global,
-    chronicle: Chronicle<D>,
+    chronicle: JournaledRounds<D>,
     origin: BackFrom,
     fleet: &mut F,
     limits: Limits,
@@ -123,7 +123,7 @@ where
 }
 
 // What the plan's type keeps.
-fn plan_is_valid<D: Disk>(chronicle: &Chronicle<D>)
+fn plan_is_valid<D: Disk>(chronicle: &JournaledRounds<D>)
     ensures network { IsNetwork chronicle.now.rollout.problem }
     ensures valid { IsTrue (is_valid_plan chronicle.now.rollout.problem
         chronicle.now.rollout.plan) }
@@ -137,7 +137,7 @@ fn plan_is_valid<D: Disk>(chronicle: &Chronicle<D>)
 fn level_at<R: Wait + Threads + Sync, D: Disk + Drop + Send, F: Fleet>(
     rt: &R,
     alloc: Global,
-    chronicle: Chronicle<D>,
+    chronicle: JournaledRounds<D>,
     stage: u32,
     start: Ids,
     fleet: &mut F,

@@ -22,4 +22,4 @@ pub use answer::LevelAnswer;
 pub use draining::{Drained, run_draining};
 pub use levelling::{Levelled, run_levelling};
 pub use origin::BackFrom;
-pub use placing::{Placed, place_back, place_known, restarted};
+pub use placing::{Placed, place_back, place_known, with_start};

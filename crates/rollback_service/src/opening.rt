@@ -1,24 +1,24 @@
-//! A rollout's chronicle is opened on its disk. Which policy it is run under follows from what is found.
+//! The journaled rounds of a rollout are opened on its disk. Which policy it is run under follows from what is found.
 ghost use Rattle.std.specs.Prelude.{◌≡◌, [], IfErr, IfOk};
 ghost use Rattle.rollout_rules.specs.History.{from_nothing};
 ghost use Rattle.intent_journal.specs.Openings.{IsLeft, IsOpenedFrom};
-ghost use Rattle.rollout_book.specs.Chronicles.{graph_of, IsNewBook};
+ghost use Rattle.rollout_book.specs.JournaledRounds.{graph_of, IsNewBook};
 ghost use Rattle.rollout_report.specs.Journals.{digest_for};
 
 use disk_model::Disk;
 use intent_journal::{JournalFault, Unopened};
-use rollout_book::Chronicle;
+use rollout_book::JournaledRounds;
 use rollout_report::{KnownPlan, known_plan};
 use std::alloc::Global;
 use wan_model::CheckedPlan;
 
-/// Opens the chronicle of a plan, as a migration of this number. Where it isn't opened, the disk comes back.
-pub(crate) fn open_chronicle<D: Disk>(
+/// Opens the rounds of a plan with their journal, as a migration of this number. Where it isn't opened, the disk comes back.
+pub(crate) fn open_rounds<D: Disk>(
     alloc: Global,
     plan: CheckedPlan,
     migration: u32,
     disk: D,
-) -> Result<Chronicle<D>, Unopened<D>>
+) -> Result<JournaledRounds<D>, Unopened<D>>
     ensures opened { IfOk result
         (λ book. IsOpenedFrom D.told plan (digest_for plan migration) disk (graph_of book)
         book.entries book.disk) }
@@ -41,7 +41,7 @@ fn open_known<D: Disk>(
     alloc: Global,
     known: KnownPlan,
     disk: D,
-) -> Result<Chronicle<D>, Unopened<D>>
+) -> Result<JournaledRounds<D>, Unopened<D>>
     requires empty { known.graph.history ≡ from_nothing known.graph.rollout.problem [] }
     ensures opened { IfOk result
         (λ book. IsOpenedFrom D.told known.graph.rollout known.digest disk (graph_of book)
@@ -52,5 +52,5 @@ fn open_known<D: Disk>(
         unopened.disk) }
 {
     let KnownPlan { graph, digest } = known;
-    Chronicle::open(alloc, graph, &digest, disk)
+    JournaledRounds::open(alloc, graph, &digest, disk)
 }

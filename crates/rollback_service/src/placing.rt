@@ -24,7 +24,7 @@ pub struct Placed<D> {
     pub answer: Result<CheckedPlan, JournalFault>,
 }
 
-/// Puts a journal of the way back in the place of the one on the disk, as the migration behind that of this
+/// Puts a journal of the way back in the place of the one on the disk, as the migration after that of this
 /// number: it knows the rollout back, begins at this start, and has no entry. A crash at any moment leaves what
 /// stood or the new journal.
 pub fn place_back<D: Disk>(
@@ -80,11 +80,11 @@ fn way_back(
 {
     let there = back(alloc, plan)?;
     let known = known_plan(alloc, there, migration + 1)?;
-    Ok(restarted(known, start))
+    Ok(with_start(known, start))
 }
 
 /// The same plan, begun at another sound start.
-pub fn restarted(known: KnownPlan, start: &[u32]) -> KnownPlan
+pub fn with_start(known: KnownPlan, start: &[u32]) -> KnownPlan
     requires empty { known.graph.history.entries ≡ [] }
     requires numbers { length start.now ≡ item_count known.graph.rollout.problem }
     requires sound { IsTrue (is_sound known.graph.rollout.problem known.graph.rollout.plan

@@ -9,12 +9,12 @@ use Rattle.rollout_laws.proofs.Histories.{with_none}
 use Rattle.dependency_graph.specs.Graph.{Followed}
 use Rattle.intent_journal.specs.Opened.{Opened}
 use Rattle.wan_edge.specs.Frames.{Answer}
-use Rattle.rollout_rounds.specs.Rounds.{Turning}
+use Rattle.update_scheduler.specs.Rounds.{Turning}
 use Rattle.rollout_book.specs.declared.fault.BookFault.{BookFault}
 use Rattle.rollout_book.specs.declared.fault.BookFault.TheVariants.{Alien, Disk}
 use Rattle.rollout_book.specs.declared.turn.Turn.{Turn}
 use Rattle.rollout_book.specs.Aliens.{IsFault, OnAlien, OnDisk, begun_of, first_alien, is_known}
-use Rattle.rollout_book.specs.Chronicles.{Chronicled, with_batch, with_lost}
+use Rattle.rollout_book.specs.JournaledRounds.{Journaled, with_batch, with_lost}
 
 -- ---- which answers are alien
 pick : (known : Bool) (later : Option BookFault) (item held begun : ℕ) → (later ≡ Some Disk → ⊥) → (if known then later else (if known then None else Some (Alien item held begun))) ≡ Some Disk → ⊥
@@ -47,8 +47,8 @@ none-alien g (answer ∷ later) e =
     (ltb-true answer.item (item_count g.rollout.problem) (and_parts (nat_lt answer.item (item_count g.rollout.problem)) (nat_le answer.held (begun_of g answer.item)) both.0).0)
     (none-alien g later both.1)
 
--- ---- what stands behind the batch
-abbrev pub book_of : {D : Type 0} → Turning → List Entry → Opened D → ℕ → Chronicled D
+-- ---- what stands after the batch
+abbrev pub book_of : {D : Type 0} → Turning → List Entry → Opened D → ℕ → Journaled D
 book_of t entries j found = record { rollout = t.rollout; history = t.history; entries = entries; disk = j.disk; live = j.live; found = found }
 
 module _ {D : Type 0} (t t' : Turning) (entries entries' : List Entry) (j j' : Opened D) (found : ℕ) (es : List Entry) (rollout-is : t'.rollout ≡ t.rollout) (history-is : t'.history ≡ with_entries t.history es) where

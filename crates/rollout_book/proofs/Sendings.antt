@@ -36,7 +36,7 @@ module _ (p : Problem) (plan : Plan) (h : History) (op : Op) (legal : is_legal p
   left : settled h op.item < operations p plan (item_at p op.item)
   left = omega (arith, (is_counted p plan h legal op.item).exist flying.item, eqb-true (begun h op.item) (settled h op.item + 1) flying.flies)
 
-  -- and brings the content of the stage behind that at which the item stands
+  -- and brings the content of the stage after that at which the item stands
   pub brings : content p plan (item_at p op.item) (next_stage plan (stand_after p plan (item_at p op.item) (settled h op.item))) ≡ content_after p plan (item_at p op.item) op.number
   brings =
       let i = item_at p op.item in

@@ -14,12 +14,12 @@ use Rattle.intent_journal.specs.Images.{journal_in}
 use Rattle.intent_journal.specs.Opened.{HasAdded, Opened}
 use Rattle.intent_journal.specs.States.{IsBeforeOrAfter, added, with_more}
 use Rattle.wan_edge.specs.Streams.{KeepsTelling}
-use Rattle.rollout_rounds.specs.Rounds.{Turning}
-use Rattle.rollout_book.specs.Chronicles.{IsChronicle}
+use Rattle.update_scheduler.specs.Rounds.{Turning}
+use Rattle.rollout_book.specs.JournaledRounds.{AreJournaledRounds}
 use Rattle.rollout_book.specs.Lists.{HasList, HasBeforeOrAfter, IsKeptList}
 use Rattle.rollout_book.proofs.Short.{legal-short}
 
--- a batch behind a legal history has room where there is room for two entries of each operation
+-- a batch after a legal history has room where there is room for two entries of each operation
 pub batch-fits : (r : Rollout) (h : History) (es : List Entry) → is_legal r.problem r.plan (with_entries h es) ≡ true → length h.entries + length es ≤ 2 * op_total r
 batch-fits r h es legal = omega (arith, legal-short r (with_entries h es) legal, length-append h.entries es)
 
@@ -66,8 +66,8 @@ module _ {D : Type 0} (trace : D → DiskTrace) (start : List ℕ) (entries batc
       subst (λ (t : Option (List ℕ)). IfSome t (IsKeptList start (entries ++ batch) left_new)) (sym done.is_told)
       record { only = done.durable; has = has-more start entries batch image kept.has done.now done.keeps }
 
-  -- the parts behind a round: the batch is there, or the disk failed, or there was none
-  module _ (t t' : Turning) (j j' : Opened D) (es' : List Entry) (room room' : ℕ) (was : IsChronicle trace t j entries room) (rollout-is : t'.rollout ≡ t.rollout) (history-is : t'.history ≡ with_entries t.history batch)
+  -- the parts after a round: the batch is there, or the disk failed, or there was none
+  module _ (t t' : Turning) (j j' : Opened D) (es' : List Entry) (room room' : ℕ) (was : AreJournaledRounds trace t j entries room) (rollout-is : t'.rollout ≡ t.rollout) (history-is : t'.history ≡ with_entries t.history batch)
       (most-is : j'.most ≡ j.most) (more : room ≤ room') where
     most-now : j'.most ≡ 2 * op_total t'.rollout
     most-now = most-is ∙ was.most ∙ ap (λ (r : Rollout). 2 * op_total r) (sym rollout-is)
@@ -75,7 +75,7 @@ module _ {D : Type 0} (trace : D → DiskTrace) (start : List ℕ) (entries batc
     enough-now : 2 * op_total t'.rollout ≤ room'
     enough-now = omega (arith, was.enough, more, ap op_total rollout-is)
 
-    pub chronicle-lost : j'.live ≡ false → IsChronicle trace t' j' es' room'
+    pub chronicle-lost : j'.live ≡ false → AreJournaledRounds trace t' j' es' room'
     chronicle-lost dead = record {
       most = most-now;
       enough = enough-now;
@@ -85,7 +85,7 @@ module _ {D : Type 0} (trace : D → DiskTrace) (start : List ℕ) (entries batc
     }
 
     pub chronicle-written : j.live ≡ true → es' ≡ entries ++ batch → j'.entries ≡ j.entries + length batch → IfSome (trace j'.disk).bytes (IsKeptList t.history.start (entries ++ batch) (trace j'.disk).may_leave)
-        → IsChronicle trace t' j' es' room'
+        → AreJournaledRounds trace t' j' es' room'
     chronicle-written live es-is count kept = record {
       most = most-now;
       enough = enough-now;

@@ -8,7 +8,7 @@ use Rattle.rollout_rules.specs.History.{History, flies, settled}
 use Rattle.rollout_rules.specs.World.{in_flight}
 use Rattle.rollout_rules.specs.declared.op.Op.{Op}
 use Rattle.wan_edge.specs.Frames.{Command}
-use Rattle.rollout_book.specs.Chronicles.{Chronicled}
+use Rattle.rollout_book.specs.JournaledRounds.{Journaled}
 
 -- whether a home is among these switches
 abbrev pub is_among : List ℕ → Option ℕ → Bool
@@ -34,7 +34,7 @@ asked r switches ops = map (command_of r) (filter (is_asked r.problem switches) 
 
 -- Of a book that lives the commands of the operations in flight that are these switches', by item. One whose disk has failed
 -- sends nothing.
-abbrev pub commands_of : {D : Type 0} → Chronicled D → List ℕ → List Command
+abbrev pub commands_of : {D : Type 0} → Journaled D → List ℕ → List Command
 commands_of b switches = if b.live then asked b.rollout switches (in_flight b.rollout.problem b.history) else []
 
 -- this is the operation of its item that is in flight

@@ -1,4 +1,4 @@
 pub mod Lists
 pub mod Aliens
-pub mod Chronicles
+pub mod JournaledRounds
 pub mod Commands

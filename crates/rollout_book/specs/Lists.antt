@@ -18,7 +18,7 @@ pub record IsKeptList (start : List ℕ) (entries : List Entry) (left : List ℕ
   pub only : Only image left
   pub has : HasList start entries image
 
--- the list, or the list with the whole of a batch behind it
+-- the list, or the list with the whole of a batch after it
 abbrev pub HasBeforeOrAfter : List ℕ → List Entry → List Entry → List ℕ → Type 0
 HasBeforeOrAfter start entries batch image = HasList start entries image ⊎ HasList start (entries ++ batch) image
 

@@ -31,7 +31,7 @@ fn alien_fault(graph: &Graph, items: u32, answer: &Answer) -> Option<BookFault>
     ensures { result ≡ aliens.fault_of graph.now answer.now }
 {
     let begun = if answer.item < items {
-        begun(graph, answer.item)
+        count_begun(graph, answer.item)
     } else {
         0
     };
@@ -46,7 +46,7 @@ fn alien_fault(graph: &Graph, items: u32, answer: &Answer) -> Option<BookFault>
 }
 
 // How many operations of an item were begun.
-fn begun(graph: &Graph, item: u32) -> u32
+fn count_begun(graph: &Graph, item: u32) -> u32
     requires legal { IsTrue (is_legal graph.now.rollout.problem graph.now.rollout.plan
         graph.now.history) }
     requires item { item < item_count graph.now.rollout.problem }

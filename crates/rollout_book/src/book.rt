@@ -3,12 +3,12 @@ ghost use Rattle.rollout_rules.specs.History.{from_nothing};
 ghost use Rattle.rollout_rules.specs.Legal.{is_finished, is_legal};
 ghost use Rattle.order_policy.specs.Answers.{rank_by};
 ghost use Rattle.intent_journal.specs.Openings.{IsLeft, IsOpenedFrom};
-ghost use Rattle.rollout_book.specs.Chronicles.{graph_of, IsNewBook, IsRound};
+ghost use Rattle.rollout_book.specs.JournaledRounds.{graph_of, IsNewBook, IsRound};
 ghost use Rattle.rollout_book.specs.Commands.{commands_of};
 
-use crate::chronicle::Chronicle;
 use crate::commands::CommandList;
 use crate::fault::BookFault;
+use crate::journaled_rounds::JournaledRounds;
 use crate::turn::Turn;
 use dependency_graph::Graph;
 use disk_model::Disk;
@@ -19,15 +19,15 @@ use rollout_rules::Entry;
 use std::alloc::Global;
 use wire_frames::Answer;
 
-/// A chronicle, with the policy by which its rounds release.
+/// Journaled rounds, with the policy by which they release.
 #[derive(Drop)]
 pub struct Book<'d, D: Disk> {
-    pub chronicle: Chronicle<D>,
+    pub chronicle: JournaledRounds<D>,
     pub policy: &'d Policy,
 }
 
 impl<'d, D: Disk> Book<'d, D> {
-    /// Opens the book of a rollout on a disk, as [`Chronicle::open`] does.
+    /// Opens the book of a rollout on a disk, as [`JournaledRounds::open`] does.
     pub fn open(
         alloc: Global,
         graph: Graph,
@@ -44,11 +44,11 @@ impl<'d, D: Disk> Book<'d, D> {
         ensures left { IfErr result
             (λ unopened. IsLeft D.told graph.rollout digest.now disk unopened.cause unopened.disk) }
     {
-        let chronicle = Chronicle::open(alloc, graph, digest, disk)?;
+        let chronicle = JournaledRounds::open(alloc, graph, digest, disk)?;
         Ok(Book { chronicle, policy })
     }
 
-    /// Makes a round, as [`Chronicle::round`] does, and releases by the book's policy.
+    /// Makes a round, as [`JournaledRounds::round`] does, and releases by the book's policy.
     pub fn round(&mut self, answers: &[Answer]) -> Result<Turn, BookFault>
         requires live { self.old.chronicle.live ≡ true }
         ensures policy { self.new.policy.now ≡ self.old.policy.now }
@@ -59,7 +59,7 @@ impl<'d, D: Disk> Book<'d, D> {
     }
 
     /// Adds the commands of the operations in flight whose homes are among these switches, by item; nothing
-    /// where the book lives no longer. Want of memory changes nothing.
+    /// where the book lives no longer. Lack of memory changes nothing.
     pub fn commands(
         &self,
         alloc: Global,

@@ -44,7 +44,7 @@ fn rate_count(plan: &CheckedPlan, item: Item) -> u8
     }
 }
 
-// These at a stage, and 0 in the places behind them.
+// These at a stage, and 0 in the places after them.
 fn rates_at(plan: &CheckedPlan, item: Item, stage: usize) -> [u64; 16]
     requires item { IsTrue (is_item plan.now.problem item) }
     requires stage { stage ≤ last_stage plan.now.plan }

@@ -2,8 +2,8 @@ ghost use Rattle.std.specs.Prelude.{◌≡◌, ◌<◌, ◌++◌, All};
 ghost use Rattle.rollout_rules.specs.Items.{item_count};
 ghost use Rattle.rollout_book.specs.Aliens.{told_by};
 
-use rollout_rounds::Rounds;
 use rollout_rules::Op;
+use update_scheduler::Rounds;
 use wire_frames::Answer;
 
 /// Hears answers, of items that exist.

@@ -5,16 +5,16 @@ ghost use Rattle.rollout_rules.specs.Legal.{is_legal};
 ghost use Rattle.dependency_graph.specs.Graph.{op_total};
 ghost use Rattle.dependency_graph.specs.Index.{AreItems};
 ghost use Rattle.intent_journal.specs.Openings.{IsLeft, IsOpenedFrom};
-ghost use Rattle.rollout_rounds.specs.Rounds.{first_turn};
-ghost use Rattle.rollout_book.specs.Chronicles.{IsFound};
+ghost use Rattle.update_scheduler.specs.Rounds.{first_turn};
+ghost use Rattle.rollout_book.specs.JournaledRounds.{IsFound};
 
 use dependency_graph::{Graph, items};
 use disk_model::Disk;
 use intent_journal::{Digest, Journal, Unopened, recover};
 use lists::{Many, Memory};
-use rollout_rounds::Rounds;
 use rollout_rules::{Entry, EntryList, Item};
 use std::alloc::{AllocError, Global};
+use update_scheduler::Rounds;
 
 /// The journal that an opening found, and its list.
 #[derive(Drop)]

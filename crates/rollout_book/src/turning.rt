@@ -5,8 +5,8 @@ ghost use Rattle.intent_journal.specs.Images.{journal_in};
 ghost use Rattle.intent_journal.specs.Opened.{HasAdded};
 ghost use Rattle.intent_journal.specs.States.{IsBeforeOrAfter};
 ghost use Rattle.order_policy.specs.Answers.{rank_by};
-ghost use Rattle.rollout_rounds.specs.Rounds.{after_round, batch_of};
-ghost use Rattle.rollout_book.specs.Chronicles.{IsChronicle, turn_of};
+ghost use Rattle.update_scheduler.specs.Rounds.{after_round, batch_of};
+ghost use Rattle.rollout_book.specs.JournaledRounds.{AreJournaledRounds, turn_of};
 ghost use Rattle.rollout_book.specs.Lists.{HasBeforeOrAfter, KeepsOwner};
 ghost use Rattle.rollout_book.specs.declared.fault.BookFault.TheVariants as fault;
 ghost use Rattle.wan_edge.specs.Streams.{KeepsTelling, Rose};
@@ -16,8 +16,8 @@ use crate::turn::Turn;
 use disk_model::Disk;
 use intent_journal::Journal;
 use order_policy::Policy;
-use rollout_rounds::Rounds;
 use rollout_rules::Entry;
+use update_scheduler::Rounds;
 use wan_edge::Failed;
 
 /// Makes the round of what was heard: its batch is one append to the journal, and none where it is empty.
@@ -27,10 +27,10 @@ pub(crate) fn turn<D: Disk>(
     entries: &mut Vec<Entry>,
     policy: &Policy,
 ) -> Result<Turn, BookFault>
-    requires own { IsChronicle D.told rounds.old journal.old entries.old.items
+    requires own { AreJournaledRounds D.told rounds.old journal.old entries.old.items
         (vec_capacity entries.old) }
     requires live { journal.old.live ≡ true }
-    ensures own { IsChronicle D.told rounds.new journal.new entries.new.items
+    ensures own { AreJournaledRounds D.told rounds.new journal.new entries.new.items
         (vec_capacity entries.new) }
     ensures rounds { rounds.new ≡ after_round rounds.old (rank_by policy.now.answers) }
     ensures turn { IfOk result
@@ -67,7 +67,7 @@ pub(crate) fn turn<D: Disk>(
     })
 }
 
-// Writes a batch on the journal, and then behind the list.
+// Writes a batch on the journal, and then after the list.
 fn write_batch<D: Disk>(
     journal: &mut Journal<D>,
     entries: &mut Vec<Entry>,
@@ -100,7 +100,7 @@ fn write_batch<D: Disk>(
     Ok(())
 }
 
-// Puts entries behind a list that has the room.
+// Puts entries after a list that has the room.
 fn add_entries(entries: &mut Vec<Entry>, batch: &[Entry])
     requires { vec_len entries.old + length batch.now ≤ vec_capacity entries.old }
     ensures added { entries.new.items ≡ entries.old.items ++ batch.now }

@@ -60,7 +60,7 @@ module _ (c : Counts) (h : History) (ahead : List Entry) (so : AreCountsOf c h) 
   known-end : op.item < item_count p → (flies_with c ahead op.item && (op.number == settled_with c ahead op.item + 1)) ≡ legal.may_end (with_entries h ahead) op
   known-end lt = ap₂ (λ fl j. fl && (op.number == j + 1)) (flies-ahead c h ahead so op.item lt) (settled-ahead c h ahead so op.item lt)
 
-  -- behind a legal history no operation of an item that doesn't exist is in flight
+  -- after a legal history no operation of an item that doesn't exist is in flight
   pub may_end-counts : legal.is_legal p plan (with_entries h ahead) ≡ true → may_end c ahead op ≡ legal.may_end (with_entries h ahead) op
   may_end-counts is_legal = elim (cases_Bool (nat_lt op.item (item_count p))) as (λ _. may_end c ahead op ≡ legal.may_end (with_entries h ahead) op) [
     | inl inside ↦ ap (λ b. b && flies_with c ahead op.item && (op.number == settled_with c ahead op.item + 1)) inside ∙ known-end (ltb-true op.item (item_count p) inside)

@@ -12,7 +12,7 @@ use Rattle.rollout_rules.specs.World.{in_flight, no_op}
 use Rattle.rollout_rules.specs.declared.op.Op.{Op}
 use Rattle.rollout_laws.proofs.Histories.{flies-started}
 use Rattle.dependency_graph.specs.Progress.{Counts, AreCountsOf, flies_by}
-use Rattle.rollout_core.specs.Flights.{passing, Noted, AreFlying}
+use Rattle.rollout_core.specs.InFlight.{passing, FlyingItems, AreFlying}
 
 -- ---- the numbers below n that pass a test
 module _ (test : ℕ → Bool) where
@@ -56,7 +56,7 @@ pub flying-counts : (c : Counts) (h : History) → AreCountsOf c h → passing (
 flying-counts c h so = passing-same (flies_by c) (flies h) (item_count c.rollout.problem) (λ n lt. ap₂ (λ a b. a == b + 1) (so.begun n lt) (so.settled n lt))
 
 -- at a start there is none
-pub flying-first : (p : Problem) (start : List ℕ) (noted : Noted) → noted ≡ record { room = item_count p; items = [] } → AreFlying p (started start) noted
+pub flying-first : (p : Problem) (start : List ℕ) (noted : FlyingItems) → noted ≡ record { room = item_count p; items = [] } → AreFlying p (started start) noted
 flying-first p start noted is = record {
   room = ap (λ f. f.room) is;
   items = ap (λ f. f.items) is
@@ -67,7 +67,7 @@ flying-first p start noted is = record {
 pub length-in_flight : (p : Problem) (h : History) → length (in_flight p h) ≡ length (passing (flies h) (item_count p))
 length-in_flight p h = length-map (passing (flies h) (item_count p)) (next_op h)
 
-module _ (p : Problem) (h : History) (noted : Noted) (so : AreFlying p h noted) where
+module _ (p : Problem) (h : History) (noted : FlyingItems) (so : AreFlying p h noted) where
   pub flying-count : length noted.items ≡ length (in_flight p h)
   flying-count = ap length so.items ∙ sym (length-in_flight p h)
 

@@ -1,4 +1,4 @@
--- Whether an entry may be added behind those that are counted and those ahead, by the counts.
+-- Whether an entry may be added after those that are counted and those ahead, by the counts.
 use Rattle.std.specs.Prelude.{ℕ, ◌+◌, Bool, not, ◌&&◌, List, ◌==◌, nat_le, nat_lt}
 use Rattle.rollout_rules.specs.Wan.{Rollout}
 use Rattle.rollout_rules.specs.Items.{item_count, item_at}

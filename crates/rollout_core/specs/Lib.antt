@@ -1,3 +1,3 @@
 pub mod Adding
-pub mod Flights
+pub mod InFlight
 pub mod Worlds

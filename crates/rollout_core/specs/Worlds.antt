@@ -13,7 +13,7 @@ use Rattle.rollout_rules.specs.declared.held.Given.{Given}
 use Rattle.rollout_rules.specs.declared.op.Op.{Op}
 use Rattle.rollout_rules.specs.declared.op.Entry.{Entry}
 use Rattle.dependency_graph.specs.Progress.{Counts, AreCountsOf}
-use Rattle.rollout_core.specs.Flights.{Noted, AreFlying}
+use Rattle.rollout_core.specs.InFlight.{FlyingItems, AreFlying}
 
 -- the history of a rollout
 pub record Recorded : Type 0 where
@@ -26,7 +26,7 @@ pub record Standing : Type 0 where
   pub world : World
 
 -- a legal history with its counts under a plan, and what is in flight
-pub record IsRecorded (r : Rollout) (c : Counts) (noted : Noted) (h : History) : Type 0 where
+pub record IsRecorded (r : Rollout) (c : Counts) (noted : FlyingItems) (h : History) : Type 0 where
   pub rollout : r ≡ c.rollout
   pub counts : AreCountsOf c h
   pub start : length h.start ≡ item_count r.problem

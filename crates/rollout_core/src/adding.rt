@@ -10,7 +10,7 @@ use dependency_graph::progress::needs::needs_met;
 use rollout_rules::{Entry, Op};
 use wan_model::CheckedPlan;
 
-/// Whether an operation may begin behind what is counted and the entries ahead: it is its item's next,
+/// Whether an operation may begin after what is counted and the entries ahead: it is its item's next,
 /// its needs are met, and with it every room fits.
 pub(crate) fn may_begin(progress: &Progress, plan: &CheckedPlan, ahead: &[Entry], op: Op) -> bool
     requires { plan.now ≡ progress.now.rollout }
@@ -38,7 +38,7 @@ fn is_next(progress: &Progress, ahead: &[Entry], op: Op) -> bool
     op.number <= progress.operations(op.item)
 }
 
-/// Whether an operation may be done behind these: it is in flight.
+/// Whether an operation may be done after these: it is in flight.
 pub(crate) fn may_end(progress: &Progress, ahead: &[Entry], op: Op) -> bool
     ensures { result ≡ adding.may_end progress.now ahead.now op }
 {

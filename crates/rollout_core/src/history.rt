@@ -8,8 +8,8 @@ ghost use Rattle.dependency_graph.specs.Progress.{AreCountsOf};
 ghost use Rattle.rollout_core.specs.Worlds.{GoesOn};
 
 use crate::adding::{may_begin, may_end};
-use crate::copying::copied;
-use crate::flights::Flights;
+use crate::copying::copy_values;
+use crate::in_flight::InFlight;
 use dependency_graph::{Progress, checked_plan_is_valid};
 use lists::Memory;
 use rollout_rules::{Entry, EntryList, Op};
@@ -24,7 +24,7 @@ pub(crate) struct History<'p> {
     start: Vec<u32>,
     entries: EntryList,
     progress: Progress,
-    flights: Flights,
+    flights: InFlight,
 }
 
 impl<'p> Model for History<'p> {
@@ -53,9 +53,9 @@ impl<'p> History<'p> {
         ensures { IfOk result
             (λ h. h ≡ record { rollout = plan.now; history = started start.now }) }
     {
-        let numbers = copied(alloc, start)?;
+        let numbers = copy_values(alloc, start)?;
         let progress = Progress::new(alloc, plan, start)?;
-        match Flights::new(alloc, progress.item_count()) {
+        match InFlight::new(alloc, progress.item_count()) {
             Ok(flights) => Ok(History {
                 plan,
                 start: numbers,
@@ -148,7 +148,7 @@ impl<'p> History<'p> {
         }
     }
 
-    /// Adds a batch that may follow. Want of memory changes nothing.
+    /// Adds a batch that may follow. Lack of memory changes nothing.
     pub(crate) fn append(&mut self, batch: &[Entry]) -> Result<(), Memory>
         requires { IsTrue (legal.may_follow self.old.rollout.problem self.old.rollout.plan
             self.old.history batch.now) }

@@ -10,13 +10,14 @@
 mod adding;
 mod answers;
 mod copying;
-mod flights;
 mod history;
+mod in_flight;
 mod pairs;
 mod rollout;
 mod room;
 mod world;
 
+pub use pairs::pair_after;
 pub use rollout::{any_rollout, copied_event};
 pub use rollout_rules::{Event, EventList};
 pub use world::World;

@@ -9,8 +9,9 @@ pub(crate) const FIRST_PAIR: Held = Held {
     number: 0,
 };
 
-/// The pair that a switch holds after a command, where it held another.
-pub(crate) fn pair_after(held: Held, asked: Held) -> Held
+/// The pair that a switch holds after a command, where it held another: that of the command, if it is the
+/// next one by the agent rule.
+pub fn pair_after(held: Held, asked: Held) -> Held
     ensures { result ≡ (if agent.is_next_command held asked then asked else held) }
 {
     if is_next_command(held, asked) {

@@ -10,7 +10,7 @@ use rollout_rules::{Entry, Op};
 use wan_model::CheckedPlan;
 
 /// Whether, from the least stage at which an item stands on, every resource holds what is taken of it
-/// once `op` has begun behind the entries ahead.
+/// once `op` has begun after the entries ahead.
 pub(crate) fn fits(progress: &Progress, plan: &CheckedPlan, ahead: &[Entry], op: Op) -> bool
     requires { plan.now ≡ progress.now.rollout }
     ensures { result

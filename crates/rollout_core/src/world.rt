@@ -7,7 +7,7 @@ ghost use Rattle.rollout_rules.specs.declared.event.Event.TheVariants as event;
 ghost use Rattle.rollout_core.specs.Worlds.{AreOfItems, AreAnswersOfItems, with_held, with_answer};
 
 use crate::answers::all_answered;
-use crate::copying::copied;
+use crate::copying::copy_values;
 use crate::history::History;
 use crate::pairs::{FIRST_PAIR, is_at_most, pair_after};
 use dependency_graph::checked_plan_is_valid;
@@ -66,8 +66,8 @@ impl<'p> World<'p> {
               world = first_world plan.now.problem plan.now.plan start.now migration first.now;
             }) }
     {
-        let first = copied(alloc, first)?;
-        let held = copied(alloc, &first)?;
+        let first = copy_values(alloc, first)?;
+        let held = copy_values(alloc, &first)?;
         let history = History::new(alloc, plan, start)?;
         Ok(World {
             migration,
@@ -117,7 +117,7 @@ impl<'p> World<'p> {
         }
     }
 
-    /// Makes an event happen. Want of memory changes nothing.
+    /// Makes an event happen. Lack of memory changes nothing.
     pub fn step(&mut self, event: Event) -> Result<(), Memory>
         requires { IsTrue (allows self.old.rollout.problem self.old.rollout.plan self.old.world
             event) }
@@ -294,7 +294,7 @@ impl<'p> World<'p> {
         self.held[item as usize] = held;
     }
 
-    /// Adds an answer to those given: what an item's switch holds of it. Want of memory changes nothing.
+    /// Adds an answer to those given: what an item's switch holds of it. Lack of memory changes nothing.
     pub fn answer(&mut self, item: u32, held: Held) -> Result<(), Memory>
         requires { item < item_count self.old.rollout.problem }
         ensures ok { OnOk result
@@ -307,7 +307,7 @@ impl<'p> World<'p> {
 }
 
 impl<'p> World<'p> {
-    /// The entries that every restart finds behind the start, which with it are a legal history.
+    /// The entries that every restart finds after the start, which with it are a legal history.
     pub fn durable(&self) -> &EntryList
         ensures list { result.now ≡ self.now.world.durable.entries }
         ensures legal { IsTrue (legal.is_legal self.now.rollout.problem self.now.rollout.plan

@@ -1,4 +1,4 @@
--- Lines one behind the other, and lists that begin with others.
+-- Lines one after the other, and lists that begin with others.
 use Rattle.std.proofs.Common.{◌≡◌, ℕ, List, [], ◌∷◌, ◌++◌, ◌==◌, ◌&&◌, Bool, true, false, refl, sym, subst, ap, ◌∙◌, append_assoc}
 use Rattle.std.proofs.lemmas.List.{append-nil}
 use Rattle.std.proofs.lemmas.Bool.{eqb-true}
@@ -38,7 +38,7 @@ same_entry (Done a) (Done b) is = ap Done (same_op a b is)
 pub entry_there : (list later : List Entry) (first entry : Entry) (found : Bool) → list ≡ first ∷ later → found ≡ is_same first entry → found ≡ true → list ≡ entry ∷ later
 entry_there list later first entry found is told same = is ∙ ap (λ e. e ∷ later) (same_entry first entry (sym told ∙ same))
 
--- Whatever stands behind what is left of one list, the other has it behind the whole.
+-- Whatever stands after what is left of one list, the other has it after the whole.
 abbrev pub HasBehind : List Entry → List Entry → List Entry → List Entry → Type 0
 HasBehind known list left rest = (more : List Entry) → rest ≡ left ++ more → list ≡ known ++ more
 
@@ -54,7 +54,7 @@ pub lines-at : (ms : ℕ) (entries : List Entry) → AreLines entries (lines_at 
 lines-at ms [] = refl
 lines-at ms (entry ∷ later) = record { ms = ms; rest = lines_at ms later; is = refl; more = lines-at ms later }
 
--- and so are lines behind others
+-- and so are lines after others
 pub lines-append : (first later : List Entry) (text more : List ℕ) → AreLines first text → AreLines later more → AreLines (first ++ later) (text ++ more)
 lines-append [] later text more are then = subst (λ (t : List ℕ). AreLines later (t ++ more)) (sym are) then
 lines-append (entry ∷ first) later text more are then = record {

@@ -15,7 +15,7 @@ pub record Stood {D : Type 0} (trace : D → DiskTrace) (list : List Entry) : Ty
   pub durable : IsDurable (trace disk).bytes (trace disk).may_leave
   pub lists : IfSome (trace disk).bytes (Lists list)
 
--- The text has the line of a start, with how many entries a durable list had, and behind it a line for each of the entries that stand behind these in another.
+-- The text has the line of a start, with how many entries a durable list had, and after it a line for each of the entries that stand after these in another.
 pub record Tells {D : Type 0} (trace : D → DiskTrace) (list : List Entry) (text : List ℕ) : Type 0 where
   pub found : List Entry
   pub was : Stood trace found

@@ -84,7 +84,7 @@ fn push_done(alloc: Global, text: &mut Text, ms: u64, item: u32, number: u32) ->
     text.push_str(&part)
 }
 
-/// The entries of a list behind those of another, where it begins with them.
+/// The entries of a list after those of another, where it begins with them.
 #[tactic(auto, using(crate::proofs::Lining::entry_off, crate::proofs::Lining::no_entry_left))]
 pub(crate) fn behind<'e>(known: &[Entry], list: &'e [Entry]) -> Option<&'e [Entry]>
     ensures { IfSome result (λ more. list.now ≡ known.now ++ more.now) }

@@ -15,7 +15,7 @@ use wan_edge::{Failed, Sink};
 /// A disk with a log of the journal on it, as the crate's page says. It does what the disk behind it does, and
 /// tells what that tells.
 ///
-/// A list is read where something may have come to it: behind the first sync, and behind each sync that follows
+/// A list is read where something may have come to it: after the first sync, and after each sync that follows
 /// the write of a byte alone, as that which opens the gate of a batch. Time: all of the list.
 #[derive(Drop)]
 pub struct Logged<D: Shown, L: Sink, R> {

@@ -1,4 +1,4 @@
-//! What is done with the list on a disk behind a sync: its new entries become lines of the log.
+//! What is done with the list on a disk after a sync: its new entries become lines of the log.
 ghost use Rattle.std.specs.Prelude.{◌≡◌, ℕ, Bool, List, length, IfSome};
 ghost use Rattle.disk_model.specs.Crashes.{IsDurable};
 ghost use Rattle.rollout_rules.specs.declared.op.Entry.{Entry};
@@ -15,7 +15,7 @@ use std::alloc::Global;
 use std::time::{Clock, SystemTime, UNIX_EPOCH};
 use wan_edge::{Sink, write_all};
 
-/// Reads the list on a disk that was synced, and writes a line for each entry of it behind those that are
+/// Reads the list on a disk that was synced, and writes a line for each entry of it after those that are
 /// known. Where that can't be done, the log ends.
 #[tactic(auto, using(crate::proofs::Going::log_ended))]
 pub(crate) fn note<D: Shown, L: Sink, R: Clock>(

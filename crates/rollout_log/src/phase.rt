@@ -8,7 +8,7 @@ pub enum Phase {
     Unread,
     /// A list was read, and nothing was written.
     Read,
-    /// All that came behind that list is written.
+    /// All that came after that list is written.
     Written,
     /// Nothing more is written.
     Ended,

@@ -22,7 +22,7 @@ use Rattle.intent_journal.specs.Reading.{Listed, live_side, nothing_read, with_r
 use Rattle.intent_journal.specs.Recovered.{IsBroughtTo, IsCause, MayStand}
 use Rattle.intent_journal.specs.Verdicts.{Fresh, NoJournal, NoStart, NotLegal, OfAnother, Stands, Verdict, is_own, is_start, judged_at, judged_journal, judged_list, judged_part, judged_start, legal_count, start_of, verdict, with_history}
 use Rattle.rollout_report.specs.Report.{report_text}
-use Rattle.rollout_peaks.specs.Counts.{AreCountsOf, Counted}
+use Rattle.rollout_report.specs.Counts.{AreCountsOf, Counted}
 use Rattle.rollout_report.proofs.Tallying.{all_zero, zeros}
 use Rattle.disk_model.specs.Traces.{DiskTrace}
 use Rattle.disk_model.specs.Moments.{LeavesOnly}
@@ -154,7 +154,7 @@ pub ok_each : {X : Type 0} (answer : Result X JournalFault) (P : Type 0) → P �
 ok_each (Ok x) P holds = holds
 ok_each (Err cause) P holds = tt
 
--- what is said of an answer and of a disk, where memory ran out behind the opening
+-- what is said of an answer and of a disk, where memory ran out after the opening
 pub left_short : {X : Type 0} (answer : Result X JournalFault) (P : JournalFault → Type 0) → IfErr answer (λ cause. cause ≡ Memory) → P Memory → IfErr answer P
 left_short (Ok x) P is holds = tt
 left_short (Err cause) P is holds = subst P (sym is) holds

@@ -9,7 +9,7 @@ use Rattle.rollout_rules.specs.Items.{item_count, item_at}
 use Rattle.rollout_rules.specs.Operations.{changes_behind}
 use Rattle.rollout_rules.specs.History.{History, settled, begun}
 use Rattle.rollout_rules.proofs.Below.{sum_below-same}
-use Rattle.rollout_peaks.specs.Counts.{Counted, AreCountsOf}
+use Rattle.rollout_report.specs.Counts.{Counted, AreCountsOf}
 use Rattle.rollout_report.specs.Report.{settled_of_all, flying_of_all, stage_line, stage_lines, settled_to}
 use Rattle.rollout_report.specs.Tallies.{StageLists, settles_to, AreStageCounts, IsCounted, lines_of}
 
@@ -89,7 +89,7 @@ module _ (p : Problem) (plan : Plan) (h : History) (c : Counted) (counts : AreCo
     lines-same zero le = refl
     lines-same (suc n) le = ap₂ (λ x y. x ++ y) (lines-same n (omega arith)) (ap₂ (stage_line n) (settled-stage n (omega arith)) (are.all n (omega arith)))
 
--- three texts behind each other
+-- three texts after each other
 pub joined : (before sums stages whole first second third : List ℕ) → before ≡ [] → sums ≡ before ++ first → stages ≡ sums ++ second → whole ≡ stages ++ third → whole ≡ (first ++ second) ++ third
 joined before sums stages whole first second third empty one two three =
     three

@@ -12,7 +12,7 @@ use Rattle.intent_journal.specs.declared.fault.JournalFault.{JournalFault}
 use Rattle.intent_journal.specs.declared.fault.JournalFault.TheVariants.{BadStart, Disk, Illegal, Memory, NotJournal, OtherPlan}
 use Rattle.intent_journal.specs.Digests.{digest_bytes}
 use Rattle.intent_journal.specs.Verdicts.{Fresh, NoJournal, NoStart, NotLegal, OfAnother, Stands, Verdict, verdict}
-use Rattle.rollout_peaks.specs.Counts.{Counted}
+use Rattle.rollout_report.specs.Counts.{Counted}
 use Rattle.rollout_report.specs.Report.{report_text}
 
 -- what a journal knows a rollout by, as a migration of this number
@@ -45,7 +45,7 @@ told_by r digest (Stands start entries) = Ok (report_text r.problem r.plan (reco
 unfoldable pub journal_report : Rollout → ℕ → List ℕ → Result (List ℕ) JournalFault
 journal_report r migration image = told_by r (digest_for r migration) (verdict r (digest_for r migration) image)
 
--- what a call answers is what the definition says; a failure of the disk and want of memory say nothing
+-- what a call answers is what the definition says; a failure of the disk and lack of memory say nothing
 abbrev pub Tells : Result (List ℕ) JournalFault → Result (List ℕ) JournalFault → Type 0
 Tells (Ok text) report = report ≡ Ok text
 Tells (Err Disk) report = ⊤

@@ -1,3 +1,12 @@
+pub mod Peaks
+pub mod Ends
+pub mod Counts
+pub mod Course
+pub mod Loads
+pub mod Fills
+pub mod Passing
+pub mod Kept
+pub mod Watching
 pub mod Report
 pub mod Tallies
 pub mod Journals

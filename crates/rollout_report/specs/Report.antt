@@ -1,11 +1,11 @@
--- The text of a report: how far a rollout has come in all and stage by stage, and the lines behind its history.
+-- The text of a report: how far a rollout has come in all and stage by stage, and the lines after its history.
 use Rattle.std.specs.Prelude.{ℕ, zero, suc, ◌+◌, Bool, ◌&&◌, List, [], ◌++◌, length, codes, decimal, nat_lt}
 use Rattle.rollout_rules.specs.Sums.{sum_below, count_below}
 use Rattle.rollout_rules.specs.Wan.{Problem, Plan, last_stage}
 use Rattle.rollout_rules.specs.Items.{item_count, item_at}
 use Rattle.rollout_rules.specs.Operations.{changes_behind, changes_to, operations}
 use Rattle.rollout_rules.specs.History.{History, settled, flies}
-use Rattle.rollout_peaks.specs.Ends.{end_lines}
+use Rattle.rollout_report.specs.Ends.{end_lines}
 
 -- how many operations a rollout has, how many of them are settled, those of the start among them, and how many are in flight
 abbrev pub operations_of_all : Problem → Plan → ℕ

@@ -12,7 +12,7 @@ pub record StageLists : Type 0 where
   pub all : List ℕ
   pub settled : List ℕ
 
--- whether more operations of an item are settled than its change points up to stage s, and it has one behind
+-- whether more operations of an item are settled than its change points up to stage s, and it has one after
 abbrev pub settles_to : Problem → Plan → Item → ℕ → ℕ → Bool
 settles_to p plan i settled s = changes_behind p plan i s && nat_lt (changes_to p plan i s) settled
 

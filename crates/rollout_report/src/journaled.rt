@@ -5,6 +5,7 @@ ghost use Rattle.intent_journal.specs.Verdicts.{verdict};
 ghost use Rattle.intent_journal.specs.declared.fault.JournalFault.TheVariants as fault;
 ghost use Rattle.rollout_report.specs.Journals.{Tells, digest_for, journal_report, text_before, told_by};
 
+use crate::History;
 use crate::known::{KnownPlan, known_plan};
 use crate::reporting::report;
 use crate::starts::start_before;
@@ -12,7 +13,6 @@ use dependency_graph::Graph;
 use disk_model::Disk;
 use intent_journal::{Digest, JournalFault, recover};
 use lists::Text;
-use rollout_peaks::History;
 use rollout_rules::Entry;
 use std::alloc::Global;
 use wan_model::CheckedPlan;

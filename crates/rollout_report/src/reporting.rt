@@ -1,15 +1,15 @@
 ghost use Rattle.std.specs.Prelude.{◌≡◌, ◌++◌, ◌<◌, IfOk, OnOk, length};
 ghost use Rattle.rollout_rules.specs.Items as rules;
 ghost use Rattle.dependency_graph.specs.Index.{AreItems};
-ghost use Rattle.rollout_peaks.specs.Counts.{AreCountsOf};
+ghost use Rattle.rollout_report.specs.Counts.{AreCountsOf};
 ghost use Rattle.rollout_report.specs.Report.{counts_line, sum_line, stage_line, report_text};
 ghost use Rattle.rollout_report.specs.Tallies.{lines_of};
 
 use crate::stages::Stages;
 use crate::totals::{flying_of_all, operations_of_all, settled_of_all};
+use crate::{Counts, History, push_end};
 use dependency_graph::items;
 use lists::{Memory, Text};
-use rollout_peaks::{Counts, History, push_end};
 use rollout_rules::Item;
 use std::alloc::Global;
 use wan_model::{CheckedPlan, item_count};
@@ -17,7 +17,7 @@ use wan_model::{CheckedPlan, item_count};
 /// The report of a history: how many entries it has, how many operations are settled, those of its start
 /// among them, and how many are in flight; how many of those to each stage are settled; the peak of each
 /// link in units of 1/scale and of each table in widths; and whether the rollout is finished. An Err is
-/// want of memory.
+/// lack of memory.
 pub fn report(alloc: Global, plan: &CheckedPlan, history: &History<'_>) -> Result<Text, Memory>
     ensures { IfOk result (λ text. text ≡ report_text plan.now.problem plan.now.plan history.now) }
 {
@@ -81,7 +81,7 @@ fn push_stages(alloc: Global, stages: &Stages, text: &mut Text) -> Result<(), Me
     Ok(())
 }
 
-/// Adds the line of the stage behind one: how many of the operations to it are settled.
+/// Adds the line of the stage after one: how many of the operations to it are settled.
 fn push_stage(
     alloc: Global,
     stage: usize,

@@ -4,9 +4,9 @@ ghost use Rattle.rollout_rules.specs.Items as rules;
 ghost use Rattle.dependency_graph.specs.Index.{AreItems};
 ghost use Rattle.rollout_report.specs.Tallies.{AreStageCounts, IsCounted};
 
+use crate::Counts;
 use dependency_graph::changes_behind;
 use lists::Memory;
-use rollout_peaks::Counts;
 use rollout_rules::Item;
 use std::alloc::Global;
 use std::marker::Model;
@@ -58,7 +58,7 @@ impl Stages {
         self.all.len()
     }
 
-    /// How many operations there are to the stage behind one.
+    /// How many operations there are to the stage after one.
     pub(crate) fn all(&self, stage: usize) -> u64
         requires { stage < length self.now.all }
         ensures { result ≡ slice_index self.now.all stage }

@@ -2,9 +2,9 @@ ghost use Rattle.std.specs.Prelude.{◌≡◌, ◌-◌, IfOk};
 ghost use Rattle.rollout_rules.specs.Items as items;
 ghost use Rattle.rollout_report.specs.Journals.{AreDones, settled_before};
 
+use crate::{Counts, History};
 use dependency_graph::Graph;
 use lists::Memory;
-use rollout_peaks::{Counts, History};
 use rollout_rules::Entry;
 use std::alloc::Global;
 use wan_model::item_count;

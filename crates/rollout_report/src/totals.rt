@@ -4,8 +4,8 @@ ghost use Rattle.rollout_rules.specs.Items as rules;
 ghost use Rattle.dependency_graph.specs.Index.{AreItems};
 ghost use Rattle.rollout_report.specs.Report as totals;
 
+use crate::Counts;
 use dependency_graph::operations;
-use rollout_peaks::Counts;
 use rollout_rules::Item;
 use wan_model::{CheckedPlan, item_count};
 

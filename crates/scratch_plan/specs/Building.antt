@@ -10,7 +10,7 @@ use Rattle.scratch_plan.specs.Frame.{stage_of, where_any, old_row}
 abbrev pub row_on : Side → Problem → ℕ → List ℕ
 row_on side p scale = map (λ t. scale * unwrap_or (rate_on side t) 0) p.tunnels
 
--- further stages behind those of a plan
+-- further stages after those of a plan
 abbrev pub with_stages : Plan → List Stage → Plan
 with_stages plan more = record plan { stages = plan.stages ++ more }
 

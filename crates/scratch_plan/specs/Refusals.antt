@@ -54,7 +54,7 @@ unless_refused (Some cause) wanted = Err cause
 abbrev pub refused_of : Problem → Result ⊤ NoPlan
 refused_of p = unless_refused (refusal p) (Ok tt)
 
--- the cause that a planner answers is the right one; want of memory says nothing
+-- the cause that a planner answers is the right one; lack of memory says nothing
 abbrev pub Refuses : {A : Type 0} → NoPlan → Result A NoPlan → Type 0
 Refuses (OverCapacity link side load capacity) wanted = wanted ≡ Err (OverCapacity link side load capacity)
 Refuses (TableFull switch entries size) wanted = wanted ≡ Err (TableFull switch entries size)

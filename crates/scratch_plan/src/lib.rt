@@ -5,7 +5,7 @@
 //! step. [`refused`] says what no plan helps against. [`scratch`] moves all rates in equal steps where
 //! every link has slack (SWAN), and else says which link has none.
 //!
-//! Each answer is the value of its definition, and want of memory is its only other one. `laws` says
+//! Each answer is the value of its definition, and lack of memory is its only other one. `laws` says
 //! which frames are valid plans.
 #![tactic(auto)]
 

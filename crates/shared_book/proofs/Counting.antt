@@ -11,16 +11,16 @@ use Rattle.rollout_rules.specs.declared.op.Entry.{Entry}
 use Rattle.rollout_rules.specs.declared.op.Entry.TheVariants.{Begin, Done}
 use Rattle.dependency_graph.specs.Graph.{Followed}
 use Rattle.wan_edge.specs.Frames.{Answer}
-use Rattle.rollout_rounds.specs.Counts.{count_done, count_begun}
+use Rattle.update_scheduler.specs.Counts.{count_done, count_begun}
 use Rattle.rollout_book.specs.declared.fault.BookFault.{BookFault}
 use Rattle.rollout_book.specs.declared.fault.BookFault.TheVariants as fault
 use Rattle.rollout_book.specs.Aliens as aliens
 use Rattle.rollout_book.specs.Aliens.{is_known, begun_of, told_by}
-use Rattle.shared_history.specs.declared.note.What.{What}
-use Rattle.shared_history.specs.declared.note.What.TheVariants as what
-use Rattle.shared_history.specs.Batches.{dones_ahead, behind_dones}
-use Rattle.shared_history.specs.Replies.{first_alien, turned}
-use Rattle.shared_history.proofs.Batched.{batch-behind}
+use Rattle.shared_book.specs.declared.note.What.{What}
+use Rattle.shared_book.specs.declared.note.What.TheVariants as what
+use Rattle.shared_book.specs.Batches.{dones_ahead, behind_dones}
+use Rattle.shared_book.specs.Replies.{first_alien, turned}
+use Rattle.shared_book.proofs.Batched.{batch-behind}
 use Rattle.shared_book.specs.Told.{fault_notes}
 
 -- ---- counts

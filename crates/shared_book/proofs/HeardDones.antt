@@ -15,15 +15,15 @@ use Rattle.rollout_laws.proofs.Rounds.{dones_are_answered, release_begins_next}
 use Rattle.disk_model.specs.Traces.{DiskTrace}
 use Rattle.wan_edge.specs.Frames.{Answer}
 use Rattle.rollout_book.specs.Aliens.{op_of, told_by}
-use Rattle.rollout_book.specs.Chronicles.{Chronicled}
-use Rattle.shared_history.specs.declared.note.Note.{Note}
-use Rattle.shared_history.specs.declared.note.What.{What}
-use Rattle.shared_history.specs.declared.note.What.TheVariants as what
-use Rattle.shared_history.specs.declared.note.Written.{Written}
-use Rattle.shared_history.specs.declared.reply.Halt.{Halt}
-use Rattle.shared_history.specs.Histories.{Opening, history_of}
-use Rattle.shared_history.specs.Knows.{next_note}
-use Rattle.shared_history.specs.Replies.{batch_at}
+use Rattle.rollout_book.specs.JournaledRounds.{Journaled}
+use Rattle.shared_book.specs.declared.note.Note.{Note}
+use Rattle.shared_book.specs.declared.note.What.{What}
+use Rattle.shared_book.specs.declared.note.What.TheVariants as what
+use Rattle.shared_book.specs.declared.note.Written.{Written}
+use Rattle.shared_book.specs.declared.call_reply.Halt.{Halt}
+use Rattle.shared_book.specs.Histories.{Opening, history_of}
+use Rattle.shared_book.specs.Knows.{next_note}
+use Rattle.shared_book.specs.Replies.{batch_at}
 use Rattle.shared_book.specs.Images.{HasImages, StaysOpened}
 use Rattle.shared_book.specs.Lasting.{AllHeard, AreHeard, HasAnswer}
 use Rattle.shared_book.specs.Sharing.{IsShared, Sharing, log_of}
@@ -93,11 +93,11 @@ module _ (heard : Answer → Type 0) where
   heard-at seen now same each = subst (λ (v : Sharing _). AllHeard heard v.log) same each
 
   -- before the first note
-  pub first-heard : {D : Type 0} (b : Chronicled D) (notes : List Note) → notes ≡ [] → AllHeard heard (log_of b notes)
+  pub first-heard : {D : Type 0} (b : Journaled D) (notes : List Note) → notes ≡ [] → AllHeard heard (log_of b notes)
   first-heard b notes none = subst (λ (ns : List Note). AllHeard heard (log_of b ns)) (sym none) (All-nil (λ (w : Written). AreHeard heard w.entries))
 
 -- Where there is room for more notes all that is kept stays as it was.
-pub grown : {D : Type 0} (trace : D → DiskTrace) (o : Opening) (seats from count : ℕ) (heard : Answer → Type 0) (stood : DiskTrace) (b : Chronicled D) (ns ns' : List Note) (halt : Option Halt) (left most most' : ℕ)
+pub grown : {D : Type 0} (trace : D → DiskTrace) (o : Opening) (seats from count : ℕ) (heard : Answer → Type 0) (stood : DiskTrace) (b : Journaled D) (ns ns' : List Note) (halt : Option Halt) (left most most' : ℕ)
     → IsShared o seats b ns halt left most (log_of b ns) × HasImages trace o from count b.disk (log_of b ns) × AllHeard heard (log_of b ns) × StaysOpened trace o stood b.disk → ns' ≡ ns → length ns + left ≤ most'
     → IsShared o seats b ns' halt left most' (log_of b ns') × HasImages trace o from count b.disk (log_of b ns') × AllHeard heard (log_of b ns') × StaysOpened trace o stood b.disk
 grown trace o seats from count heard stood b ns ns' halt left most most' kept same room =

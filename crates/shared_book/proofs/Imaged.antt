@@ -9,18 +9,18 @@ use Rattle.disk_model.specs.Traces.{DiskTrace}
 use Rattle.disk_model.specs.Moments.{LeavesOnly}
 use Rattle.wan_edge.specs.Streams.{KeepsTelling, Rose}
 use Rattle.rollout_book.specs.Lists.{HasBeforeOrAfter, HasList, IsKeptList}
-use Rattle.shared_history.specs.declared.note.Cause.{Cause}
-use Rattle.shared_history.specs.declared.note.What.{What}
-use Rattle.shared_history.specs.declared.note.What.TheVariants as what
-use Rattle.shared_history.specs.declared.note.Written.{Written}
-use Rattle.shared_history.specs.declared.reply.Halt.{Halt}
-use Rattle.shared_history.specs.Notes.{cause_of, halt_by, first_stop}
-use Rattle.shared_history.specs.Histories.{Opening, segment_of, added, history_of}
-use Rattle.shared_history.specs.Legal.{is_legal_shared}
-use Rattle.shared_history.specs.Knows.{next_note}
-use Rattle.shared_history.proofs.Going.{front_is_legal}
-use Rattle.shared_history.proofs.Lists.{history-next, list-is_legal, lost-is_legal}
-use Rattle.shared_history.proofs.Stops.{added-append}
+use Rattle.shared_book.specs.declared.note.Cause.{Cause}
+use Rattle.shared_book.specs.declared.note.What.{What}
+use Rattle.shared_book.specs.declared.note.What.TheVariants as what
+use Rattle.shared_book.specs.declared.note.Written.{Written}
+use Rattle.shared_book.specs.declared.call_reply.Halt.{Halt}
+use Rattle.shared_book.specs.Notes.{cause_of, halt_by, first_stop}
+use Rattle.shared_book.specs.Histories.{Opening, segment_of, added, history_of}
+use Rattle.shared_book.specs.Legal.{is_legal_shared}
+use Rattle.shared_book.specs.Knows.{next_note}
+use Rattle.shared_book.proofs.Going.{front_is_legal}
+use Rattle.shared_book.proofs.Lists.{history-next, list-is_legal, lost-is_legal}
+use Rattle.shared_book.proofs.Stops.{added-append}
 use Rattle.shared_book.specs.Images.{lost_by, lost, IsDisk, HasDisk, HasListBehind, HasLegalList, HasImages}
 use Rattle.shared_book.proofs.Unstopped.{or-neither, no-cause}
 
@@ -77,7 +77,7 @@ disk-next (v ∷ ws) w (inr later) = ⊎_elim (λ (old : HasDisk ws). inl (inr o
 
 -- ---- lists of images
 module _ (o : Opening) (log : List Written) where
-  -- the list behind all notes
+  -- the list after all notes
   pub has-all : (c : List ℕ) → is_legal_shared o log ≡ true → HasList o.found.start (history_of o log).entries c → HasLegalList o log c
   has-all c legal has = record {
     seen = log;

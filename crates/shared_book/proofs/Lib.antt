@@ -1,3 +1,9 @@
+pub mod Going
+pub mod Stops
+pub mod Lists
+pub mod Pairs
+pub mod Batched
+pub mod Saying
 pub mod Sharing
 pub mod Counting
 pub mod Unstopped

@@ -8,21 +8,21 @@ use Rattle.wan_edge.specs.Frames.{Command}
 use Rattle.rollout_rules.specs.Wan.{Rollout}
 use Rattle.rollout_rules.specs.History.{History}
 use Rattle.rollout_rules.specs.World.{in_flight}
-use Rattle.rollout_book.specs.Chronicles.{Chronicled}
+use Rattle.rollout_book.specs.JournaledRounds.{Journaled}
 use Rattle.rollout_book.specs.Commands.{asked, commands_of}
-use Rattle.shared_history.specs.declared.note.What.{What}
-use Rattle.shared_history.specs.declared.note.What.TheVariants as what
-use Rattle.shared_history.specs.declared.note.Note.{Note}
-use Rattle.shared_history.specs.declared.note.Written.{Written}
-use Rattle.shared_history.specs.declared.reply.Halt.{Halt}
-use Rattle.shared_history.specs.declared.reply.ListReply.{ListReply}
-use Rattle.shared_history.specs.declared.reply.ListReply.TheVariants as list
-use Rattle.shared_history.specs.Notes.{calls_by, halt_by, first_stop}
-use Rattle.shared_history.specs.Histories.{Opening}
-use Rattle.shared_history.specs.Knows.{next_note}
-use Rattle.shared_history.specs.Replies.{list_reply}
-use Rattle.shared_history.proofs.Saying.{listing-may, stopped-may}
-use Rattle.shared_history.specs.Legal.{is_legal_shared}
+use Rattle.shared_book.specs.declared.note.What.{What}
+use Rattle.shared_book.specs.declared.note.What.TheVariants as what
+use Rattle.shared_book.specs.declared.note.Note.{Note}
+use Rattle.shared_book.specs.declared.note.Written.{Written}
+use Rattle.shared_book.specs.declared.call_reply.Halt.{Halt}
+use Rattle.shared_book.specs.declared.call_reply.ListReply.{ListReply}
+use Rattle.shared_book.specs.declared.call_reply.ListReply.TheVariants as list
+use Rattle.shared_book.specs.Notes.{calls_by, halt_by, first_stop}
+use Rattle.shared_book.specs.Histories.{Opening}
+use Rattle.shared_book.specs.Knows.{next_note}
+use Rattle.shared_book.specs.Replies.{list_reply}
+use Rattle.shared_book.proofs.Saying.{listing-may, stopped-may}
+use Rattle.shared_book.specs.Legal.{is_legal_shared}
 use Rattle.shared_book.specs.Images.{HasImages}
 use Rattle.shared_book.specs.Lasting.{IsLasting}
 use Rattle.shared_book.specs.Sharing.{IsNoted, IsShared, log_of}
@@ -42,7 +42,7 @@ pub none-of : (a : Option Halt) → option_or a None ≡ None → a ≡ None
 none-of (Some h) e = e
 none-of None e = e
 
-module _ {D : Type 0} (o : Opening) (seats : ℕ) (b : Chronicled D) (ns ns' : List Note) (halt halt' : Option Halt) (left most most' : ℕ) (log : List Written) (seat : ℕ)
+module _ {D : Type 0} (o : Opening) (seats : ℕ) (b : Journaled D) (ns ns' : List Note) (halt halt' : Option Halt) (left most most' : ℕ) (log : List Written) (seat : ℕ)
     (s : IsShared o seats b ns halt left most log) (room : length ns + 1 + left ≤ most') where
   pub list-shared : (reply : ListReply) → OnListTold reply (reply ≡ list_reply halt) → IsNoted seat (calls_by seat log) (list_notes reply) ns halt ns' halt'
       → IsShared o seats b ns' halt' left most' (with_noted seat log (list_notes reply) [])
@@ -57,7 +57,7 @@ module _ {D : Type 0} (o : Opening) (seats : ℕ) (b : Chronicled D) (ns ns' : L
   list-shared list.Memory told noted = unnoted o seats b ns ns' halt halt' left most most' log s noted.0 noted.1 (omega (arith, room))
 
 -- what is added is what the history says
-pub listed-at : {D : Type 0} (o : Opening) (seats : ℕ) (b : Chronicled D) (ns : List Note) (halt : Option Halt) (left most : ℕ) (log : List Written) → IsShared o seats b ns halt left most log → (switches : List ℕ) (reply : ListReply)
+pub listed-at : {D : Type 0} (o : Opening) (seats : ℕ) (b : Journaled D) (ns : List Note) (halt : Option Halt) (left most : ℕ) (log : List Written) → IsShared o seats b ns halt left most log → (switches : List ℕ) (reply : ListReply)
     → OnListTold reply (reply ≡ list_reply halt) → if_listed reply (commands_of b switches) ≡ if_listed reply (commands_at o log switches)
 listed-at o seats b ns halt left most log s switches list.Listed told =
     let none = sym s.halted ∙ unhalted halt told in
@@ -67,11 +67,11 @@ listed-at o seats b ns halt left most log s switches (list.Stopped first) told =
 listed-at o seats b ns halt left most log s switches list.Memory told = refl
 
 -- What listing leaves: the type's own facts, and the history with the note.
-pub record ListLeaves {D : Type 0} (o : Opening) (seats : ℕ) (book : Chronicled D) (list : List Note) (first : Option Halt) (waiting capacity : ℕ) (log : List Written) (seat : ℕ) (reply : ListReply) : Type 0 where
+pub record ListLeaves {D : Type 0} (o : Opening) (seats : ℕ) (book : Journaled D) (list : List Note) (first : Option Halt) (waiting capacity : ℕ) (log : List Written) (seat : ℕ) (reply : ListReply) : Type 0 where
   pub shared : IsShared o seats book list first waiting capacity (log_of book list)
   pub noted : log_of book list ≡ with_noted seat log (list_notes reply) []
 
-pub list-leaves : {D : Type 0} (o : Opening) (seats : ℕ) (b : Chronicled D) (ns mid ns' : List Note) (halt halt' : Option Halt) (left most most' : ℕ) (log : List Written) (seat call : ℕ) (reply : ListReply) (said : Option What)
+pub list-leaves : {D : Type 0} (o : Opening) (seats : ℕ) (b : Journaled D) (ns mid ns' : List Note) (halt halt' : Option Halt) (left most most' : ℕ) (log : List Written) (seat call : ℕ) (reply : ListReply) (said : Option What)
     → IsShared o seats b ns halt left most log → call ≡ calls_by seat log → OnListTold reply (reply ≡ list_reply halt) → said ≡ list_notes reply → mid ≡ ns → IsNoted seat call said mid halt ns' halt'
     → length ns + 1 + left ≤ most' → ListLeaves o seats b ns' halt' left most' log seat reply
 list-leaves o seats b ns mid ns' halt halt' left most most' log seat call reply said s numbered told is mid-is noted room =

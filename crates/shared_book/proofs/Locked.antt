@@ -1,15 +1,15 @@
--- A call through the lock: its number, whose entries it adds, and how many calls were made behind it.
+-- A call through the lock: its number, whose entries it adds, and how many calls were made after it.
 use Rattle.std.proofs.Common.{◌≡◌, ◌≢◌, ℕ, ◌+◌, ◌-◌, ◌<◌, ◌≤◌, Bool, true, false, ◌==◌, if◌then◌else◌, List, [], ◌∷◌, ◌++◌, length, All, Option, Some, None, refl, sym, ap, ap₂, ◌∙◌, subst, arith, append-nil, length-append, eq-eqb, ne_eqb}
 use Rattle.std.proofs.lemmas.List.Elements.{All-cons, All-head, All-nil, All-tail}
 use Rattle.rollout_rules.specs.declared.op.Entry.{Entry}
 use Rattle.turn_lock.specs.Histories.{Follows, GoesOn}
-use Rattle.shared_history.specs.declared.note.Cause.{Cause}
-use Rattle.shared_history.specs.declared.note.What.{What}
-use Rattle.shared_history.specs.declared.note.What.TheVariants as what
-use Rattle.shared_history.specs.declared.note.Written.{Written}
-use Rattle.shared_history.specs.Notes.{calls_by, has_asked}
-use Rattle.shared_history.specs.Knows.{next_note}
-use Rattle.shared_history.proofs.Going.{calls_by-append, calls_by-next}
+use Rattle.shared_book.specs.declared.note.Cause.{Cause}
+use Rattle.shared_book.specs.declared.note.What.{What}
+use Rattle.shared_book.specs.declared.note.What.TheVariants as what
+use Rattle.shared_book.specs.declared.note.Written.{Written}
+use Rattle.shared_book.specs.Notes.{calls_by, has_asked}
+use Rattle.shared_book.specs.Knows.{next_note}
+use Rattle.shared_book.proofs.Going.{calls_by-append, calls_by-next}
 use Rattle.shared_book.specs.Calls.{seat_of}
 use Rattle.shared_book.specs.Told.{brought, noted_count, with_noted}
 
@@ -25,7 +25,7 @@ calls-none seat joined (w ∷ ws) none =
     let not_own : one_if (w.note.seat == seat) ≡ 0 = ap one_if (ne_eqb w.note.seat seat (λ same. other (sym same))) in
     omega (arith, not_own, calls-none seat joined ws (All-tail P w ws none))
 
--- behind what the pass had seen its seat has made no other call
+-- after what the pass had seen its seat has made no other call
 pub call-is : (seat seat' calls : ℕ) (joined : List ℕ) (seen taken log : List Written) → calls ≡ calls_by seat seen → Follows seat_of (seat ∷ joined) seen taken → log ≡ taken → seat' ≡ seat → calls ≡ calls_by seat' log
 call-is seat seat' calls joined seen taken log made past same own =
     let here : calls_by seat taken ≡ calls_by seat seen + 0 =

@@ -9,24 +9,24 @@ use Rattle.disk_model.specs.Moments.{LeavesOnly}
 use Rattle.wan_edge.specs.Frames.{Answer}
 use Rattle.wan_edge.specs.Streams.{KeepsTelling, Rose}
 use Rattle.rollout_book.specs.Aliens.{told_by}
-use Rattle.rollout_book.specs.Chronicles.{Chronicled, batch_of, with_batch, with_lost}
+use Rattle.rollout_book.specs.JournaledRounds.{Journaled, batch_of, with_batch, with_lost}
 use Rattle.rollout_book.specs.Lists.{HasBeforeOrAfter, IsKeptList, KeepsOwner}
 use Rattle.rollout_book.specs.declared.fault.BookFault.TheVariants as fault
-use Rattle.shared_history.specs.declared.note.Cause.{Cause}
-use Rattle.shared_history.specs.declared.note.Note.{Note}
-use Rattle.shared_history.specs.declared.note.What.{What}
-use Rattle.shared_history.specs.declared.note.What.TheVariants as what
-use Rattle.shared_history.specs.declared.note.Written.{Written}
-use Rattle.shared_history.specs.declared.reply.Halt.{Halt}
-use Rattle.shared_history.specs.declared.reply.ListReply.{ListReply}
-use Rattle.shared_history.specs.declared.reply.ListReply.TheVariants as list
-use Rattle.shared_history.specs.declared.reply.Wake.{Wake}
-use Rattle.shared_history.specs.declared.reply.Wake.TheVariants as wake
-use Rattle.shared_history.specs.Histories.{Opening, history_of}
-use Rattle.shared_history.specs.Knows.{next_note}
-use Rattle.shared_history.specs.Legal.{is_legal_shared}
-use Rattle.shared_history.specs.Notes.{first_stop}
-use Rattle.shared_history.specs.Replies.{batch_at, wake_says}
+use Rattle.shared_book.specs.declared.note.Cause.{Cause}
+use Rattle.shared_book.specs.declared.note.Note.{Note}
+use Rattle.shared_book.specs.declared.note.What.{What}
+use Rattle.shared_book.specs.declared.note.What.TheVariants as what
+use Rattle.shared_book.specs.declared.note.Written.{Written}
+use Rattle.shared_book.specs.declared.call_reply.Halt.{Halt}
+use Rattle.shared_book.specs.declared.call_reply.ListReply.{ListReply}
+use Rattle.shared_book.specs.declared.call_reply.ListReply.TheVariants as list
+use Rattle.shared_book.specs.declared.call_reply.Wake.{Wake}
+use Rattle.shared_book.specs.declared.call_reply.Wake.TheVariants as wake
+use Rattle.shared_book.specs.Histories.{Opening, history_of}
+use Rattle.shared_book.specs.Knows.{next_note}
+use Rattle.shared_book.specs.Legal.{is_legal_shared}
+use Rattle.shared_book.specs.Notes.{first_stop}
+use Rattle.shared_book.specs.Replies.{batch_at, wake_says}
 use Rattle.shared_book.specs.declared.reply.RoundReply.{RoundReply}
 use Rattle.shared_book.specs.declared.reply.RoundReply.TheVariants as round
 use Rattle.shared_book.specs.Images.{HasImages, StaysOpened}
@@ -64,8 +64,8 @@ module _ {D : Type 0} (trace : D → DiskTrace) (o : Opening) (from count : ℕ)
   images-of disk log after same was = subst (Images disk) (sym same) was
 
   -- and of the disk of a book that is this one
-  pub images-as : (b c : Chronicled D) (log : List Written) → c ≡ b → Images b.disk log → Images c.disk log
-  images-as b c log same was = subst (λ (x : Chronicled D). Images x.disk log) (sym same) was
+  pub images-as : (b c : Journaled D) (log : List Written) → c ≡ b → Images b.disk log → Images c.disk log
+  images-as b c log same was = subst (λ (x : Journaled D). Images x.disk log) (sym same) was
 
   module _ (log : List Written) (old : D) (was : Images old log) (seat : ℕ) where
     pub list-images : (reply : ListReply) → Images old (with_noted seat log (list_notes reply) [])
@@ -83,7 +83,7 @@ module _ {D : Type 0} (trace : D → DiskTrace) (o : Opening) (from count : ℕ)
     pub stop-images : (why : Cause) → Images old (log ++ next_note seat log (what.Stop why) [] ∷ [])
     stop-images why = images-same trace o from count log old was seat (what.Stop why) old refl (λ here. here)
 
-  module _ (seats : ℕ) (b b' : Chronicled D) (ns : List Note) (halt : Option Halt) (left most : ℕ) (log : List Written) (s : IsShared o seats b ns halt left most log) (answers : List Answer) (was : Images b.disk log) (seat : ℕ)
+  module _ (seats : ℕ) (b b' : Journaled D) (ns : List Note) (halt : Option Halt) (left most : ℕ) (log : List Written) (s : IsShared o seats b ns halt left most log) (answers : List Answer) (was : Images b.disk log) (seat : ℕ)
       (counts : (t : ℕ) (c : List ℕ) → t ≤ (trace b'.disk).moment → (trace b'.disk).may_leave c → (trace b'.disk).left_since t c) (keeps : KeepsTelling (trace b.disk).bytes (trace b'.disk).bytes) (grows : (trace b.disk).faults ≤ (trace b'.disk).faults) where
     -- the run of the disk, told by the history
     run-told : first_stop log ≡ None → IfSome (trace b.disk).bytes (λ _. LeavesOnly trace b.disk b'.disk (HasBeforeOrAfter b.history.start b.entries (batch_of b o.policy answers)))
@@ -97,9 +97,9 @@ module _ {D : Type 0} (trace : D → DiskTrace) (o : Opening) (from count : ℕ)
         → IfSome (trace b'.disk).bytes (IsKeptList o.found.start ((history_of o log).entries ++ batch_at o (history_of o log) (told_by answers)) (trace b'.disk).may_leave)
     kept-told none is kept =
         let P : List ℕ → List Entry → Type 0 = λ st es. IfSome (trace b'.disk).bytes (IsKeptList st es (trace b'.disk).may_leave) in
-        let starts : b'.history.start ≡ o.found.start = ap (λ (x : Chronicled D). x.history.start) is ∙ ap (λ (h : History). h.start) s.history in
+        let starts : b'.history.start ≡ o.found.start = ap (λ (x : Journaled D). x.history.start) is ∙ ap (λ (h : History). h.start) s.history in
         let lists : b'.entries ≡ (history_of o log).entries ++ batch_at o (history_of o log) (told_by answers) =
-        ap (λ (x : Chronicled D). x.entries) is ∙ ap (λ es. es ++ batch_of b o.policy answers) s.entries ∙ ap (λ ba. (history_of o log).entries ++ ba) (batch-at o seats b ns halt left most log s answers none) in
+        ap (λ (x : Journaled D). x.entries) is ∙ ap (λ es. es ++ batch_of b o.policy answers) s.entries ∙ ap (λ ba. (history_of o log).entries ++ ba) (batch-at o seats b ns halt left most log s answers none) in
         subst (λ es. P o.found.start es) lists (subst (λ st. P st b'.entries) starts kept)
 
     round-images : (reply : RoundReply) → IsMade b halt o.policy answers reply b'
@@ -112,12 +112,12 @@ module _ {D : Type 0} (trace : D → DiskTrace) (o : Opening) (from count : ℕ)
         images-turned trace o from count log b.disk was b'.disk seat (batch_at o (history_of o log) (told_by answers)) none s.legal (run-told none run) keeps grows turn.dones turn.begins legal
         (kept-told none made.3 kept)
     round-images (round.Refused (fault.Alien item held begun)) made run kept rose legal =
-        images-same trace o from count log b.disk was seat (what.Alien item held begun) b'.disk (ap (λ (x : Chronicled D). x.disk) made.1.1) (λ here. here)
+        images-same trace o from count log b.disk was seat (what.Alien item held begun) b'.disk (ap (λ (x : Journaled D). x.disk) made.1.1) (λ here. here)
     round-images (round.Refused fault.Disk) made run kept rose legal =
         let none = sym s.halted ∙ made.0 in
         images-lost trace o from count log b.disk was b'.disk seat (batch_at o (history_of o log) (told_by answers)) none s.legal (run-told none run) keeps grows legal counts rose
     round-images (round.Stopped first) made run kept rose legal =
-        images-same trace o from count log b.disk was seat what.Stopped b'.disk (ap (λ (x : Chronicled D). x.disk) made.1) (λ here. here)
+        images-same trace o from count log b.disk was seat what.Stopped b'.disk (ap (λ (x : Journaled D). x.disk) made.1) (λ here. here)
     round-images round.Memory made run kept rose legal = absurd made
 
     -- from before the opening on
@@ -131,7 +131,7 @@ module _ {D : Type 0} (trace : D → DiskTrace) (o : Opening) (from count : ℕ)
         let none = sym s.halted ∙ made.0 in
         stays-round trace o stood b.disk b'.disk (HasBeforeOrAfter o.found.start (history_of o log).entries (batch_at o (history_of o log) (told_by answers)))
         (turned-goes o log seat (batch_at o (history_of o log) (told_by answers)) s.legal turn.dones turn.begins legal) counts (run-told none run) own keeps shown stays
-    round-stays stood stays shown (round.Refused (fault.Alien item held begun)) made run own legal = subst (λ (d : D). StaysOpened trace o stood d) (sym (ap (λ (x : Chronicled D). x.disk) made.1.1)) stays
+    round-stays stood stays shown (round.Refused (fault.Alien item held begun)) made run own legal = subst (λ (d : D). StaysOpened trace o stood d) (sym (ap (λ (x : Journaled D). x.disk) made.1.1)) stays
     round-stays stood stays shown (round.Refused fault.Disk) made run own legal =
         let none = sym s.halted ∙ made.0 in
         stays-round trace o stood b.disk b'.disk (HasBeforeOrAfter o.found.start (history_of o log).entries (batch_at o (history_of o log) (told_by answers)))
@@ -141,7 +141,7 @@ module _ {D : Type 0} (trace : D → DiskTrace) (o : Opening) (from count : ℕ)
 
   -- ---- what the book promises of its disk
 
-  module _ (halt : Option Halt) (policy : OpView → ℕ) (answers : List Answer) (b b' : Chronicled D) where
+  module _ (halt : Option Halt) (policy : OpView → ℕ) (answers : List Answer) (b b' : Journaled D) where
     abbrev Round : RoundReply → Type 0
     Round reply = IsRoundOf trace halt policy answers b reply b'
 
@@ -175,17 +175,17 @@ module _ {D : Type 0} (trace : D → DiskTrace) (o : Opening) (from count : ℕ)
     tells-of : (reply : RoundReply) → Round reply → KeepsTelling (trace b.disk).bytes (trace b'.disk).bytes
     tells-of (round.Turned turn) made = made.1.told
     tells-of (round.Refused why) made = made.1.told
-    tells-of (round.Stopped first) made = ap (λ (x : Chronicled D). is_some (trace x.disk).bytes) made.1
+    tells-of (round.Stopped first) made = ap (λ (x : Journaled D). is_some (trace x.disk).bytes) made.1
     tells-of round.Memory made = absurd made
 
     pub grows-of : (reply : RoundReply) → Round reply → (trace b.disk).faults ≤ (trace b'.disk).faults
     grows-of (round.Turned turn) made = made.1.count
     grows-of (round.Refused why) made = made.1.count
-    grows-of (round.Stopped first) made = omega (arith, ap (λ (x : Chronicled D). (trace x.disk).faults) made.1)
+    grows-of (round.Stopped first) made = omega (arith, ap (λ (x : Journaled D). (trace x.disk).faults) made.1)
     grows-of round.Memory made = absurd made
 
   -- the same with the policy of the code, and the history of the parts
-  pub round-images-by : (seats : ℕ) (b b' : Chronicled D) (ns : List Note) (halt : Option Halt) (left most : ℕ) (log after : List Written) (answers : List Answer) (policy : OpView → ℕ) (seat : ℕ) (reply : RoundReply)
+  pub round-images-by : (seats : ℕ) (b b' : Journaled D) (ns : List Note) (halt : Option Halt) (left most : ℕ) (log after : List Written) (answers : List Answer) (policy : OpView → ℕ) (seat : ℕ) (reply : RoundReply)
       → IsShared o seats b ns halt left most log → o.policy ≡ policy → Images b.disk log → ((t : ℕ) (c : List ℕ) → t ≤ (trace b'.disk).moment → (trace b'.disk).may_leave c → (trace b'.disk).left_since t c)
       → IsRoundOf trace halt policy answers b reply b'
       → is_legal_shared o after ≡ true → after ≡ with_noted seat log (round_notes reply) (batch_at o (history_of o log) (told_by answers)) → Images b'.disk after
@@ -196,7 +196,7 @@ module _ {D : Type 0} (trace : D → DiskTrace) (o : Opening) (from count : ℕ)
       (made-plain trace b b' halt o.policy answers reply made') (run-of halt o.policy answers b b' reply made') (kept-of halt o.policy answers b b' reply made')
       (rose-of halt o.policy answers b b' reply made') (subst (λ ws. is_legal_shared o ws ≡ true) noted legal))
 
-  pub round-stays-by : (stood : DiskTrace) (seats : ℕ) (b b' : Chronicled D) (ns : List Note) (halt : Option Halt) (left most : ℕ) (log after : List Written) (answers : List Answer) (policy : OpView → ℕ) (seat : ℕ) (reply : RoundReply)
+  pub round-stays-by : (stood : DiskTrace) (seats : ℕ) (b b' : Journaled D) (ns : List Note) (halt : Option Halt) (left most : ℕ) (log after : List Written) (answers : List Answer) (policy : OpView → ℕ) (seat : ℕ) (reply : RoundReply)
       → IsShared o seats b ns halt left most log → o.policy ≡ policy → Images b.disk log → StaysOpened trace o stood b.disk → IfSome (trace b'.disk).bytes (trace b'.disk).may_leave
       → ((t : ℕ) (c : List ℕ) → t ≤ (trace b'.disk).moment → (trace b'.disk).may_leave c → (trace b'.disk).left_since t c)
       → IsRoundOf trace halt policy answers b reply b'

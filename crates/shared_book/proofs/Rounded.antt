@@ -13,19 +13,19 @@ use Rattle.rollout_book.specs.declared.fault.BookFault.{BookFault}
 use Rattle.rollout_book.specs.declared.fault.BookFault.TheVariants as fault
 use Rattle.rollout_book.specs.Aliens as aliens
 use Rattle.rollout_book.specs.Aliens.{told_by}
-use Rattle.rollout_book.specs.Chronicles.{Chronicled, batch_of, graph_of, turn_of, with_batch, with_lost}
-use Rattle.shared_history.specs.declared.note.What.{What}
-use Rattle.shared_history.specs.declared.note.What.TheVariants as what
-use Rattle.shared_history.specs.declared.note.Note.{Note}
-use Rattle.shared_history.specs.declared.note.Written.{Written}
-use Rattle.shared_history.specs.declared.reply.Halt.{Halt}
-use Rattle.shared_history.specs.Notes.{calls_by, halt_by, first_stop, is_stopped}
-use Rattle.shared_history.specs.Histories.{Opening, segment_of, history_of}
-use Rattle.shared_history.specs.Legal.{may_say}
-use Rattle.shared_history.specs.Knows.{next_note}
-use Rattle.shared_history.specs.Replies.{batch_at, first_alien, or_stopped, or_turned, round_says, turned}
-use Rattle.shared_history.proofs.Batched.{batch-is}
-use Rattle.shared_history.proofs.Saying.{alien-may, stopped-may, turned-may, disk-may}
+use Rattle.rollout_book.specs.JournaledRounds.{Journaled, batch_of, graph_of, turn_of, with_batch, with_lost}
+use Rattle.shared_book.specs.declared.note.What.{What}
+use Rattle.shared_book.specs.declared.note.What.TheVariants as what
+use Rattle.shared_book.specs.declared.note.Note.{Note}
+use Rattle.shared_book.specs.declared.note.Written.{Written}
+use Rattle.shared_book.specs.declared.call_reply.Halt.{Halt}
+use Rattle.shared_book.specs.Notes.{calls_by, halt_by, first_stop, is_stopped}
+use Rattle.shared_book.specs.Histories.{Opening, segment_of, history_of}
+use Rattle.shared_book.specs.Legal.{may_say}
+use Rattle.shared_book.specs.Knows.{next_note}
+use Rattle.shared_book.specs.Replies.{batch_at, first_alien, or_stopped, or_turned, round_says, turned}
+use Rattle.shared_book.proofs.Batched.{batch-is}
+use Rattle.shared_book.proofs.Saying.{alien-may, stopped-may, turned-may, disk-may}
 use Rattle.shared_book.specs.declared.reply.RoundReply.{RoundReply}
 use Rattle.shared_book.specs.declared.reply.RoundReply.TheVariants as round
 use Rattle.shared_book.specs.Rounds.{IsRoundOf}
@@ -36,18 +36,18 @@ use Rattle.shared_book.proofs.Sharing.{GoesOnBy, still, first_stop-next, goes-on
 use Rattle.shared_book.proofs.Unstopped.{or-neither, unstopped}
 
 -- What a round makes of a book, whatever its disk: nothing has changed, the batch is there, or its append failed.
-abbrev IsRefused : {D : Type 0} → Chronicled D → (OpView → ℕ) → List Answer → BookFault → Chronicled D → Type 0
+abbrev IsRefused : {D : Type 0} → Journaled D → (OpView → ℕ) → List Answer → BookFault → Journaled D → Type 0
 IsRefused b policy answers (fault.Alien item held begun) new = (aliens.first_alien (graph_of b) answers ≡ Some (fault.Alien item held begun)) × (new ≡ b)
 IsRefused b policy answers fault.Disk new = (aliens.first_alien (graph_of b) answers ≡ None) × (new ≡ with_lost b (batch_of b policy answers) new.disk)
 
-abbrev pub IsMade : {D : Type 0} → Chronicled D → Option Halt → (OpView → ℕ) → List Answer → RoundReply → Chronicled D → Type 0
+abbrev pub IsMade : {D : Type 0} → Journaled D → Option Halt → (OpView → ℕ) → List Answer → RoundReply → Journaled D → Type 0
 IsMade b halted policy answers (round.Turned turn) new =
     (halted ≡ None) × (aliens.first_alien (graph_of b) answers ≡ None) × (turn ≡ turn_of (batch_of b policy answers)) × (new ≡ with_batch b (batch_of b policy answers) new.disk)
 IsMade b halted policy answers (round.Refused why) new = (halted ≡ None) × IsRefused b policy answers why new
 IsMade b halted policy answers (round.Stopped halt) new = (halted ≡ Some halt) × (new ≡ b)
 IsMade b halted policy answers round.Memory new = ⊥
 
-pub made-plain : {D : Type 0} (trace : D → DiskTrace) (b new : Chronicled D) (halted : Option Halt) (policy : OpView → ℕ) (answers : List Answer) (reply : RoundReply)
+pub made-plain : {D : Type 0} (trace : D → DiskTrace) (b new : Journaled D) (halted : Option Halt) (policy : OpView → ℕ) (answers : List Answer) (reply : RoundReply)
     → IsRoundOf trace halted policy answers b reply new → IsMade b halted policy answers reply new
 made-plain trace b new halted policy answers (round.Turned turn) made = (made.0, made.1.known, made.1.turn, made.1.written)
 made-plain trace b new halted policy answers (round.Refused (fault.Alien item held begun)) made = (made.0, (made.1.alien, made.1.unchanged))
@@ -55,7 +55,7 @@ made-plain trace b new halted policy answers (round.Refused fault.Disk) made = (
 made-plain trace b new halted policy answers (round.Stopped first) made = made
 made-plain trace b new halted policy answers round.Memory made = made
 
-module _ {D : Type 0} (o : Opening) (seats : ℕ) (b : Chronicled D) (ns : List Note) (halt : Option Halt) (left most : ℕ) (log : List Written) (s : IsShared o seats b ns halt left most log) (answers : List Answer) where
+module _ {D : Type 0} (o : Opening) (seats : ℕ) (b : Journaled D) (ns : List Note) (halt : Option Halt) (left most : ℕ) (log : List Written) (s : IsShared o seats b ns halt left most log) (answers : List Answer) where
   -- what the book is before the first stop
   history-is : first_stop log ≡ None → b.history ≡ history_of o log
   history-is none = s.history ∙ unstopped o log s.legal none
@@ -77,7 +77,7 @@ module _ {D : Type 0} (o : Opening) (seats : ℕ) (b : Chronicled D) (ns : List 
       ap₂ (λ st a. or_stopped st (or_turned a (batch_at o (history_of o log) (told_by answers)))) none alien
 
   -- what is told is what the history says
-  pub round-told : (reply : RoundReply) (b' : Chronicled D) → IsMade b halt o.policy answers reply b' → IsRoundAt o log (told_by answers) reply
+  pub round-told : (reply : RoundReply) (b' : Journaled D) → IsMade b halt o.policy answers reply b' → IsRoundAt o log (told_by answers) reply
   round-told (round.Turned turn) b' made =
       let none = sym s.halted ∙ made.0 in
       let es = batch_of b o.policy answers in (
@@ -94,8 +94,8 @@ module _ {D : Type 0} (o : Opening) (seats : ℕ) (b : Chronicled D) (ns : List 
   round-told (round.Stopped first) b' made = sym s.halted ∙ made.0
   round-told round.Memory b' made = tt
 
-  module _ (b' : Chronicled D) (ns' : List Note) (halt' : Option Halt) (most' seat : ℕ) (room : length ns + 1 + left ≤ most') where
-    -- a book that has a stop behind it need not live
+  module _ (b' : Journaled D) (ns' : List Note) (halt' : Option Halt) (most' seat : ℕ) (room : length ns + 1 + left ≤ most') where
+    -- a book that has a stop after it need not live
     lives-not : (said : What) (es : List Entry) (first : Halt) → option_or (first_stop log) (halt_by (next_note seat log said es).note) ≡ Some first
         → first_stop (log ++ next_note seat log said es ∷ []) ≡ None → b'.live ≡ true
     lives-not said es first some none = absurd (cc (sym some ∙ sym (first_stop-next log (next_note seat log said es)) ∙ none))
@@ -112,12 +112,12 @@ module _ {D : Type 0} (o : Opening) (seats : ℕ) (b : Chronicled D) (ns : List 
         let may = turned-may o log seat es none (batch-is o.rollout.problem o.rollout.plan o.policy (history_of o log) (told_by answers)) in
         goes-on o seats b b' ns ns' halt halt' left most most' log seat said es s (subst (λ w. may_say o log seat es w ≡ true) turned-said may)
         (record {
-          rollout = ap (λ (x : Chronicled D). x.rollout) is;
-          found = ap (λ (x : Chronicled D). x.found) is;
-          history = ap (λ (x : Chronicled D). x.history) is;
-          entries = ap (λ (x : Chronicled D). x.entries) is;
+          rollout = ap (λ (x : Journaled D). x.rollout) is;
+          found = ap (λ (x : Journaled D). x.found) is;
+          history = ap (λ (x : Journaled D). x.history) is;
+          entries = ap (λ (x : Journaled D). x.entries) is;
         })
-        (λ later. ap (λ (x : Chronicled D). x.live) is ∙ s.live none) noted.0 noted.1 refl room
+        (λ later. ap (λ (x : Journaled D). x.live) is ∙ s.live none) noted.0 noted.1 refl room
     round-shared (round.Refused (fault.Alien item held begun)) made noted =
         let none = sym s.halted ∙ made.0 in
         let said = what.Alien item held begun in
@@ -131,10 +131,10 @@ module _ {D : Type 0} (o : Opening) (seats : ℕ) (b : Chronicled D) (ns : List 
         goes-on o seats b b' ns ns' halt halt' left most most' log seat what.Disk es s
         (disk-may o log seat es none (batch-is o.rollout.problem o.rollout.plan o.policy (history_of o log) (told_by answers)))
         (record {
-          rollout = ap (λ (x : Chronicled D). x.rollout) is;
-          found = ap (λ (x : Chronicled D). x.found) is;
-          history = ap (λ (x : Chronicled D). x.history) is;
-          entries = ap (λ (x : Chronicled D). x.entries) is ∙ sym (append-nil b.entries);
+          rollout = ap (λ (x : Journaled D). x.rollout) is;
+          found = ap (λ (x : Journaled D). x.found) is;
+          history = ap (λ (x : Journaled D). x.history) is;
+          entries = ap (λ (x : Journaled D). x.entries) is ∙ sym (append-nil b.entries);
         })
         (lives-not what.Disk es _ (ap (λ st. option_or st (halt_by (next_note seat log what.Disk es).note)) none)) noted.0 noted.1 refl room
     round-shared (round.Stopped first) made noted =
@@ -145,12 +145,12 @@ module _ {D : Type 0} (o : Opening) (seats : ℕ) (b : Chronicled D) (ns : List 
     round-shared round.Memory made noted = absurd made
 
 -- What a round leaves: the type's own facts, the history with the note, and what was told.
-pub record RoundLeaves {D : Type 0} (o : Opening) (seats : ℕ) (book : Chronicled D) (list : List Note) (first : Option Halt) (waiting capacity : ℕ) (log : List Written) (seat : ℕ) (answers : List Answer) (reply : RoundReply) : Type 0 where
+pub record RoundLeaves {D : Type 0} (o : Opening) (seats : ℕ) (book : Journaled D) (list : List Note) (first : Option Halt) (waiting capacity : ℕ) (log : List Written) (seat : ℕ) (answers : List Answer) (reply : RoundReply) : Type 0 where
   pub shared : IsShared o seats book list first waiting capacity (log_of book list)
   pub noted : log_of book list ≡ with_noted seat log (round_notes reply) (batch_at o (history_of o log) (told_by answers))
   pub told : IsRoundAt o log (told_by answers) reply
 
-pub round-leaves : {D : Type 0} (o : Opening) (seats : ℕ) (b b' : Chronicled D) (ns mid ns' : List Note) (halt halt' : Option Halt) (left most most' : ℕ) (log : List Written) (answers : List Answer) (policy : OpView → ℕ) (seat call : ℕ)
+pub round-leaves : {D : Type 0} (o : Opening) (seats : ℕ) (b b' : Journaled D) (ns mid ns' : List Note) (halt halt' : Option Halt) (left most most' : ℕ) (log : List Written) (answers : List Answer) (policy : OpView → ℕ) (seat call : ℕ)
     (reply : RoundReply) (said : Option What) → IsShared o seats b ns halt left most log → o.policy ≡ policy → call ≡ calls_by seat log → IsMade b halt policy answers reply b' → said ≡ round_notes reply
     → mid ≡ ns → IsNoted seat call said mid halt ns' halt' → length ns + 1 + left ≤ most' → RoundLeaves o seats b' ns' halt' left most' log seat answers reply
 round-leaves o seats b b' ns mid ns' halt halt' left most most' log answers policy seat call reply said s same numbered made is mid-is noted room =

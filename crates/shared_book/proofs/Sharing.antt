@@ -8,19 +8,19 @@ use Rattle.rollout_rules.specs.History.{History, with_entries}
 use Rattle.rollout_rules.specs.declared.op.Entry.{Entry}
 use Rattle.rollout_rules.proofs.Below.{sum_below-same, sum_below-but}
 use Rattle.rollout_laws.proofs.Histories.{with_none, with_both}
-use Rattle.rollout_book.specs.Chronicles.{Chronicled}
-use Rattle.shared_history.specs.declared.note.What.{What}
-use Rattle.shared_history.specs.declared.note.Note.{Note}
-use Rattle.shared_history.specs.declared.note.Written.{Written}
-use Rattle.shared_history.specs.declared.reply.Halt.{Halt}
-use Rattle.shared_history.specs.Notes.{notes_of, calls_by, halt_by, first_stop, asks_to_stop, has_asked}
-use Rattle.shared_history.specs.Histories.{Opening, segment_of, history_of, all_entries, written}
-use Rattle.shared_history.specs.Legal.{may_say, is_legal_shared}
-use Rattle.shared_history.specs.Knows.{next_note}
-use Rattle.shared_history.proofs.Going.{one_more}
-use Rattle.shared_history.proofs.Stops.{first_stop-append}
-use Rattle.shared_history.proofs.Lists.{history-next}
-use Rattle.shared_history.proofs.Pairs.{pair-tells}
+use Rattle.rollout_book.specs.JournaledRounds.{Journaled}
+use Rattle.shared_book.specs.declared.note.What.{What}
+use Rattle.shared_book.specs.declared.note.Note.{Note}
+use Rattle.shared_book.specs.declared.note.Written.{Written}
+use Rattle.shared_book.specs.declared.call_reply.Halt.{Halt}
+use Rattle.shared_book.specs.Notes.{notes_of, calls_by, halt_by, first_stop, asks_to_stop, has_asked}
+use Rattle.shared_book.specs.Histories.{Opening, segment_of, history_of, all_entries, written}
+use Rattle.shared_book.specs.Legal.{may_say, is_legal_shared}
+use Rattle.shared_book.specs.Knows.{next_note}
+use Rattle.shared_book.proofs.Going.{one_more}
+use Rattle.shared_book.proofs.Stops.{first_stop-append}
+use Rattle.shared_book.proofs.Lists.{history-next}
+use Rattle.shared_book.proofs.Pairs.{pair-tells}
 use Rattle.shared_book.specs.Sharing.{Sharing, log_of, unasked, IsShared}
 
 all_entries-next : (ws : List Written) (w : Written) → all_entries (ws ++ w ∷ []) ≡ all_entries ws ++ w.entries
@@ -64,32 +64,32 @@ unasked-next seats ws w none =
 
 module _ {D : Type 0} (o : Opening) (seats : ℕ) where
   -- the notes and entries of the book are those of the history
-  pub log-is : (b : Chronicled D) (ns : List Note) (halt : Option Halt) (left most : ℕ) (log : List Written) → IsShared o seats b ns halt left most log → log_of b ns ≡ log
+  pub log-is : (b : Journaled D) (ns : List Note) (halt : Option Halt) (left most : ℕ) (log : List Written) → IsShared o seats b ns halt left most log → log_of b ns ≡ log
   log-is b ns halt left most log s =
       ap₂ written (ap₂ drop s.found (ap (λ (h : History). h.entries) s.history) ∙ drop-append_seam o.found.entries (all_entries log)) s.notes ∙ pair-tells o log s.legal
 
-  pub at-log : (b : Chronicled D) (ns : List Note) (halt : Option Halt) (left most : ℕ) (log : List Written) → IsShared o seats b ns halt left most log → IsShared o seats b ns halt left most (log_of b ns)
+  pub at-log : (b : Journaled D) (ns : List Note) (halt : Option Halt) (left most : ℕ) (log : List Written) → IsShared o seats b ns halt left most log → IsShared o seats b ns halt left most (log_of b ns)
   at-log b ns halt left most log s = subst (IsShared o seats b ns halt left most) (sym (log-is b ns halt left most log s)) s
 
 -- the facts of the type, told of what contracts see
-pub shared-at : {D : Type 0} {o : Opening} {seats : ℕ} {b : Chronicled D} {ns : List Note} {halt : Option Halt} {left most : ℕ} (seen now : Sharing D) → seen ≡ now → IsShared o seats b ns halt left most seen.log
+pub shared-at : {D : Type 0} {o : Opening} {seats : ℕ} {b : Journaled D} {ns : List Note} {halt : Option Halt} {left most : ℕ} (seen now : Sharing D) → seen ≡ now → IsShared o seats b ns halt left most seen.log
     → IsShared o seats b ns halt left most now.log
 shared-at {D} {o} {seats} {b} {ns} {halt} {left} {most} seen now same s = subst (λ (v : Sharing D). IsShared o seats b ns halt left most v.log) same s
 
 -- and of a book that is this one
-pub shared-as : {D : Type 0} {o : Opening} {seats : ℕ} {b : Chronicled D} {ns : List Note} {halt : Option Halt} {left most : ℕ} {log : List Written} (c : Chronicled D) → c ≡ b → IsShared o seats b ns halt left most log
+pub shared-as : {D : Type 0} {o : Opening} {seats : ℕ} {b : Journaled D} {ns : List Note} {halt : Option Halt} {left most : ℕ} {log : List Written} (c : Journaled D) → c ≡ b → IsShared o seats b ns halt left most log
     → IsShared o seats c ns halt left most log
-shared-as {D} {o} {seats} {b} {ns} {halt} {left} {most} {log} c same s = subst (λ (x : Chronicled D). IsShared o seats x ns halt left most log) (sym same) s
+shared-as {D} {o} {seats} {b} {ns} {halt} {left} {most} {log} c same s = subst (λ (x : Journaled D). IsShared o seats x ns halt left most log) (sym same) s
 
 -- what a note makes of the book: its entries are in the history, and its segment in the list
-pub record GoesOnBy {D : Type 0} (old new : Chronicled D) (said : What) (es : List Entry) : Type 0 where
+pub record GoesOnBy {D : Type 0} (old new : Journaled D) (said : What) (es : List Entry) : Type 0 where
   pub rollout : new.rollout ≡ old.rollout
   pub found : new.found ≡ old.found
   pub history : new.history ≡ with_entries old.history es
   pub entries : new.entries ≡ old.entries ++ segment_of said es
 
 -- nothing has changed but for the note
-pub still : {D : Type 0} (b b' : Chronicled D) (said : What) → b' ≡ b → segment_of said [] ≡ [] → GoesOnBy b b' said []
+pub still : {D : Type 0} (b b' : Journaled D) (said : What) → b' ≡ b → segment_of said [] ≡ [] → GoesOnBy b b' said []
 still b b' said is none = record {
   rollout = ap (λ x. x.rollout) is;
   found = ap (λ x. x.found) is;
@@ -98,7 +98,7 @@ still b b' said is none = record {
 }
 
 -- no note was made, and there may be more room
-pub unnoted : {D : Type 0} (o : Opening) (seats : ℕ) (b : Chronicled D) (ns ns' : List Note) (halt halt' : Option Halt) (left most most' : ℕ) (log : List Written)
+pub unnoted : {D : Type 0} (o : Opening) (seats : ℕ) (b : Journaled D) (ns ns' : List Note) (halt halt' : Option Halt) (left most most' : ℕ) (log : List Written)
     → IsShared o seats b ns halt left most log → ns' ≡ ns → halt' ≡ halt → length ns + left ≤ most' → IsShared o seats b ns' halt' left most' log
 unnoted o seats b ns ns' halt halt' left most most' log s noted halts room = record {
   legal = s.legal;
@@ -113,7 +113,7 @@ unnoted o seats b ns ns' halt halt' left most most' log s noted halts room = rec
   room = omega (arith, ap (λ (xs : List Note). length xs) noted, room);
 }
 
-module _ {D : Type 0} (o : Opening) (seats : ℕ) (b b' : Chronicled D) (ns ns' : List Note) (halt halt' : Option Halt) (left most most' : ℕ) (log : List Written) (seat : ℕ) (said : What) (es : List Entry)
+module _ {D : Type 0} (o : Opening) (seats : ℕ) (b b' : Journaled D) (ns ns' : List Note) (halt halt' : Option Halt) (left most most' : ℕ) (log : List Written) (seat : ℕ) (said : What) (es : List Entry)
     (s : IsShared o seats b ns halt left most log) (may : may_say o log seat es said ≡ true) (by : GoesOnBy b b' said es)
     (lives : first_stop (log ++ next_note seat log said es ∷ []) ≡ None → b'.live ≡ true)
     (noted : ns' ≡ ns ++ (next_note seat log said es).note ∷ []) (halts : halt' ≡ option_or halt (halt_by (next_note seat log said es).note)) where

@@ -8,15 +8,15 @@ use Rattle.wan_edge.specs.Streams.{KeepsTelling}
 use Rattle.intent_journal.specs.Images.{journal_in}
 use Rattle.intent_journal.specs.Parts.{Kept}
 use Rattle.intent_journal.specs.Phases.{kept_by}
-use Rattle.rollout_book.specs.Chronicles.{Chronicled}
+use Rattle.rollout_book.specs.JournaledRounds.{Journaled}
 use Rattle.rollout_book.specs.Lists.{HasBeforeOrAfter, HasList, HasOwner, KeepsOwner}
-use Rattle.shared_history.specs.declared.note.What.TheVariants as what
-use Rattle.shared_history.specs.Notes.{first_stop}
-use Rattle.shared_history.specs.Histories.{Opening, history_of}
-use Rattle.shared_history.specs.declared.note.Written.{Written}
-use Rattle.shared_history.specs.Legal.{is_legal_shared}
-use Rattle.shared_history.specs.Knows.{next_note}
-use Rattle.shared_history.proofs.Lists.{history-next}
+use Rattle.shared_book.specs.declared.note.What.TheVariants as what
+use Rattle.shared_book.specs.Notes.{first_stop}
+use Rattle.shared_book.specs.Histories.{Opening, history_of}
+use Rattle.shared_book.specs.declared.note.Written.{Written}
+use Rattle.shared_book.specs.Legal.{is_legal_shared}
+use Rattle.shared_book.specs.Knows.{next_note}
+use Rattle.shared_book.proofs.Lists.{history-next}
 use Rattle.shared_book.specs.Images.{GoesOnFrom, HasGoneOn, HasLegalList, StandsSo, Stays, StaysOpened}
 use Rattle.shared_book.specs.Sharing.{Sharing}
 use Rattle.shared_book.proofs.Imaged.{has-all, has-lost}
@@ -26,7 +26,7 @@ gone : (o : Opening) (log : List Written) (c : List ℕ) → HasLegalList o log 
 gone o log c has = record { past = has.past; legal = has.legal; has = has.has }
 
 module _ (o : Opening) (log : List Written) (seat : ℕ) (es : List Entry) (legal : is_legal_shared o log ≡ true) where
-  -- a round that was made leaves the list before or behind it
+  -- a round that was made leaves the list before or after it
   pub turned-goes : (dones begins : ℕ) → is_legal_shared o (log ++ next_note seat log (what.Turned dones begins) es ∷ []) ≡ true
       → (c : List ℕ) → HasBeforeOrAfter o.found.start (history_of o log).entries es c → HasGoneOn o c
   turned-goes dones begins legal' c (inl before) = gone o log c (has-all o log c legal before)
@@ -67,8 +67,8 @@ module _ {D : Type 0} (trace : D → DiskTrace) (o : Opening) (stood : DiskTrace
   stays-at seen now same was = subst (λ (v : Sharing D). StaysOpened trace o stood v.book.disk) same was
 
   -- and of a book that is this one
-  pub stays-as : (b c : Chronicled D) → c ≡ b → StaysOpened trace o stood b.disk → StaysOpened trace o stood c.disk
-  stays-as b c same was = subst (λ (x : Chronicled D). StaysOpened trace o stood x.disk) (sym same) was
+  pub stays-as : (b c : Journaled D) → c ≡ b → StaysOpened trace o stood b.disk → StaysOpened trace o stood c.disk
+  stays-as b c same was = subst (λ (x : Journaled D). StaysOpened trace o stood x.disk) (sym same) was
 
   -- ---- writes that leave lists which go on, of the same owner
   module _ (old new : D) (P : List ℕ → Type 0) (list : (c : List ℕ) → P c → HasGoneOn o c) (counts : (t : ℕ) (c : List ℕ) → t ≤ (trace new).moment → (trace new).may_leave c → (trace new).left_since t c) where

@@ -5,16 +5,16 @@ use Rattle.std.proofs.lemmas.Bool.{and_parts}
 use Rattle.rollout_rules.specs.Legal.{is_legal}
 use Rattle.rollout_rules.specs.History.{with_entries}
 use Rattle.rollout_rules.specs.declared.op.Entry.{Entry}
-use Rattle.shared_history.specs.declared.note.Cause.{Cause}
-use Rattle.shared_history.specs.declared.note.What.{What}
-use Rattle.shared_history.specs.declared.note.What.TheVariants as what
-use Rattle.shared_history.specs.declared.note.Note.{Note}
-use Rattle.shared_history.specs.declared.note.Written.{Written}
-use Rattle.shared_history.specs.declared.reply.Halt.{Halt}
-use Rattle.shared_history.specs.Notes.{cause_of, halt_by, first_stop}
-use Rattle.shared_history.specs.Histories.{Opening, segment_of, added, history_of, all_entries}
-use Rattle.shared_history.specs.Legal.{is_empty, may_say, may_note, may_go_on, is_legal_shared}
-use Rattle.shared_history.proofs.Stops.{no_entries, of_three, of_four}
+use Rattle.shared_book.specs.declared.note.Cause.{Cause}
+use Rattle.shared_book.specs.declared.note.What.{What}
+use Rattle.shared_book.specs.declared.note.What.TheVariants as what
+use Rattle.shared_book.specs.declared.note.Note.{Note}
+use Rattle.shared_book.specs.declared.note.Written.{Written}
+use Rattle.shared_book.specs.declared.call_reply.Halt.{Halt}
+use Rattle.shared_book.specs.Notes.{cause_of, halt_by, first_stop}
+use Rattle.shared_book.specs.Histories.{Opening, segment_of, added, history_of, all_entries}
+use Rattle.shared_book.specs.Legal.{is_empty, may_say, may_note, may_go_on, is_legal_shared}
+use Rattle.shared_book.proofs.Stops.{no_entries, of_three, of_four}
 
 own-is : (o : Opening) (ws : List Written) (seat : ℕ) (es : List Entry) (said : What) → may_say o ws seat es said ≡ true → cause_of said ≡ None → es ≡ segment_of said es
 own-is o ws seat es (what.Turned dones begins) may none = refl

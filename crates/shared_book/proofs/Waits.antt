@@ -2,9 +2,9 @@
 use Rattle.std.proofs.Common.{◌≡◌, ◌≢◌, ℕ, List, [], ◌∷◌, ◌++◌, All, Option, None, refl, sym, ap, ap₂, ◌∙◌, subst, append_assoc, append-nil}
 use Rattle.std.proofs.lemmas.List.Elements.{All-append, All-nil}
 use Rattle.turn_lock.specs.Histories.{Follows}
-use Rattle.shared_history.specs.declared.note.Written.{Written}
-use Rattle.shared_history.specs.declared.reply.Wake.{Wake}
-use Rattle.shared_history.specs.Histories.{Opening}
+use Rattle.shared_book.specs.declared.note.Written.{Written}
+use Rattle.shared_book.specs.declared.call_reply.Wake.{Wake}
+use Rattle.shared_book.specs.Histories.{Opening}
 use Rattle.shared_book.specs.Calls.{seat_of}
 use Rattle.shared_book.specs.Waking.{IsLookCall}
 
@@ -19,7 +19,7 @@ follows-on seats seen mid log first then = record {
 }
 
 module _ (o : Opening) (seats seats' : List ℕ) (seat seat' : ℕ) (seen mid : List Written) (switches : List ℕ) (after : List Written) (past : Follows seat_of seats seen mid) (same : seats' ≡ seats) where
-  -- a look behind others is one behind what was seen at first
+  -- a look after others is one after what was seen at first
   pub look-behind : (woken told : Option Wake) → woken ≡ told → seat' ≡ seat → IsLookCall o seats' seat' mid switches woken after → IsLookCall o seats seat seen switches told after
   look-behind woken told is own look =
       let at : IsLookCall o seats seat mid switches told after =

@@ -9,20 +9,20 @@ use Rattle.rollout_rules.specs.Items.{item_count}
 use Rattle.rollout_rules.specs.Legal.{is_finished}
 use Rattle.rollout_rules.specs.World.{in_flight}
 use Rattle.rollout_rules.specs.declared.op.Op.{Op}
-use Rattle.rollout_book.specs.Chronicles.{Chronicled}
-use Rattle.shared_history.specs.declared.note.What.{What}
-use Rattle.shared_history.specs.declared.note.What.TheVariants as what
-use Rattle.shared_history.specs.declared.note.Note.{Note}
-use Rattle.shared_history.specs.declared.note.Written.{Written}
-use Rattle.shared_history.specs.declared.reply.Halt.{Halt}
-use Rattle.shared_history.specs.declared.reply.Wake.{Wake}
-use Rattle.shared_history.specs.declared.reply.Wake.TheVariants as wake
-use Rattle.shared_history.specs.Notes.{calls_by, halt_by, first_stop}
-use Rattle.shared_history.specs.Histories.{Opening, history_of}
-use Rattle.shared_history.specs.Legal.{is_still}
-use Rattle.shared_history.specs.Knows.{next_note}
-use Rattle.shared_history.specs.Replies.{asked_at, is_among, is_asked, wake_or, wake_reply, wake_says, wake_with}
-use Rattle.shared_history.proofs.Saying.{wake-may}
+use Rattle.rollout_book.specs.JournaledRounds.{Journaled}
+use Rattle.shared_book.specs.declared.note.What.{What}
+use Rattle.shared_book.specs.declared.note.What.TheVariants as what
+use Rattle.shared_book.specs.declared.note.Note.{Note}
+use Rattle.shared_book.specs.declared.note.Written.{Written}
+use Rattle.shared_book.specs.declared.call_reply.Halt.{Halt}
+use Rattle.shared_book.specs.declared.call_reply.Wake.{Wake}
+use Rattle.shared_book.specs.declared.call_reply.Wake.TheVariants as wake
+use Rattle.shared_book.specs.Notes.{calls_by, halt_by, first_stop}
+use Rattle.shared_book.specs.Histories.{Opening, history_of}
+use Rattle.shared_book.specs.Legal.{is_still}
+use Rattle.shared_book.specs.Knows.{next_note}
+use Rattle.shared_book.specs.Replies.{asked_at, is_among, is_asked, wake_or, wake_reply, wake_says, wake_with}
+use Rattle.shared_book.proofs.Saying.{wake-may}
 use Rattle.shared_book.specs.Homes.{homes_of}
 use Rattle.shared_book.specs.Sharing.{IsNoted, IsShared, log_of}
 use Rattle.shared_book.specs.Told.{with_noted}
@@ -58,7 +58,7 @@ wake-rest finished still [] e = refl
 wake-rest finished still (x ∷ xs) e = absurd (cc e)
 
 -- ---- what a look finds
-module _ {D : Type 0} (b : Chronicled D) (halted : Option Halt) (homes : List (Option ℕ)) (switches : List ℕ) (ops : List Op) (asked : Option Op) (none : halted ≡ None) (rows : homes ≡ homes_of b.rollout.problem)
+module _ {D : Type 0} (b : Journaled D) (halted : Option Halt) (homes : List (Option ℕ)) (switches : List ℕ) (ops : List Op) (asked : Option Op) (none : halted ≡ None) (rows : homes ≡ homes_of b.rollout.problem)
     (value : ops ≡ in_flight b.rollout.problem b.history) (items : All (λ op. op.item < item_count b.rollout.problem) ops)
     (told : asked ≡ first_of (filter (λ (op : Op). is_among switches (slice_index_or homes op.item None)) ops)) where
   first-is : asked ≡ first_of (asked_at b.rollout.problem b.history switches)
@@ -82,7 +82,7 @@ on-told wake.Held P holds = holds
 on-told (wake.Stopped halt) P holds = holds
 on-told wake.Memory P holds = tt
 
-module _ {D : Type 0} (o : Opening) (seats : ℕ) (b : Chronicled D) (ns : List Note) (halt : Option Halt) (left most : ℕ) (log : List Written) (s : IsShared o seats b ns halt left most log) (switches : List ℕ) where
+module _ {D : Type 0} (o : Opening) (seats : ℕ) (b : Journaled D) (ns : List Note) (halt : Option Halt) (left most : ℕ) (log : List Written) (s : IsShared o seats b ns halt left most log) (switches : List ℕ) where
   -- what a wait ends with is what the history says
   wake-by : (stop : Option Halt) → first_stop log ≡ stop → wake_of b halt switches ≡ wake_reply o log switches
   wake-by (Some h) is =
@@ -113,12 +113,12 @@ module _ {D : Type 0} (o : Opening) (seats : ℕ) (b : Chronicled D) (ns : List 
     wake-shared wake.Memory told noted = unnoted o seats b ns ns' halt halt' left most most' log s noted.0 noted.1 (omega (arith, room))
 
 -- What a look leaves: the type's own facts, the history with the note, and what was told.
-pub record WakeLeaves {D : Type 0} (o : Opening) (seats : ℕ) (book : Chronicled D) (list : List Note) (first : Option Halt) (waiting capacity : ℕ) (log : List Written) (seat : ℕ) (switches : List ℕ) (woken : Wake) : Type 0 where
+pub record WakeLeaves {D : Type 0} (o : Opening) (seats : ℕ) (book : Journaled D) (list : List Note) (first : Option Halt) (waiting capacity : ℕ) (log : List Written) (seat : ℕ) (switches : List ℕ) (woken : Wake) : Type 0 where
   pub shared : IsShared o seats book list first waiting capacity (log_of book list)
   pub noted : log_of book list ≡ with_noted seat log (wake_says woken) []
   pub told : OnTold woken (Some woken ≡ wake_reply o log switches)
 
-pub wake-leaves : {D : Type 0} (o : Opening) (seats : ℕ) (b : Chronicled D) (ns mid ns' : List Note) (halt halt' : Option Halt) (left most most' : ℕ) (log : List Written) (seat call : ℕ) (switches : List ℕ) (woken : Wake) (said : Option What)
+pub wake-leaves : {D : Type 0} (o : Opening) (seats : ℕ) (b : Journaled D) (ns mid ns' : List Note) (halt halt' : Option Halt) (left most most' : ℕ) (log : List Written) (seat call : ℕ) (switches : List ℕ) (woken : Wake) (said : Option What)
     → IsShared o seats b ns halt left most log → call ≡ calls_by seat log → Some woken ≡ wake_of b halt switches → said ≡ wake_says woken → mid ≡ ns → IsNoted seat call said mid halt ns' halt'
     → length ns + 1 + left ≤ most' → WakeLeaves o seats b ns' halt' left most' log seat switches woken
 wake-leaves o seats b ns mid ns' halt halt' left most most' log seat call switches woken said s numbered told is mid-is noted room =

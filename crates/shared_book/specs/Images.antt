@@ -8,10 +8,10 @@ use Rattle.wan_edge.specs.Streams.{Rose}
 use Rattle.intent_journal.specs.Parts.{Kept}
 use Rattle.intent_journal.specs.Phases.{kept_by}
 use Rattle.rollout_book.specs.Lists.{HasList, HasBeforeOrAfter, HasOwner}
-use Rattle.shared_history.specs.declared.note.What.{What}
-use Rattle.shared_history.specs.declared.note.What.TheVariants as what
-use Rattle.shared_history.specs.declared.note.Written.{Written}
-use Rattle.shared_history.specs.Histories.{Opening, added, history_of}
+use Rattle.shared_book.specs.declared.note.What.{What}
+use Rattle.shared_book.specs.declared.note.What.TheVariants as what
+use Rattle.shared_book.specs.declared.note.Written.{Written}
+use Rattle.shared_book.specs.Histories.{Opening, added, history_of}
 
 -- The entries of which the append failed: those of a Disk.
 abbrev pub lost_by : What → List Entry → List Entry
@@ -45,11 +45,11 @@ abbrev pub HasDisk : List Written → Type 0
 HasDisk [] = ⊥
 HasDisk (w ∷ ws) = IsDisk w.note.what ⊎ HasDisk ws
 
--- The image has the list behind these notes; where the disk failed, maybe with the whole of the batch that was lost.
+-- The image has the list after these notes; where the disk failed, maybe with the whole of the batch that was lost.
 abbrev pub HasListBehind : Opening → List Written → List ℕ → Type 0
 HasListBehind o ws image = HasBeforeOrAfter o.found.start (history_of o ws).entries (lost ws) image
 
--- The image has a legal list that begins with the one found: the list behind a beginning of the notes.
+-- The image has a legal list that begins with the one found: the list after a beginning of the notes.
 pub record HasLegalList (o : Opening) (log : List Written) (image : List ℕ) : Type 0 where
   pub seen : List Written
   pub later : List Written
@@ -59,9 +59,9 @@ pub record HasLegalList (o : Opening) (log : List Written) (image : List ℕ) : 
   pub has : HasList o.found.start (o.found.entries ++ past) image
   pub behind : (past ≡ added seen) ⊎ (past ≡ added seen ++ lost seen)
 
--- What is known of the disk behind a shared history, which began at a moment with so many failures. Of a disk that tells its
+-- What is known of the disk after a shared history, which began at a moment with so many failures. Of a disk that tells its
 -- content: every image that a crash may have left since that moment has a legal list that begins with the one found; and each
--- that a crash now may leave has the list behind all notes. Of every disk: it has failed since then where a note says so.
+-- that a crash now may leave has the list after all notes. Of every disk: it has failed since then where a note says so.
 pub record HasImages {D : Type 0} (trace : D → DiskTrace) (o : Opening) (from count : ℕ) (disk : D) (log : List Written) : Type 0 where
   pub more : count ≤ (trace disk).faults
   pub later : IfSome (trace disk).bytes (λ _. from ≤ (trace disk).moment)
@@ -82,7 +82,7 @@ pub record GoesOnFrom (o : Opening) (kept : Kept) (image : List ℕ) : Type 0 wh
   pub owner : HasOwner kept image
   pub list : HasGoneOn o image
 
--- What is known of a disk since it stood so, behind an opening that kept this: the image that is told has the same owner; and what a crash may have
+-- What is known of a disk since it stood so, after an opening that kept this: the image that is told has the same owner; and what a crash may have
 -- left since any moment up to then is what it might have left by then, or an image that goes on from there.
 pub record Stays {D : Type 0} (trace : D → DiskTrace) (o : Opening) (stood : DiskTrace) (kept : Kept) (disk : D) (image : List ℕ) : Type 0 where
   pub later : stood.moment ≤ (trace disk).moment

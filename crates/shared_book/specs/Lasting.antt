@@ -8,13 +8,13 @@ use Rattle.disk_model.specs.Traces.{DiskTrace}
 use Rattle.wan_edge.specs.Frames.{Answer, Command}
 use Rattle.wan_edge.specs.Ports.{PortTrace}
 use Rattle.port_session.specs.Standing.{HasTold, WasHeard}
-use Rattle.shared_history.specs.declared.note.Written.{Written}
-use Rattle.shared_history.specs.Histories.{Opening}
-use Rattle.shared_history.specs.Legal.{is_legal_shared}
+use Rattle.shared_book.specs.declared.note.Written.{Written}
+use Rattle.shared_book.specs.Histories.{Opening}
+use Rattle.shared_book.specs.Legal.{is_legal_shared}
 use Rattle.shared_book.specs.Images.{HasImages}
 use Rattle.shared_book.specs.Told.{commands_at}
 
--- The disk stood where each image that a crash could leave had the list behind a legal shared history, and behind that history the command is
+-- The disk stood where each image that a crash could leave had the list after a legal shared history, and after that history the command is
 -- that of an operation in flight. Code that doesn't know the disk can name no other state of it than those that calls left.
 pub record IsLasting {D : Type 0} (trace : D → DiskTrace) (o : Opening) (from count : ℕ) (c : Command) : Type 0 where
   pub disk : D

@@ -1,3 +1,10 @@
+pub mod Batches
+pub mod Notes
+pub mod Histories
+pub mod Legal
+pub mod Replies
+pub mod Knows
+pub mod Worked
 pub mod Sharing
 pub mod Told
 pub mod Rounds

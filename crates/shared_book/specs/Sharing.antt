@@ -3,30 +3,30 @@ use Rattle.std.specs.Prelude.{◌≡◌, ℕ, ◌+◌, ◌≤◌, true, not, Lis
 use Rattle.std.specs.Option.{option_or}
 use Rattle.rollout_rules.specs.Sums.{count_below}
 use Rattle.rollout_rules.specs.History.{with_entries}
-use Rattle.rollout_book.specs.Chronicles.{Chronicled}
-use Rattle.shared_history.specs.declared.note.What.{What}
-use Rattle.shared_history.specs.declared.note.Note.{Note}
-use Rattle.shared_history.specs.declared.note.Written.{Written}
-use Rattle.shared_history.specs.declared.reply.Halt.{Halt}
-use Rattle.shared_history.specs.Notes.{notes_of, halt_by, first_stop, has_asked}
-use Rattle.shared_history.specs.Histories.{Opening, history_of, all_entries, written}
-use Rattle.shared_history.specs.Legal.{is_legal_shared}
+use Rattle.rollout_book.specs.JournaledRounds.{Journaled}
+use Rattle.shared_book.specs.declared.note.What.{What}
+use Rattle.shared_book.specs.declared.note.Note.{Note}
+use Rattle.shared_book.specs.declared.note.Written.{Written}
+use Rattle.shared_book.specs.declared.call_reply.Halt.{Halt}
+use Rattle.shared_book.specs.Notes.{notes_of, halt_by, first_stop, has_asked}
+use Rattle.shared_book.specs.Histories.{Opening, history_of, all_entries, written}
+use Rattle.shared_book.specs.Legal.{is_legal_shared}
 
 pub record Sharing (D : Type 0) : Type 0 where
-  pub book : Chronicled D
+  pub book : Journaled D
   pub log : List Written
 
--- the notes with their entries, which are those behind what was found
-abbrev pub log_of : {D : Type 0} → Chronicled D → List Note → List Written
+-- the notes with their entries, which are those after what was found
+abbrev pub log_of : {D : Type 0} → Journaled D → List Note → List Written
 log_of b notes = written (drop b.found b.history.entries) notes
 
 -- how many seats below a number have not asked that all stop
 abbrev pub unasked : ℕ → List Written → ℕ
 unasked seats log = count_below seats (λ seat. not (has_asked seat log))
 
--- What a shared book relies on: the book is the one of the opening behind a legal shared history, of which it has the notes and
+-- What a shared book relies on: the book is the one of the opening after a legal shared history, of which it has the notes and
 -- the first stop; it lives up to there; and there is room for the Stop of each seat that has not asked yet.
-pub record IsShared {D : Type 0} (o : Opening) (seats : ℕ) (b : Chronicled D) (ns : List Note) (halt : Option Halt) (left most : ℕ) (log : List Written) : Type 0 where
+pub record IsShared {D : Type 0} (o : Opening) (seats : ℕ) (b : Journaled D) (ns : List Note) (halt : Option Halt) (left most : ℕ) (log : List Written) : Type 0 where
   pub legal : is_legal_shared o log ≡ true
   pub rollout : b.rollout ≡ o.rollout
   pub history : b.history ≡ with_entries o.found (all_entries log)

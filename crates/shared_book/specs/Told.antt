@@ -7,16 +7,16 @@ use Rattle.wan_edge.specs.Frames.{Command}
 use Rattle.rollout_book.specs.Commands.{asked}
 use Rattle.rollout_book.specs.declared.fault.BookFault.{BookFault}
 use Rattle.rollout_book.specs.declared.fault.BookFault.TheVariants as fault
-use Rattle.shared_history.specs.declared.note.What.{What}
-use Rattle.shared_history.specs.declared.note.What.TheVariants as what
-use Rattle.shared_history.specs.declared.note.Written.{Written}
-use Rattle.shared_history.specs.declared.reply.Halt.{Halt}
-use Rattle.shared_history.specs.declared.reply.ListReply.{ListReply}
-use Rattle.shared_history.specs.declared.reply.ListReply.TheVariants as list
-use Rattle.shared_history.specs.Notes.{first_stop}
-use Rattle.shared_history.specs.Histories.{Opening, history_of}
-use Rattle.shared_history.specs.Replies.{batch_at, round_says, turned}
-use Rattle.shared_history.specs.Knows.{next_note}
+use Rattle.shared_book.specs.declared.note.What.{What}
+use Rattle.shared_book.specs.declared.note.What.TheVariants as what
+use Rattle.shared_book.specs.declared.note.Written.{Written}
+use Rattle.shared_book.specs.declared.call_reply.Halt.{Halt}
+use Rattle.shared_book.specs.declared.call_reply.ListReply.{ListReply}
+use Rattle.shared_book.specs.declared.call_reply.ListReply.TheVariants as list
+use Rattle.shared_book.specs.Notes.{first_stop}
+use Rattle.shared_book.specs.Histories.{Opening, history_of}
+use Rattle.shared_book.specs.Replies.{batch_at, round_says, turned}
+use Rattle.shared_book.specs.Knows.{next_note}
 use Rattle.shared_book.specs.declared.reply.RoundReply.{RoundReply}
 use Rattle.shared_book.specs.declared.reply.RoundReply.TheVariants as round
 
@@ -71,7 +71,7 @@ OnListTold list.Listed holds = holds
 OnListTold (list.Stopped halt) holds = holds
 OnListTold list.Memory holds = ⊤
 
--- the commands of the operations of these switches that are in flight behind a history, by item
+-- the commands of the operations of these switches that are in flight after a history, by item
 abbrev pub commands_at : Opening → List Written → List ℕ → List Command
 commands_at o log switches = asked o.rollout switches (in_flight o.rollout.problem (history_of o log))
 

@@ -2,15 +2,15 @@
 use Rattle.std.specs.Prelude.{◌≡◌, ⊤, ℕ, true, List, [], ◌∷◌, Option, Some, None}
 use Rattle.rollout_rules.specs.Legal.{is_finished}
 use Rattle.turn_lock.specs.Histories.{Follows}
-use Rattle.rollout_book.specs.Chronicles.{Chronicled}
-use Rattle.shared_history.specs.declared.note.What.{What}
-use Rattle.shared_history.specs.declared.note.Written.{Written}
-use Rattle.shared_history.specs.declared.reply.Halt.{Halt}
-use Rattle.shared_history.specs.declared.reply.Wake.{Wake}
-use Rattle.shared_history.specs.declared.reply.Wake.TheVariants as wake
-use Rattle.shared_history.specs.Histories.{Opening}
-use Rattle.shared_history.specs.Legal.{is_legal_shared, is_still}
-use Rattle.shared_history.specs.Replies.{asked_at, wake_or, wake_reply, wake_says, wake_with}
+use Rattle.rollout_book.specs.JournaledRounds.{Journaled}
+use Rattle.shared_book.specs.declared.note.What.{What}
+use Rattle.shared_book.specs.declared.note.Written.{Written}
+use Rattle.shared_book.specs.declared.call_reply.Halt.{Halt}
+use Rattle.shared_book.specs.declared.call_reply.Wake.{Wake}
+use Rattle.shared_book.specs.declared.call_reply.Wake.TheVariants as wake
+use Rattle.shared_book.specs.Histories.{Opening}
+use Rattle.shared_book.specs.Legal.{is_legal_shared, is_still}
+use Rattle.shared_book.specs.Replies.{asked_at, wake_or, wake_reply, wake_says, wake_with}
 use Rattle.shared_book.specs.Calls.{seat_of}
 use Rattle.shared_book.specs.Told.{with_noted}
 
@@ -19,7 +19,7 @@ first_of [] = None
 first_of (x ∷ xs) = Some x
 
 -- What a wait of these switches ends with at a book that a stop may have ended, if it ends.
-abbrev pub wake_of : {D : Type 0} → Chronicled D → Option Halt → List ℕ → Option Wake
+abbrev pub wake_of : {D : Type 0} → Journaled D → Option Halt → List ℕ → Option Wake
 wake_of b halted switches =
     wake_or halted
     (wake_with (is_finished b.rollout.problem b.rollout.plan b.history) (is_still b.rollout.problem b.history) (asked_at b.rollout.problem b.history switches))
@@ -29,7 +29,7 @@ abbrev pub wake_notes : Option Wake → Option What
 wake_notes None = None
 wake_notes (Some woken) = wake_says woken
 
--- what holds of a look that isn't refused for want of memory
+-- what holds of a look that isn't refused for lack of memory
 abbrev pub OnTold : Wake → Type 0 → Type 0
 OnTold (wake.Work op) holds = holds
 OnTold wake.Finished holds = holds
@@ -46,7 +46,7 @@ abbrev pub OnUnnoted : Option What → Type 0 → Type 0
 OnUnnoted None holds = holds
 OnUnnoted (Some said) holds = ⊤
 
--- A look of a call that waits: behind what these seats had seen others have notes, and then, unless the call waits on, the note of the
+-- A look of a call that waits: after what these seats had seen others have notes, and then, unless the call waits on, the note of the
 -- look stands. The whole is legal, and what is told is what the history before that note says.
 pub record IsLookCall (o : Opening) (seats : List ℕ) (seat : ℕ) (seen : List Written) (switches : List ℕ) (woken : Option Wake) (after : List Written) : Type 0 where
   pub log : List Written

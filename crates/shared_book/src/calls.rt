@@ -7,28 +7,28 @@ ghost use Rattle.shared_book.specs.Calls.{IsCounted, IsListCall, IsRoundCall, Is
 ghost use Rattle.shared_book.specs.Lasting.{CountsAsHeard};
 ghost use Rattle.shared_book.specs.Told.{list_notes, noted_count, round_notes};
 
-use crate::kept::Kept;
 use crate::listed::Listed;
+use crate::locked_book::{CallPass, LockedBook};
 use crate::marker::Marker;
+use crate::noted_book::NotedBook;
 use crate::reply::RoundReply;
-use crate::shared::{CallPass, Shared};
+use crate::{Cause, Halt, ListReply};
 use disk_model::Disk;
 use order_policy::Policy;
-use port_session::Heard;
-use shared_history::{Cause, Halt, ListReply};
+use port_session::PortAnswers;
 use std::alloc::Global;
 use std::sync::Wait;
 use turn_lock::Counted;
 use wan_edge::Port;
 
-impl<'d, D: Disk, M: Marker> Shared<Kept<D, M>, &'d Policy> {
-    /// A round, as [`Kept::round`] makes it in this pass's turn. Its answers are those that ports have told.
+impl<'d, D: Disk, M: Marker> LockedBook<NotedBook<D, M>, &'d Policy> {
+    /// A round, as [`NotedBook::round`] makes it in this pass's turn. Its answers are those that ports have told.
     pub fn round<R: Wait, T: Port>(
         &self,
         rt: &R,
-        pass: CallPass<Kept<D, M>>,
-        heard: Heard<T>,
-    ) -> (CallPass<Kept<D, M>>, RoundReply)
+        pass: CallPass<NotedBook<D, M>>,
+        heard: PortAnswers<T>,
+    ) -> (CallPass<NotedBook<D, M>>, RoundReply)
         requires lock { IsPassOf self.now.lock pass.pass }
         requires policy { M.opening.policy ≡ rank_by self.now.policy.now.answers }
         requires calls { IsCounted pass.calls pass.pass }
@@ -49,15 +49,15 @@ impl<'d, D: Disk, M: Marker> Shared<Kept<D, M>, &'d Policy> {
         (CallPass { pass, calls }, reply)
     }
 
-    /// Lists commands, as [`Kept::commands`] does in this pass's turn.
+    /// Lists commands, as [`NotedBook::commands`] does in this pass's turn.
     pub fn commands<R: Wait>(
         &self,
         rt: &R,
         alloc: Global,
-        pass: CallPass<Kept<D, M>>,
+        pass: CallPass<NotedBook<D, M>>,
         switches: &[u32],
         out: &mut Listed<D, M>,
-    ) -> (CallPass<Kept<D, M>>, ListReply)
+    ) -> (CallPass<NotedBook<D, M>>, ListReply)
         requires lock { IsPassOf self.now.lock pass.pass }
         requires calls { IsCounted pass.calls pass.pass }
         ensures lock { IsPassOf self.now.lock result.0.pass }
@@ -75,13 +75,13 @@ impl<'d, D: Disk, M: Marker> Shared<Kept<D, M>, &'d Policy> {
         (CallPass { pass, calls }, reply)
     }
 
-    /// Asks that all stop, as [`Kept::stop`] does in this pass's turn. It takes no memory.
+    /// Asks that all stop, as [`NotedBook::stop`] does in this pass's turn. It takes no memory.
     pub fn stop<R: Wait>(
         &self,
         rt: &R,
-        pass: CallPass<Kept<D, M>>,
+        pass: CallPass<NotedBook<D, M>>,
         cause: Cause,
-    ) -> (CallPass<Kept<D, M>>, Halt)
+    ) -> (CallPass<NotedBook<D, M>>, Halt)
         requires lock { IsPassOf self.now.lock pass.pass }
         requires seat { seat_of_pass pass.pass < M.seats }
         requires calls { IsCounted pass.calls pass.pass }

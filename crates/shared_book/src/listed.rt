@@ -9,7 +9,7 @@ use std::marker::{Model, PhantomData};
 use wire_frames::Command;
 
 /// Commands of operations in flight that turns of a shared book listed. Only such a turn puts commands in, each
-/// behind the moment from which no crash loses its operation.
+/// after the moment from which no crash loses its operation.
 pub struct Listed<D: Disk, M: Marker> {
     pub(crate) commands: CommandList,
     on: PhantomData<D>,

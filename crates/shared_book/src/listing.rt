@@ -1,20 +1,20 @@
 ghost use Rattle.std.specs.Prelude.{◌≡◌, ◌++◌, [], IsTrue};
 ghost use Rattle.rollout_book.specs.Commands.{commands_of};
-ghost use Rattle.shared_history.specs.Legal.{is_legal_shared};
-ghost use Rattle.shared_history.specs.Notes.{calls_by, first_stop};
-ghost use Rattle.shared_history.specs.Replies.{list_reply};
+ghost use Rattle.shared_book.specs.Legal.{is_legal_shared};
+ghost use Rattle.shared_book.specs.Notes.{calls_by, first_stop};
+ghost use Rattle.shared_book.specs.Replies.{list_reply};
 ghost use Rattle.shared_book.specs.Told.{commands_at, with_noted, list_notes, if_listed, OnListTold, OnListWant};
 
-use crate::kept::Kept;
 use crate::listed::Listed;
 use crate::marker::Marker;
+use crate::noted_book::NotedBook;
 use crate::noting::{make_room, write_if};
+use crate::{Halt, ListReply, What};
 use disk_model::Disk;
-use rollout_book::{Chronicle, CommandList};
-use shared_history::{Halt, ListReply, What};
+use rollout_book::{CommandList, JournaledRounds};
 use std::alloc::Global;
 
-impl<D: Disk, M: Marker> Kept<D, M> {
+impl<D: Disk, M: Marker> NotedBook<D, M> {
     /// Adds the commands of the operations in flight of these switches, by item, as a call of a seat of this
     /// number; none where a stop stands in the history.
     pub fn commands(
@@ -37,21 +37,27 @@ impl<D: Disk, M: Marker> Kept<D, M> {
         if make_room(&mut self.notes, self.spare).is_err() {
             return ListReply::Memory;
         }
-        let reply = listed(
+        let reply = list_commands(
             &self.chronicle,
             alloc,
             self.halted,
             switches,
             &mut out.commands,
         );
-        write_if(&mut self.notes, &mut self.halted, seat, call, noted(reply));
+        write_if(
+            &mut self.notes,
+            &mut self.halted,
+            seat,
+            call,
+            note_of(reply),
+        );
         reply
     }
 }
 
 // Lists commands, unless a stop has ended the book.
-fn listed<D: Disk>(
-    chronicle: &Chronicle<D>,
+fn list_commands<D: Disk>(
+    chronicle: &JournaledRounds<D>,
     alloc: Global,
     halted: Option<Halt>,
     switches: &[u32],
@@ -70,7 +76,7 @@ fn listed<D: Disk>(
 }
 
 // What is noted of a reply.
-fn noted(reply: ListReply) -> Option<What>
+fn note_of(reply: ListReply) -> Option<What>
     ensures { result ≡ list_notes reply }
 {
     match reply {

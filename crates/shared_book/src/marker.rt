@@ -1,6 +1,6 @@
 ghost use Rattle.std.specs.Prelude.{ℕ};
 ghost use Rattle.disk_model.specs.Traces.{DiskTrace};
-ghost use Rattle.shared_history.specs.Histories.{Opening};
+ghost use Rattle.shared_book.specs.Histories.{Opening};
 ghost use Rattle.wan_edge.specs.Frames.{Answer};
 
 use std::marker::Brand;
@@ -33,7 +33,7 @@ pub trait Marker {
 // The members that stand where no call picks others.
 impl Marker for Brand {
     ghost use Rattle.shared_book.specs.Images.{nothing_stood};
-    ghost use Rattle.shared_history.specs.Worked.{of_one};
+    ghost use Rattle.shared_book.specs.Worked.{of_one};
 
     ghost opening = { of_one };
 

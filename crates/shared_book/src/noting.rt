@@ -1,11 +1,12 @@
 //! Room for notes, and writing one.
 ghost use Rattle.std.specs.Prelude.{◌≡◌, ◌+◌, ◌<◌, ◌≤◌, ◌++◌, [], ◌∷◌, vec_len, vec_capacity, OnErr, OnOk};
 ghost use Rattle.std.specs.Option.{option_or};
-ghost use Rattle.shared_history.specs.Notes as stops;
+ghost use Rattle.shared_book.specs.Notes as stops;
 ghost use Rattle.shared_book.specs.Sharing.{IsNoted};
 
+use crate::{Cause, Halt, Note, What};
 use lists::Memory;
-use shared_history::{Cause, Halt, Note, What};
+use rollout_book::BookFault;
 
 /// Makes room for a note more than the stops that may come.
 pub(crate) fn make_room(notes: &mut Vec<Note>, spare: u32) -> Result<(), Memory>
@@ -57,12 +58,15 @@ fn halt_of(note: Note) -> Option<Halt>
     })
 }
 
+// The cause for which what was noted stops the history; of a round that was refused, that of its fault.
 fn cause_of(what: What) -> Option<Cause>
     ensures { result ≡ stops.cause_of what }
 {
     match what {
-        What::Alien { item, held, begun } => Some(Cause::Above { item, held, begun }),
-        What::Disk => Some(Cause::Disk),
+        What::Alien { item, held, begun } => {
+            Some(Cause::from(BookFault::Alien { item, held, begun }))
+        }
+        What::Disk => Some(Cause::from(BookFault::Disk)),
         What::Stop(cause) => Some(cause),
         _ => None,
     }

@@ -1,5 +1,5 @@
+use crate::Halt;
 use rollout_book::{BookFault, Turn};
-use shared_history::Halt;
 
 /// What a round of a shared book is told.
 #[derive(Clone, Copy, Debug, Drop, PartialEq, Eq)]

@@ -1,25 +1,25 @@
 ghost use Rattle.std.specs.Prelude.{◌≡◌, ◌≤◌, All, true, IsTrue, None};
 ghost use Rattle.order_policy.specs.Answers.{rank_by};
 ghost use Rattle.rollout_book.specs.Aliens.{told_by};
-ghost use Rattle.shared_history.specs.Histories.{history_of};
-ghost use Rattle.shared_history.specs.Legal.{is_legal_shared};
-ghost use Rattle.shared_history.specs.Notes.{calls_by};
-ghost use Rattle.shared_history.specs.Replies.{batch_at};
+ghost use Rattle.shared_book.specs.Histories.{history_of};
+ghost use Rattle.shared_book.specs.Legal.{is_legal_shared};
+ghost use Rattle.shared_book.specs.Notes.{calls_by};
+ghost use Rattle.shared_book.specs.Replies.{batch_at};
 ghost use Rattle.shared_book.specs.Rounds.{IsRoundOf};
 ghost use Rattle.shared_book.specs.Told.{with_noted, round_notes, IsRoundAt, OnFailed, OnWant};
 ghost use Rattle.wan_edge.specs.Streams.{Rose};
 
-use crate::kept::Kept;
 use crate::marker::Marker;
+use crate::noted_book::NotedBook;
 use crate::noting::{make_room, write_if};
 use crate::reply::RoundReply;
+use crate::{Halt, What};
 use disk_model::Disk;
 use order_policy::Policy;
-use rollout_book::{BookFault, Chronicle};
-use shared_history::{Halt, What};
+use rollout_book::{BookFault, JournaledRounds};
 use wire_frames::Answer;
 
-impl<D: Disk, M: Marker> Kept<D, M> {
+impl<D: Disk, M: Marker> NotedBook<D, M> {
     /// A round of a seat, as its call of this number: what the history says that it is told, with the batch
     /// added to the list. Where an answer is alien or the disk fails, that stops all. Memory is wanted for
     /// the place of the note alone, before the round is begun.
@@ -40,15 +40,21 @@ impl<D: Disk, M: Marker> Kept<D, M> {
         if make_room(&mut self.notes, self.spare).is_err() {
             return RoundReply::Memory;
         }
-        let reply = made(&mut self.chronicle, self.halted, policy, answers);
-        write_if(&mut self.notes, &mut self.halted, seat, call, noted(reply));
+        let reply = make_round(&mut self.chronicle, self.halted, policy, answers);
+        write_if(
+            &mut self.notes,
+            &mut self.halted,
+            seat,
+            call,
+            note_of(reply),
+        );
         reply
     }
 }
 
 // A round of a book, unless a stop has ended it.
-fn made<D: Disk>(
-    chronicle: &mut Chronicle<D>,
+fn make_round<D: Disk>(
+    chronicle: &mut JournaledRounds<D>,
     halted: Option<Halt>,
     policy: &Policy,
     answers: &[Answer],
@@ -67,7 +73,7 @@ fn made<D: Disk>(
 }
 
 // What is noted of a reply.
-fn noted(reply: RoundReply) -> Option<What>
+fn note_of(reply: RoundReply) -> Option<What>
     ensures { result ≡ round_notes reply }
 {
     match reply {

@@ -1,8 +1,8 @@
 //! How a shared book begins, how seats are given out and taken in, and how it ends.
 ghost use Rattle.std.specs.Prelude.{◌≡◌, ◌<◌, length, All, IfErr, IfOk, IsTrue};
 ghost use Rattle.order_policy.specs.Answers.{rank_by};
-ghost use Rattle.shared_history.specs.Legal.{is_legal_shared};
-ghost use Rattle.shared_history.specs.Notes.{first_stop, notes_of};
+ghost use Rattle.shared_book.specs.Legal.{is_legal_shared};
+ghost use Rattle.shared_book.specs.Notes.{first_stop, notes_of};
 ghost use Rattle.turn_lock.specs.Histories.{Follows};
 ghost use Rattle.turn_lock.specs.Passes.{IsPassOf, IsFirstPass, HasGiven, HasJoined, IsNewPass, given_of, out_of, seat_of_pass, seats_of, seen_of};
 ghost use Rattle.shared_book.specs.Calls.{seat_of, IsCounted};
@@ -12,13 +12,13 @@ ghost use Rattle.shared_book.specs.Lasting.{AllHeard};
 ghost use Rattle.shared_book.specs.Opened.{IsClosed, IsOpenedOn};
 
 use crate::homes::{home_in, homes};
-use crate::kept::Kept;
+use crate::locked_book::{CallPass, LockedBook};
 use crate::marker::Marker;
-use crate::shared::{CallPass, Shared};
+use crate::noted_book::NotedBook;
+use crate::{Halt, NoteList};
 use disk_model::Disk;
 use order_policy::Policy;
 use rollout_book::Book;
-use shared_history::{Halt, NoteList};
 use std::alloc::Global;
 use turn_lock::{Counted, TurnLock};
 
@@ -51,14 +51,20 @@ impl<V: Counted> CallPass<V> {
     }
 }
 
-impl<'d, D: Disk, M: Marker> Shared<Kept<D, M>, &'d Policy> {
+impl<'d, D: Disk, M: Marker> LockedBook<NotedBook<D, M>, &'d Policy> {
     /// Puts a book under a lock, for so many seats, with a place for the stop of each. The pass is that of
     /// seat 0. The book comes back where memory runs out.
     pub fn new(
         alloc: Global,
         book: Book<'d, D>,
         seats: u32,
-    ) -> Result<(Shared<Kept<D, M>, &'d Policy>, CallPass<Kept<D, M>>), Book<'d, D>>
+    ) -> Result<
+        (
+            LockedBook<NotedBook<D, M>, &'d Policy>,
+            CallPass<NotedBook<D, M>>,
+        ),
+        Book<'d, D>,
+    >
         requires opened { IsOpenedOn D.told M.opening M.moment M.faults book.chronicle }
         requires stood { StandsSo M.stood (D.told book.chronicle.disk) }
         requires policy { M.opening.policy ≡ rank_by book.policy.now.answers }
@@ -75,10 +81,10 @@ impl<'d, D: Disk, M: Marker> Shared<Kept<D, M>, &'d Policy> {
             return Err(book);
         };
         let Book { chronicle, policy } = book;
-        match Kept::first(alloc, chronicle, seats) {
+        match NotedBook::first(alloc, chronicle, seats) {
             Ok(kept) => match TurnLock::new(alloc, kept) {
                 Ok((lock, pass)) => Ok((
-                    Shared {
+                    LockedBook {
                         lock,
                         policy,
                         homes,
@@ -112,7 +118,10 @@ impl<'d, D: Disk, M: Marker> Shared<Kept<D, M>, &'d Policy> {
 
     /// Splits the next seat off the pass of seat 0. Both passes have seen what the one had, and the second
     /// has made no call.
-    pub fn split(&self, pass: CallPass<Kept<D, M>>) -> (CallPass<Kept<D, M>>, CallPass<Kept<D, M>>)
+    pub fn split(
+        &self,
+        pass: CallPass<NotedBook<D, M>>,
+    ) -> (CallPass<NotedBook<D, M>>, CallPass<NotedBook<D, M>>)
         requires lock { IsPassOf self.now.lock pass.pass }
         requires first { seat_of_pass pass.pass ≡ 0 }
         requires calls { IsCounted pass.calls pass.pass }
@@ -140,9 +149,9 @@ impl<'d, D: Disk, M: Marker> Shared<Kept<D, M>, &'d Policy> {
     /// Takes another pass into that of seat 0, which keeps the longer of what the two have seen.
     pub fn join(
         &self,
-        one: CallPass<Kept<D, M>>,
-        other: CallPass<Kept<D, M>>,
-    ) -> CallPass<Kept<D, M>>
+        one: CallPass<NotedBook<D, M>>,
+        other: CallPass<NotedBook<D, M>>,
+    ) -> CallPass<NotedBook<D, M>>
         requires lock { IsPassOf self.now.lock one.pass × IsPassOf self.now.lock other.pass }
         requires first { seat_of_pass one.pass ≡ 0 }
         requires calls { IsCounted one.calls one.pass }
@@ -166,7 +175,7 @@ impl<'d, D: Disk, M: Marker> Shared<Kept<D, M>, &'d Policy> {
 
     /// The book, the notes and the first stop among them, once all seats were joined: those of the history that
     /// the pass has seen.
-    pub fn close(self, pass: CallPass<Kept<D, M>>) -> (Book<'d, D>, NoteList, Option<Halt>)
+    pub fn close(self, pass: CallPass<NotedBook<D, M>>) -> (Book<'d, D>, NoteList, Option<Halt>)
         requires lock { IsPassOf self.lock pass.pass }
         requires first { seat_of_pass pass.pass ≡ 0 }
         requires all_in { out_of pass.pass ≡ 0 }
@@ -182,7 +191,7 @@ impl<'d, D: Disk, M: Marker> Shared<Kept<D, M>, &'d Policy> {
         ensures made { All (λ w. seat_of w < given_of pass.pass) (seen_of pass.pass) }
     {
         let CallPass { pass, calls: _ } = pass;
-        let Shared {
+        let LockedBook {
             lock,
             policy,
             homes: _,

@@ -1,18 +1,18 @@
 ghost use Rattle.std.specs.Prelude.{◌≡◌, ◌<◌, ◌++◌, ◌&&◌, ◌==◌, [], ◌∷◌, IsTrue, if◌then◌else◌};
 ghost use Rattle.std.specs.List.{list_any};
-ghost use Rattle.shared_history.specs.Legal.{is_legal_shared};
-ghost use Rattle.shared_history.specs.Notes as stops;
-ghost use Rattle.shared_history.specs.Knows.{next_note};
-ghost use Rattle.shared_history.specs.Replies.{stop_reply};
-ghost use Rattle.shared_history.specs.declared.note.What.TheVariants as said;
+ghost use Rattle.shared_book.specs.Legal.{is_legal_shared};
+ghost use Rattle.shared_book.specs.Notes as stops;
+ghost use Rattle.shared_book.specs.Knows.{next_note};
+ghost use Rattle.shared_book.specs.Replies.{stop_reply};
+ghost use Rattle.shared_book.specs.declared.note.What.TheVariants as said;
 
-use crate::kept::Kept;
 use crate::marker::Marker;
+use crate::noted_book::NotedBook;
 use crate::noting::write;
+use crate::{Cause, Halt, Note, What};
 use disk_model::Disk;
-use shared_history::{Cause, Halt, Note, What};
 
-impl<D: Disk, M: Marker> Kept<D, M> {
+impl<D: Disk, M: Marker> NotedBook<D, M> {
     /// A seat asks that all stop, as its call of this number. It is told the first stop, which is this one
     /// where there was none. It takes no memory, and the second time it adds no note. Time: the notes.
     pub fn stop(&mut self, seat: u32, call: u64, cause: Cause) -> Halt

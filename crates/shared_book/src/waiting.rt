@@ -6,24 +6,24 @@ ghost use Rattle.shared_book.specs.Homes.{homes_of};
 ghost use Rattle.shared_book.specs.Told.{noted_count};
 ghost use Rattle.shared_book.specs.Waking.{wake_notes, IsLookCall};
 
-use crate::kept::Kept;
+use crate::Wake;
+use crate::locked_book::{CallPass, LockedBook};
 use crate::marker::Marker;
-use crate::shared::{CallPass, Shared};
+use crate::noted_book::NotedBook;
 use disk_model::Disk;
 use order_policy::Policy;
-use shared_history::Wake;
 use std::sync::Wait;
 
-impl<'d, D: Disk, M: Marker> Shared<Kept<D, M>, &'d Policy> {
+impl<'d, D: Disk, M: Marker> LockedBook<NotedBook<D, M>, &'d Policy> {
     /// Waits until an operation of these switches is in flight, all is settled, nothing is in flight, or a
     /// stop stands in the history, and tells which. It sleeps while the history is as long as at its last
     /// look; only that one is noted.
     pub fn wait_work<R: Wait>(
         &self,
         rt: &R,
-        mut pass: CallPass<Kept<D, M>>,
+        mut pass: CallPass<NotedBook<D, M>>,
         switches: &[u32],
-    ) -> (CallPass<Kept<D, M>>, Wake)
+    ) -> (CallPass<NotedBook<D, M>>, Wake)
         requires lock { IsPassOf self.now.lock pass.pass }
         requires homes { self.now.homes ≡ homes_of M.opening.rollout.problem }
         requires calls { IsCounted pass.calls pass.pass }
@@ -44,14 +44,14 @@ impl<'d, D: Disk, M: Marker> Shared<Kept<D, M>, &'d Policy> {
         unreachable!()
     }
 
-    /// Looks once, as [`Kept::look`] does in this pass's turn: what a wait would end with now, or none where it
+    /// Looks once, as [`NotedBook::look`] does in this pass's turn: what a wait would end with now, or none where it
     /// would go on, and then nothing is noted.
     pub fn look<R: Wait>(
         &self,
         rt: &R,
-        pass: CallPass<Kept<D, M>>,
+        pass: CallPass<NotedBook<D, M>>,
         switches: &[u32],
-    ) -> (CallPass<Kept<D, M>>, Option<Wake>)
+    ) -> (CallPass<NotedBook<D, M>>, Option<Wake>)
         requires lock { IsPassOf self.now.lock pass.pass }
         requires homes { self.now.homes ≡ homes_of M.opening.rollout.problem }
         requires calls { IsCounted pass.calls pass.pass }

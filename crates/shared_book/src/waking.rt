@@ -1,22 +1,22 @@
 ghost use Rattle.std.specs.Prelude.{◌≡◌, [], slice_index_or, IsTrue, None};
 ghost use Rattle.std.specs.List.{filter};
-ghost use Rattle.shared_history.specs.Legal.{is_legal_shared};
-ghost use Rattle.shared_history.specs.Notes.{calls_by};
-ghost use Rattle.shared_history.specs.Replies.{is_among, wake_reply, wake_says};
+ghost use Rattle.shared_book.specs.Legal.{is_legal_shared};
+ghost use Rattle.shared_book.specs.Notes.{calls_by};
+ghost use Rattle.shared_book.specs.Replies.{is_among, wake_reply, wake_says};
 ghost use Rattle.shared_book.specs.Homes.{homes_of};
 ghost use Rattle.shared_book.specs.Told.{with_noted};
 ghost use Rattle.shared_book.specs.Waking.{first_of, wake_notes, wake_of, OnLook, OnUnnoted};
 
 use crate::homes::home_in;
-use crate::kept::Kept;
 use crate::marker::Marker;
+use crate::noted_book::NotedBook;
 use crate::noting::{make_room, write_if};
+use crate::{Halt, Wake, What};
 use disk_model::Disk;
-use rollout_book::Chronicle;
+use rollout_book::JournaledRounds;
 use rollout_rules::Op;
-use shared_history::{Halt, Wake, What};
 
-impl<D: Disk, M: Marker> Kept<D, M> {
+impl<D: Disk, M: Marker> NotedBook<D, M> {
     /// A look of a seat that waits for work of these switches, as its call of this number: the first of
     /// their operations in flight, by item; that all is settled; that nothing is in flight before that; or
     /// the first stop. None where only operations of others are in flight: then nothing is noted, and the
@@ -36,20 +36,26 @@ impl<D: Disk, M: Marker> Kept<D, M> {
         ensures want { OnUnnoted (wake_notes result) (self.new ≡ self.old) }
         ensures book { self.new.book ≡ self.old.book }
     {
-        let Some(woken) = woken(&self.chronicle, homes, self.halted, switches) else {
+        let Some(woken) = end_of_wait(&self.chronicle, homes, self.halted, switches) else {
             return None;
         };
         if make_room(&mut self.notes, self.spare).is_err() {
             return Some(Wake::Memory);
         }
-        write_if(&mut self.notes, &mut self.halted, seat, call, noted(woken));
+        write_if(
+            &mut self.notes,
+            &mut self.halted,
+            seat,
+            call,
+            note_of(woken),
+        );
         Some(woken)
     }
 }
 
 // What a wait of these switches ends with, if it ends.
-fn woken<D: Disk>(
-    chronicle: &Chronicle<D>,
+fn end_of_wait<D: Disk>(
+    chronicle: &JournaledRounds<D>,
     homes: &[Option<u32>],
     halted: Option<Halt>,
     switches: &[u32],
@@ -96,7 +102,7 @@ fn is_asked(homes: &[Option<u32>], item: u32, switches: &[u32]) -> bool
 }
 
 // What is noted of a wake.
-fn noted(woken: Wake) -> Option<What>
+fn note_of(woken: Wake) -> Option<What>
     ensures { result ≡ wake_says woken }
 {
     match woken {

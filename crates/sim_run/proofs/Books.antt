@@ -23,14 +23,15 @@ use Rattle.intent_journal.specs.declared.fault.JournalFault.{JournalFault}
 use Rattle.intent_journal.specs.declared.fault.JournalFault.TheVariants.{BadStart, Illegal, Memory, NotJournal, OtherPlan}
 use Rattle.intent_journal.specs.declared.fault.JournalFault.TheVariants as journal
 use Rattle.rollout_rules.specs.Legal.{is_legal}
-use Rattle.rollout_book.specs.Chronicles.{Chronicled, graph_of, with_batch, with_lost}
+use Rattle.rollout_book.specs.JournaledRounds.{Journaled, graph_of, with_batch, with_lost}
 use Rattle.rollout_book.specs.Aliens.{IsFault, OnAlien, OnDisk, fault_of, first_alien, is_known, op_of, told_by}
 use Rattle.rollout_book.specs.declared.fault.BookFault.{BookFault}
 use Rattle.rollout_book.specs.declared.fault.BookFault.TheVariants.{Alien, Disk}
 use Rattle.rollout_book.specs.Lists.{HasOwner, IsKeptList, KeepsOwner}
 use Rattle.intent_journal.specs.Openings.{unbegun}
-use Rattle.sim_run.specs.declared.keeper.Keeper.{Keeper}
-use Rattle.sim_run.specs.Controlling.{IsAgain, IsOpened, IsOpenedOver, IsOwn, IsOwnBook, IsSeat, IsWant, MayTell, Opens, after_round, batch_over, controlling_of, graph_kept, graph_with, keeper_lives, lives, own_digest}
+use Rattle.sim_run.specs.Booked.{IsAgain, IsOpened, IsOpenedOver, IsOwn, IsOwnBook, IsSeat, IsWant, Opens, keeping_of, graph_in, lives, own_digest}
+use Rattle.sim_run.specs.Controlling.{after_round, controlling_of}
+use Rattle.sim_run.specs.Keeping.{Keeping, MayTell, batch_over, graph_with, with_round}
 
 -- what holds of a result that is this one
 pub ok-fact : {A E : Type 0} (result : Result A E) (a : A) (P : Type 0) → result ≡ Ok a → OnOk result P → P
@@ -80,7 +81,7 @@ own-of (Some k) kept image is digest migration has =
       migration = has.migration ∙ ap (λ (k : Kept). k.migration) same ∙ migration;
     }
 
--- behind a round the journal is still its own
+-- after a round the journal is still its own
 pub own-still : (old new : Storing) → LeavesOnly trace_of old new (KeepsOwner old.timeline.medium.bytes)
     → IsOwn old.timeline.medium.bytes → IsOwn new.timeline.medium.bytes
 own-still old new run own =
@@ -104,7 +105,7 @@ IsFoundAgain list =
     → journal_in image ≡ Some kept → kept.digest ≡ digest.bytes → kept.migration ≡ digest.migration → kept.starts ≡ start → kept.rows ≡ entry_rows list → verdict r digest image ≡ Stands start list
 
 -- gives the history of a book whose journal is its own
-pub found-again : (b : Chronicled Storing) (list : List Entry) → IsOwnBook b → b.entries ≡ b.history.entries → list ≡ b.entries → is_legal b.rollout.problem b.rollout.plan b.history ≡ true
+pub found-again : (b : Journaled Storing) (list : List Entry) → IsOwnBook b → b.entries ≡ b.history.entries → list ≡ b.entries → is_legal b.rollout.problem b.rollout.plan b.history ≡ true
     → IsKeptList b.history.start b.entries (MayLeave b.disk.timeline.medium) b.disk.timeline.medium.bytes → IsFoundAgain list
     → (image : List ℕ) → MayLeave b.disk.timeline.medium image → verdict b.rollout own_digest image ≡ Stands b.history.start b.history.entries
 found-again b list own same listed legal kept law image left =
@@ -132,8 +133,8 @@ brought-first v g again list fresh brought =
     let is : IsBroughtTo Fresh list g again = subst (λ w. IsBroughtTo w list g again) fresh brought in
     is.1
 
--- a book behind an opening is a controller's, where its graph has a history from nothing
-pub own-book : (b : Chronicled Storing) (r : Rollout) (h : History) → b.live ≡ true → IsOwn b.disk.timeline.medium.bytes → graph_of b ≡ record { rollout = r; history = h } → h.start ≡ no_start r.problem → IsOwnBook b
+-- a book after an opening is a controller's, where its graph has a history from nothing
+pub own-book : (b : Journaled Storing) (r : Rollout) (h : History) → b.live ≡ true → IsOwn b.disk.timeline.medium.bytes → graph_of b ≡ record { rollout = r; history = h } → h.start ≡ no_start r.problem → IsOwnBook b
 own-book b r h live own is start = record {
   live = live;
   start = ap (λ (g : Followed). g.history.start) is ∙ start ∙ ap (λ (g : Followed). no_start g.rollout.problem) (sym is);
@@ -141,13 +142,13 @@ own-book b r h live own is start = record {
 }
 
 -- the first opening of a plan's book, over one byte 0
-pub first-opened : (r : Rollout) (image : List ℕ) (b : Chronicled Storing) → image ≡ 0 ∷ [] → IsOpened r image b → IsOwnBook b × (graph_of b ≡ unbegun r)
+pub first-opened : (r : Rollout) (image : List ℕ) (b : Journaled Storing) → image ≡ 0 ∷ [] → IsOpened r image b → IsOwnBook b × (graph_of b ≡ unbegun r)
 first-opened r image b is opened =
     let same = brought-first (verdict r own_digest image) (unbegun r) (graph_of b) b.entries (first-fresh r image is) opened.brought in
     (own-book b r (from_nothing r.problem []) opened.live opened.own same refl, same)
 
 -- a start makes the book again
-pub opened-again : (b : Chronicled Storing) (g : Followed) (d : Storing) (again : Chronicled Storing) → IsOwnBook b → g ≡ graph_of b → d ≡ b.disk
+pub opened-again : (b : Journaled Storing) (g : Followed) (d : Storing) (again : Journaled Storing) → IsOwnBook b → g ≡ graph_of b → d ≡ b.disk
     → ((image : List ℕ) → MayLeave b.disk.timeline.medium image → verdict b.rollout own_digest image ≡ Stands b.history.start b.history.entries)
     → IsOpenedOver g.rollout d.timeline.medium again → IsAgain b again
 opened-again b g d again own is disk found over =
@@ -160,24 +161,24 @@ opened-again b g d again own is disk found over =
       found = over.opened.found ∙ ap (λ (x : Followed). length x.history.entries) same;
     }
 
--- a book behind a round is still a controller's
-pub own-behind : (old new : Chronicled Storing) (es : List Entry) → IsOwnBook old → new ≡ with_batch old es new.disk
+-- a book after a round is still a controller's
+pub own-behind : (old new : Journaled Storing) (es : List Entry) → IsOwnBook old → new ≡ with_batch old es new.disk
     → LeavesOnly trace_of old.disk new.disk (KeepsOwner old.disk.timeline.medium.bytes) → IsOwnBook new
 own-behind old new es own is run = record {
-  live = ap (λ (b : Chronicled Storing). b.live) is ∙ own.live;
-  start = ap (λ (b : Chronicled Storing). b.history.start) is ∙ own.start ∙ ap (λ (b : Chronicled Storing). no_start b.rollout.problem) (sym is);
+  live = ap (λ (b : Journaled Storing). b.live) is ∙ own.live;
+  start = ap (λ (b : Journaled Storing). b.history.start) is ∙ own.start ∙ ap (λ (b : Journaled Storing). no_start b.rollout.problem) (sym is);
   own = own-still old.disk new.disk run own.own;
 }
 
 -- a round that wasn't made leaves the book as it was, or dead
-pub own-refused : (fault : BookFault) (old new : Chronicled Storing) (es : List Entry) → IsOwnBook old → OnAlien fault (new ≡ old) → OnDisk fault (new ≡ with_lost old es new.disk) → new.live ≡ true → IsOwnBook new
+pub own-refused : (fault : BookFault) (old new : Journaled Storing) (es : List Entry) → IsOwnBook old → OnAlien fault (new ≡ old) → OnDisk fault (new ≡ with_lost old es new.disk) → new.live ≡ true → IsOwnBook new
 own-refused (Alien item held begun) old new es own same lost live = subst IsOwnBook (sym same) own
-own-refused Disk old new es own same lost live = absurd (cc (sym live ∙ ap (λ (b : Chronicled Storing). b.live) lost))
+own-refused Disk old new es own same lost live = absurd (cc (sym live ∙ ap (λ (b : Journaled Storing). b.live) lost))
 
-pub dead-refused : (fault : BookFault) (old new : Chronicled Storing) (es : List Entry) → fault ≡ Disk → OnDisk fault (new ≡ with_lost old es new.disk) → new.live ≡ false
+pub dead-refused : (fault : BookFault) (old new : Journaled Storing) (es : List Entry) → fault ≡ Disk → OnDisk fault (new ≡ with_lost old es new.disk) → new.live ≡ false
 dead-refused fault old new es is lost =
     let here : new ≡ with_lost old es new.disk = subst (λ (f : BookFault). OnDisk f (new ≡ with_lost old es new.disk)) is lost in
-    ap (λ (b : Chronicled Storing). b.live) here
+    ap (λ (b : Journaled Storing). b.live) here
 
 -- where every answer tells of what was begun none is alien, so a round is refused by the disk alone
 known : (g : Followed) (answer : Answer) → MayTell g (op_of answer) → is_known g answer ≡ true
@@ -196,7 +197,7 @@ pub is-disk : (fault : BookFault) (g : Followed) (answers : List Answer) → IsF
 is-disk (Alien item held begun) g answers is all = absurd (cc (sym is ∙ none-alien g answers all))
 is-disk Disk g answers is all = refl
 
--- an opening that isn't refused fails for want of memory alone
+-- an opening that isn't refused fails for lack of memory alone
 pub is-want : (cause : JournalFault) (digest : Digest) (v : Verdict) → IsCause cause digest v → Opens v → IsWant cause
 is-want journal.Disk digest v is opens = tt
 is-want Memory digest v is opens = tt
@@ -209,7 +210,7 @@ is-want (Illegal place) digest v is opens = subst Opens is opens
 pub opens-first : (r : Rollout) (bytes : List ℕ) → bytes ≡ 0 ∷ [] → Opens (verdict r own_digest bytes)
 opens-first r bytes is = subst Opens (sym (first-fresh r bytes is)) tt
 
-pub opens-again : (b : Chronicled Storing) (g : Followed) (d : Storing) → g ≡ graph_of b → d ≡ b.disk
+pub opens-again : (b : Journaled Storing) (g : Followed) (d : Storing) → g ≡ graph_of b → d ≡ b.disk
     → ((image : List ℕ) → MayLeave b.disk.timeline.medium image → verdict b.rollout own_digest image ≡ Stands b.history.start b.history.entries)
     → (image : List ℕ) → MayLeave d.timeline.medium image → Opens (verdict g.rollout own_digest image)
 opens-again b g d is disk found image left =
@@ -217,14 +218,36 @@ opens-again b g d is disk found image left =
     subst Opens (sym stands) tt
 
 -- ---- the book on its seat
-pub seat-own : (s : Option (Chronicled Storing)) (b : Chronicled Storing) → s ≡ Some b → IsSeat s → lives s ≡ true → IsOwnBook b
+pub seat-own : (s : Option (Journaled Storing)) (b : Journaled Storing) → s ≡ Some b → IsSeat s → lives s ≡ true → IsOwnBook b
 seat-own s b is own live =
     let here : b.live ≡ true → IsOwnBook b = subst IsSeat is own in
-    here (subst (λ (t : Option (Chronicled Storing)). lives t ≡ true) is live)
+    here (subst (λ (t : Option (Journaled Storing)). lives t ≡ true) is live)
 
--- a round of a controller is that of its book
-pub rounded-is : (old new : Keeper) (earlier earlier' : List Op) (answers slice answers' : List Answer) (up : Bool) (policy : OpView → ℕ) → graph_kept new ≡ graph_with (graph_kept old) (batch_over (graph_kept old) policy slice) → keeper_lives new ≡ keeper_lives old → slice ≡ answers
+-- a seat whose book was brought up again keeps what it kept
+pub seat-kept : (old new : Option (Journaled Storing)) (k : Keeping) → keeping_of old ≡ k → graph_in new ≡ graph_in old → lives new ≡ true → k.live ≡ true → keeping_of new ≡ k
+seat-kept old new k seen same lived live =
+    ap₂ (λ (g : Followed) (l : Bool). record { graph = g; live = l }) same (lived ∙ sym live ∙ sym (ap (λ (x : Keeping). x.live) seen)) ∙ seen
+
+-- and after a round, what a round makes
+pub seat-rounded : (old new : Option (Journaled Storing)) (k : Keeping) (policy : OpView → ℕ) (answers : List Answer) → keeping_of old ≡ k → graph_in new ≡ graph_with (graph_in old) (batch_over (graph_in old) policy answers) → lives new ≡ true → k.live ≡ true
+    → keeping_of new ≡ with_round k policy answers
+seat-rounded old new k policy answers seen made lived live =
+    ap₂ (λ (g : Followed) (l : Bool). record { graph = g; live = l }) made (lived ∙ sym live)
+    ∙ ap (λ (x : Keeping). record { graph = graph_with x.graph (batch_over x.graph policy answers); live = k.live }) seen
+
+-- so of a start, and of a round, where each comes to its end
+pub seat-starts : {T E : Type 0} (result : Result T E) (old new : Option (Journaled Storing)) (k : Keeping) → keeping_of old ≡ k → k.live ≡ true → OnOk result (graph_in new ≡ graph_in old) → OnOk result (lives new ≡ true) → OnOk result (keeping_of new ≡ k)
+seat-starts (Ok found) old new k seen live same lived = seat-kept old new k seen same lived live
+seat-starts (Err error) old new k seen live same lived = tt
+
+pub seat-rounds : {T E : Type 0} (result : Result T E) (old new : Option (Journaled Storing)) (k : Keeping) (policy : OpView → ℕ) (answers : List Answer) → keeping_of old ≡ k → k.live ≡ true
+    → OnOk result (graph_in new ≡ graph_with (graph_in old) (batch_over (graph_in old) policy answers)) → OnOk result (lives new ≡ true) → OnOk result (keeping_of new ≡ with_round k policy answers)
+seat-rounds (Ok turn) old new k policy answers seen live made lived = seat-rounded old new k policy answers seen made lived live
+seat-rounds (Err error) old new k policy answers seen live made lived = tt
+
+-- a round of a controller is that of its rounds
+pub rounded-is : (old new : Keeping) (earlier earlier' : List Op) (answers slice answers' : List Answer) (up : Bool) (policy : OpView → ℕ) → new ≡ with_round old policy slice → slice ≡ answers
     → earlier' ≡ earlier ++ told_by answers → answers' ≡ [] → controlling_of new earlier' answers' up ≡ after_round (controlling_of old earlier answers up) policy
-rounded-is old new earlier earlier' answers slice answers' up policy graph live listed heard none =
-    ap₂ (λ (g : Followed) (l : Bool). record { rollout = g.rollout; history = g.history; earlier = earlier'; heard = told_by answers'; up = up; live = l }) (graph ∙ ap (λ (l : List Answer). graph_with (graph_kept old) (batch_over (graph_kept old) policy l)) listed) live
-    ∙ ap₂ (λ (e : List Op) (l : List Answer). record { rollout = (graph_kept old).rollout; history = with_entries (graph_kept old).history (batch_over (graph_kept old) policy answers); earlier = e; heard = told_by l; up = up; live = keeper_lives old }) heard none
+rounded-is old new earlier earlier' answers slice answers' up policy made listed heard none =
+    ap (λ (k : Keeping). controlling_of k earlier' answers' up) (made ∙ ap (with_round old policy) listed)
+    ∙ ap₂ (λ (e : List Op) (l : List Answer). controlling_of (with_round old policy answers) e l up) heard none

@@ -11,7 +11,7 @@ use Rattle.rollout_rules.specs.declared.op.OpView.{OpView}
 use Rattle.rollout_rules.specs.declared.event.Act.{Act}
 use Rattle.rollout_rules.specs.declared.event.Act.TheVariants as act
 use Rattle.rollout_laws.specs.Waiting.{HoldsNothing}
-use Rattle.rollout_peaks.specs.Ends.{last_line, link_lines, table_lines}
+use Rattle.rollout_report.specs.Ends.{last_line, link_lines, table_lines}
 use Rattle.sim_run.specs.Acts.{Rehearsal, acted, after_act, after_acts, can_happen, first_rehearsal}
 use Rattle.sim_run.specs.Drafts.{Draft, EachHappens, IsDrawnScript, SaysFinished, Sketch, drained_draft, drawn_script, end_of, is_full, is_over, joined, joins, one_more, raised_draft, sketched, turned_draft, whole_draft, with_chosen}
 use Rattle.sim_run.specs.Script.{act_lines, script_text}

@@ -9,7 +9,7 @@ use Rattle.sim_run.specs.Acts.{Rehearsal, after_act, after_acts, first_rehearsal
 use Rattle.sim_run.specs.Trials.{Trial, after_trial, after_turn, all_operations, drain_acts, drained, end_of_trial, is_finished, next_act, raised, raising, trial_script, turn_acts, turns, with_act}
 
 module _ (p : Problem) (plan : Plan) (policy : OpView → ℕ) where
-  -- acts behind others
+  -- acts after others
   pub behind : (r : Rehearsal) (acts more : List Act) → after_acts p plan policy r (acts ++ more) ≡ after_acts p plan policy (after_acts p plan policy r acts) more
   behind r [] more = refl
   behind r (b ∷ rest) more = behind (after_act p plan policy r b) rest more

@@ -21,9 +21,9 @@ use Rattle.rollout_laws.specs.Batches.{BeginsNext}
 use Rattle.rollout_laws.specs.Waiting.{NothingFlies}
 use Rattle.rollout_laws.proofs.Histories.{begun-with, front_is_legal, is_counted, settled-with, with_both}
 use Rattle.rollout_laws.proofs.Rounds.{release_begins_next}
-use Rattle.rollout_rounds.specs.Rows.{bit, numbers, times}
-use Rattle.rollout_rounds.proofs.Batches.{begins-end, dones-begin}
-use Rattle.rollout_rounds.proofs.Rows.{inside, length-times, times-filtered}
+use Rattle.update_scheduler.specs.Rows.{bit, numbers, times}
+use Rattle.update_scheduler.proofs.Batches.{begins-end, dones-begin}
+use Rattle.update_scheduler.proofs.Rows.{inside, length-times, times-filtered}
 use Rattle.sim_run.proofs.Schedules.{finished-is}
 
 -- how many operations are in flight

@@ -4,7 +4,7 @@ use Rattle.rollout_rules.specs.Sums.{list_below}
 use Rattle.rollout_rules.specs.Wan.{Plan, Problem}
 use Rattle.rollout_rules.specs.History.{History}
 use Rattle.rollout_laws.proofs.Contents.{list_below-at}
-use Rattle.rollout_peaks.specs.Peaks.{link_peak}
+use Rattle.rollout_report.specs.Peaks.{link_peak}
 use Rattle.sim_run.specs.TrialText.{fuller, fuller_of, fullest, room_of}
 
 module _ (p : Problem) (plan : Plan) (h : History) (peaks : List ℕ) (all : length peaks ≡ length p.links) (are : peaks ≡ list_below (length p.links) (link_peak p plan h)) where

@@ -13,12 +13,12 @@ use Rattle.rollout_laws.proofs.SoundStarts.{from_nothing-legal}
 use Rattle.dependency_graph.specs.Graph.{Followed}
 use Rattle.wan_edge.specs.Frames.{Answer}
 use Rattle.rollout_book.specs.Aliens.{op_of, told_by}
-use Rattle.rollout_book.specs.Chronicles.{turn_of}
-use Rattle.rollout_rounds.specs.Counts.{count_begun, count_done}
-use Rattle.rollout_rounds.specs.Rounds.{Turning, after_round, first_turn, graph_of}
+use Rattle.rollout_book.specs.JournaledRounds.{turn_of}
+use Rattle.update_scheduler.specs.Counts.{count_begun, count_done}
+use Rattle.update_scheduler.specs.Rounds.{Turning, after_round, first_turn, graph_of}
 use Rattle.intent_journal.specs.Openings.{unbegun}
-use Rattle.sim_run.specs.Controlling.{MayTell, batch_over, graph_with}
-use Rattle.sim_run.specs.Plain.{IsPlain, Plainly}
+use Rattle.sim_run.specs.Keeping.{Keeping, MayTell, batch_over, graph_with}
+use Rattle.sim_run.specs.Plain.{IsPlain}
 
 -- a graph at the start at which nothing is settled has a legal history
 pub first_legal : (r : Rollout) (g : Followed) → g ≡ unbegun r → is_valid_plan r.problem r.plan ≡ true → is_legal g.rollout.problem g.rollout.plan g.history ≡ true
@@ -45,14 +45,14 @@ module _ (old between new : Turning) (policy : OpView → ℕ) (answers : List A
   batch-made : new.batch ≡ batch_over (graph_of old) policy answers
   batch-made = ap (λ (t : Turning). t.batch) all-made
 
-  module _ (live : Bool) (p : Plainly) (seen : (record { graph = graph_of old; live = live }) ≡ p) where
+  module _ (live : Bool) (p : Keeping) (seen : (record { graph = graph_of old; live = live }) ≡ p) where
     pub plain-made : p.live ≡ true → (record { graph = graph_of new; live = true }) ≡ record p { graph = graph_with p.graph (batch_over p.graph policy answers) }
     plain-made lives =
         ap (λ (t : Turning). record { graph = graph_of t; live = true }) all-made
-        ∙ ap₂ (λ (q : Plainly) (l : Bool). record { graph = graph_with q.graph (batch_over q.graph policy answers); live = l }) seen (sym lives)
+        ∙ ap₂ (λ (q : Keeping) (l : Bool). record { graph = graph_with q.graph (batch_over q.graph policy answers); live = l }) seen (sym lives)
 
     pub turn-made : (dones begins : ℕ) → dones ≡ count_done new.batch → begins ≡ count_begun new.batch → (record { dones = dones; begins = begins }) ≡ turn_of (batch_over p.graph policy answers)
     turn-made dones begins ended begun =
         ap₂ (λ (d b : ℕ). record { dones = d; begins = b }) ended begun
         ∙ ap turn_of batch-made
-        ∙ ap (λ (q : Plainly). turn_of (batch_over q.graph policy answers)) seen
+        ∙ ap (λ (q : Keeping). turn_of (batch_over q.graph policy answers)) seen

@@ -18,7 +18,7 @@ use Rattle.rollout_laws.proofs.Histories.{is_counted}
 use Rattle.rollout_laws.proofs.SafeWorlds.{new_world_is_safe}
 use Rattle.rollout_laws.proofs.Targets.{new_network_at_target}
 use Rattle.rollout_laws.proofs.Worlds.{after_events-append, every_new_world_is_kept}
-use Rattle.rollout_peaks.proofs.Fullness.{link-fits, table-fits}
+use Rattle.rollout_report.proofs.Fullness.{link-fits, table-fits}
 use Rattle.sim_run.specs.Acts.{Rehearsal, first_rehearsal, can_happen, events_of, after_act, after_acts}
 use Rattle.sim_run.specs.Rehearsed.{schedule_of, world_after, IsSafeRehearsal}
 

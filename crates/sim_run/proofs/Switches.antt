@@ -1,5 +1,5 @@
 -- What the switches hold, by how many operations they have applied.
-use Rattle.std.proofs.Common.{◌≡◌, ℕ, zero, suc, ◌+◌, ◌<◌, Bool, true, false, cond, ◌||◌, ◌==◌, List, [], ◌∷◌, ◌++◌, length, length-set, get_or, set, replicate, refl, sym, ap, ap₂, ◌∙◌, subst, inl, inr, arith}
+use Rattle.std.proofs.Common.{◌≡◌, ℕ, zero, suc, ◌+◌, ◌<◌, Bool, true, false, cond, if◌then◌else◌, ◌||◌, ◌==◌, List, [], ◌∷◌, ◌++◌, length, length-set, get_or, set, replicate, refl, sym, ap, ap₂, ◌∙◌, subst, inl, inr, arith}
 use Rattle.std.proofs.lemmas.Bool.{cases_eq}
 use Rattle.std.proofs.lemmas.List.{get_or-set_same, get_or-set_other, ext_get_or, get_or-replicate, length-replicate}
 use Rattle.rollout_rules.specs.Sums.{list_below}
@@ -7,6 +7,7 @@ use Rattle.rollout_rules.specs.Wan.{Problem, Plan}
 use Rattle.rollout_rules.specs.Items.{item_count, item_at}
 use Rattle.rollout_rules.specs.Operations.{content_after}
 use Rattle.rollout_rules.specs.History.{no_start}
+use Rattle.rollout_rules.specs.declared.held.Held.{Held}
 use Rattle.rollout_rules.specs.Agent.{nothing_held, pair_of, first_pair, is_next_command, held_after}
 use Rattle.rollout_rules.specs.World.{holding_of, pair_at, no_pairs}
 use Rattle.rollout_laws.proofs.Contents.{list_below-length, list_below-at}
@@ -23,6 +24,12 @@ or-false false = refl
 either : {A B : Type 0} → (f : A → B) (b : Bool) (x y : A) → cond b (f x) (f y) ≡ f (cond b x y)
 either f true x y = refl
 either f false x y = refl
+
+-- by the agent rule, within the first migration
+pub applied-next : (x m : ℕ) → (if is_next_command (pair_of 0 x) (pair_of 0 m) then pair_of 0 m else pair_of 0 x).number ≡ applied_after x m
+applied-next x m =
+    ap (λ b. (cond b (pair_of 0 m) (pair_of 0 x)).number) (or-false (m == x + 1))
+    ∙ sym (either (λ (h : Held). h.number) (m == x + 1) (pair_of 0 m) (pair_of 0 x))
 
 module _ (p : Problem) (plan : Plan) where
   holdings-length : (xs : List ℕ) → length (holdings p plan xs) ≡ length xs

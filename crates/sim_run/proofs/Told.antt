@@ -5,7 +5,7 @@ use Rattle.rollout_rules.specs.Wan.{Plan, Problem}
 use Rattle.rollout_rules.specs.History.{History}
 use Rattle.rollout_rules.specs.declared.op.OpView.{OpView}
 use Rattle.rollout_rules.specs.Legal.{unsettled}
-use Rattle.rollout_peaks.specs.Ends.{last_line}
+use Rattle.rollout_report.specs.Ends.{last_line}
 use Rattle.sim_run.specs.declared.shape.Shape.{Shape}
 use Rattle.sim_run.specs.Rehearsing.{Rehearsing}
 use Rattle.sim_run.specs.Trials.{after_trial, all_operations, drained, raised, turns}
@@ -45,7 +45,7 @@ module _ (first : Rehearsing) (policy : OpView → ℕ) (rate_steps : ℕ) (s : 
       ∙ append_assoc (shape_line s ++ plan_line first.rollout.plan rate_steps) (events_line s.events skipped_of (turns_of tried)) (outcome_of (drained_of tried))
       ∙ unfolded
 
--- ---- the lines behind a rollout
+-- ---- the lines after a rollout
 five : (t c k f n l : List ℕ) → (((t ++ c) ++ k) ++ (f ++ n)) ++ l ≡ t ++ ((((c ++ k) ++ f) ++ n) ++ l)
 five t c k f n l =
     ap (λ x. x ++ l) (sym (append_assoc ((t ++ c) ++ k) f n))

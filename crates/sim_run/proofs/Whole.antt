@@ -5,7 +5,7 @@ use Rattle.std.specs.declared.alloc.AllocError.{AllocError}
 use Rattle.rollout_rules.specs.Wan.{Rollout}
 use Rattle.rollout_rules.specs.declared.op.OpView.{OpView}
 use Rattle.rollout_rules.specs.declared.event.Act.{Act}
-use Rattle.rollout_peaks.specs.Ends.{end_lines}
+use Rattle.rollout_report.specs.Ends.{end_lines}
 use Rattle.sim_run.specs.Acts.{first_rehearsal, after_acts}
 use Rattle.sim_run.specs.Rehearsing.{Rehearsing, first_of, text_from}
 use Rattle.sim_run.specs.Script.{act_lines, script_text}
@@ -20,7 +20,7 @@ of_first : (o : Rollout) → first_of o ≡ record { rollout = o; state = first_
 unfolding first_of
 of_first o = refl
 
--- what is said of the acts, and then the lines behind them
+-- what is said of the acts, and then the lines after them
 pub text_is : (policy : OpView → ℕ) (script : List Act) (first last : Rehearsing) (begin acted text : List ℕ)
     → begin ≡ []
     → last ≡ record first { state = after_acts first.rollout.problem first.rollout.plan policy first.state script }

@@ -14,7 +14,8 @@ use Rattle.rollout_laws.proofs.Contents.{list_below-length}
 use Rattle.rollout_laws.proofs.Keeping.{answer_is_of_an_item, answer_was_applied}
 use Rattle.rollout_laws.proofs.Worlds.{after_events_is_kept, every_new_world_is_kept}
 use Rattle.sim_run.specs.Acts.{acted, events_of, first_rehearsal}
-use Rattle.sim_run.specs.Controlling.{Controlling, MayTell}
+use Rattle.sim_run.specs.Controlling.{Controlling}
+use Rattle.sim_run.specs.Keeping.{MayTell}
 use Rattle.sim_run.specs.Passing.{Passing, given_of, holding_at}
 use Rattle.sim_run.specs.Rehearsing.{Keeps, Rehearsing, moved, rehearsing_of}
 

@@ -3,6 +3,8 @@ pub mod Script
 pub mod Rehearsed
 pub mod Passing
 pub mod Earlier
+pub mod Keeping
+pub mod Booked
 pub mod Plain
 pub mod Controlling
 pub mod Rehearsing

@@ -2,13 +2,7 @@
 use Rattle.std.specs.Prelude.{◌≡◌, Bool, true, List, []}
 use Rattle.rollout_rules.specs.History.{from_nothing}
 use Rattle.rollout_rules.specs.declared.op.Entry.{Entry}
-use Rattle.dependency_graph.specs.Graph.{Followed}
-use Rattle.rollout_rounds.specs.Rounds.{Turning}
-
--- the rollout with its durable history, and whether it lives: it is given up where a round found no memory
-pub record Plainly : Type 0 where
-  pub graph : Followed
-  pub live : Bool
+use Rattle.update_scheduler.specs.Rounds.{Turning}
 
 -- Between two rounds nothing is heard, and while it lives the list is the history's.
 pub record IsPlain (rounds : Turning) (list : List Entry) (live : Bool) : Type 0 where

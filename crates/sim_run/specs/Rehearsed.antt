@@ -7,7 +7,7 @@ use Rattle.rollout_rules.specs.declared.event.Event.{Event}
 use Rattle.rollout_rules.specs.declared.event.Act.{Act}
 use Rattle.rollout_rules.specs.Legal.{unsettled}
 use Rattle.rollout_laws.specs.SafeWorlds.{EveryWorldIsSafe, NetworkAtTarget}
-use Rattle.rollout_peaks.specs.Peaks.{link_peak, table_peak}
+use Rattle.rollout_report.specs.Peaks.{link_peak, table_peak}
 use Rattle.sim_run.specs.Acts.{Rehearsal, first_rehearsal, can_happen, events_of, after_act, after_acts}
 
 -- the events of a script, act by act; an act that can't happen has none

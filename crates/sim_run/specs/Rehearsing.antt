@@ -7,7 +7,7 @@ use Rattle.rollout_rules.specs.declared.event.Event.{Event}
 use Rattle.rollout_rules.specs.declared.op.OpView.{OpView}
 use Rattle.rollout_rules.specs.declared.event.Act.{Act}
 use Rattle.rollout_laws.specs.Kept.{IsKept}
-use Rattle.rollout_peaks.specs.Ends.{end_lines}
+use Rattle.rollout_report.specs.Ends.{end_lines}
 use Rattle.sim_run.specs.Acts.{Rehearsal, first_rehearsal, after_acts}
 use Rattle.sim_run.specs.Script.{act_lines}
 use Rattle.sim_run.specs.Controlling.{Controlling}
@@ -48,7 +48,7 @@ rehearsing_of c w = record {
 unfoldable pub first_of : Rollout → Rehearsing
 first_of o = record { rollout = o; state = first_rehearsal o.problem o.plan; live = true }
 
--- the text of acts from a rehearsal on, and the lines behind them
+-- the text of acts from a rehearsal on, and the lines after them
 unfoldable pub text_from : Rehearsing → (OpView → ℕ) → List Act → List ℕ
 text_from r policy script =
     act_lines r.rollout.problem r.rollout.plan policy 0 r.state script

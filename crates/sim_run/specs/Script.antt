@@ -6,8 +6,8 @@ use Rattle.rollout_rules.specs.declared.held.Given.{Given}
 use Rattle.rollout_rules.specs.declared.op.OpView.{OpView}
 use Rattle.rollout_rules.specs.declared.event.Act.{Act}
 use Rattle.rollout_rules.specs.declared.event.Act.TheVariants as act
-use Rattle.rollout_rounds.specs.Counts.{count_done, count_begun}
-use Rattle.rollout_peaks.specs.Ends.{end_lines}
+use Rattle.update_scheduler.specs.Counts.{count_done, count_begun}
+use Rattle.rollout_report.specs.Ends.{end_lines}
 use Rattle.sim_run.specs.declared.act_line.ActLine.{ActLine}
 use Rattle.sim_run.specs.declared.act_line.ActLine.TheVariants as line
 use Rattle.sim_run.specs.Acts.{Rehearsal, first_rehearsal, round_batch, can_happen, acted, after_act, after_acts}

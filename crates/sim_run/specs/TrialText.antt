@@ -6,8 +6,8 @@ use Rattle.rollout_rules.specs.Wan.{Plan, Problem, last_stage, link_at}
 use Rattle.rollout_rules.specs.declared.op.OpView.{OpView}
 use Rattle.rollout_rules.specs.Legal.{unsettled}
 use Rattle.wan_text.specs.Names.{link_text}
-use Rattle.rollout_peaks.specs.Ends.{last_line}
-use Rattle.rollout_peaks.specs.Peaks.{link_peak}
+use Rattle.rollout_report.specs.Ends.{last_line}
+use Rattle.rollout_report.specs.Peaks.{link_peak}
 use Rattle.sim_run.specs.declared.shape.Shape.{Shape}
 use Rattle.sim_run.specs.Trials.{Trial, after_trial, all_operations, drained, raised, turns}
 
@@ -36,7 +36,7 @@ abbrev pub fullest_text : Problem → Plan → History → Option ℕ → List �
 fullest_text p plan h None = codes "none"
 fullest_text p plan h (Some l) = fullness_text p plan l (link_peak p plan h l)
 
--- two numbers, each behind a name
+-- two numbers, each after a name
 abbrev pub pair_text : List ℕ → ℕ → List ℕ → ℕ → List ℕ
 pair_text first one second other = first ++ decimal one ++ second ++ decimal other
 
@@ -57,14 +57,14 @@ events_line events skipped drain = codes "events: " ++ decimal events ++ codes "
 abbrev pub counts_line : ℕ → ℕ → List ℕ
 counts_line operations entries = codes "operations: " ++ decimal operations ++ codes ", entries " ++ decimal entries ++ codes "\n"
 
--- what stands behind a rollout: its operations and entries, the fullest link, and whether it is finished
+-- what stands after a rollout: its operations and entries, the fullest link, and whether it is finished
 abbrev pub outcome_lines : Problem → Plan → History → List ℕ
 outcome_lines p plan h =
     counts_line (all_operations p plan) (length h.entries)
     ++ codes "fullest link: " ++ fullest_text p plan h (fullest p plan h (length p.links)) ++ codes "\n"
     ++ last_line (unsettled p plan h)
 
--- behind its events a trial is drained
+-- after its events a trial is drained
 abbrev pub drain_text : Problem → Plan → (OpView → ℕ) → ℕ → Trial → List ℕ
 drain_text p plan policy events t =
     let r = raised p plan policy t.rehearsal in

@@ -1,4 +1,4 @@
--- A trial: an act is drawn for each event, and behind the events a drain ends the rollout. Its worlds are those of the acts that were drawn.
+-- A trial: an act is drawn for each event, and after the events a drain ends the rollout. Its worlds are those of the acts that were drawn.
 use Rattle.std.specs.Prelude.{ℕ, zero, suc, ◌+◌, ◌-◌, min, Bool, List, [], ◌∷◌, ◌++◌, length, Option, Some, None, option_map, ◌==◌, nat_lt, if◌then◌else◌}
 use Rattle.rand_pcg.specs.Lcg.{Lcg}
 use Rattle.rollout_rules.specs.Items.{item_at, item_count}

@@ -8,8 +8,8 @@ ghost use Rattle.rollout_rules.specs.declared.op.OpView.{OpView};
 ghost use Rattle.rollout_rules.specs.declared.event.Act.TheVariants as act;
 ghost use Rattle.rollout_rules.specs.declared.event.Event.TheVariants as event;
 ghost use Rattle.order_policy.specs.Answers.{rank_by};
-ghost use Rattle.rollout_book.specs.Chronicles.{turn_of};
-ghost use Rattle.rollout_peaks.specs.Ends.{end_lines};
+ghost use Rattle.rollout_book.specs.JournaledRounds.{turn_of};
+ghost use Rattle.rollout_report.specs.Ends.{end_lines};
 ghost use Rattle.sim_run.specs.Acts.{first_rehearsal, can_happen, may_send, exchanges, round_batch, acted, after_act};
 ghost use Rattle.sim_run.specs.Passing.{given_of};
 ghost use Rattle.sim_run.specs.Rehearsing.{moved};
@@ -20,11 +20,12 @@ use crate::act_line::ActLine;
 use crate::controller::Controller;
 use crate::network::Network;
 use crate::outcome::push_outcome;
+use crate::sim_rounds::SimRounds;
 use dependency_graph::{Graph, checked_plan_is_valid};
 use lists::{Memory, Text};
 use order_policy::Policy;
 use rollout_book::Turn;
-use rollout_peaks::{History, push_end};
+use rollout_report::{History, push_end};
 use rollout_rules::{Act, Entry, Given, Held, MOST_SENT, Op};
 use std::alloc::Global;
 use std::marker::Model;
@@ -32,12 +33,12 @@ use wan_model::{CheckedPlan, item_count};
 
 /// Where a rehearsal stands: the controller, and what has passed on the network.
 #[derive(Drop)]
-pub(crate) struct Rehearsal {
-    controller: Controller,
+pub(crate) struct Rehearsal<K: SimRounds> {
+    controller: Controller<K>,
     network: Network,
 }
 
-impl Model for Rehearsal {
+impl<K: SimRounds> Model for Rehearsal<K> {
     ghost use Rattle.std.specs.Prelude.{◌≡◌, true};
     ghost use Rattle.sim_run.specs.Rehearsing.{Keeps, Rehearsing, rehearsing_of};
 
@@ -49,9 +50,9 @@ impl Model for Rehearsal {
         → Keeps (rehearsing_of r.controller r.network) };
 }
 
-impl Rehearsal {
-    /// Its controller has a book.
-    pub(crate) fn new(alloc: Global, plan: CheckedPlan) -> Result<Rehearsal, Memory>
+impl<K: SimRounds> Rehearsal<K> {
+    /// Of a plan of which nothing is settled.
+    pub(crate) fn new(alloc: Global, plan: CheckedPlan) -> Result<Rehearsal<K>, Memory>
         ensures { IfOk result
             (λ r. r
             ≡ record {
@@ -61,26 +62,7 @@ impl Rehearsal {
             }) }
     {
         match first_network(alloc, &plan) {
-            Ok(network) => booked(alloc, plan, network),
-            Err(refused) => {
-                drop(plan);
-                Err(refused)
-            }
-        }
-    }
-
-    /// Its controller has no book, so that its starts cost nothing.
-    pub(crate) fn without_book(alloc: Global, plan: CheckedPlan) -> Result<Rehearsal, Memory>
-        ensures { IfOk result
-            (λ r. r
-            ≡ record {
-              rollout = plan;
-              state = first_rehearsal plan.problem plan.plan;
-              live = true;
-            }) }
-    {
-        match first_network(alloc, &plan) {
-            Ok(network) => bookless(alloc, plan, network),
+            Ok(network) => first_over(alloc, plan, network),
             Err(refused) => {
                 drop(plan);
                 Err(refused)
@@ -169,7 +151,7 @@ impl Rehearsal {
     }
 
     /// Does an act that can happen, and answers what its line says. An act that can't happen is passed
-    /// over. After want of memory the rehearsal is given up.
+    /// over. After lack of memory the rehearsal is given up.
     pub(crate) fn act(&mut self, policy: &Policy, act: Act) -> Result<ActLine, Memory>
         requires { IsTrue self.old.live }
         ensures state { OnOk result
@@ -392,7 +374,7 @@ impl Rehearsal {
         Ok(entries)
     }
 
-    /// Adds the lines behind those of the acts.
+    /// Adds the lines after those of the acts.
     pub(crate) fn push_end(&self, alloc: Global, text: &mut Text) -> Result<(), Memory>
         requires { IsTrue self.now.live }
         ensures { OnOk result
@@ -405,7 +387,7 @@ impl Rehearsal {
         push_lines(alloc, plan, self.controller.entries(), text)
     }
 
-    /// Adds what is told behind a trial.
+    /// Adds what is told after a trial.
     pub(crate) fn push_outcome(&self, alloc: Global, text: &mut Text) -> Result<(), Memory>
         requires { IsTrue self.now.live }
         ensures { OnOk result
@@ -431,8 +413,12 @@ fn first_network(alloc: Global, plan: &CheckedPlan) -> Result<Network, Memory>
     Network::new(alloc, item_count(plan.problem()))
 }
 
-/// A first rehearsal whose controller has a book.
-fn booked(alloc: Global, plan: CheckedPlan, network: Network) -> Result<Rehearsal, Memory>
+/// A first rehearsal over a network.
+fn first_over<K: SimRounds>(
+    alloc: Global,
+    plan: CheckedPlan,
+    network: Network,
+) -> Result<Rehearsal<K>, Memory>
     requires { network
         ≡ record {
           sent = [];
@@ -448,38 +434,14 @@ fn booked(alloc: Global, plan: CheckedPlan, network: Network) -> Result<Rehearsa
         }) }
 {
     checked_plan_is_valid(&plan);
-    let controller = Controller::new(alloc, plan)?;
+    let controller = Controller::<K>::new(alloc, plan)?;
     Ok(Rehearsal {
         controller,
         network,
     })
 }
 
-/// A first rehearsal whose controller has none.
-fn bookless(alloc: Global, plan: CheckedPlan, network: Network) -> Result<Rehearsal, Memory>
-    requires { network
-        ≡ record {
-          sent = [];
-          given = [];
-          applied = replicate (item_count plan.problem) 0;
-        } }
-    ensures { IfOk result
-        (λ r. r
-        ≡ record {
-          rollout = plan;
-          state = first_rehearsal plan.problem plan.plan;
-          live = true;
-        }) }
-{
-    checked_plan_is_valid(&plan);
-    let controller = Controller::without_book(alloc, plan)?;
-    Ok(Rehearsal {
-        controller,
-        network,
-    })
-}
-
-/// Adds what is told behind the rollout of a graph, of which nothing was settled before these entries.
+/// Adds what is told after the rollout of a graph, of which nothing was settled before these entries.
 fn push_outcome_of(
     alloc: Global,
     graph: &Graph,
@@ -499,7 +461,7 @@ fn push_outcome_of(
     push_outcome(alloc, graph, &history, text)
 }
 
-/// Adds the lines behind those of the acts, of a rollout of which nothing was settled before these entries.
+/// Adds the lines after those of the acts, of a rollout of which nothing was settled before these entries.
 fn push_lines(
     alloc: Global,
     plan: &CheckedPlan,

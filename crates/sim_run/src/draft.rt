@@ -11,6 +11,7 @@ use crate::acts::Rehearsal;
 use crate::drain::is_finished;
 use crate::events::next_act;
 use crate::laws::a_drawn_script_happens;
+use crate::plain::Plain;
 use crate::script_shape::ScriptShape;
 use case_gen::Draws;
 use dependency_graph::checked_plan_is_valid;
@@ -23,7 +24,7 @@ use wan_model::CheckedPlan;
 
 /// Draws a script of a plan under a policy, and gives the text of the plan's document with it. As many acts as
 /// the shape has events are drawn as those of a trial are, from its seed on, and then the rollout is drained.
-/// The script has the acts that happen, in order, and at most [`MOST_ACTS`] of them. An Err is want of memory.
+/// The script has the acts that happen, in order, and at most [`MOST_ACTS`] of them. An Err is lack of memory.
 ///
 /// Time: what each act touches, and for each turn of the drain the items.
 pub fn write_rehearsal(
@@ -65,7 +66,7 @@ fn rehearse(
     ensures { IfOk result
         (λ text. IsWrittenFrom (rank_by policy.now.answers) shape.now plan text) }
 {
-    match Rehearsal::without_book(alloc, plan) {
+    match Rehearsal::<Plain>::new(alloc, plan) {
         Ok(rehearsal) => of_rehearsal(alloc, rehearsal, policy, shape),
         Err(error) => Err(error),
     }
@@ -74,7 +75,7 @@ fn rehearse(
 /// The text from a first rehearsal on, which ends with it.
 fn of_rehearsal(
     alloc: Global,
-    mut rehearsal: Rehearsal,
+    mut rehearsal: Rehearsal<Plain>,
     policy: &Policy,
     shape: &ScriptShape,
 ) -> Result<Text, Memory>
@@ -91,7 +92,7 @@ fn of_rehearsal(
 
 fn text_of(
     alloc: Global,
-    rehearsal: &mut Rehearsal,
+    rehearsal: &mut Rehearsal<Plain>,
     policy: &Policy,
     shape: &ScriptShape,
 ) -> Result<Text, Memory>
@@ -120,7 +121,7 @@ fn document_of(alloc: Global, plan: &CheckedPlan, script: &[Act]) -> Result<Text
 
 /// Draws an act for each of so many events; those that join are done, and stand in the script.
 fn draw_events(
-    rehearsal: &mut Rehearsal,
+    rehearsal: &mut Rehearsal<Plain>,
     policy: &Policy,
     draws: &mut Draws,
     script: &mut Script,
@@ -144,7 +145,7 @@ fn draw_events(
 
 /// Draws an act for the next event. It joins, or there is nothing that it could be done with.
 fn draw_next(
-    rehearsal: &mut Rehearsal,
+    rehearsal: &mut Rehearsal<Plain>,
     policy: &Policy,
     draws: &mut Draws,
     script: &mut Script,
@@ -168,7 +169,7 @@ fn draw_next(
 /// Starts the controller where it is down, and makes turns until every operation is settled, the script is
 /// full, or as many as there are operations and one are made.
 fn drain_script(
-    rehearsal: &mut Rehearsal,
+    rehearsal: &mut Rehearsal<Plain>,
     policy: &Policy,
     script: &mut Script,
 ) -> Result<(), Memory>
@@ -184,7 +185,11 @@ fn drain_script(
     make_turns(rehearsal, policy, script, u64::from(operations) + 1)
 }
 
-fn raise(rehearsal: &mut Rehearsal, policy: &Policy, script: &mut Script) -> Result<(), Memory>
+fn raise(
+    rehearsal: &mut Rehearsal<Plain>,
+    policy: &Policy,
+    script: &mut Script,
+) -> Result<(), Memory>
     requires { IsTrue rehearsal.old.live }
     ensures { OnOk result
         (HasDrafted rehearsal.old
@@ -200,7 +205,7 @@ fn raise(rehearsal: &mut Rehearsal, policy: &Policy, script: &mut Script) -> Res
 
 /// Makes turns until every operation is settled or the script is full, and at most so many.
 fn make_turns(
-    rehearsal: &mut Rehearsal,
+    rehearsal: &mut Rehearsal<Plain>,
     policy: &Policy,
     script: &mut Script,
     most: u64,
@@ -222,7 +227,11 @@ fn make_turns(
 }
 
 /// What is in flight is exchanged, and then a round is made.
-fn turn(rehearsal: &mut Rehearsal, policy: &Policy, script: &mut Script) -> Result<(), Memory>
+fn turn(
+    rehearsal: &mut Rehearsal<Plain>,
+    policy: &Policy,
+    script: &mut Script,
+) -> Result<(), Memory>
     requires { IsTrue rehearsal.old.live }
     ensures { OnOk result
         (HasDrafted rehearsal.old
@@ -236,7 +245,7 @@ fn turn(rehearsal: &mut Rehearsal, policy: &Policy, script: &mut Script) -> Resu
 }
 
 /// Whether no more turns are made. Time: the items.
-fn is_over(rehearsal: &Rehearsal, script: &[Act]) -> bool
+fn is_over(rehearsal: &Rehearsal<Plain>, script: &[Act]) -> bool
     requires { IsTrue rehearsal.now.live }
     ensures { result
         ≡ is_over rehearsal.now.rollout.problem rehearsal.now.rollout.plan
@@ -247,7 +256,7 @@ fn is_over(rehearsal: &Rehearsal, script: &[Act]) -> bool
 
 /// An act that can happen is done, and stands in the script, where that has room; another is left out.
 fn join(
-    rehearsal: &mut Rehearsal,
+    rehearsal: &mut Rehearsal<Plain>,
     policy: &Policy,
     script: &mut Script,
     act: Act,
@@ -265,7 +274,7 @@ fn join(
     Ok(())
 }
 
-fn joins(rehearsal: &Rehearsal, script: &[Act], act: Act) -> bool
+fn joins(rehearsal: &Rehearsal<Plain>, script: &[Act], act: Act) -> bool
     requires { IsTrue rehearsal.now.live }
     ensures { result
         ≡ joins rehearsal.now.rollout.problem (draft_in rehearsal.now script.now) act }
@@ -274,7 +283,7 @@ fn joins(rehearsal: &Rehearsal, script: &[Act], act: Act) -> bool
 }
 
 fn add_act(
-    rehearsal: &mut Rehearsal,
+    rehearsal: &mut Rehearsal<Plain>,
     policy: &Policy,
     script: &mut Script,
     act: Act,

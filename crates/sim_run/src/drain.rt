@@ -4,13 +4,14 @@ ghost use Rattle.order_policy.specs.Answers.{rank_by};
 ghost use Rattle.sim_run.specs.Trials.{after_turn, all_operations, drained, is_finished, raised, turns};
 
 use crate::acts::Rehearsal;
+use crate::plain::Plain;
 use lists::Memory;
 use order_policy::Policy;
 use rollout_rules::Act;
 
 /// Starts the controller where it is down, and makes turns until every operation is settled, or as many as
 /// there are operations and one. Answers how many.
-pub(crate) fn drain(rehearsal: &mut Rehearsal, policy: &Policy) -> Result<u64, Memory>
+pub(crate) fn drain(rehearsal: &mut Rehearsal<Plain>, policy: &Policy) -> Result<u64, Memory>
     requires { IsTrue rehearsal.old.live }
     ensures state { OnOk result
         (rehearsal.new
@@ -34,7 +35,7 @@ pub(crate) fn drain(rehearsal: &mut Rehearsal, policy: &Policy) -> Result<u64, M
     make_turns(rehearsal, policy, u64::from(operations) + 1)
 }
 
-fn raise(rehearsal: &mut Rehearsal, policy: &Policy) -> Result<(), Memory>
+fn raise(rehearsal: &mut Rehearsal<Plain>, policy: &Policy) -> Result<(), Memory>
     requires { IsTrue rehearsal.old.live }
     ensures { OnOk result
         (rehearsal.new
@@ -50,7 +51,7 @@ fn raise(rehearsal: &mut Rehearsal, policy: &Policy) -> Result<(), Memory>
 }
 
 /// Makes turns until every operation is settled, and at most so many. Answers how many.
-fn make_turns(rehearsal: &mut Rehearsal, policy: &Policy, most: u64) -> Result<u64, Memory>
+fn make_turns(rehearsal: &mut Rehearsal<Plain>, policy: &Policy, most: u64) -> Result<u64, Memory>
     requires { IsTrue rehearsal.old.live }
     ensures state { OnOk result
         (rehearsal.new
@@ -73,7 +74,7 @@ fn make_turns(rehearsal: &mut Rehearsal, policy: &Policy, most: u64) -> Result<u
 }
 
 /// What is in flight is exchanged, and then a round is made.
-fn turn(rehearsal: &mut Rehearsal, policy: &Policy) -> Result<(), Memory>
+fn turn(rehearsal: &mut Rehearsal<Plain>, policy: &Policy) -> Result<(), Memory>
     requires { IsTrue rehearsal.old.live }
     ensures { OnOk result
         (rehearsal.new
@@ -88,7 +89,7 @@ fn turn(rehearsal: &mut Rehearsal, policy: &Policy) -> Result<(), Memory>
 }
 
 /// Whether every operation is settled. Time: the items.
-pub(crate) fn is_finished(rehearsal: &Rehearsal) -> bool
+pub(crate) fn is_finished(rehearsal: &Rehearsal<Plain>) -> bool
     requires { IsTrue rehearsal.now.live }
     ensures { result
         ≡ is_finished rehearsal.now.rollout.problem rehearsal.now.rollout.plan rehearsal.now.state }

@@ -3,12 +3,13 @@ ghost use Rattle.std.specs.Prelude.{◌≡◌, ◌<◌, length, IsTrue};
 ghost use Rattle.sim_run.specs.Trials.{act_for, any_of, new_one_of, next_act};
 
 use crate::acts::Rehearsal;
+use crate::plain::Plain;
 use case_gen::Draws;
 use rollout_rules::Act;
 
 /// Draws the act of the next event; none where there is nothing that it could be done with. A controller
 /// that is down starts, and nothing is drawn.
-pub(crate) fn next_act(rehearsal: &Rehearsal, draws: &mut Draws) -> Option<Act>
+pub(crate) fn next_act(rehearsal: &Rehearsal<Plain>, draws: &mut Draws) -> Option<Act>
     requires live { IsTrue rehearsal.now.live }
     requires sent { length rehearsal.now.state.world.sent < 4294967296 }
     requires given { length rehearsal.now.state.world.given < 4294967296 }
@@ -25,7 +26,7 @@ pub(crate) fn next_act(rehearsal: &Rehearsal, draws: &mut Draws) -> Option<Act>
 }
 
 /// The act for a number below 100.
-fn act_for(rehearsal: &Rehearsal, number: u32, draws: &mut Draws) -> Option<Act>
+fn act_for(rehearsal: &Rehearsal<Plain>, number: u32, draws: &mut Draws) -> Option<Act>
     requires live { IsTrue rehearsal.now.live }
     requires sent { length rehearsal.now.state.world.sent < 4294967296 }
     requires given { length rehearsal.now.state.world.given < 4294967296 }

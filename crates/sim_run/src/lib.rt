@@ -21,12 +21,12 @@
 
 mod act_line;
 mod acts;
+mod booked;
 mod controller;
 mod draft;
 mod drain;
 mod earlier;
 mod events;
-mod keeper;
 mod laws;
 mod lines;
 mod mark;
@@ -36,6 +36,7 @@ mod plain;
 mod run;
 mod script_shape;
 mod shape;
+mod sim_rounds;
 mod trial;
 pub mod worked;
 

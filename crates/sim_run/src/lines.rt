@@ -70,7 +70,7 @@ fn push_item(
     push_count(text, word, number as usize)
 }
 
-/// Adds a number behind what it is.
+/// Adds a number after what it is.
 fn push_count(text: &mut Text, name: &str, count: usize) -> Result<(), Memory>
     ensures { OnOk result (text.new ≡ text.old ++ (name.now ++ decimal count)) }
 {

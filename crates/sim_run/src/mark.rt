@@ -4,11 +4,11 @@ ghost use Rattle.intent_journal.specs.States.{IsGate};
 
 use disk_model::MemoryDisk;
 use intent_journal::entries_behind;
-use rollout_book::Chronicle;
+use rollout_book::JournaledRounds;
 use rollout_rules::{Entry, EntryList};
 use std::alloc::Global;
 
-/// How far the journal of a book was read: up to this gate, behind so many entries.
+/// How far the journal of a book was read: up to this gate, after so many entries.
 #[derive(Clone, Copy)]
 pub(crate) struct Mark {
     gate: usize,
@@ -16,16 +16,8 @@ pub(crate) struct Mark {
 }
 
 impl Mark {
-    /// Nothing was read.
-    pub(crate) fn nothing() -> Mark {
-        Mark {
-            gate: 0,
-            entries: 0,
-        }
-    }
-
     /// All that a book's journal has.
-    pub(crate) fn behind(book: &Chronicle<MemoryDisk>) -> Mark
+    pub(crate) fn behind(book: &JournaledRounds<MemoryDisk>) -> Mark
         ensures gate { book.now.live ≡ true
             → IsGate result.gate book.now.disk.timeline.medium.bytes }
         ensures entries { result.entries ≡ length book.now.entries }
@@ -37,9 +29,13 @@ impl Mark {
     }
 }
 
-/// Whether the batches that stand on a book's disk behind a mark are read as the entries that the book has behind
+/// Whether the batches that stand on a book's disk after a mark are read as the entries that the book has after
 /// it. Not where no memory is found to read them. Time: those batches.
-pub(crate) fn tells_the_same(alloc: Global, book: &Chronicle<MemoryDisk>, mark: Mark) -> bool {
+pub(crate) fn tells_the_same(
+    alloc: Global,
+    book: &JournaledRounds<MemoryDisk>,
+    mark: Mark,
+) -> bool {
     let image = book.disk().bytes();
     if mark.gate < image.len() {
         has_behind(alloc, image, mark, book.entries())
@@ -58,7 +54,7 @@ fn has_behind(alloc: Global, image: &[u8], mark: Mark, entries: &[Entry]) -> boo
     }
 }
 
-/// Whether these are all entries behind the first so many.
+/// Whether these are all entries after the first so many.
 fn are_behind(new: Option<EntryList>, entries: &[Entry], count: usize) -> bool {
     match new {
         Some(new) => count <= entries.len() && &entries[count..] == new.as_slice(),

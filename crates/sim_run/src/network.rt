@@ -1,10 +1,12 @@
 ghost use Rattle.std.specs.Prelude.{◌≡◌, ◌<◌, [], ◌∷◌, ◌++◌, length, replicate, slice_index_or, IfOk, OnOk, OnErr};
+ghost use Rattle.rollout_rules.specs.Agent.{pair_of};
 ghost use Rattle.rollout_rules.specs.World.{no_op};
 ghost use Rattle.sim_run.specs.Passing.{answer_to, with_delivered};
 ghost use Rattle.sim_run.specs.Passing as passing;
 
 use lists::Memory;
-use rollout_rules::{Op, OpList};
+use rollout_core::pair_after;
+use rollout_rules::{Held, Op, OpList};
 use std::alloc::Global;
 use std::marker::Model;
 
@@ -57,7 +59,7 @@ impl Network {
         self.given.as_slice().len()
     }
 
-    /// Sends the command of an operation. Want of memory changes nothing.
+    /// Sends the command of an operation. Lack of memory changes nothing.
     pub(crate) fn send(&mut self, op: Op) -> Result<(), Memory>
         requires { op.item < length self.old.applied }
         ensures ok { OnOk result (self.new ≡ record self.old { sent = self.old.sent ++ op ∷ [] }) }
@@ -68,7 +70,7 @@ impl Network {
     }
 
     /// Brings a command sent to its switch, and gives what the switch answers: the item, and how many of
-    /// its operations it has applied. Want of memory changes nothing.
+    /// its operations it has applied. Lack of memory changes nothing.
     pub(crate) fn deliver(&mut self, place: usize) -> Result<Op, Memory>
         requires { place < length self.old.sent }
         ensures ok { OnOk result
@@ -97,13 +99,21 @@ impl Network {
     }
 }
 
-/// How many operations a switch has applied after a command: it applies the next one alone.
+/// How many operations a switch has applied after a command: it applies the next one alone, by the agent rule
+/// within one migration.
 fn applied_after(applied: u32, asked: u32) -> u32
     ensures { result ≡ passing.applied_after applied asked }
 {
-    if asked.checked_sub(1) == Some(applied) {
-        asked
-    } else {
-        applied
+    let held = pair_after(first_held(applied), first_held(asked));
+    held.number
+}
+
+/// The pair of a number in the first migration, of which a rehearsal is.
+fn first_held(number: u32) -> Held
+    ensures { result ≡ pair_of 0 number }
+{
+    Held {
+        migration: 0,
+        number,
     }
 }

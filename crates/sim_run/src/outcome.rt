@@ -1,20 +1,20 @@
-//! What is told behind a trial's rollout.
+//! What is told after a trial's rollout.
 ghost use Rattle.std.specs.Prelude.{◌≡◌, ◌++◌, ◌<◌, ◌^◌, ℕ, codes, length, slice_index, IfSome, IsTrue, OnOk};
 ghost use Rattle.rollout_rules.specs.History as rules;
 ghost use Rattle.rollout_rules.specs.Legal.{is_legal};
 ghost use Rattle.rollout_rules.specs.Sums.{list_below};
 ghost use Rattle.dependency_graph.specs.Graph.{op_total};
-ghost use Rattle.rollout_peaks.specs.Peaks.{link_peak};
+ghost use Rattle.rollout_report.specs.Peaks.{link_peak};
 ghost use Rattle.sim_run.specs.TrialText as telling;
 
 use dependency_graph::{Graph, checked_plan_is_valid};
 use lists::{Memory, Text};
-use rollout_peaks::{History, Peaks, push_last_line};
+use rollout_report::{History, Peaks, push_last_line};
 use std::alloc::Global;
 use wan_model::CheckedPlan;
 use wan_text::push_link;
 
-/// Adds what is told behind a rollout: how many operations and entries there are, which link came to be
+/// Adds what is told after a rollout: how many operations and entries there are, which link came to be
 /// fullest, and whether every operation is settled. The graph has followed the history.
 pub(crate) fn push_outcome(
     alloc: Global,

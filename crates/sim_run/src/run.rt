@@ -6,6 +6,7 @@ ghost use Rattle.sim_run.specs.Rehearsing.{first_of, text_from};
 ghost use Rattle.sim_run.specs.Script.{act_lines, script_text};
 
 use crate::acts::Rehearsal;
+use crate::booked::Booked;
 use crate::lines::push_act_line;
 use lists::{Memory, Text};
 use order_policy::Policy;
@@ -15,7 +16,7 @@ use wan_model::CheckedPlan;
 
 /// Rehearses a script over a plan under a policy, and gives its text: a line for each act, the peak of each
 /// link in units of 1/scale and of each table in the widths of its entries, and whether every operation is
-/// settled. Whatever the script and the policy, every world on the way is safe. An Err is want of memory.
+/// settled. Whatever the script and the policy, every world on the way is safe. An Err is lack of memory.
 pub fn run_script(
     alloc: Global,
     plan: CheckedPlan,
@@ -43,7 +44,7 @@ fn rehearse(
     ensures { IfOk result
         (λ text. text ≡ text_from (first_of plan) (rank_by policy.now.answers) script.now) }
 {
-    match Rehearsal::new(alloc, plan) {
+    match Rehearsal::<Booked>::new(alloc, plan) {
         Ok(rehearsal) => of_rehearsal(alloc, rehearsal, policy, script),
         Err(error) => Err(error),
     }
@@ -52,7 +53,7 @@ fn rehearse(
 /// The text of acts from a rehearsal on, which ends with it.
 fn of_rehearsal(
     alloc: Global,
-    mut rehearsal: Rehearsal,
+    mut rehearsal: Rehearsal<Booked>,
     policy: &Policy,
     script: &[Act],
 ) -> Result<Text, Memory>
@@ -68,10 +69,10 @@ fn of_rehearsal(
 // Most lines of an act have fewer bytes.
 const LINE: usize = 32;
 
-/// What is said of acts, and behind them.
+/// What is written of a row of acts, and then of their end.
 fn text_of(
     alloc: Global,
-    rehearsal: &mut Rehearsal,
+    rehearsal: &mut Rehearsal<Booked>,
     policy: &Policy,
     script: &[Act],
 ) -> Result<Text, Memory>
@@ -95,7 +96,7 @@ fn rehearsal_is_safe(plan: &CheckedPlan, policy: &Policy, script: &Script)
 }
 
 fn push_acts(
-    rehearsal: &mut Rehearsal,
+    rehearsal: &mut Rehearsal<Booked>,
     policy: &Policy,
     script: &[Act],
     text: &mut Text,

@@ -8,6 +8,7 @@ ghost use Rattle.sim_run.specs.Trying.{HasTried};
 use crate::acts::Rehearsal;
 use crate::drain::drain;
 use crate::events::next_act;
+use crate::plain::Plain;
 use crate::shape::Shape;
 use case_gen::Draws;
 use lists::{Memory, Text};
@@ -18,7 +19,7 @@ use wan_model::CheckedPlan;
 
 /// Makes a trial of a plan of so many rate steps under a policy, and gives its text: for each of the shape's
 /// events an act is drawn and done, and then the rollout is drained. The text tells the shape's numbers, the
-/// plan, the events, and how far the rollout came and how full a link. An Err is want of memory, and leaves
+/// plan, the events, and how far the rollout came and how full a link. An Err is lack of memory, and leaves
 /// the draws as they were.
 ///
 /// Time: what each act touches, and for each turn of the drain the items.
@@ -63,7 +64,7 @@ fn try_plan(
         ≡ (after_trial plan.problem plan.plan (rank_by policy.now.answers) draws.old
         shape.now.events).draws) }
 {
-    match Rehearsal::without_book(alloc, plan) {
+    match Rehearsal::<Plain>::new(alloc, plan) {
         Ok(rehearsal) => of_rehearsal(alloc, rehearsal, rate_steps, policy, shape, draws),
         Err(error) => Err(error),
     }
@@ -72,7 +73,7 @@ fn try_plan(
 /// The text of a trial from a first rehearsal on, which ends with it.
 fn of_rehearsal(
     alloc: Global,
-    mut rehearsal: Rehearsal,
+    mut rehearsal: Rehearsal<Plain>,
     rate_steps: u32,
     policy: &Policy,
     shape: &Shape,
@@ -97,7 +98,7 @@ fn of_rehearsal(
 
 fn text_of(
     alloc: Global,
-    rehearsal: &mut Rehearsal,
+    rehearsal: &mut Rehearsal<Plain>,
     rate_steps: u32,
     policy: &Policy,
     shape: &Shape,
@@ -128,7 +129,7 @@ fn text_of(
 /// Draws an act for each of so many events and does it. Answers how many events were skipped, since there was
 /// nothing that the act could be done with.
 fn do_events(
-    rehearsal: &mut Rehearsal,
+    rehearsal: &mut Rehearsal<Plain>,
     policy: &Policy,
     draws: &mut Draws,
     events: u32,
@@ -161,7 +162,11 @@ fn do_events(
 }
 
 /// Draws an act for the next event and does it. Answers how many events were skipped: this one or none.
-fn do_next(rehearsal: &mut Rehearsal, policy: &Policy, draws: &mut Draws) -> Result<u32, Memory>
+fn do_next(
+    rehearsal: &mut Rehearsal<Plain>,
+    policy: &Policy,
+    draws: &mut Draws,
+) -> Result<u32, Memory>
     requires live { IsTrue rehearsal.old.live }
     requires sent { length rehearsal.old.state.world.sent < 4294967296 }
     requires given { length rehearsal.old.state.world.given < 4294967296 }
@@ -175,7 +180,7 @@ fn do_next(rehearsal: &mut Rehearsal, policy: &Policy, draws: &mut Draws) -> Res
     }
 }
 
-fn do_act(rehearsal: &mut Rehearsal, policy: &Policy, act: Act) -> Result<u32, Memory>
+fn do_act(rehearsal: &mut Rehearsal<Plain>, policy: &Policy, act: Act) -> Result<u32, Memory>
     requires { IsTrue rehearsal.old.live }
     ensures { IfOk result
         (λ skipped. (rehearsal.new
@@ -208,7 +213,7 @@ fn push_shape(alloc: Global, text: &mut Text, shape: &Shape) -> Result<(), Memor
     text.push_str("\n")
 }
 
-/// Adds two numbers, each behind a name.
+/// Adds two numbers, each after a name.
 fn push_pair(
     alloc: Global,
     text: &mut Text,

@@ -1,8 +1,8 @@
 -- What a whole text comes to that is pushed from the first byte on, and finished.
-use Rattle.std.proofs.Common.{◌≡◌, ℕ, Bool, true, false, List, [], ◌++◌, Option, OnOk, OnErr, Result, Ok, Err, sym, ap, subst, ◌∙◌, append_assoc, append-nil}
-use Rattle.wan_edge.specs.Streams.{Appends, AppendsPart, Rose, SinkSteps, SinkTrace, SourceTrace}
+use Rattle.std.proofs.Common.{◌≡◌, ℕ, Bool, true, false, List, [], ◌++◌, Option, OnOk, OnErr, Result, Ok, Err, sym, ap, subst, ◌∙◌, append_assoc}
+use Rattle.wan_edge.specs.Streams.{Appends, SinkSteps, SinkTrace, SourceTrace}
 use Rattle.wan_edge.specs.declared.stream.Failed.{Failed}
-use Rattle.wan_edge.proofs.Chains.{Appends-chain, sink_steps}
+use Rattle.wan_edge.proofs.Chains.{Appends-chain}
 use Rattle.sink_pieces.specs.Passing.{GoesOn, Moves, Standing, Stops, Takes, stops_behind}
 use Rattle.sink_pieces.specs.Pushing.{Ends, Finishes, Pushes, standing}
 use Rattle.sink_pieces.specs.declared.piece_sink.PieceSink.{PieceSink}

@@ -1,5 +1,5 @@
 -- Pieces of a text on their way to a sink: they are written, or kept for it.
-use Rattle.std.specs.Prelude.{◌≡◌, ℕ, ◌<◌, ◌≤◌, ◌+◌, Bool, true, false, List, [], ◌++◌, length, take, Option}
+use Rattle.std.specs.Prelude.{◌≡◌, ℕ, ◌≤◌, ◌+◌, Bool, true, false, List, [], ◌++◌, length, take, Option}
 use Rattle.std.proofs.Common.{inl, inr, refl, sym, ap, subst, ◌∙◌, append_assoc, append-nil, length-append, arith}
 use Rattle.std.proofs.Math.Seq.{take-append-add}
 use Rattle.std.proofs.lemmas.List.{take-append-le}
@@ -30,7 +30,7 @@ Moves false false bytes before now = GoesOn bytes before.told.written now.kept n
 Moves false true bytes before now = Stops bytes before.told now.told
 Moves true failed bytes before now = (failed ≡ true) × (now.told ≡ before.told)
 
--- these bytes were taken behind what was kept
+-- these bytes were taken after what was kept
 pub record Takes (bytes : List ℕ) (before now : Standing) : Type 0 where
   pub step : SinkSteps before.told now.told
   pub apart : now.source ≡ before.source
@@ -53,7 +53,7 @@ Takes-nothing s = record {
   moves = nothing-moves s.failed s;
 }
 
--- a part of what comes behind bytes that were written
+-- a part of what comes after bytes that were written
 pub part_behind : (a b c : Option (List ℕ)) (out rest all : List ℕ) → all ≡ out ++ rest → Appends a out b → AppendsPart b rest c → AppendsPart a all c
 part_behind a b c out rest all is written part =
     subst (λ xs. AppendsPart a xs c) (sym is) (record {

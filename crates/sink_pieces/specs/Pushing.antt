@@ -1,5 +1,5 @@
 -- What is pushed into a sink, and how that ends.
-use Rattle.std.specs.Prelude.{◌≡◌, ℕ, Bool, true, false, List, [], ◌++◌, Result, Ok, Err}
+use Rattle.std.specs.Prelude.{◌≡◌, ℕ, Bool, true, false, List, [], ◌++◌, Result, Ok, Err, OnOk, is_err}
 use Rattle.std.proofs.Common.{refl, ◌∙◌}
 use Rattle.wan_edge.specs.Streams.{Appends, SinkSteps, SinkTrace, SourceTrace}
 use Rattle.wan_edge.specs.declared.stream.Failed.{Failed}
@@ -42,7 +42,10 @@ Finishes (Ok done) failed before now = (failed ≡ false) × Appends before.told
 Finishes (Err fault) false before now = Stops before.kept before.told now.told
 Finishes (Err fault) true before now = now.told ≡ before.told
 
+-- How a text ends. Once all is written nothing is kept, and after a failure none of it is written any more.
 pub record Ends (result : Result Unit Failed) (before now : Standing) : Type 0 where
   pub step : SinkSteps before.told now.told
   pub apart : now.source ≡ before.source
   pub finishes : Finishes result before.failed before now
+  pub emptied : OnOk result (now.kept ≡ [])
+  pub failed : now.failed ≡ is_err result

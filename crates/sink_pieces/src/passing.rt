@@ -5,7 +5,7 @@ ghost use Rattle.sink_pieces.specs.Passing.{GoesOn, Stops};
 use crate::kept::Kept;
 use wan_edge::{Failed, Sink, write_all};
 
-/// Takes a piece behind what is kept: it is kept, too, or what is kept is written before.
+/// Takes a piece after what is kept: it is kept, too, or what is kept is written before.
 pub fn take_in<K: Sink>(sink: &mut K, kept: &mut Kept, piece: &[u8]) -> Result<(), Failed>
     ensures on { OnOk result
         (GoesOn (kept.old ++ piece.now) (K.told sink.old).written kept.new

@@ -44,7 +44,8 @@ impl<'a, K: Sink> PieceSink<'a, K> {
         }
     }
 
-    /// Writes what is kept. An Err where the sink failed, now or at a push.
+    /// Writes what is kept, and keeps none of it then. An Err where the sink failed, now or earlier: after it nothing
+    /// is written any more.
     pub fn finish(&mut self) -> Result<(), Failed>
         ensures same_sink { self.new.sink.ghost_name ≡ self.old.sink.ghost_name }
         ensures same_kept { self.new.kept.ghost_name ≡ self.old.kept.ghost_name }
@@ -54,7 +55,9 @@ impl<'a, K: Sink> PieceSink<'a, K> {
         if self.failed {
             return Err(Failed);
         }
-        write_out(self.sink, self.kept)
+        let ended = write_out(self.sink, self.kept);
+        self.failed = ended.is_err();
+        ended
     }
 }
 

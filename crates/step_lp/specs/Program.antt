@@ -13,7 +13,7 @@ use Rattle.step_lp.specs.declared.size.TheConstants.{MOST_CELLS}
 use Rattle.step_lp.specs.declared.limit.Limit.{Limit}
 use Rattle.step_lp.specs.declared.limit.Limit.TheVariants.{Top, Link, Least, Most}
 
--- the lists f 0 .. f (n - 1), one behind the other
+-- the lists f 0 .. f (n - 1), one after the other
 abbrev pub joined_below : {A : Type 0} → ℕ → (ℕ → List A) → List A
 joined_below zero f = []
 joined_below (suc n) f = joined_below n f ++ f n

@@ -3,7 +3,7 @@
 //!
 //! [`cells`] says how large the program is, [`build`] makes it row by row, and [`plan_of`] frames the rates
 //! of one of its points over their least common denominator. Each contract pins its answer exactly, but
-//! for want of memory. The definition of the program is of rows; a law says in the subject's words what
+//! for lack of memory. The definition of the program is of rows; a law says in the subject's words what
 //! its points are: each top is at least both rates of its step, the tops on a link are within its
 //! capacity, and each flow's total lies between its old and its new one (SWAN's test as a linear program).
 //! That the plan of a point is valid is not promised here: the checker is asked.

@@ -10,7 +10,7 @@ use std::alloc::Global;
 use wan_model::Problem;
 
 /// What the rows ask, in their order: the tops by step and tunnel, the rate before the step ahead of the
-/// rate behind it; the links by step; then the totals by stage between and flow, the lower bound ahead
+/// rate after it; the links by step; then the totals by stage between and flow, the lower bound ahead
 /// of the upper.
 pub(crate) fn limits(alloc: Global, problem: &Problem, q: u32) -> Result<LimitList, Memory>
     requires least { 2 ≤ q }

@@ -26,9 +26,9 @@ pub fn journal(rt: HostRuntime) -> LoggedFile
     ensures disk { result.disk.faults ≡ 0 }
     ensures log { result.log.faults ≡ 0 }
 {
-    let file = FileDisk::new(rt, named(rt, "SWANROLL_JOURNAL"));
+    let file = FileDisk::new(rt, word_of_environment(rt, "SWANROLL_JOURNAL"));
     let disk = Mirror::new(rt.alloc(), file);
-    let path = named(rt, "SWANROLL_LOG");
+    let path = word_of_environment(rt, "SWANROLL_LOG");
     let asked = !path.is_empty();
     let log = FileLog::new(rt, path);
     Logged::new(rt, rt.alloc(), disk, log, asked)
@@ -38,14 +38,14 @@ pub fn journal(rt: HostRuntime) -> LoggedFile
 pub fn sight(rt: HostRuntime) -> WatchedFile<HostRuntime>
     ensures { result.faults ≡ 0 }
 {
-    WatchedFile::new(rt, named(rt, "SWANROLL_JOURNAL"))
+    WatchedFile::new(rt, word_of_environment(rt, "SWANROLL_JOURNAL"))
 }
 
 /// The agent's file, `SWANROLL_STATE`, as a disk that reads it when it is opened; None where it isn't named.
 pub fn state(rt: HostRuntime) -> Option<Mirror<FileDisk<HostRuntime>>>
     ensures { IfSome result (λ disk. disk.faults ≡ 0) }
 {
-    let path = named(rt, "SWANROLL_STATE");
+    let path = word_of_environment(rt, "SWANROLL_STATE");
     if path.is_empty() {
         return None;
     }
@@ -57,9 +57,9 @@ pub fn state(rt: HostRuntime) -> Option<Mirror<FileDisk<HostRuntime>>>
 pub fn fleet(rt: HostRuntime) -> TcpFleet<HostRuntime>
     ensures { result.faults ≡ 0 }
 {
-    let path = named(rt, "SWANROLL_FLEET");
-    let listen = named(rt, "SWANROLL_LISTEN");
-    let limit = time_limit(named(rt, "SWANROLL_TIMEOUT").as_str());
+    let path = word_of_environment(rt, "SWANROLL_FLEET");
+    let listen = word_of_environment(rt, "SWANROLL_LISTEN");
+    let limit = time_limit(word_of_environment(rt, "SWANROLL_TIMEOUT").as_str());
     TcpFleet::new(rt.alloc(), rt, path, listen, limit)
 }
 
@@ -68,11 +68,11 @@ pub fn fleet(rt: HostRuntime) -> TcpFleet<HostRuntime>
 pub fn ceiling(rt: HostRuntime) -> Option<u32>
     ensures { IsSaid result }
 {
-    ceiling_in(named(rt, "SWANROLL_CEILING").as_str())
+    ceiling_in(word_of_environment(rt, "SWANROLL_CEILING").as_str())
 }
 
 /// What stands under a name in the environment; nothing where it isn't there, or isn't text.
-fn named(rt: HostRuntime, name: &str) -> String {
+fn word_of_environment(rt: HostRuntime, name: &str) -> String {
     env::var(&rt, name).unwrap_or(String::new(rt.alloc()))
 }
 

@@ -74,11 +74,11 @@ fn run(
 fn ceiling(rt: HostRuntime) -> Option<u32>
     ensures { IsSaid result }
 {
-    ceiling_in(named(rt, "SWANROLL_CEILING").as_str())
+    ceiling_in(word_of_environment(rt, "SWANROLL_CEILING").as_str())
 }
 
 /// What stands under a name in the environment; nothing where it isn't there, or isn't text.
-fn named(rt: HostRuntime, name: &str) -> String {
+fn word_of_environment(rt: HostRuntime, name: &str) -> String {
     env::var(&rt, name).unwrap_or(String::new(rt.alloc()))
 }
 

@@ -15,39 +15,39 @@ use Rattle.intent_journal.specs.Recovered.{IsCause}
 use Rattle.intent_journal.specs.Verdicts.{NoJournal, NoStart, NotLegal, OfAnother, Verdict, verdict}
 use Rattle.intent_journal.specs.declared.fault.JournalFault.{JournalFault}
 use Rattle.intent_journal.specs.declared.fault.JournalFault.TheVariants as fault
-use Rattle.shared_history.specs.declared.note.Cause.{Cause}
-use Rattle.shared_history.specs.declared.note.Cause.TheVariants as cause
-use Rattle.shared_history.specs.declared.reply.Halt.{Halt}
+use Rattle.shared_book.specs.declared.note.Cause.{Cause}
+use Rattle.shared_book.specs.declared.note.Cause.TheVariants as cause
+use Rattle.shared_book.specs.declared.call_reply.Halt.{Halt}
 use Rattle.shared_book.specs.Homes.{homes_of}
 use Rattle.shared_book.specs.Opened.{opening_of}
-use Rattle.port_session.specs.Sessions.{Talk, first_talk}
-use Rattle.worker_ports.specs.Views.{view}
-use Rattle.worker_ports.specs.declared.ports.Berth.{Berth}
-use Rattle.rollout_ports.specs.Berths.{switches_of}
-use Rattle.rollout_ports.specs.Hands.{first_talks}
-use Rattle.rollout_ports.specs.Homes.{working_homes}
-use Rattle.rollout_ports.specs.Opening.{AreGiven, IsGiven}
+use Rattle.port_session.specs.Sessions.{SessionView, first_session}
+use Rattle.switch_ports.specs.Views.{view}
+use Rattle.switch_ports.specs.declared.ports.Berth.{Berth}
+use Rattle.switch_ports.specs.Berths.{switches_of}
+use Rattle.switch_ports.specs.Hands.{first_sessions}
+use Rattle.switch_ports.specs.Homes.{working_homes}
+use Rattle.switch_ports.specs.Opening.{AreGiven, IsGiven}
 use Rattle.rollout_report.specs.Journals.{digest_for}
-use Rattle.rollout_run.specs.Ran.{EndsRun, Ran}
-use Rattle.rollout_run.specs.declared.end.RunEnd.{RunEnd}
-use Rattle.rollout_run.specs.declared.end.RunEnd.TheVariants as run
-use Rattle.rollout_run.specs.declared.running.Limits.{Limits}
+use Rattle.controller_run.specs.Ran.{EndsRun, Ran}
+use Rattle.controller_run.specs.declared.end.RunEnd.{RunEnd}
+use Rattle.controller_run.specs.declared.end.RunEnd.TheVariants as run
+use Rattle.controller_run.specs.declared.running.Limits.{Limits}
 use Rattle.intent_journal.specs.Openings.{IsLeft, found_by}
-use Rattle.rollout_service.specs.Outcomes.{HasRolled, IfRolled, OnUnopened, answer_for}
-use Rattle.rollout_service.specs.declared.answer.RunAnswer.{RunAnswer}
-use Rattle.rollout_service.specs.declared.answer.RunAnswer.TheVariants as outcome
+use Rattle.controller_run.specs.RolloutEnds.{HasRolled, IfRolled, OnUnopened, answer_for}
+use Rattle.controller_run.specs.declared.rollout_end.RolloutEnd.{RolloutEnd}
+use Rattle.controller_run.specs.declared.rollout_end.RolloutEnd.TheVariants as outcome
 use Rattle.completion_laws.specs.Answering.{IsReady}
 use Rattle.completion_laws.specs.Faults.{IsExcused, IsWithoutFault}
 use Rattle.completion_laws.specs.Finishing.{FinishesOrIsExcused, FinishesOrWants, IsSure, IsWant}
 use Rattle.completion_laws.proofs.Excused.{ran-excused}
 use Rattle.completion_laws.proofs.Finished.{wants}
-use Rattle.text_commands.specs.Endings.{ending_of_journal, status_of}
+use Rattle.text_commands.specs.CommandEnds.{ending_of_journal, status_of}
 use Rattle.swanroll_top.specs.Ready.{CountsNoFault, GoesOnFrom, IsReadyFor, WaitsReady}
 use Rattle.text_commands.specs.Answers.{rollout_to}
 use Rattle.swanroll_top.specs.Rollouts.{FleetSeen, IsUnbegun, OpensAndRolls, RefusesAs, Rolls, RollsAs, ending_of_stop, line_or_ending}
 use Rattle.text_commands.specs.Runs.{EndsWith, IsInput}
-use Rattle.text_commands.specs.declared.ending.Ending.{Ending}
-use Rattle.text_commands.specs.declared.ending.Ending.TheVariants.{Done, Usage, AboveLimit, Input, NotValid, NoPlan, Unshown, ReadFault, WriteFault, DiskFault, GuestFault, Refused, NotFinished, OutOfMemory}
+use Rattle.text_commands.specs.declared.command_end.CommandEnd.{CommandEnd}
+use Rattle.text_commands.specs.declared.command_end.CommandEnd.TheVariants.{Done, Usage, AboveLimit, Input, NotValid, NoPlan, Unshown, ReadFault, WriteFault, DiskFault, GuestFault, Refused, NotFinished, OutOfMemory}
 use Rattle.text_commands.proofs.Inputs.{told-within}
 use Rattle.swanroll_top.proofs.Reporting.{rolled-within}
 use Rattle.swanroll_top.proofs.Outcomes.{rose-later}
@@ -64,24 +64,24 @@ some-same x y e = cc e
 
 module _ {P : Type 0} (tell : P → PortTrace) (r : Rollout) (migration : ℕ) (found : History) (ports : ℕ → Option P) where
   pub opened-ready : (bs : List (Berth P)) → AllByRecursion (IsGiven tell (Some ports)) bs → AllByRecursion (WaitsReady tell r migration found ports) (switches_of bs)
-      → All (λ t. IsReady r migration (homes_of r.problem) found (view tell t)) (first_talks bs)
+      → All (λ t. IsReady r migration (homes_of r.problem) found (view tell t)) (first_sessions bs)
   opened-ready [] given each = All-nil (λ t. IsReady r migration (homes_of r.problem) found (view tell t))
   opened-ready (b ∷ bs) given each =
       let same : each.0.port ≡ b.port = some-same each.0.port b.port (sym each.0.waits ∙ given.0) in
-      All-cons (λ t. IsReady r migration (homes_of r.problem) found (view tell t)) (first_talk b.switch b.port) (first_talks bs)
-      (subst (λ (p : P). IsReady r migration (homes_of r.problem) found (view tell (first_talk b.switch p))) same each.0.ready)
+      All-cons (λ t. IsReady r migration (homes_of r.problem) found (view tell t)) (first_session b.switch b.port) (first_sessions bs)
+      (subst (λ (p : P). IsReady r migration (homes_of r.problem) found (view tell (first_session b.switch p))) same each.0.ready)
       (opened-ready bs given.1 each.1)
 
-  pub opened-waited : (bs : List (Berth P)) → AllByRecursion (IsGiven tell (Some ports)) bs → All (λ (t : Talk P). ports t.switch ≡ Some t.port) (first_talks bs)
-  opened-waited [] given = All-nil (λ (t : Talk P). ports t.switch ≡ Some t.port)
-  opened-waited (b ∷ bs) given = All-cons (λ (t : Talk P). ports t.switch ≡ Some t.port) (first_talk b.switch b.port) (first_talks bs) given.0 (opened-waited bs given.1)
+  pub opened-waited : (bs : List (Berth P)) → AllByRecursion (IsGiven tell (Some ports)) bs → All (λ (t : SessionView P). ports t.switch ≡ Some t.port) (first_sessions bs)
+  opened-waited [] given = All-nil (λ (t : SessionView P). ports t.switch ≡ Some t.port)
+  opened-waited (b ∷ bs) given = All-cons (λ (t : SessionView P). ports t.switch ≡ Some t.port) (first_session b.switch b.port) (first_sessions bs) given.0 (opened-waited bs given.1)
 
 -- ---- a rollout that was run
 
 module _ {D P : Type 0} (trace : D → DiskTrace) (tell : P → PortTrace)
     (limits : Limits) (policy : OpView → ℕ) (source source_now : SourceTrace) (disk disk_now : D) (before now : FleetSeen P) (out out_now : Option (List ℕ)) (r : Rollout) (found : History)
     (goes : GoesOnFrom limits.migration source source_now (trace disk).bytes r found) (ready : IsReadyFor tell limits policy before.ports.waiting r found) where
-  module _ (network : IsNetwork r.problem) (valid : is_valid_plan r.problem r.plan ≡ true) (small : limits.migration < 2 ^ 32) (a : RunAnswer)
+  module _ (network : IsNetwork r.problem) (valid : is_valid_plan r.problem r.plan ≡ true) (small : limits.migration < 2 ^ 32) (a : RolloutEnd)
       (has : HasRolled trace tell r (digest_for r limits.migration) policy limits.rounds disk before.ports now.ports disk_now a) where
     abbrev Begun : RunEnd → Type 0
     Begun end = Ran trace tell (opening_of has.book policy) (trace has.book.disk).moment (trace has.book.disk).faults limits.migration limits.rounds
@@ -98,7 +98,7 @@ module _ {D P : Type 0} (trace : D → DiskTrace) (tell : P → PortTrace)
         subst (λ (x : Rollout). IsReadyFor tell limits policy before.ports.waiting x has.book.history) (sym has.opened.rollout)
         (subst (λ (h : History). IsReadyFor tell limits policy before.ports.waiting r h) found-is ready)
 
-    sure : (end : RunEnd) (ran : Begun end) → IsSure tell (opening_of has.book policy) limits.migration (homes_of has.book.rollout.problem) limits.rounds (first_talks ran.berths)
+    sure : (end : RunEnd) (ran : Begun end) → IsSure tell (opening_of has.book policy) limits.migration (homes_of has.book.rollout.problem) limits.rounds (first_sessions ran.berths)
     sure end ran = record {
       network = subst (λ (x : Rollout). IsNetwork x.problem) (sym has.opened.rollout) network;
       plan = subst (λ (x : Rollout). is_valid_plan x.problem x.plan ≡ true) (sym has.opened.rollout) valid;
@@ -118,7 +118,7 @@ module _ {D P : Type 0} (trace : D → DiskTrace) (tell : P → PortTrace)
     abbrev Ended : RunEnd → Type 0
     Ended end = EndsRun tell (working_homes has.book.rollout.problem has.book.rollout.plan) has.book has.run.closed before.ports now.ports (Begun end) end
 
-    abbrev answer_of : RunEnd → RunAnswer
+    abbrev answer_of : RunEnd → RolloutEnd
     answer_of end = answer_for has.book.rollout (length has.book.history.entries) has.run.closed.history end
 
     -- nothing is held
@@ -137,21 +137,21 @@ module _ {D P : Type 0} (trace : D → DiskTrace) (tell : P → PortTrace)
     stop-excused other halt (run.NoPort switch) is ended = absurd cc
     stop-excused other halt run.Memory is ended = absurd cc
 
-    -- where no count has risen, only want of memory did
+    -- where no count has risen, only lack of memory did
     module _ (counts : CountsNoFault tell (trace disk).faults (trace disk_now).faults before now) where
-      unfailing : (end : RunEnd) (ran : Begun end) → IsWithoutFault tell (Rose (trace has.book.disk).faults (trace has.run.closed.disk).faults) (first_talks ran.berths) now.ports.kept
+      unfailing : (end : RunEnd) (ran : Begun end) → IsWithoutFault tell (Rose (trace has.book.disk).faults (trace has.run.closed.disk).faults) (first_sessions ran.berths) now.ports.kept
       unfailing end ran = record {
         disk = λ rose. counts.disk (rose-later (trace disk).faults (trace has.book.disk).faults (trace disk_now).faults has.opened.on.count (subst (λ (d : D). Rose (trace has.book.disk).faults (trace d).faults) (sym has.run.back) rose));
         ports = λ t at back kept. of-some (λ (waiting : ℕ → Option P). (switch : ℕ) (first back : P) → waiting switch ≡ Some first → now.ports.kept switch ≡ Some back → Rose (tell first).faults (tell back).faults → ⊥)
             ready.ports before.ports.waiting ready.told counts.ports t.switch t.port back
-            (All-contains (λ (u : Talk P). ready.ports u.switch ≡ Some u.port) (first_talks ran.berths) t
+            (All-contains (λ (u : SessionView P). ready.ports u.switch ≡ Some u.port) (first_sessions ran.berths) t
             (opened-waited tell r limits.migration found ready.ports ran.berths (subst (λ (w : Option (ℕ → Option P)). AreGiven tell w ran.berths) ready.told ran.given)) at)
             kept;
       }
 
       wanting : (end : RunEnd) → Begun end → FinishesOrWants end
       wanting end ran =
-          wants tell (opening_of has.book policy) limits.migration limits.rounds (Rose (trace has.book.disk).faults (trace has.run.closed.disk).faults) (first_talks ran.berths) now.ports.kept ran.log (unfailing end ran) end (excused end ran) ran.reason
+          wants tell (opening_of has.book policy) limits.migration limits.rounds (Rose (trace has.book.disk).faults (trace has.run.closed.disk).faults) (first_sessions ran.berths) now.ports.kept ran.log (unfailing end ran) end (excused end ran) ran.reason
 
       stop-wants : (other : Rollout) (halt : Halt) (end : RunEnd) → outcome.Stopped other halt ≡ answer_of end → Ended end → IsWant halt.cause
       stop-wants other halt run.Finished is ended = absurd cc
@@ -170,7 +170,7 @@ module _ {D P : Type 0} (trace : D → DiskTrace) (tell : P → PortTrace)
   no-verdict : (v : Verdict) → verdict r (digest_for r limits.migration) goes.image ≡ v → found_by r v ≡ None → ⊥
   no-verdict v is none = let both : None ≡ Some found = sym none ∙ (sym (ap (found_by r) is) ∙ goes.begins) in cc
 
-  unopened-ends : (why : JournalFault) (e : Ending) → IsCause why (digest_for r limits.migration) (verdict r (digest_for r limits.migration) goes.image) → e ≡ ending_of_journal why
+  unopened-ends : (why : JournalFault) (e : CommandEnd) → IsCause why (digest_for r limits.migration) (verdict r (digest_for r limits.migration) goes.image) → e ≡ ending_of_journal why
       → (why ≡ fault.Disk → status_of e ≡ 8 → ⊥) → (status_of e ≡ 12 → ⊥) → ⊥
   unopened-ends (fault.NotJournal first) e told is device memory = no-verdict (NoJournal first) told refl
   unopened-ends (fault.OtherPlan kept wanted) e told is device memory = no-verdict (OfAnother kept.bytes kept.migration) told.0 refl
@@ -181,15 +181,15 @@ module _ {D P : Type 0} (trace : D → DiskTrace) (tell : P → PortTrace)
 
   -- ---- how it ends
 
-  abbrev HasRolledTo : RunAnswer → Type 0
+  abbrev HasRolledTo : RolloutEnd → Type 0
   HasRolledTo a = HasRolled trace tell r (digest_for r limits.migration) policy limits.rounds disk before.ports now.ports disk_now a
 
   -- by what is known of the cause of a stop
   module _ (Stops : Cause → Type 0)
-      (stops : IsNetwork r.problem → is_valid_plan r.problem r.plan ≡ true → limits.migration < 2 ^ 32 → (a : RunAnswer) → HasRolledTo a → (other : Rollout) (halt : Halt) → outcome.Stopped other halt ≡ a → Stops halt.cause)
-      (e : Ending) (read : status_of e ≡ 6 → ⊥) (sink : status_of e ≡ 7 → ⊥) (memory : status_of e ≡ 12 → ⊥) (device : Rose (trace disk).faults (trace disk_now).faults → status_of e ≡ 8 → ⊥) (fleet : Rose before.faults now.faults → status_of e ≡ 9 → ⊥)
+      (stops : IsNetwork r.problem → is_valid_plan r.problem r.plan ≡ true → limits.migration < 2 ^ 32 → (a : RolloutEnd) → HasRolledTo a → (other : Rollout) (halt : Halt) → outcome.Stopped other halt ≡ a → Stops halt.cause)
+      (e : CommandEnd) (read : status_of e ≡ 6 → ⊥) (sink : status_of e ≡ 7 → ⊥) (memory : status_of e ≡ 12 → ⊥) (device : Rose (trace disk).faults (trace disk_now).faults → status_of e ≡ 8 → ⊥) (fleet : Rose before.faults now.faults → status_of e ≡ 9 → ⊥)
       (stopped : (other : Rollout) (why : Cause) → e ≡ ending_of_stop other why → Stops why → status_of e ≡ 0) where
-    answered-well : IsNetwork r.problem → is_valid_plan r.problem r.plan ≡ true → limits.migration < 2 ^ 32 → (a : RunAnswer) → IfRolled a (HasRolledTo a)
+    answered-well : IsNetwork r.problem → is_valid_plan r.problem r.plan ≡ true → limits.migration < 2 ^ 32 → (a : RolloutEnd) → IfRolled a (HasRolledTo a)
         → OnUnopened a (λ why. IsLeft trace r (digest_for r limits.migration) disk why disk_now × (now ≡ before))
         → ((other : Rollout) (switch : ℕ) → a ≡ outcome.NoPort other switch → Rose before.faults now.faults) → EndsWith (line_or_ending a) e out out_now → status_of e ≡ 0
     answered-well network valid small (outcome.Finished operations count) has unopened missing (inl done) = ap status_of done.0
@@ -222,13 +222,13 @@ module _ {D P : Type 0} (trace : D → DiskTrace) (tell : P → PortTrace)
   later-rose : (opened : D) → Opens (trace disk) (trace opened) → Rose (trace opened).faults (trace disk_now).faults → Rose (trace disk).faults (trace disk_now).faults
   later-rose opened opens rose = rose-later (trace disk).faults (trace opened).faults (trace disk_now).faults opens.count rose
 
-  refused-never : (e : Ending) → RefusesAs (IsInput source source_now) e → ⊥
+  refused-never : (e : CommandEnd) → RefusesAs (IsInput source source_now) e → ⊥
   refused-never e refuses =
       let same : goes.input ≡ refuses.input = told-within source source_now refuses.input goes.input refuses.given (rolled-within goes.input r goes.is) goes.told_input in
       let both : Ok r ≡ Err e = sym goes.is ∙ (ap rollout_to same ∙ refuses.refused) in
       cc
 
-  unbegun-ends : (e : Ending) → IsUnbegun (IsInput source source_now) e → (status_of e ≡ 6 → ⊥) → (status_of e ≡ 12 → ⊥) → ⊥
+  unbegun-ends : (e : CommandEnd) → IsUnbegun (IsInput source source_now) e → (status_of e ≡ 6 → ⊥) → (status_of e ≡ 12 → ⊥) → ⊥
   unbegun-ends Done why read memory = refused-never Done why
   unbegun-ends Usage why read memory = refused-never Usage why
   unbegun-ends AboveLimit why read memory = refused-never AboveLimit why
@@ -244,16 +244,16 @@ module _ {D P : Type 0} (trace : D → DiskTrace) (tell : P → PortTrace)
   unbegun-ends (NotFinished u) why read memory = refused-never (NotFinished u) why
   unbegun-ends OutOfMemory why read memory = memory refl
 
-  abbrev RollsTo : Ending → Type 0
+  abbrev RollsTo : CommandEnd → Type 0
   RollsTo e = Rolls trace tell (IsInput source source_now) limits policy disk disk_now before now e out out_now
 
-  abbrev HasRolledFrom : D → RunAnswer → Type 0
+  abbrev HasRolledFrom : D → RolloutEnd → Type 0
   HasRolledFrom opened a = HasRolled trace tell r (digest_for r limits.migration) policy limits.rounds opened before.ports now.ports disk_now a
 
   -- by what is known of the cause of a stop
   module _ (Stops : Cause → Type 0)
-      (stops : (opened : D) → Opens (trace disk) (trace opened) → IsNetwork r.problem → is_valid_plan r.problem r.plan ≡ true → limits.migration < 2 ^ 32 → (a : RunAnswer) → HasRolledFrom opened a → (other : Rollout) (halt : Halt) → outcome.Stopped other halt ≡ a → Stops halt.cause)
-      (e : Ending) (read : status_of e ≡ 6 → ⊥) (sink : status_of e ≡ 7 → ⊥) (memory : status_of e ≡ 12 → ⊥) (device : Rose (trace disk).faults (trace disk_now).faults → status_of e ≡ 8 → ⊥) (fleet : Rose before.faults now.faults → status_of e ≡ 9 → ⊥)
+      (stops : (opened : D) → Opens (trace disk) (trace opened) → IsNetwork r.problem → is_valid_plan r.problem r.plan ≡ true → limits.migration < 2 ^ 32 → (a : RolloutEnd) → HasRolledFrom opened a → (other : Rollout) (halt : Halt) → outcome.Stopped other halt ≡ a → Stops halt.cause)
+      (e : CommandEnd) (read : status_of e ≡ 6 → ⊥) (sink : status_of e ≡ 7 → ⊥) (memory : status_of e ≡ 12 → ⊥) (device : Rose (trace disk).faults (trace disk_now).faults → status_of e ≡ 8 → ⊥) (fleet : Rose before.faults now.faults → status_of e ≡ 9 → ⊥)
       (stopped : (other : Rollout) (why : Cause) → e ≡ ending_of_stop other why → Stops why → status_of e ≡ 0) where
     opened-well : OpensAndRolls trace tell r limits policy disk disk_now before now e out out_now → status_of e ≡ 0
     opened-well (inl fails) = absurd (device fails.failed (ap status_of fails.is))
@@ -273,13 +273,13 @@ module _ {D P : Type 0} (trace : D → DiskTrace) (tell : P → PortTrace)
 
   -- by the status of an ending that is told by itself
   by-ending : (status : ℕ) → RollsAs trace tell (IsInput source source_now) limits policy disk disk_now before now status out out_now → status ≢ 12
-      → ((e : Ending) → RollsTo e → ((n : ℕ) → status ≢ n → status_of e ≡ n → ⊥) → status_of e ≡ 0) → status ≡ 0
+      → ((e : CommandEnd) → RollsTo e → ((n : ℕ) → status ≢ n → status_of e ≡ n → ⊥) → status_of e ≡ 0) → status ≡ 0
   by-ending status rolls memory well =
       let told : (n : ℕ) → status ≢ n → status_of rolls.told ≡ n → ⊥ = λ n other is. other (rolls.is_status ∙ is) in
       let same : rolls.told ≡ rolls.ending = sym (told-same rolls.ending rolls.told rolls.told_as (λ m. told 12 memory (ap status_of m))) in
       rolls.is_status ∙ (ap status_of same ∙ well rolls.ending rolls.rolls (λ n other is. told n other (ap status_of same ∙ is)))
 
-  excused-well : (e : Ending) → (status_of e ≡ 8 → ⊥) → (status_of e ≡ 9 → ⊥) → (status_of e ≡ 12 → ⊥) → (other : Rollout) (why : Cause) → e ≡ ending_of_stop other why → IsExcused why → status_of e ≡ 0
+  excused-well : (e : CommandEnd) → (status_of e ≡ 8 → ⊥) → (status_of e ≡ 9 → ⊥) → (status_of e ≡ 12 → ⊥) → (other : Rollout) (why : Cause) → e ≡ ending_of_stop other why → IsExcused why → status_of e ≡ 0
   excused-well e device fleet memory other (cause.Spent rounds item number) is excused = absurd excused
   excused-well e device fleet memory other (cause.Port switch) is excused = absurd (fleet (ap status_of is))
   excused-well e device fleet memory other (cause.Above item held begun) is excused = absurd excused
@@ -288,7 +288,7 @@ module _ {D P : Type 0} (trace : D → DiskTrace) (tell : P → PortTrace)
   excused-well e device fleet memory other cause.Disk is excused = absurd (device (ap status_of is))
   excused-well e device fleet memory other cause.Memory is excused = absurd (memory (ap status_of is))
 
-  wanting-well : (e : Ending) → (status_of e ≡ 12 → ⊥) → (other : Rollout) (why : Cause) → e ≡ ending_of_stop other why → IsWant why → status_of e ≡ 0
+  wanting-well : (e : CommandEnd) → (status_of e ≡ 12 → ⊥) → (other : Rollout) (why : Cause) → e ≡ ending_of_stop other why → IsWant why → status_of e ≡ 0
   wanting-well e memory other (cause.Spent rounds item number) is want = absurd want
   wanting-well e memory other (cause.Port switch) is want = absurd want
   wanting-well e memory other (cause.Above item held begun) is want = absurd want

@@ -18,20 +18,20 @@ use Rattle.intent_journal.specs.Verdicts.{NoJournal, NoStart, NotLegal, OfAnothe
 use Rattle.intent_journal.specs.Openings.{found_by}
 use Rattle.intent_journal.specs.declared.fault.JournalFault.{JournalFault}
 use Rattle.intent_journal.specs.declared.fault.JournalFault.TheVariants as fault
-use Rattle.shared_history.specs.declared.note.Cause.{Cause}
-use Rattle.shared_history.specs.declared.note.Cause.TheVariants as cause
-use Rattle.shared_history.specs.declared.reply.Halt.{Halt}
+use Rattle.shared_book.specs.declared.note.Cause.{Cause}
+use Rattle.shared_book.specs.declared.note.Cause.TheVariants as cause
+use Rattle.shared_book.specs.declared.call_reply.Halt.{Halt}
 use Rattle.shared_book.specs.Homes.{homes_of}
 use Rattle.shared_book.specs.Images.{HasImages}
 use Rattle.shared_book.specs.Opened.{opening_of}
-use Rattle.port_session.specs.Sessions.{Talk}
-use Rattle.rollout_ports.specs.Hands.{first_talks}
-use Rattle.rollout_ports.specs.Homes.{working_homes}
-use Rattle.rollout_ports.specs.Opening.{AreGiven}
+use Rattle.port_session.specs.Sessions.{SessionView}
+use Rattle.switch_ports.specs.Hands.{first_sessions}
+use Rattle.switch_ports.specs.Homes.{working_homes}
+use Rattle.switch_ports.specs.Opening.{AreGiven}
 use Rattle.rollout_report.specs.Journals.{digest_for}
-use Rattle.rollout_run.specs.declared.end.RunEnd.{RunEnd}
-use Rattle.rollout_run.specs.declared.end.RunEnd.TheVariants as run
-use Rattle.rollout_run.specs.declared.running.Limits.{Limits}
+use Rattle.controller_run.specs.declared.end.RunEnd.{RunEnd}
+use Rattle.controller_run.specs.declared.end.RunEnd.TheVariants as run
+use Rattle.controller_run.specs.declared.running.Limits.{Limits}
 use Rattle.completion_laws.specs.Faults.{IsExcused, IsWithoutFault}
 use Rattle.completion_laws.specs.Finishing.{EndsOrIsExcused, IsProvided, IsWant}
 use Rattle.completion_laws.proofs.Excused.{ran-ends}
@@ -42,14 +42,14 @@ use Rattle.rollback_service.specs.Placings.{IsNotPlaced, IsSeen}
 use Rattle.rollback_service.specs.declared.answer.LevelAnswer.{LevelAnswer}
 use Rattle.rollback_service.specs.declared.answer.LevelAnswer.TheVariants as ended
 use Rattle.rollback_service.specs.declared.origin.BackFrom.{BackFrom}
-use Rattle.text_commands.specs.Endings.{ending_of_journal, status_of}
+use Rattle.text_commands.specs.CommandEnds.{ending_of_journal, status_of}
 use Rattle.swanroll_top.specs.Ready.{CountsNoFault, GoesOnFrom, IsServedFor, WaitsReady}
 use Rattle.text_commands.specs.Answers.{rollout_to}
 use Rattle.swanroll_top.specs.Rollbacks.{Closes, FindsNoJournal, Levels, OpensAndRollsBack, Reverts, RevertsAs, RollsBack, TakesBack, back_text}
 use Rattle.swanroll_top.specs.Rollouts.{FleetSeen, IsUnbegun, RefusesAs, ending_of_stop}
 use Rattle.text_commands.specs.Runs.{IsInput}
-use Rattle.text_commands.specs.declared.ending.Ending.{Ending}
-use Rattle.text_commands.specs.declared.ending.Ending.TheVariants.{Done, Usage, AboveLimit, Input, NotValid, NoPlan, Unshown, ReadFault, WriteFault, DiskFault, GuestFault, Refused, NotFinished, OutOfMemory}
+use Rattle.text_commands.specs.declared.command_end.CommandEnd.{CommandEnd}
+use Rattle.text_commands.specs.declared.command_end.CommandEnd.TheVariants.{Done, Usage, AboveLimit, Input, NotValid, NoPlan, Unshown, ReadFault, WriteFault, DiskFault, GuestFault, Refused, NotFinished, OutOfMemory}
 use Rattle.swanroll_top.proofs.Certain.{opened-ready, opened-waited, some-same}
 use Rattle.text_commands.proofs.Inputs.{told-within}
 use Rattle.swanroll_top.proofs.Levelling.{here}
@@ -67,7 +67,7 @@ is-some (Some a) h = (a, refl)
 -- ---- a stop
 
 -- what may stop a run over ready ports has a status of its own
-pub excused-never : (e : Ending) (other : Rollout) (why : Cause) → e ≡ ending_of_stop other why → IsExcused why → (status_of e ≡ 8 → ⊥) → (status_of e ≡ 9 → ⊥) → (status_of e ≡ 12 → ⊥) → ⊥
+pub excused-never : (e : CommandEnd) (other : Rollout) (why : Cause) → e ≡ ending_of_stop other why → IsExcused why → (status_of e ≡ 8 → ⊥) → (status_of e ≡ 9 → ⊥) → (status_of e ≡ 12 → ⊥) → ⊥
 excused-never e other (cause.Spent rounds item number) is excused device fleet memory = excused
 excused-never e other (cause.Port switch) is excused device fleet memory = fleet (ap status_of is)
 excused-never e other (cause.Above item held begun) is excused device fleet memory = excused
@@ -76,7 +76,7 @@ excused-never e other (cause.NoAnswer switch byte) is excused device fleet memor
 excused-never e other cause.Disk is excused device fleet memory = device (ap status_of is)
 excused-never e other cause.Memory is excused device fleet memory = memory (ap status_of is)
 
-pub wanting-never : (e : Ending) (other : Rollout) (why : Cause) → e ≡ ending_of_stop other why → IsWant why → (status_of e ≡ 12 → ⊥) → ⊥
+pub wanting-never : (e : CommandEnd) (other : Rollout) (why : Cause) → e ≡ ending_of_stop other why → IsWant why → (status_of e ≡ 12 → ⊥) → ⊥
 wanting-never e other (cause.Spent rounds item number) is want memory = want
 wanting-never e other (cause.Port switch) is want memory = want
 wanting-never e other (cause.Above item held begun) is want memory = want
@@ -94,7 +94,7 @@ module _ {D P : Type 0} (trace : D → DiskTrace) (tell : P → PortTrace)
   no-verdict : (v : Verdict) → verdict r (digest_for r limits.migration) goes.image ≡ v → found_by r v ≡ None → ⊥
   no-verdict v is none = let both : None ≡ Some found = sym none ∙ (sym (ap (found_by r) is) ∙ goes.begins) in cc
 
-  pub unopened-never : (why : JournalFault) (e : Ending) → IsCause why (digest_for r limits.migration) (verdict r (digest_for r limits.migration) goes.image) → e ≡ ending_of_journal why
+  pub unopened-never : (why : JournalFault) (e : CommandEnd) → IsCause why (digest_for r limits.migration) (verdict r (digest_for r limits.migration) goes.image) → e ≡ ending_of_journal why
       → (why ≡ fault.Disk → status_of e ≡ 8 → ⊥) → (status_of e ≡ 12 → ⊥) → ⊥
   unopened-never (fault.NotJournal first) e told is device memory = no-verdict (NoJournal first) told refl
   unopened-never (fault.OtherPlan kept wanted) e told is device memory = no-verdict (OfAnother kept.bytes kept.migration) told.0 refl
@@ -114,13 +114,13 @@ module _ {D P : Type 0} (trace : D → DiskTrace) (tell : P → PortTrace)
     begins = goes.begins;
   }
 
-  refused-never : (e : Ending) → RefusesAs (IsInput source source_now) e → ⊥
+  refused-never : (e : CommandEnd) → RefusesAs (IsInput source source_now) e → ⊥
   refused-never e refuses =
       let same : goes.input ≡ refuses.input = told-within source source_now refuses.input goes.input refuses.given (rolled-within goes.input r goes.is) goes.told_input in
       let both : Ok r ≡ Err e = sym goes.is ∙ (ap rollout_to same ∙ refuses.refused) in
       cc
 
-  pub unbegun-never : (e : Ending) → IsUnbegun (IsInput source source_now) e → (status_of e ≡ 6 → ⊥) → (status_of e ≡ 12 → ⊥) → ⊥
+  pub unbegun-never : (e : CommandEnd) → IsUnbegun (IsInput source source_now) e → (status_of e ≡ 6 → ⊥) → (status_of e ≡ 12 → ⊥) → ⊥
   unbegun-never Done why read memory = refused-never Done why
   unbegun-never Usage why read memory = refused-never Usage why
   unbegun-never AboveLimit why read memory = refused-never AboveLimit why
@@ -160,7 +160,7 @@ module _ {D P : Type 0} (trace : D → DiskTrace) (tell : P → PortTrace)
         subst (λ (x : Rollout). IsServedFor tell limits before.ports.waiting x has.rolled.book.history) (sym has.rolled.opened.rollout)
         (subst (λ (h : History). IsServedFor tell limits before.ports.waiting r h) found-is served)
 
-    provided : (end : RunEnd) (ran : RanTo end) → IsProvided tell (opening_of has.rolled.book has.policy) limits.migration (homes_of has.rolled.book.rollout.problem) limits.rounds (first_talks ran.berths)
+    provided : (end : RunEnd) (ran : RanTo end) → IsProvided tell (opening_of has.rolled.book has.policy) limits.migration (homes_of has.rolled.book.rollout.problem) limits.rounds (first_sessions ran.berths)
     provided end ran = record {
       network = subst (λ (x : Rollout). IsNetwork x.problem) (sym has.rolled.opened.rollout) network;
       plan = subst (λ (x : Rollout). is_valid_plan x.problem x.plan ≡ true) (sym has.rolled.opened.rollout) valid;
@@ -185,21 +185,21 @@ module _ {D P : Type 0} (trace : D → DiskTrace) (tell : P → PortTrace)
       stop-excused : IsExcused halt.cause
       stop-excused = ends-so (run.Stopped halt) stopped-ran
 
-      -- where no count has risen, only want of memory stops it
+      -- where no count has risen, only lack of memory stops it
       stop-wants : CountsNoFault tell (trace disk).faults (trace levelled).faults before now → IsWant halt.cause
       stop-wants counts =
           let ran = stopped-ran in
           let o = opening_of has.rolled.book has.policy in
-          let without : IsWithoutFault tell (Rose (trace has.rolled.book.disk).faults (trace has.rolled.run.closed.disk).faults) (first_talks ran.berths) now.ports.kept = record {
+          let without : IsWithoutFault tell (Rose (trace has.rolled.book.disk).faults (trace has.rolled.run.closed.disk).faults) (first_sessions ran.berths) now.ports.kept = record {
             disk = λ rose. counts.disk (rose-later (trace disk).faults (trace has.rolled.book.disk).faults (trace levelled).faults has.rolled.opened.on.count (subst (λ (d : D). Rose (trace has.rolled.book.disk).faults (trace d).faults) (sym has.rolled.run.back) rose));
             ports = λ t at back kept. some_at (λ (waiting : ℕ → Option P). (switch : ℕ) (first back : P) → waiting switch ≡ Some first → now.ports.kept switch ≡ Some back → Rose (tell first).faults (tell back).faults → ⊥)
                 before.ports.waiting served.ports served.told counts.ports t.switch t.port back
-                (All-contains (λ (u : Talk P). served.ports u.switch ≡ Some u.port) (first_talks ran.berths) t
+                (All-contains (λ (u : SessionView P). served.ports u.switch ≡ Some u.port) (first_sessions ran.berths) t
                 (opened-waited tell r limits.migration found served.ports ran.berths (subst (λ (w : Option (ℕ → Option P)). AreGiven tell w ran.berths) served.told ran.given)) at)
                 kept;
           } in
           only-want halt.cause stop-excused
-          (no-fault tell (Rose (trace has.rolled.book.disk).faults (trace has.rolled.run.closed.disk).faults) (first_talks ran.berths) now.ports.kept without o limits.migration (homes_of o.rollout.problem) limits.rounds ran.log halt.cause ran.reason)
+          (no-fault tell (Rose (trace has.rolled.book.disk).faults (trace has.rolled.run.closed.disk).faults) (first_sessions ran.berths) now.ports.kept without o limits.migration (homes_of o.rollout.problem) limits.rounds ran.log halt.cause ran.reason)
 
     -- what a levelling has left is a journal
     placing-never : (first : ℕ) (image : List ℕ) → (trace levelled).bytes ≡ Some image → IsSeen trace levelled → RanTo has.rolled.run.end → IsNeither first image → ⊥
@@ -212,11 +212,11 @@ module _ {D P : Type 0} (trace : D → DiskTrace) (tell : P → PortTrace)
 
   -- ---- how it ends
 
-  module _ (e : Ending) (sink : status_of e ≡ 7 → ⊥) (memory : status_of e ≡ 12 → ⊥) (device : Rose (trace disk).faults (trace disk_now).faults → status_of e ≡ 8 → ⊥) (fleet : Rose before.faults now.faults → status_of e ≡ 9 → ⊥)
+  module _ (e : CommandEnd) (sink : status_of e ≡ 7 → ⊥) (memory : status_of e ≡ 12 → ⊥) (device : Rose (trace disk).faults (trace disk_now).faults → status_of e ≡ 8 → ⊥) (fleet : Rose before.faults now.faults → status_of e ≡ 9 → ⊥)
       (stop : (network : IsNetwork r.problem) (valid : is_valid_plan r.problem r.plan ≡ true) (small : limits.migration + 1 < 2 ^ 32) (levelled : D) (answer : LevelAnswer) → HasLevelledTo levelled answer → disk_now ≡ levelled
       → (other : Rollout) (halt : Halt) → answer ≡ ended.Stopped other halt → e ≡ ending_of_stop other halt.cause → ⊥)
       (told : IsSome (trace disk_now).bytes) where
-    -- placing fails for the disk and for want of memory alone
+    -- placing fails for the disk and for lack of memory alone
     unplaced-never : (network : IsNetwork r.problem) (valid : is_valid_plan r.problem r.plan ≡ true) (small : limits.migration + 1 < 2 ^ 32) (levelled : D) (answer : LevelAnswer) (has : HasLevelledTo levelled answer)
         → is_run answer ≡ true → IsSeen trace levelled → (image : List ℕ) → (trace levelled).bytes ≡ Some image
         → (why : JournalFault) → IsNotPlaced trace why levelled disk_now → e ≡ ending_of_journal why → (e ≡ DiskFault → Rose (trace disk).faults (trace disk_now).faults) → ⊥
@@ -273,12 +273,12 @@ module _ {D P : Type 0} (trace : D → DiskTrace) (tell : P → PortTrace)
     (goes : GoesOnFrom limits.migration source source_now (trace disk).bytes r found) (served : IsServedFor tell limits before.ports.waiting r found) where
   -- over a disk that tells its bytes at the end, too
   module _ (told : IsSome (trace disk_now).bytes) where
-    abbrev StopsNever : Ending → D → Type 0
+    abbrev StopsNever : CommandEnd → D → Type 0
     StopsNever e opened = (network : IsNetwork r.problem) (valid : is_valid_plan r.problem r.plan ≡ true) (small : limits.migration + 1 < 2 ^ 32) (levelled : D) (answer : LevelAnswer)
         → HasLevelled trace tell origin r (digest_for r limits.migration) limits.rounds opened before.ports now.ports levelled answer → disk_now ≡ levelled
         → (other : Rollout) (halt : Halt) → answer ≡ ended.Stopped other halt → e ≡ ending_of_stop other halt.cause → ⊥
 
-    module _ (e : Ending) (read : status_of e ≡ 6 → ⊥) (sink : status_of e ≡ 7 → ⊥) (memory : status_of e ≡ 12 → ⊥) (device : Rose (trace disk).faults (trace disk_now).faults → status_of e ≡ 8 → ⊥) (fleet : Rose before.faults now.faults → status_of e ≡ 9 → ⊥)
+    module _ (e : CommandEnd) (read : status_of e ≡ 6 → ⊥) (sink : status_of e ≡ 7 → ⊥) (memory : status_of e ≡ 12 → ⊥) (device : Rose (trace disk).faults (trace disk_now).faults → status_of e ≡ 8 → ⊥) (fleet : Rose before.faults now.faults → status_of e ≡ 9 → ⊥)
         (stop : (opened : D) → Opens (trace disk) (trace opened) → StopsNever e opened) where
       opened-well : OpensAndRollsBack trace tell r origin limits disk disk_now before now e out out_now → status_of e ≡ 0
       opened-well (inl fails) = absurd (device fails.failed (ap status_of fails.is))
@@ -296,7 +296,7 @@ module _ {D P : Type 0} (trace : D → DiskTrace) (tell : P → PortTrace)
 
     -- by the status of an ending that is told by itself
     by-ending : (status : ℕ) → RevertsAs trace tell (IsInput source source_now) origin limits disk disk_now before now status out out_now → status ≢ 12
-        → ((e : Ending) → Reverts trace tell (IsInput source source_now) origin limits disk disk_now before now e out out_now → ((n : ℕ) → status ≢ n → status_of e ≡ n → ⊥) → status_of e ≡ 0) → status ≡ 0
+        → ((e : CommandEnd) → Reverts trace tell (IsInput source source_now) origin limits disk disk_now before now e out out_now → ((n : ℕ) → status ≢ n → status_of e ≡ n → ⊥) → status_of e ≡ 0) → status ≡ 0
     by-ending status rolls memory well =
         let tells : (n : ℕ) → status ≢ n → status_of rolls.told ≡ n → ⊥ = λ n other is. other (rolls.is_status ∙ is) in
         let same : rolls.told ≡ rolls.ending = sym (told-same rolls.ending rolls.told rolls.told_as (λ m. tells 12 memory (ap status_of m))) in

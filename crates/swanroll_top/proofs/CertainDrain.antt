@@ -15,33 +15,33 @@ use Rattle.wan_edge.specs.Streams.{Rose, SourceTrace}
 use Rattle.intent_journal.specs.Recovered.{IsCause}
 use Rattle.intent_journal.specs.Verdicts.{verdict}
 use Rattle.intent_journal.specs.Openings.{IsLeft, found_by}
-use Rattle.shared_history.specs.declared.reply.Halt.{Halt}
+use Rattle.shared_book.specs.declared.call_reply.Halt.{Halt}
 use Rattle.shared_book.specs.Homes.{homes_of}
 use Rattle.shared_book.specs.Opened.{opening_of}
-use Rattle.port_session.specs.Sessions.{Talk}
-use Rattle.rollout_ports.specs.Hands.{first_talks}
-use Rattle.rollout_ports.specs.Homes.{working_homes}
-use Rattle.rollout_ports.specs.Opening.{AreGiven}
+use Rattle.port_session.specs.Sessions.{SessionView}
+use Rattle.switch_ports.specs.Hands.{first_sessions}
+use Rattle.switch_ports.specs.Homes.{working_homes}
+use Rattle.switch_ports.specs.Opening.{AreGiven}
 use Rattle.rollout_report.specs.Journals.{digest_for}
-use Rattle.rollout_run.specs.Ran.{EndsRun, Ran}
-use Rattle.rollout_run.specs.declared.end.RunEnd.{RunEnd}
-use Rattle.rollout_run.specs.declared.end.RunEnd.TheVariants as run
-use Rattle.rollout_run.specs.declared.running.Limits.{Limits}
-use Rattle.rollout_service.specs.Outcomes.{HasRolled, IfRolled, OnUnopened, answer_for}
-use Rattle.rollout_service.specs.declared.answer.RunAnswer.{RunAnswer}
-use Rattle.rollout_service.specs.declared.answer.RunAnswer.TheVariants as outcome
+use Rattle.controller_run.specs.Ran.{EndsRun, Ran}
+use Rattle.controller_run.specs.declared.end.RunEnd.{RunEnd}
+use Rattle.controller_run.specs.declared.end.RunEnd.TheVariants as run
+use Rattle.controller_run.specs.declared.running.Limits.{Limits}
+use Rattle.controller_run.specs.RolloutEnds.{HasRolled, IfRolled, OnUnopened, answer_for}
+use Rattle.controller_run.specs.declared.rollout_end.RolloutEnd.{RolloutEnd}
+use Rattle.controller_run.specs.declared.rollout_end.RolloutEnd.TheVariants as outcome
 use Rattle.completion_laws.specs.Faults.{IsExcused, IsWithoutFault}
 use Rattle.completion_laws.specs.Finishing.{EndsOrIsExcused, IsProvided, IsWant}
 use Rattle.completion_laws.proofs.Excused.{ran-ends}
 use Rattle.completion_laws.proofs.Finished.{only-want}
 use Rattle.completion_laws.proofs.NoFaults.{no-fault}
 use Rattle.swanroll_top.specs.Drains.{Drains, DrainsAs, OpensAndDrains, drained_or_ending}
-use Rattle.text_commands.specs.Endings.{status_of}
+use Rattle.text_commands.specs.CommandEnds.{status_of}
 use Rattle.swanroll_top.specs.Ready.{CountsNoFault, GoesOnFrom, IsServedFor, WaitsReady}
 use Rattle.text_commands.specs.Answers.{rollout_to}
 use Rattle.swanroll_top.specs.Rollouts.{FleetSeen, ending_of_stop}
 use Rattle.text_commands.specs.Runs.{EndsWith, IsInput}
-use Rattle.text_commands.specs.declared.ending.Ending.{Ending}
+use Rattle.text_commands.specs.declared.command_end.CommandEnd.{CommandEnd}
 use Rattle.swanroll_top.proofs.Certain.{of-some, opened-ready, opened-waited, some-same}
 use Rattle.swanroll_top.proofs.CertainBack.{excused-never, goes-opened, unbegun-never, unopened-never, wanting-never}
 use Rattle.text_commands.proofs.Inputs.{told-within}
@@ -54,7 +54,7 @@ use Rattle.swanroll_top.proofs.Reporting.{rolled-within}
 module _ {D P : Type 0} (trace : D → DiskTrace) (tell : P → PortTrace)
     (limits : Limits) (policy : OpView → ℕ) (source source_now : SourceTrace) (disk disk_now : D) (before now : FleetSeen P) (out out_now : Option (List ℕ)) (r : Rollout) (found : History)
     (goes : GoesOnFrom limits.migration source source_now (trace disk).bytes r found) (served : IsServedFor tell limits before.ports.waiting r found) where
-  module _ (network : IsNetwork r.problem) (valid : is_valid_plan r.problem r.plan ≡ true) (small : limits.migration < 2 ^ 32) (a : RunAnswer)
+  module _ (network : IsNetwork r.problem) (valid : is_valid_plan r.problem r.plan ≡ true) (small : limits.migration < 2 ^ 32) (a : RolloutEnd)
       (has : HasRolled trace tell r (digest_for r limits.migration) policy limits.rounds disk before.ports now.ports disk_now a) where
     abbrev RanTo : RunEnd → Type 0
     RanTo end = Ran trace tell (opening_of has.book policy) (trace has.book.disk).moment (trace has.book.disk).faults limits.migration limits.rounds
@@ -71,7 +71,7 @@ module _ {D P : Type 0} (trace : D → DiskTrace) (tell : P → PortTrace)
         subst (λ (x : Rollout). IsServedFor tell limits before.ports.waiting x has.book.history) (sym has.opened.rollout)
         (subst (λ (h : History). IsServedFor tell limits before.ports.waiting r h) found-is served)
 
-    provided : (end : RunEnd) (ran : RanTo end) → IsProvided tell (opening_of has.book policy) limits.migration (homes_of has.book.rollout.problem) limits.rounds (first_talks ran.berths)
+    provided : (end : RunEnd) (ran : RanTo end) → IsProvided tell (opening_of has.book policy) limits.migration (homes_of has.book.rollout.problem) limits.rounds (first_sessions ran.berths)
     provided end ran = record {
       network = subst (λ (x : Rollout). IsNetwork x.problem) (sym has.opened.rollout) network;
       plan = subst (λ (x : Rollout). is_valid_plan x.problem x.plan ≡ true) (sym has.opened.rollout) valid;
@@ -109,31 +109,31 @@ module _ {D P : Type 0} (trace : D → DiskTrace) (tell : P → PortTrace)
       stop-excused : IsExcused halt.cause
       stop-excused = ends-so (run.Stopped halt) ran-stopped
 
-      -- where no count has risen, only want of memory stops it
+      -- where no count has risen, only lack of memory stops it
       stop-wants : CountsNoFault tell (trace disk).faults (trace disk_now).faults before now → IsWant halt.cause
       stop-wants counts =
           let ran = ran-stopped in
           let o = opening_of has.book policy in
-          let without : IsWithoutFault tell (Rose (trace has.book.disk).faults (trace has.run.closed.disk).faults) (first_talks ran.berths) now.ports.kept = record {
+          let without : IsWithoutFault tell (Rose (trace has.book.disk).faults (trace has.run.closed.disk).faults) (first_sessions ran.berths) now.ports.kept = record {
             disk = λ rose. counts.disk (rose-later (trace disk).faults (trace has.book.disk).faults (trace disk_now).faults has.opened.on.count (subst (λ (d : D). Rose (trace has.book.disk).faults (trace d).faults) (sym has.run.back) rose));
             ports = λ t at back kept. of-some (λ (waiting : ℕ → Option P). (switch : ℕ) (first back : P) → waiting switch ≡ Some first → now.ports.kept switch ≡ Some back → Rose (tell first).faults (tell back).faults → ⊥)
                 served.ports before.ports.waiting served.told counts.ports t.switch t.port back
-                (All-contains (λ (u : Talk P). served.ports u.switch ≡ Some u.port) (first_talks ran.berths) t
+                (All-contains (λ (u : SessionView P). served.ports u.switch ≡ Some u.port) (first_sessions ran.berths) t
                 (opened-waited tell r limits.migration found served.ports ran.berths (subst (λ (w : Option (ℕ → Option P)). AreGiven tell w ran.berths) served.told ran.given)) at)
                 kept;
           } in
           only-want halt.cause stop-excused
-          (no-fault tell (Rose (trace has.book.disk).faults (trace has.run.closed.disk).faults) (first_talks ran.berths) now.ports.kept without o limits.migration (homes_of o.rollout.problem) limits.rounds ran.log halt.cause ran.reason)
+          (no-fault tell (Rose (trace has.book.disk).faults (trace has.run.closed.disk).faults) (first_sessions ran.berths) now.ports.kept without o limits.migration (homes_of o.rollout.problem) limits.rounds ran.log halt.cause ran.reason)
 
-  abbrev HasRolledTo : RunAnswer → Type 0
+  abbrev HasRolledTo : RolloutEnd → Type 0
   HasRolledTo a = HasRolled trace tell r (digest_for r limits.migration) policy limits.rounds disk before.ports now.ports disk_now a
 
   -- ---- how it ends
 
-  module _ (e : Ending) (sink : status_of e ≡ 7 → ⊥) (memory : status_of e ≡ 12 → ⊥) (device : Rose (trace disk).faults (trace disk_now).faults → status_of e ≡ 8 → ⊥) (fleet : Rose before.faults now.faults → status_of e ≡ 9 → ⊥)
+  module _ (e : CommandEnd) (sink : status_of e ≡ 7 → ⊥) (memory : status_of e ≡ 12 → ⊥) (device : Rose (trace disk).faults (trace disk_now).faults → status_of e ≡ 8 → ⊥) (fleet : Rose before.faults now.faults → status_of e ≡ 9 → ⊥)
       (network : IsNetwork r.problem) (valid : is_valid_plan r.problem r.plan ≡ true) (small : limits.migration < 2 ^ 32)
-      (stop : (a : RunAnswer) → HasRolledTo a → (other : Rollout) (halt : Halt) → a ≡ outcome.Stopped other halt → e ≡ ending_of_stop other halt.cause → ⊥) where
-    answered-well : (a : RunAnswer) → IfRolled a (HasRolledTo a) → OnUnopened a (λ why. IsLeft trace r (digest_for r limits.migration) disk why disk_now × (now ≡ before))
+      (stop : (a : RolloutEnd) → HasRolledTo a → (other : Rollout) (halt : Halt) → a ≡ outcome.Stopped other halt → e ≡ ending_of_stop other halt.cause → ⊥) where
+    answered-well : (a : RolloutEnd) → IfRolled a (HasRolledTo a) → OnUnopened a (λ why. IsLeft trace r (digest_for r limits.migration) disk why disk_now × (now ≡ before))
         → ((other : Rollout) (switch : ℕ) → a ≡ outcome.NoPort other switch → Rose before.faults now.faults) → EndsWith (drained_or_ending (op_total r) a) e out out_now → status_of e ≡ 0
     answered-well (outcome.Finished all count) has unopened missing (inl done) = ap status_of done.0
     answered-well (outcome.Finished all count) has unopened missing (inr cut) = absurd (sink (ap status_of cut.0))
@@ -155,12 +155,12 @@ module _ {D P : Type 0} (trace : D → DiskTrace) (tell : P → PortTrace)
   goes-on : (opened : D) → Opens (trace disk) (trace opened) → GoesOnFrom limits.migration source source_now (trace opened).bytes r found
   goes-on opened opens = goes-opened trace tell limits source source_now disk disk_now before now out out_now r found goes served opened opens
 
-  abbrev StopsNever : Ending → D → Type 0
-  StopsNever e opened = (policy : OpView → ℕ) → IsNetwork r.problem → is_valid_plan r.problem r.plan ≡ true → limits.migration < 2 ^ 32 → (a : RunAnswer)
+  abbrev StopsNever : CommandEnd → D → Type 0
+  StopsNever e opened = (policy : OpView → ℕ) → IsNetwork r.problem → is_valid_plan r.problem r.plan ≡ true → limits.migration < 2 ^ 32 → (a : RolloutEnd)
       → HasRolled trace tell r (digest_for r limits.migration) policy limits.rounds opened before.ports now.ports disk_now a
       → (other : Rollout) (halt : Halt) → a ≡ outcome.Stopped other halt → e ≡ ending_of_stop other halt.cause → ⊥
 
-  module _ (e : Ending) (read : status_of e ≡ 6 → ⊥) (sink : status_of e ≡ 7 → ⊥) (memory : status_of e ≡ 12 → ⊥) (device : Rose (trace disk).faults (trace disk_now).faults → status_of e ≡ 8 → ⊥) (fleet : Rose before.faults now.faults → status_of e ≡ 9 → ⊥)
+  module _ (e : CommandEnd) (read : status_of e ≡ 6 → ⊥) (sink : status_of e ≡ 7 → ⊥) (memory : status_of e ≡ 12 → ⊥) (device : Rose (trace disk).faults (trace disk_now).faults → status_of e ≡ 8 → ⊥) (fleet : Rose before.faults now.faults → status_of e ≡ 9 → ⊥)
       (stop : (opened : D) → Opens (trace disk) (trace opened) → StopsNever e opened) where
     opened-well : OpensAndDrains trace tell r limits disk disk_now before now e out out_now → status_of e ≡ 0
     opened-well (inl fails) = absurd (device fails.failed (ap status_of fails.is))
@@ -181,7 +181,7 @@ module _ {D P : Type 0} (trace : D → DiskTrace) (tell : P → PortTrace)
 
   -- by the status of an ending that is told by itself
   by-ending : (status : ℕ) → DrainsAs trace tell (IsInput source source_now) limits disk disk_now before now status out out_now → status ≢ 12
-      → ((e : Ending) → Drains trace tell (IsInput source source_now) limits disk disk_now before now e out out_now → ((n : ℕ) → status ≢ n → status_of e ≡ n → ⊥) → status_of e ≡ 0) → status ≡ 0
+      → ((e : CommandEnd) → Drains trace tell (IsInput source source_now) limits disk disk_now before now e out out_now → ((n : ℕ) → status ≢ n → status_of e ≡ n → ⊥) → status_of e ≡ 0) → status ≡ 0
   by-ending status rolls memory well =
       let tells : (n : ℕ) → status ≢ n → status_of rolls.told ≡ n → ⊥ = λ n other is. other (rolls.is_status ∙ is) in
       let same : rolls.told ≡ rolls.ending = sym (told-same rolls.ending rolls.told rolls.told_as (λ m. tells 12 memory (ap status_of m))) in

@@ -10,7 +10,7 @@ use Rattle.agent_service.specs.declared.service.Service.{Service}
 use Rattle.agent_service.specs.declared.service.ServiceFault.{ServiceFault}
 use Rattle.agent_service.specs.declared.service.ServiceFault.TheVariants as service
 use Rattle.swanroll_top.specs.Agents.{ServesAs, service_answer}
-use Rattle.text_commands.specs.Endings.{status_of}
+use Rattle.text_commands.specs.CommandEnds.{status_of}
 use Rattle.text_commands.specs.Program.{Streams}
 use Rattle.swanroll_top.specs.ReportPromise.{ReportsAndNotes, ReportsBy}
 use Rattle.swanroll_top.specs.TrialPromise.{TrialPromise, TriesAndNotes}
@@ -18,7 +18,7 @@ use Rattle.text_commands.specs.Answers.{rollout_to}
 use Rattle.swanroll_top.specs.Reports.{EndsReport, or_journal}
 use Rattle.text_commands.specs.Runs.{EndsWith, TellsInput}
 use Rattle.swanroll_top.specs.Tries.{IsShape, tried}
-use Rattle.text_commands.specs.declared.ending.Ending.{Ending}
+use Rattle.text_commands.specs.declared.command_end.CommandEnd.{CommandEnd}
 use Rattle.text_commands.proofs.Complete.{ends-well}
 use Rattle.text_commands.proofs.Inputs.{told-within}
 use Rattle.text_commands.proofs.Programs.{follows-ends}
@@ -32,7 +32,7 @@ module _ (m : ℕ) (before after : Streams) (status : ℕ) (input image : List �
   ok-journal (Ok text) ok = refl
   ok-journal (Err e) ok = absurd cc
 
-  pub reported : (r : Result Rollout Ending) (e : Ending) → r ≡ Ok o → before.stored ≡ Some image → IsOk (journal_report o m image) → EndsReport m r before.stored e before.sink.written after.sink.written → (status_of e ≡ 7 → ⊥) → status_of e ≡ 0
+  pub reported : (r : Result Rollout CommandEnd) (e : CommandEnd) → r ≡ Ok o → before.stored ≡ Some image → IsOk (journal_report o m image) → EndsReport m r before.stored e before.sink.written after.sink.written → (status_of e ≡ 7 → ⊥) → status_of e ≡ 0
   reported (Err x) e is stored ok ends cut = absurd (cc is)
   reported (Ok other) e is stored ok ends cut =
       let same : other ≡ o = cc is in
@@ -66,7 +66,7 @@ module _ (policy : OpView → ℕ) (shape : Shape) where
 -- ---- an agent
 
 module _ {G : Type 0} (tells : Tells G) (guests : ℕ) (before now : Guests G) (out out_now : Option (List ℕ)) where
-  service-well : (came : Result Service ServiceFault) (e : Ending) → EndsWith (service_answer came) e out out_now → (status_of e ≡ 7 → ⊥) → (status_of e ≡ 9 → ⊥) → (status_of e ≡ 12 → ⊥) → status_of e ≡ 0
+  service-well : (came : Result Service ServiceFault) (e : CommandEnd) → EndsWith (service_answer came) e out out_now → (status_of e ≡ 7 → ⊥) → (status_of e ≡ 9 → ⊥) → (status_of e ≡ 12 → ⊥) → status_of e ≡ 0
   service-well (Ok service) e (inl done) sink fleet memory = ap status_of done.0
   service-well (Ok service) e (inr cut) sink fleet memory = absurd (sink (ap status_of cut.0))
   service-well (Err service.Fleet) e ends sink fleet memory = absurd (fleet (ap status_of ends.0))

@@ -10,12 +10,12 @@ use Rattle.rollout_rules.specs.declared.op.Op.{Op}
 use Rattle.rollout_rules.specs.declared.op.Entry.{Entry}
 use Rattle.rollout_rules.specs.declared.op.Entry.TheVariants.{Begin, Done}
 use Rattle.rollout_laws.proofs.Histories.{settled-with}
-use Rattle.shared_history.specs.declared.note.What.{What}
-use Rattle.shared_history.specs.declared.note.What.TheVariants as what
-use Rattle.shared_history.specs.declared.note.Written.{Written}
-use Rattle.shared_history.specs.Histories.{added, all_entries, segment_of}
-use Rattle.worker_ports.specs.Lots.{home_at}
-use Rattle.rollout_run.specs.PortRuns.{AreAtHome}
+use Rattle.shared_book.specs.declared.note.What.{What}
+use Rattle.shared_book.specs.declared.note.What.TheVariants as what
+use Rattle.shared_book.specs.declared.note.Written.{Written}
+use Rattle.shared_book.specs.Histories.{added, all_entries, segment_of}
+use Rattle.switch_ports.specs.Outboxes.{home_at}
+use Rattle.controller_run.specs.PortRuns.{AreAtHome}
 use Rattle.swanroll_top.specs.Targets.{is_among}
 
 or-last : (a b : Bool) → b ≡ true → (a || b) ≡ true

@@ -1,4 +1,4 @@
--- What is read of words by the first of them and those behind it.
+-- What is read of words by the first of them and those after it.
 use Rattle.std.proofs.Common.{◌≡◌, ℕ, suc, ◌≤◌, ◌-◌, List, [], ◌∷◌, length, map, get_or, take, take_all, drop, String, Global, string_bytes, sym, ap, ◌∙◌, arith}
 
 module _ {A : Type 0} (read : List (List ℕ) → A) (at : List ℕ → List (List ℕ) → A) (by_first : (word : List ℕ) (rest : List (List ℕ)) → read (word ∷ rest) ≡ at word rest) where

@@ -13,8 +13,8 @@ use Rattle.text_commands.specs.Reading.{IsShortInput}
 use Rattle.text_commands.specs.Answers.{rollout_in, rollout_to}
 use Rattle.swanroll_top.specs.Rollouts.{EndsRollout, FleetSeen, RefusesAs, may_end}
 use Rattle.text_commands.specs.Runs.{EndsWith, Follows, IsInput}
-use Rattle.text_commands.specs.declared.ending.Ending.{Ending}
-use Rattle.text_commands.specs.declared.ending.Ending.TheVariants.{Done, AboveLimit, WriteFault, DiskFault}
+use Rattle.text_commands.specs.declared.command_end.CommandEnd.{CommandEnd}
+use Rattle.text_commands.specs.declared.command_end.CommandEnd.TheVariants.{Done, AboveLimit, WriteFault, DiskFault}
 use Rattle.text_commands.proofs.Answering.{is_answer, rollout-answers}
 use Rattle.swanroll_top.proofs.Reporting.{long-rollout, short-rollout}
 use Rattle.swanroll_top.proofs.Rolling.{unbegun}
@@ -29,7 +29,7 @@ not-told-may r rounds (not_told.NotAsked switch item) = refl
 not-told-may r rounds (not_told.NoAnswer switch byte) = refl
 not-told-may r rounds not_told.Memory = refl
 
-pub not-told-ends : (r : Rollout) (rounds : ℕ) (why : NotTold) (e : Ending) (out : Option (List ℕ)) → e ≡ ending_of_not_told r rounds why → EndsRollout e out out
+pub not-told-ends : (r : Rollout) (rounds : ℕ) (why : NotTold) (e : CommandEnd) (out : Option (List ℕ)) → e ≡ ending_of_not_told r rounds why → EndsRollout e out out
 not-told-ends r rounds why e out is = record { may = ap may_end is ∙ not-told-may r rounds why; silent = λ zero seven. refl }
 
 not-told-given : (r : Rollout) (rounds : ℕ) (why : NotTold) (out : Option (List ℕ)) → Follows (told_or_ending r rounds (Err why)) (ending_of_not_told r rounds why) out out
@@ -40,8 +40,8 @@ not-told-given r rounds (not_told.NotAsked switch item) out = (refl, refl)
 not-told-given r rounds (not_told.NoAnswer switch byte) out = (refl, refl)
 not-told-given r rounds not_told.Memory out = refl
 
-pub not-told-follows : (r : Rollout) (rounds : ℕ) (why : NotTold) (e : Ending) (out : Option (List ℕ)) → e ≡ ending_of_not_told r rounds why → Follows (told_or_ending r rounds (Err why)) e out out
-not-told-follows r rounds why e out is = subst (λ (x : Ending). Follows (told_or_ending r rounds (Err why)) x out out) (sym is) (not-told-given r rounds why out)
+pub not-told-follows : (r : Rollout) (rounds : ℕ) (why : NotTold) (e : CommandEnd) (out : Option (List ℕ)) → e ≡ ending_of_not_told r rounds why → Follows (told_or_ending r rounds (Err why)) e out out
+not-told-follows r rounds why e out is = subst (λ (x : CommandEnd). Follows (told_or_ending r rounds (Err why)) x out out) (sym is) (not-told-given r rounds why out)
 
 -- it's no fault of a disk or of the sink
 not-disk : (r : Rollout) (rounds : ℕ) (why : NotTold) → ending_of_not_told r rounds why ≡ DiskFault → ⊥
@@ -52,7 +52,7 @@ not-disk r rounds (not_told.NotAsked switch item) h = cc
 not-disk r rounds (not_told.NoAnswer switch byte) h = cc
 not-disk r rounds not_told.Memory h = cc
 
-pub not-told-disk : (r : Rollout) (rounds : ℕ) (why : NotTold) (e : Ending) → e ≡ ending_of_not_told r rounds why → e ≡ DiskFault → ⊥
+pub not-told-disk : (r : Rollout) (rounds : ℕ) (why : NotTold) (e : CommandEnd) → e ≡ ending_of_not_told r rounds why → e ≡ DiskFault → ⊥
 not-told-disk r rounds why e is h = not-disk r rounds why (sym is ∙ h)
 
 not-cut : (r : Rollout) (rounds : ℕ) (why : NotTold) → ending_of_not_told r rounds why ≡ WriteFault → ⊥
@@ -63,7 +63,7 @@ not-cut r rounds (not_told.NotAsked switch item) h = cc
 not-cut r rounds (not_told.NoAnswer switch byte) h = cc
 not-cut r rounds not_told.Memory h = cc
 
-pub not-told-cut : (r : Rollout) (rounds : ℕ) (why : NotTold) (e : Ending) → e ≡ ending_of_not_told r rounds why → e ≡ WriteFault → ⊥
+pub not-told-cut : (r : Rollout) (rounds : ℕ) (why : NotTold) (e : CommandEnd) → e ≡ ending_of_not_told r rounds why → e ≡ WriteFault → ⊥
 not-told-cut r rounds why e is h = not-cut r rounds why (sym is ∙ h)
 
 -- nor is anything done
@@ -78,7 +78,7 @@ not-done r rounds not_told.Memory h = cc
 -- no input is refused as if something had been done
 never-done : (input : List ℕ) → rollout_to input ≡ Err Done → ⊥
 never-done input is = elim (cases_lt MOST_INPUT (length input)) [
-  | inl long ↦ let no : ◌≡◌ {A = Result Rollout Ending} (Err AboveLimit) (Err Done) = sym (long-rollout input long) ∙ is in cc
+  | inl long ↦ let no : ◌≡◌ {A = Result Rollout CommandEnd} (Err AboveLimit) (Err Done) = sym (long-rollout input long) ∙ is in cc
   | inr within ↦ let no : is_answer Done ≡ true = rollout-answers input Done (sym (short-rollout input within) ∙ is) in cc
 ]
 
@@ -89,7 +89,7 @@ told-none text why is = cc
 -- ---- by the input
 
 module _ {P : Type 0} (tell : P → PortTrace) (rounds : ℕ) (before fleet_now : FleetSeen P) (out out_now : Option (List ℕ)) where
-  pub input-asks : (source source_now : SourceTrace) (input : List ℕ) (e : Ending) → IsShortInput source source_now input → AsksIn tell (rollout_in input) rounds before fleet_now e out out_now
+  pub input-asks : (source source_now : SourceTrace) (input : List ℕ) (e : CommandEnd) → IsShortInput source source_now input → AsksIn tell (rollout_in input) rounds before fleet_now e out out_now
       → Asks tell (IsInput source source_now) rounds before fleet_now e out out_now
   input-asks source source_now input e short (inl refused) = inl (record { why = unbegun source source_now input e short refused.why; fleet_is = refused.fleet_is })
   input-asks source source_now input e short (inr begun) = inr (record {
@@ -116,5 +116,5 @@ module _ {P : Type 0} (tell : P → PortTrace) (rounds : ℕ) (before fleet_now 
       let told = text-written asked.r asked.asks.answer asked.asks.asks asked.asks.follows in
       record { input = asked.input; given = asked.given; r = asked.r; is = asked.is; text = told.0; tells = told.1; written = told.2 }
 
-  pub asks-writes : (Given : List ℕ → Type 0) (e : Ending) → e ≡ Done → Asks tell Given rounds before fleet_now e out out_now → WritesHeld tell Given rounds before fleet_now out out_now
-  asks-writes Given e is asks = done-writes Given (subst (λ (x : Ending). Asks tell Given rounds before fleet_now x out out_now) is asks)
+  pub asks-writes : (Given : List ℕ → Type 0) (e : CommandEnd) → e ≡ Done → Asks tell Given rounds before fleet_now e out out_now → WritesHeld tell Given rounds before fleet_now out out_now
+  asks-writes Given e is asks = done-writes Given (subst (λ (x : CommandEnd). Asks tell Given rounds before fleet_now x out out_now) is asks)

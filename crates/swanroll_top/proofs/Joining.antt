@@ -14,16 +14,16 @@ use Rattle.rollout_laws.proofs.Histories.{is_counted}
 use Rattle.disk_model.specs.Traces.{DiskTrace}
 use Rattle.wan_edge.specs.Ports.{PortTrace}
 use Rattle.wan_edge.specs.Switches.{Holdings}
-use Rattle.port_session.specs.Sessions.{first_talk}
-use Rattle.worker_ports.specs.Lots.{home_at}
-use Rattle.worker_ports.specs.Views.{view}
-use Rattle.worker_ports.specs.declared.ports.Berth.{Berth}
+use Rattle.port_session.specs.Sessions.{first_session}
+use Rattle.switch_ports.specs.Outboxes.{home_at}
+use Rattle.switch_ports.specs.Views.{view}
+use Rattle.switch_ports.specs.declared.ports.Berth.{Berth}
 use Rattle.shared_book.specs.Homes.{homes_of}
-use Rattle.rollout_ports.specs.Berths.{FleetPorts, switches_of}
-use Rattle.rollout_ports.specs.Homes.{working_homes}
+use Rattle.switch_ports.specs.Berths.{FleetPorts, switches_of}
+use Rattle.switch_ports.specs.Homes.{working_homes}
 use Rattle.switch_laws.specs.Holdings.{AreHeldAt, IsHeldAt}
-use Rattle.holding_laws.specs.Untold.{IsFoundWith, MayHold}
-use Rattle.rollout_run.specs.declared.running.Limits.{Limits}
+use Rattle.completion_laws.specs.Untold.{IsFoundWith, MayHold}
+use Rattle.controller_run.specs.declared.running.Limits.{Limits}
 use Rattle.swanroll_top.specs.Joined.{MayHoldNow, TellsHeld, chosen, chosen_by, number_in}
 use Rattle.swanroll_top.specs.Targets.{EndsWithin, StaysSafe, is_among}
 
@@ -54,7 +54,7 @@ module _ {P : Type 0} (tell : P → PortTrace) (r : Rollout) (migration : ℕ) (
 
   abbrev Each : Berth P → List ℕ → List ℕ → Type 0
   Each b offered heard =
-      (earlier : List ℕ) (prior after : Holdings) → IsFoundWith r migration (homes_of r.problem) found (view tell (first_talk b.switch b.port)) earlier prior
+      (earlier : List ℕ) (prior after : Holdings) → IsFoundWith r migration (homes_of r.problem) found (view tell (first_session b.switch b.port)) earlier prior
       → MayHold (earlier ++ offered) heard prior after → AreHeldAt r migration (homes_of r.problem) b.switch h after
 
   -- where the port tells what its switch holds

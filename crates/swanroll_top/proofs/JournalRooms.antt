@@ -1,12 +1,12 @@
 -- That the room of a journal is enough.
-use Rattle.std.proofs.Common.{ℕ, ◌+◌, ◌*◌, ◌<◌, ◌≤◌, ◌^◌, Bool, true, false, max, if◌then◌else◌, arith, mul-le-mul_right}
+use Rattle.std.proofs.Common.{ℕ, ◌+◌, ◌*◌, ◌≤◌, Bool, true, false, max, if◌then◌else◌, arith}
 use Rattle.rollout_rules.specs.Items.{item_at, item_count}
 use Rattle.rollout_rules.specs.Operations.{changes_behind, operations}
 use Rattle.rollout_rules.specs.Wan.{Plan, Problem, Rollout, last_stage}
 use Rattle.rollout_rules.specs.declared.item.Item.{Item}
 use Rattle.dependency_graph.specs.Graph.{count_of, op_total}
 use Rattle.switch_agent.proofs.Rooms.{sum_below-most}
-use Rattle.swanroll_top.specs.JournalRoom.{journal_room, least_room}
+use Rattle.retarget_service.specs.JournalRoom.{journal_room, least_room}
 
 one-most : (b : Bool) → (if b then 1 else 0) ≤ 1
 one-most true = omega arith
@@ -26,9 +26,3 @@ three-parts items total most few = omega (arith, few)
 
 pub has-room : (r : Rollout) → 35 + 3 * (45 + 4 * item_count r.problem + 28 * op_total r) ≤ journal_room r
 has-room r = three-parts (item_count r.problem) (op_total r) (item_count r.problem * last_stage r.plan) (op_total-most r)
-
--- items of 32 bits, each with few steps
-pub few-turns : (items steps : ℕ) → items < 2 ^ 32 → steps < 256 → items * steps < 2 ^ 40
-few-turns items steps small short =
-    let most : items ≤ 4_294_967_295 = omega (arith, small) in
-    omega (arith, mul-le-mul_right steps most, short)

@@ -14,14 +14,14 @@ use Rattle.intent_journal.specs.Recovered.{KeepsNow, MayStand, OnRefusal, kept_f
 use Rattle.intent_journal.specs.Verdicts.{verdict}
 use Rattle.rollout_report.specs.Journals.{digest_for}
 use Rattle.rollout_report.proofs.Journaling.{still_each}
-use Rattle.text_commands.specs.Endings.{ending_of_journal, status_of}
+use Rattle.text_commands.specs.CommandEnds.{ending_of_journal, status_of}
 use Rattle.swanroll_top.specs.Leavings.{LeavesJournal, LeavesRead, LeavesReported}
 use Rattle.text_commands.specs.Reading.{IsCut, IsShortInput}
 use Rattle.text_commands.specs.Answers.{rollout_in, rollout_to}
 use Rattle.swanroll_top.specs.Reports.{EndsJournal}
 use Rattle.text_commands.specs.Runs.{EndsWith, Gives, IsTold}
-use Rattle.text_commands.specs.declared.ending.Ending.{Ending}
-use Rattle.text_commands.specs.declared.ending.Ending.TheVariants.{Done, Usage, AboveLimit, Input, NotValid, NoPlan, Unshown, ReadFault, WriteFault, DiskFault, GuestFault, Refused, NotFinished, OutOfMemory}
+use Rattle.text_commands.specs.declared.command_end.CommandEnd.{CommandEnd}
+use Rattle.text_commands.specs.declared.command_end.CommandEnd.TheVariants.{Done, Usage, AboveLimit, Input, NotValid, NoPlan, Unshown, ReadFault, WriteFault, DiskFault, GuestFault, Refused, NotFinished, OutOfMemory}
 use Rattle.text_commands.proofs.Inputs.{told-short}
 use Rattle.swanroll_top.proofs.Reporting.{short-rollout}
 
@@ -31,7 +31,7 @@ use Rattle.swanroll_top.proofs.Reporting.{short-rollout}
 abbrev IsSilent : ℕ → Type 0
 IsSilent status = (status ≡ 0 → ⊥) × ((status ≡ 7 → ⊥) × (status ≡ 10 → ⊥))
 
-text-not-refused : (text : List ℕ) (e : Ending) (out now : Option (List ℕ)) → EndsWith (Ok text) e out now → status_of e ≡ 10 → ⊥
+text-not-refused : (text : List ℕ) (e : CommandEnd) (out now : Option (List ℕ)) → EndsWith (Ok text) e out now → status_of e ≡ 10 → ⊥
 text-not-refused text e out now (inl done) ten = omega (arith, ap status_of done.0, ten)
 text-not-refused text e out now (inr cut) ten = omega (arith, ap status_of cut.0, ten)
 
@@ -57,7 +57,7 @@ on-refusal (journal.OtherPlan kept wanted) U h holds = holds
 on-refusal (journal.Illegal place) U h holds = holds
 on-refusal journal.BadStart U h holds = holds
 
-cut-silent : (source source_now : SourceTrace) (e : Ending) → IsCut source e source_now → IsSilent (status_of e)
+cut-silent : (source source_now : SourceTrace) (e : CommandEnd) → IsCut source e source_now → IsSilent (status_of e)
 cut-silent source source_now Done r = absurd r
 cut-silent source source_now Usage r = absurd r
 cut-silent source source_now AboveLimit r = (λ h. omega (arith, h), (λ h. omega (arith, h), λ h. omega (arith, h)))
@@ -78,11 +78,11 @@ memory-silent = (λ h. omega (arith, h), (λ h. omega (arith, h), λ h. omega (a
 
 -- ---- of whatever is told
 
-ok-each : (r : Result Rollout Ending) (P : Rollout → Type 0) → ((o : Rollout) → P o) → IfOk r P
+ok-each : (r : Result Rollout CommandEnd) (P : Rollout → Type 0) → ((o : Rollout) → P o) → IfOk r P
 ok-each (Ok o) P each = each o
 ok-each (Err e) P each = tt
 
-ok-more : (r : Result Rollout Ending) (P Q : Rollout → Type 0) → ((o : Rollout) → P o → Q o) → IfOk r P → IfOk r Q
+ok-more : (r : Result Rollout CommandEnd) (P Q : Rollout → Type 0) → ((o : Rollout) → P o → Q o) → IfOk r P → IfOk r Q
 ok-more (Ok o) P Q more h = more o h
 ok-more (Err e) P Q more h = tt
 
@@ -95,7 +95,7 @@ some-more None P Q more h = tt
 some-more (Some bytes) P Q more h = more bytes h
 
 -- the status that is told
-pub told-status : (e : Ending) (status : ℕ) (before now : Option (List ℕ)) (faults faults_now : ℕ) → IsTold e status before now faults faults_now → (n : ℕ) → (n ≡ 12 → ⊥) → status ≡ n → status_of e ≡ n
+pub told-status : (e : CommandEnd) (status : ℕ) (before now : Option (List ℕ)) (faults faults_now : ℕ) → IsTold e status before now faults faults_now → (n : ℕ) → (n ≡ 12 → ⊥) → status ≡ n → status_of e ≡ n
 told-status e status before now faults faults_now told n other is = elim told.is [
   | inl same ↦ ap status_of (sym same) ∙ (sym told.is_status ∙ is)
   | inr memory ↦ absurd (other (sym is ∙ (told.is_status ∙ ap status_of memory.0)))
@@ -105,7 +105,7 @@ told-status e status before now faults faults_now told n other is = elim told.is
 
 module _ {D : Type 0} (trace : D → DiskTrace) (old new : D) where
   -- a journal was opened, and its report made or refused
-  journal-each : (o : Rollout) (d : Digest) (told : Option (List ℕ)) (answer : Result (List ℕ) JournalFault) (e : Ending) (out now : Option (List ℕ)) → EndsJournal answer e out now
+  journal-each : (o : Rollout) (d : Digest) (told : Option (List ℕ)) (answer : Result (List ℕ) JournalFault) (e : CommandEnd) (out now : Option (List ℕ)) → EndsJournal answer e out now
       → IfOk answer (λ _. IfSome told (λ image. KeepsNow (kept_for o d (verdict o d image)) (trace new).bytes (trace new).may_leave))
       → IfSome told (λ image. LeavesOnly trace old new (MayStand o d image (verdict o d image) (trace old).may_leave))
       → IfErr answer (λ cause. OnRefusal cause (((trace new).bytes ≡ (trace old).bytes) × Within (trace new).may_leave (trace old).may_leave))
@@ -123,7 +123,7 @@ module _ {D : Type 0} (trace : D → DiskTrace) (old new : D) where
   }
 
   -- a disk that is as it was, and a status that says nothing of it
-  pub untouched-leaves : (m : ℕ) (r : Result Rollout Ending) (status : ℕ) → ((c : List ℕ) → (trace old).left_since (trace old).moment c → (trace old).may_leave c) → new ≡ old → IsSilent status
+  pub untouched-leaves : (m : ℕ) (r : Result Rollout CommandEnd) (status : ℕ) → ((c : List ℕ) → (trace old).left_since (trace old).moment c → (trace old).may_leave c) → new ≡ old → IsSilent status
       → LeavesReported trace m r status old new
   untouched-leaves m r status only same silent = ok-each r _ (λ o. some-each (trace old).bytes _ (λ image. record {
     any_moment = still_each trace o (digest_for o m) (Some image) old new only same;
@@ -137,14 +137,14 @@ module _ {D : Type 0} (trace : D → DiskTrace) (old new : D) where
       let short = subst (λ r. LeavesReported trace m r status old new) (sym (short-rollout input s.within)) h in
       subst (λ x. LeavesReported trace m (rollout_to x) status old new) (sym (told-short source source_now input told s.input s.within tells)) short
 
-  pub cut-leaves : (m : ℕ) (source source_now : SourceTrace) (e : Ending) → IsCut source e source_now → ((c : List ℕ) → (trace old).left_since (trace old).moment c → (trace old).may_leave c) → new ≡ old
+  pub cut-leaves : (m : ℕ) (source source_now : SourceTrace) (e : CommandEnd) → IsCut source e source_now → ((c : List ℕ) → (trace old).left_since (trace old).moment c → (trace old).may_leave c) → new ≡ old
       → LeavesRead trace m source source_now (status_of e) old new
   cut-leaves m source source_now e cut only same told tells = untouched-leaves m (rollout_to told) (status_of e) only same (cut-silent source source_now e cut)
 
-  refused-leaves : (m : ℕ) (r : Result Rollout Ending) (e : Ending) → r ≡ Err e → LeavesReported trace m r (status_of e) old new
+  refused-leaves : (m : ℕ) (r : Result Rollout CommandEnd) (e : CommandEnd) → r ≡ Err e → LeavesReported trace m r (status_of e) old new
   refused-leaves m r e is = subst (λ x. LeavesReported trace m x (status_of e) old new) (sym is) tt
 
-  pub unread-leaves : (m : ℕ) (r : Result Rollout Ending) (e : Ending) → Gives {A = Rollout} (Err e) r → ((c : List ℕ) → (trace old).left_since (trace old).moment c → (trace old).may_leave c) → new ≡ old
+  pub unread-leaves : (m : ℕ) (r : Result Rollout CommandEnd) (e : CommandEnd) → Gives {A = Rollout} (Err e) r → ((c : List ℕ) → (trace old).left_since (trace old).moment c → (trace old).may_leave c) → new ≡ old
       → LeavesReported trace m r (status_of e) old new
   unread-leaves m r Done g only same = refused-leaves m r Done g
   unread-leaves m r Usage g only same = refused-leaves m r Usage g
@@ -161,11 +161,11 @@ module _ {D : Type 0} (trace : D → DiskTrace) (old new : D) where
   unread-leaves m r (NotFinished u) g only same = refused-leaves m r (NotFinished u) g
   unread-leaves m r OutOfMemory g only same = untouched-leaves m r 12 only same memory-silent
 
-  pub read-leaves : (m : ℕ) (r : Result Rollout Ending) (o : Rollout) (status : ℕ) → r ≡ Ok o
+  pub read-leaves : (m : ℕ) (r : Result Rollout CommandEnd) (o : Rollout) (status : ℕ) → r ≡ Ok o
       → IfSome (trace old).bytes (λ image. LeavesJournal trace o (digest_for o m) image status old new) → LeavesReported trace m r status old new
   read-leaves m r o status is h = subst (λ x. LeavesReported trace m x status old new) (sym is) h
 
-  pub told-leaves : (m : ℕ) (source source_now : SourceTrace) (e : Ending) (status : ℕ) (before now : Option (List ℕ)) (faults faults_now : ℕ) → IsTold e status before now faults faults_now
+  pub told-leaves : (m : ℕ) (source source_now : SourceTrace) (e : CommandEnd) (status : ℕ) (before now : Option (List ℕ)) (faults faults_now : ℕ) → IsTold e status before now faults faults_now
       → LeavesRead trace m source source_now (status_of e) old new → LeavesRead trace m source source_now status old new
   told-leaves m source source_now e status before now faults faults_now told h input tells =
       ok-more (rollout_to input) _ _ (λ o. some-more (trace old).bytes _ _ (λ image j. record {
@@ -178,7 +178,7 @@ module _ {D : Type 0} (trace : D → DiskTrace) (old new : D) where
       })) (h input tells)
 
 module _ {D : Type 0} (trace : D → DiskTrace) (old new : D) where
-  pub journal-leaves : (o : Rollout) (m : ℕ) (answer : Result (List ℕ) JournalFault) (e : Ending) (out now : Option (List ℕ)) → EndsJournal answer e out now
+  pub journal-leaves : (o : Rollout) (m : ℕ) (answer : Result (List ℕ) JournalFault) (e : CommandEnd) (out now : Option (List ℕ)) → EndsJournal answer e out now
       → IfOk answer (λ _. IsOpenedOn trace o (digest_for o m) old new) → IfErr answer (λ cause. IsLeft trace o (digest_for o m) old cause new)
       → IfSome (trace old).bytes (λ image. LeavesJournal trace o (digest_for o m) image (status_of e) old new)
   journal-leaves o m (Ok text) e out now ends opened left =

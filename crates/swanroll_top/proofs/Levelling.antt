@@ -1,4 +1,4 @@
--- Behind a rollback that was begun the network is safe and nothing was begun past what the list found had begun but what leads up to a stage; behind status 0 exactly so much is settled, and its way
+-- After a rollback that was begun the network is safe and nothing was begun past what the list found had begun but what leads up to a stage; after status 0 exactly so much is settled, and its way
 -- back begins there.
 use Rattle.std.proofs.Common.{◌≡◌, ◌⊎◌, ◌+◌, ◌<◌, ◌≤◌, ◌==◌, ◌^◌, ℕ, List, [], ◌∷◌, ◌++◌, Bool, true, false, nat_le, Option, Some, None, IfSome, Ok, refl, sym, ap, ◌∙◌, subst, inl, inr, arith, leb-true, ne_eqb}
 use Rattle.std.specs.List.{All, AllByRecursion}
@@ -34,31 +34,31 @@ use Rattle.intent_journal.specs.Phases.{IsOldOrNew}
 use Rattle.intent_journal.specs.Placements.{IsStoodOrPlaced}
 use Rattle.intent_journal.specs.Verdicts.{verdict}
 use Rattle.intent_journal.proofs.Listings.{blank_none}
-use Rattle.rollout_book.specs.Chronicles.{Chronicled}
-use Rattle.shared_history.specs.declared.note.Cause.{Cause}
-use Rattle.shared_history.specs.declared.note.Cause.TheVariants as cause
-use Rattle.shared_history.specs.declared.note.Written.{Written}
-use Rattle.shared_history.specs.Histories.{Opening, added, history_of}
-use Rattle.shared_history.proofs.Lists.{list-is_legal}
+use Rattle.rollout_book.specs.JournaledRounds.{Journaled}
+use Rattle.shared_book.specs.declared.note.Cause.{Cause}
+use Rattle.shared_book.specs.declared.note.Cause.TheVariants as cause
+use Rattle.shared_book.specs.declared.note.Written.{Written}
+use Rattle.shared_book.specs.Histories.{Opening, added, history_of}
+use Rattle.shared_book.proofs.Lists.{list-is_legal}
 use Rattle.shared_book.specs.Homes.{homes_of}
 use Rattle.shared_book.specs.Images.{HasImages, HasLegalList}
 use Rattle.shared_book.specs.Opened.{opening_of}
-use Rattle.port_session.specs.Sessions.{first_talk}
-use Rattle.worker_ports.specs.Views.{view}
-use Rattle.worker_ports.specs.declared.ports.Berth.{Berth}
-use Rattle.rollout_ports.specs.Berths.{FleetPorts}
-use Rattle.rollout_ports.specs.Hands.{first_talks}
-use Rattle.rollout_ports.specs.Homes.{working_homes}
+use Rattle.port_session.specs.Sessions.{first_session}
+use Rattle.switch_ports.specs.Views.{view}
+use Rattle.switch_ports.specs.declared.ports.Berth.{Berth}
+use Rattle.switch_ports.specs.Berths.{FleetPorts}
+use Rattle.switch_ports.specs.Hands.{first_sessions}
+use Rattle.switch_ports.specs.Homes.{working_homes}
 use Rattle.switch_laws.specs.Holdings.{AreHeldAt, IsHeldAt}
 use Rattle.switch_laws.proofs.Answered.{some_at}
 use Rattle.switch_laws.proofs.Begun.{begun_within}
 use Rattle.switch_laws.proofs.Stands.{if_some, was_told}
 use Rattle.rollout_report.specs.Journals.{digest_for}
-use Rattle.rollout_run.specs.Keeping.{IsBegun}
-use Rattle.rollout_run.specs.PortRuns.{IsBack}
-use Rattle.rollout_run.specs.declared.end.RunEnd.{RunEnd}
-use Rattle.rollout_run.specs.declared.end.RunEnd.TheVariants as run
-use Rattle.rollout_run.specs.declared.running.Limits.{Limits}
+use Rattle.controller_run.specs.Keeping.{IsBegun}
+use Rattle.controller_run.specs.PortRuns.{IsBack}
+use Rattle.controller_run.specs.declared.end.RunEnd.{RunEnd}
+use Rattle.controller_run.specs.declared.end.RunEnd.TheVariants as run
+use Rattle.controller_run.specs.declared.running.Limits.{Limits}
 use Rattle.completion_laws.proofs.Excused.{held-rests, held-still}
 use Rattle.completion_laws.proofs.InFlight.{still-flies}
 use Rattle.rollback_plan.specs.Levels.{HoldsFrom, is_levelled, is_levelled_at}
@@ -76,14 +76,14 @@ use Rattle.rollback_service.specs.declared.answer.LevelAnswer.TheVariants as end
 use Rattle.rollback_service.specs.declared.origin.BackFrom.{BackFrom}
 use Rattle.rollback_service.specs.declared.origin.BackFrom.TheVariants as whence
 use Rattle.rollback_service.proofs.Levellings.{turns-most, turns-sound}
-use Rattle.text_commands.specs.Endings.{ending_of_journal}
+use Rattle.text_commands.specs.CommandEnds.{ending_of_journal}
 use Rattle.swanroll_top.specs.LevelTargets.{AreHeldAtStage, EndsAtStage, EndsBackSafely, HasListFrom, IsFoundOrPlaced, IsHeldAtStage, IsLevelThere, IsTakenBack, LeadsSoFar, LevelsSafely, OnLevel, SendsSoFar, operations_to}
 use Rattle.text_commands.specs.Answers.{rollout_to}
 use Rattle.swanroll_top.specs.Rollbacks.{Closes, Levels, Reverts, RevertsAs, RollsBackOpened, RollsBackOutOf, TakesBack, back_text}
 use Rattle.swanroll_top.specs.Rollouts.{FleetSeen, ending_of_stop}
 use Rattle.swanroll_top.specs.Targets.{EndsWithin, IsOfBegun, StaysSafe}
-use Rattle.text_commands.specs.declared.ending.Ending.{Ending}
-use Rattle.text_commands.specs.declared.ending.Ending.TheVariants.{Done, DiskFault, NotFinished, OutOfMemory, WriteFault}
+use Rattle.text_commands.specs.declared.command_end.CommandEnd.{CommandEnd}
+use Rattle.text_commands.specs.declared.command_end.CommandEnd.TheVariants.{Done, DiskFault, NotFinished, OutOfMemory, WriteFault}
 use Rattle.text_commands.specs.declared.unfinished.Unfinished.TheVariants.{PortFault}
 use Rattle.swanroll_top.proofs.Elsewhere.{none-settled}
 use Rattle.swanroll_top.proofs.Reaching.{begun-told, berths-within, is-told, is_of_begun, journal-begun, not-begun, of-begun, unbegun-refused}
@@ -127,10 +127,10 @@ module _ (o : Opening) (h : History) (s : ℕ) (legal : is_legal o.rollout.probl
 
 module _ {P : Type 0} (tell : P → PortTrace) (o : Opening) (migration s : ℕ) (log : List Written) (now : FleetPorts P)
     (legal : is_legal o.rollout.problem o.rollout.plan (history_of o log) ≡ true) (so : BegunSoFar o.rollout.problem o.rollout.plan o.found s (history_of o log)) where
-  berths-send : (bs : List (Berth P)) → All (IsBack tell o migration (homes_of o.rollout.problem) log now.kept) (first_talks bs) → AllByRecursion (SendsSoFar tell o.rollout migration o.found s now) bs
+  berths-send : (bs : List (Berth P)) → All (IsBack tell o migration (homes_of o.rollout.problem) log now.kept) (first_sessions bs) → AllByRecursion (SendsSoFar tell o.rollout migration o.found s now) bs
   berths-send [] all = tt
   berths-send (b ∷ bs) all =
-      let back : IsBack tell o migration (homes_of o.rollout.problem) log now.kept (first_talk b.switch b.port) = All-head (IsBack tell o migration (homes_of o.rollout.problem) log now.kept) (first_talk b.switch b.port) (first_talks bs) all in (
+      let back : IsBack tell o migration (homes_of o.rollout.problem) log now.kept (first_session b.switch b.port) = All-head (IsBack tell o migration (homes_of o.rollout.problem) log now.kept) (first_session b.switch b.port) (first_sessions bs) all in (
         record {
           back = back.now.port;
           kept = back.is_kept;
@@ -138,7 +138,7 @@ module _ {P : Type 0} (tell : P → PortTrace) (o : Opening) (migration s : ℕ)
           each = All-weaker (IsBegun o (history_of o log)) (LeadsSoFar o.rollout o.found s) (command-so_far o (history_of o log) s legal so) back.run.sent back.run.begun;
           part = back.run.story.part;
         },
-        berths-send bs (All-tail (IsBack tell o migration (homes_of o.rollout.problem) log now.kept) (first_talk b.switch b.port) (first_talks bs) all),
+        berths-send bs (All-tail (IsBack tell o migration (homes_of o.rollout.problem) log now.kept) (first_session b.switch b.port) (first_sessions bs) all),
       )
 
 -- ---- what the switches hold at a level
@@ -189,7 +189,7 @@ module _ {P : Type 0} (tell : P → PortTrace) (r : Rollout) (migration s : ℕ)
       holds = λ starts. told-more (AreHeldAt r migration (homes_of r.problem) b.switch h) (AreHeldAtStage r migration s (homes_of r.problem) b.switch found.start) (stage-of b.switch)
           (tell all.0.back).offered (tell all.0.back).heard (tell all.0.back).held (all.0.holds starts);
       each = each-more (AreHeldAt r migration (homes_of r.problem) b.switch h) (AreHeldAtStage r migration s (homes_of r.problem) b.switch found.start) (stage-of b.switch)
-          r migration (homes_of r.problem) found (view tell (first_talk b.switch b.port)) (tell all.0.back) all.0.each;
+          r migration (homes_of r.problem) found (view tell (first_session b.switch b.port)) (tell all.0.back) all.0.each;
     },
     berths-level bs all.1,
   )
@@ -261,7 +261,7 @@ module _ {D : Type 0} (trace : D → DiskTrace) (o : Opening) (log : List Writte
 
 -- the input is a rollout, and it was levelled from the image that its disk told
 record LevelsFrom {D P : Type 0} (trace : D → DiskTrace) (tell : P → PortTrace)
-    (Given : List ℕ → Type 0) (origin : BackFrom) (limits : Limits) (disk disk_now : D) (before now : FleetSeen P) (e : Ending) (out out_now : Option (List ℕ)) : Type 0 where
+    (Given : List ℕ → Type 0) (origin : BackFrom) (limits : Limits) (disk disk_now : D) (before now : FleetSeen P) (e : CommandEnd) (out out_now : Option (List ℕ)) : Type 0 where
   pub input : List ℕ
   pub given : Given input
   pub r : Rollout
@@ -276,7 +276,7 @@ record LevelsFrom {D P : Type 0} (trace : D → DiskTrace) (tell : P → PortTra
   pub levels : Levels trace tell r origin limits opened disk_now before now e out out_now
 
 module _ {D P : Type 0} (trace : D → DiskTrace) (tell : P → PortTrace)
-    (Given : List ℕ → Type 0) (origin : BackFrom) (limits : Limits) (disk disk_now : D) (before now : FleetSeen P) (e : Ending) (out out_now : Option (List ℕ)) where
+    (Given : List ℕ → Type 0) (origin : BackFrom) (limits : Limits) (disk disk_now : D) (before now : FleetSeen P) (e : CommandEnd) (out out_now : Option (List ℕ)) where
   levels-opened : (way : RollsBackOutOf trace tell Given origin limits disk disk_now before now e out out_now) (rolled : RollsBackOpened trace tell way.r origin limits disk disk_now before now e out out_now)
       → Levels trace tell way.r origin limits rolled.opened disk_now before now e out out_now → LevelsFrom trace tell Given origin limits disk disk_now before now e out out_now
   levels-opened way rolled levels = record {
@@ -295,7 +295,7 @@ module _ {D P : Type 0} (trace : D → DiskTrace) (tell : P → PortTrace)
   }
 
 module _ {D P : Type 0} (trace : D → DiskTrace) (tell : P → PortTrace)
-    (Given : List ℕ → Type 0) (origin : BackFrom) (limits : Limits) (disk disk_now : D) (before now : FleetSeen P) (e : Ending) (begun : is_of_begun e ≡ true) (out out_now : Option (List ℕ)) where
+    (Given : List ℕ → Type 0) (origin : BackFrom) (limits : Limits) (disk disk_now : D) (before now : FleetSeen P) (e : CommandEnd) (begun : is_of_begun e ≡ true) (out out_now : Option (List ℕ)) where
   levels-from : Reverts trace tell Given origin limits disk disk_now before now e out out_now → LevelsFrom trace tell Given origin limits disk disk_now before now e out out_now
   levels-from (inl none) = absurd (unbegun-refused Given e begun none.why)
   levels-from (inr way) = elim way.rolls as (λ _. LevelsFrom trace tell Given origin limits disk disk_now before now e out out_now) [
@@ -306,7 +306,7 @@ module _ {D P : Type 0} (trace : D → DiskTrace) (tell : P → PortTrace)
     ]
   ]
 
-  -- such an ending comes only behind a run that was begun
+  -- such an ending comes only after a run that was begun
   closes-run : (migration : ℕ) (answer : LevelAnswer) (levelled : D) → Closes trace migration answer levelled disk_now e out out_now → is_run answer ≡ true
   closes-run migration (ended.Level r start) levelled closes = refl
   closes-run migration (ended.Stopped r halt) levelled closes = refl
@@ -327,10 +327,10 @@ level-end r start other there (run.NoPort switch) is = absurd cc
 level-end r start other there run.Memory is = absurd cc
 
 module _ {D P : Type 0} (trace : D → DiskTrace) (tell : P → PortTrace)
-    (Given : List ℕ → Type 0) (origin : BackFrom) (limits : Limits) (disk disk_now : D) (before now : FleetSeen P) (e : Ending) (out out_now : Option (List ℕ))
+    (Given : List ℕ → Type 0) (origin : BackFrom) (limits : Limits) (disk disk_now : D) (before now : FleetSeen P) (e : CommandEnd) (out out_now : Option (List ℕ))
     (from : LevelsFrom trace tell Given origin limits disk disk_now before now e out out_now)
     (levelled : D) (answer : LevelAnswer) (has : HasLevelled trace tell origin from.r (digest_for from.r limits.migration) limits.rounds from.opened before.ports now.ports levelled answer) where
-  abbrev book : Chronicled D
+  abbrev book : Journaled D
   book = has.rolled.book
 
   abbrev o : Opening
@@ -516,7 +516,7 @@ module _ {D P : Type 0} (trace : D → DiskTrace) (tell : P → PortTrace)
 -- ---- whatever the ending
 
 module _ {D P : Type 0} (trace : D → DiskTrace) (tell : P → PortTrace)
-    (Given : List ℕ → Type 0) (origin : BackFrom) (limits : Limits) (disk disk_now : D) (before now : FleetSeen P) (e : Ending) (out out_now : Option (List ℕ)) where
+    (Given : List ℕ → Type 0) (origin : BackFrom) (limits : Limits) (disk disk_now : D) (before now : FleetSeen P) (e : CommandEnd) (out out_now : Option (List ℕ)) where
   as-it-was : now ≡ before → EndsBackSafely trace tell origin limits Given disk disk_now before.ports now.ports
   as-it-was same = inl (inl (ap (λ (f : FleetSeen P). f.ports) same))
 
@@ -567,7 +567,7 @@ done-wrote trace migration levelled disk_now out out_now x xs takes = elim takes
 
 module _ {D P : Type 0} (trace : D → DiskTrace) (tell : P → PortTrace)
     (Given : List ℕ → Type 0) (origin : BackFrom) (limits : Limits) (disk disk_now : D) (before now : FleetSeen P) (out out_now : Option (List ℕ)) where
-  begun-levels : (e : Ending) → is_of_begun e ≡ true → Reverts trace tell Given origin limits disk disk_now before now e out out_now → LevelsSafely trace tell origin limits Given disk disk_now before.ports now.ports
+  begun-levels : (e : CommandEnd) → is_of_begun e ≡ true → Reverts trace tell Given origin limits disk disk_now before now e out out_now → LevelsSafely trace tell origin limits Given disk disk_now before.ports now.ports
   begun-levels e begun reverts =
       let from = levels-from trace tell Given origin limits disk disk_now before now e begun out out_now reverts in
       run-safely trace tell Given origin limits disk disk_now before now e out out_now from from.levels.levelled from.levels.answer from.levels.has from.levels.closes
@@ -599,4 +599,4 @@ module _ {D P : Type 0} (trace : D → DiskTrace) (tell : P → PortTrace)
   reverts-back status rolls zero =
       let told : rolls.told ≡ Done = is-done rolls.told (sym rolls.is_status ∙ zero) in
       let done : rolls.ending ≡ Done = begun-told rolls.ending rolls.told rolls.told_as (ap is_of_begun told) ∙ told in
-      done-taken (subst (λ (e : Ending). Reverts trace tell Given origin limits disk disk_now before now e out out_now) done rolls.rolls)
+      done-taken (subst (λ (e : CommandEnd). Reverts trace tell Given origin limits disk disk_now before now e out out_now) done rolls.rolls)

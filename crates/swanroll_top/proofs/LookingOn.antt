@@ -12,15 +12,15 @@ use Rattle.file_sight.specs.Sights.{Looks}
 use Rattle.file_sight.specs.declared.unseen.Unseen.{Unseen}
 use Rattle.file_sight.specs.declared.unseen.Unseen.TheVariants as unseen
 use Rattle.rollout_report.specs.Journals.{Tells, journal_report}
-use Rattle.swanroll_top.specs.JournalRoom.{journal_room}
+use Rattle.retarget_service.specs.JournalRoom.{journal_room}
 use Rattle.swanroll_top.specs.Live.{Sees, ending_of_unseen}
 use Rattle.text_commands.specs.Answers.{rollout_in}
 use Rattle.text_commands.specs.Runs.{EndsWith, Gives}
 use Rattle.swanroll_top.specs.Watches.{AreReported, Differ, EndsLooking, HasNoText, ImageText, IsReported, TextOr, TurnOf, Writes, WritesAnew, Wrote, all_of, ends_finished, last_of, or_live, turn_after, turn_of}
-use Rattle.text_commands.specs.declared.ending.Ending.{Ending}
-use Rattle.text_commands.specs.declared.ending.Ending.TheVariants.{Done, Usage, AboveLimit, Input, NotValid, NoPlan, Unshown, ReadFault, WriteFault, DiskFault, GuestFault, Refused, NotFinished, OutOfMemory}
-use Rattle.swanroll_top.specs.declared.live.LiveEnding.{LiveEnding}
-use Rattle.swanroll_top.specs.declared.live.LiveEnding.TheVariants.{Ended, InUse}
+use Rattle.text_commands.specs.declared.command_end.CommandEnd.{CommandEnd}
+use Rattle.text_commands.specs.declared.command_end.CommandEnd.TheVariants.{Done, Usage, AboveLimit, Input, NotValid, NoPlan, Unshown, ReadFault, WriteFault, DiskFault, GuestFault, Refused, NotFinished, OutOfMemory}
+use Rattle.swanroll_top.specs.declared.live.LiveEnd.{LiveEnd}
+use Rattle.swanroll_top.specs.declared.live.LiveEnd.TheVariants.{Ended, InUse}
 use Rattle.swanroll_top.specs.declared.turning.Turn.{Turn}
 use Rattle.swanroll_top.specs.declared.turning.Turn.TheVariants.{Goes, Ends}
 use Rattle.text_commands.proofs.Answering.{is_answer, rollout-gives}
@@ -37,15 +37,15 @@ image-by report (Err (journal.Illegal place)) tells = tells
 image-by report (Err journal.BadStart) tells = tells
 
 -- over a disk in memory whose bytes are these
-pub image-text : (m : ℕ) (o : Rollout) (disk : Storing) (image : List ℕ) (answer : Result (List ℕ) JournalFault) (result : Result (List ℕ) LiveEnding) → disk.timeline.medium.bytes ≡ image
+pub image-text : (m : ℕ) (o : Rollout) (disk : Storing) (image : List ℕ) (answer : Result (List ℕ) JournalFault) (result : Result (List ℕ) LiveEnd) → disk.timeline.medium.bytes ≡ image
     → Tells answer (journal_report o m disk.timeline.medium.bytes) → result ≡ or_live answer → ImageText (journal_report o m image) result
 image-text m o disk image answer result bytes tells is =
-    subst (λ (r : Result (List ℕ) LiveEnding). ImageText (journal_report o m image) r) (sym is)
+    subst (λ (r : Result (List ℕ) LiveEnd). ImageText (journal_report o m image) r) (sym is)
     (image-by (journal_report o m image) answer (subst (λ (b : List ℕ). Tells answer (journal_report o m b)) bytes tells))
 
 module _ {W : Type 0} (trace : W → SourceTrace) (m : ℕ) where
   module _ (o : Rollout) (before now : W) where
-    pub seen-text : (image : List ℕ) (result : Result (List ℕ) LiveEnding) → Sees trace before now image → ImageText (journal_report o m image) result → TextOr trace m (Ok o) result
+    pub seen-text : (image : List ℕ) (result : Result (List ℕ) LiveEnd) → Sees trace before now image → ImageText (journal_report o m image) result → TextOr trace m (Ok o) result
     seen-text image (Ok text) sees is = record { o = o; is = refl; before = before; now = now; image = image; sees = sees; text_is = is }
     seen-text image (Err InUse) sees is = tt
     seen-text image (Err (Ended Done)) sees is = absurd is
@@ -69,11 +69,11 @@ module _ {W : Type 0} (trace : W → SourceTrace) (m : ℕ) where
       unseen-by unseen.InUse moved = tt
       unseen-by unseen.Memory any = tt
 
-      pub unseen-text : (why : Unseen) (ending : LiveEnding) → ending ≡ ending_of_unseen why → Looks trace limit before (Err why) now → TextOr trace m (Ok o) (Err ending)
-      unseen-text why ending is looks = subst (λ (e : LiveEnding). TextOr trace m (Ok o) (Err e)) (sym is) (unseen-by why looks)
+      pub unseen-text : (why : Unseen) (ending : LiveEnd) → ending ≡ ending_of_unseen why → Looks trace limit before (Err why) now → TextOr trace m (Ok o) (Err ending)
+      unseen-text why ending is looks = subst (λ (e : LiveEnd). TextOr trace m (Ok o) (Err e)) (sym is) (unseen-by why looks)
 
   -- an input that is refused
-  pub refused-text : (input : List ℕ) (e : Ending) → Gives {A = Rollout} (Err e) (rollout_in input) → HasNoText trace m (rollout_in input) e
+  pub refused-text : (input : List ℕ) (e : CommandEnd) → Gives {A = Rollout} (Err e) (rollout_in input) → HasNoText trace m (rollout_in input) e
   refused-text input Done g = let no : is_answer Done ≡ true = rollout-gives input Done g in cc
   refused-text input Usage g = g
   refused-text input AboveLimit g = g
@@ -95,18 +95,18 @@ finished-or : (text : List ℕ) (out now : Option (List ℕ)) (ends : Bool) → 
 finished-or text out now true is all = (is, all)
 finished-or text out now false is all = (refl, all)
 
-pub written-turn : (text : List ℕ) (out now : Option (List ℕ)) (e : Ending) (turn : Turn) → EndsWith (Ok text) e out now → turn ≡ turn_after e text → Writes text out turn now
+pub written-turn : (text : List ℕ) (out now : Option (List ℕ)) (e : CommandEnd) (turn : Turn) → EndsWith (Ok text) e out now → turn ≡ turn_after e text → Writes text out turn now
 written-turn text out now e turn (inl done) is =
-    subst (λ (t : Turn). Writes text out t now) (sym (is ∙ ap (λ (x : Ending). turn_after x text) done.0)) (finished-or text out now (ends_finished text) refl done.1)
+    subst (λ (t : Turn). Writes text out t now) (sym (is ∙ ap (λ (x : CommandEnd). turn_after x text) done.0)) (finished-or text out now (ends_finished text) refl done.1)
 written-turn text out now e turn (inr cut) is =
-    subst (λ (t : Turn). Writes text out t now) (sym (is ∙ ap (λ (x : Ending). turn_after x text) cut.0)) cut.1
+    subst (λ (t : Turn). Writes text out t now) (sym (is ∙ ap (λ (x : CommandEnd). turn_after x text) cut.0)) cut.1
 
 pub anew : (text last : List ℕ) (out now : Option (List ℕ)) (turn : Turn) (same : Bool) → same ≡ bytes_eq text last → same ≡ false → Writes text out turn now → WritesAnew text last out turn now
 anew text last out now turn same is other writes = inr (sym is ∙ other, writes)
 
 -- ---- one look
 
-module _ {W : Type 0} (trace : W → SourceTrace) (m : ℕ) (rollout : Result Rollout Ending) where
+module _ {W : Type 0} (trace : W → SourceTrace) (m : ℕ) (rollout : Result Rollout CommandEnd) where
   module _ (text last : List ℕ) (out now : Option (List ℕ)) (seen : IsReported trace m rollout text) (other : bytes_eq text last ≡ false) where
     new-turn : (turn : Turn) → Writes text out turn now → TurnOf trace m rollout last out turn now
     new-turn (Goes again) writes =
@@ -132,7 +132,7 @@ module _ {W : Type 0} (trace : W → SourceTrace) (m : ℕ) (rollout : Result Ro
   text-turn text last out now turn seen (inr other) = new-turn text last out now seen other.0 turn other.1
 
   module _ (last : List ℕ) (out : Option (List ℕ)) where
-    no-turn : (e : Ending) → HasNoText trace m rollout e → EndsLooking trace m rollout out (Ended e) out
+    no-turn : (e : CommandEnd) → HasNoText trace m rollout e → EndsLooking trace m rollout out (Ended e) out
     no-turn Done why = absurd why
     no-turn Usage why = (why, refl)
     no-turn AboveLimit why = (why, refl)
@@ -148,11 +148,11 @@ module _ {W : Type 0} (trace : W → SourceTrace) (m : ℕ) (rollout : Result Ro
     no-turn (NotFinished u) why = (why, refl)
     no-turn OutOfMemory why = (why, refl)
 
-    by-why : (why : LiveEnding) → TextOr trace m rollout (Err why) → TurnOf trace m rollout last out (turn_of why last) out
+    by-why : (why : LiveEnd) → TextOr trace m rollout (Err why) → TurnOf trace m rollout last out (turn_of why last) out
     by-why InUse any = inl (refl, refl)
     by-why (Ended e) why = no-turn e why
 
-    pub textless-turn : (why : LiveEnding) (turn : Turn) → turn ≡ turn_of why last → TextOr trace m rollout (Err why) → TurnOf trace m rollout last out turn out
+    pub textless-turn : (why : LiveEnd) (turn : Turn) → turn ≡ turn_of why last → TextOr trace m rollout (Err why) → TurnOf trace m rollout last out turn out
     textless-turn why turn is text = subst (λ (t : Turn). TurnOf trace m rollout last out t out) (sym is) (by-why why text)
 
   -- ---- a row of looks
@@ -176,7 +176,7 @@ all-more : (texts : List (List ℕ)) (text : List ℕ) → all_of (texts ++ text
 all-more [] text = append-nil text
 all-more (first ∷ later) text = ap (λ (l : List ℕ). first ++ l) (all-more later text) ∙ sym (append_assoc first (all_of later) text)
 
-module _ {W : Type 0} (trace : W → SourceTrace) (m : ℕ) (rollout : Result Rollout Ending) (first out now : Option (List ℕ)) (last : List ℕ) (wrote : Wrote trace m rollout first last out) where
+module _ {W : Type 0} (trace : W → SourceTrace) (m : ℕ) (rollout : Result Rollout CommandEnd) (first out now : Option (List ℕ)) (last : List ℕ) (wrote : Wrote trace m rollout first last out) where
   pub wrote-more : (text : List ℕ) → TurnOf trace m rollout last out (Goes text) now → Wrote trace m rollout first text now
   wrote-more text (inl same) =
       subst (λ (l : List ℕ). Wrote trace m rollout first l now) (sym same.0) (subst (λ (w : Option (List ℕ)). Wrote trace m rollout first last w) (sym same.1) wrote)

@@ -17,15 +17,15 @@ use Rattle.intent_journal.specs.Placements.{IsStoodOrPlaced}
 use Rattle.intent_journal.specs.Recovered.{KeepsNow, kept_for}
 use Rattle.intent_journal.specs.Verdicts.{verdict}
 use Rattle.intent_journal.proofs.Listings.{blank_none}
-use Rattle.rollout_book.specs.Chronicles.{Chronicled}
+use Rattle.rollout_book.specs.JournaledRounds.{Journaled}
 use Rattle.rollout_book.specs.Lists.{HasOwner}
 use Rattle.shared_book.specs.Images.{HasImages, Stays}
 use Rattle.shared_book.specs.Opened.{opening_of}
-use Rattle.rollout_ports.specs.Berths.{FleetPorts}
+use Rattle.switch_ports.specs.Berths.{FleetPorts}
 use Rattle.switch_laws.proofs.Answered.{some_at}
 use Rattle.switch_laws.proofs.Stands.{if_some, was_told}
 use Rattle.rollout_report.specs.Journals.{digest_for}
-use Rattle.rollout_run.specs.declared.running.Limits.{Limits}
+use Rattle.controller_run.specs.declared.running.Limits.{Limits}
 use Rattle.rollback_plan.specs.Turns.{BeginsBack}
 use Rattle.rollback_plan.proofs.TurnContents.{begins-back}
 use Rattle.rollback_service.specs.Levellings.{HasLevelled, TurnsFrom, start_of}
@@ -39,7 +39,7 @@ use Rattle.swanroll_top.specs.NextRollbacks.{MayBeFoundEither, NextStartEither, 
 use Rattle.swanroll_top.specs.NextStarts.{IsTakenAgain, MayBeFound, StartsAgain}
 use Rattle.swanroll_top.specs.Rollbacks.{Closes, Reverts, RollsBack, TakesBack}
 use Rattle.swanroll_top.specs.Rollouts.{FleetSeen}
-use Rattle.text_commands.specs.declared.ending.Ending.{Ending}
+use Rattle.text_commands.specs.declared.command_end.CommandEnd.{CommandEnd}
 use Rattle.swanroll_top.proofs.Levelling.{here, level-end}
 use Rattle.swanroll_top.proofs.NextStarting.{kept-owner, rolled-again, same-kept, unopened-again}
 use Rattle.swanroll_top.proofs.Reverting.{is_run, run-begun}
@@ -114,7 +114,7 @@ module _ {D : Type 0} (trace : D → DiskTrace) (origin : BackFrom) (r : Rollout
 module _ {D P : Type 0} (trace : D → DiskTrace) (tell : P → PortTrace)
     (origin : BackFrom) (r : Rollout) (limits : Limits) (opened disk_now : D) (before now : FleetPorts P) (network : IsNetwork r.problem) (valid : is_valid_plan r.problem r.plan ≡ true)
     (levelled : D) (answer : LevelAnswer) (has : HasLevelled trace tell origin r (digest_for r limits.migration) limits.rounds opened before now levelled answer) where
-  abbrev book : Chronicled D
+  abbrev book : Journaled D
   book = has.rolled.book
 
   abbrev stage : ℕ
@@ -172,8 +172,8 @@ module _ {D P : Type 0} (trace : D → DiskTrace) (tell : P → PortTrace)
         placed-either trace origin r limits.migration book.history stage turns-here opened levelled disk_now first image keeps.what first-begins
         (kept-owner r (digest_for r limits.migration) (verdict r (digest_for r limits.migration) first) keeps.what keeps.is_kept) starts-back again-from seen stayed.owner (levelled-list is seen) run
 
-  module _ (e : Ending) (out out_now : Option (List ℕ)) where
-    -- behind a level
+  module _ (e : CommandEnd) (out out_now : Option (List ℕ)) where
+    -- after a level
     takes-either : is_run answer ≡ true → TakesBack trace r limits.migration start levelled disk_now e out out_now → StartsEither trace origin r limits.migration opened disk_now
     takes-either is takes =
         if_some (trace opened).bytes (λ first. IfSome (trace disk_now).bytes (λ _. LeavesOnly trace opened disk_now (MayBeFoundEither origin r limits.migration first (trace opened).may_leave)))
@@ -204,7 +204,7 @@ module _ {D P : Type 0} (trace : D → DiskTrace) (tell : P → PortTrace)
 -- ---- by the input
 
 module _ {D P : Type 0} (trace : D → DiskTrace) (tell : P → PortTrace)
-    (Given : List ℕ → Type 0) (origin : BackFrom) (limits : Limits) (disk disk_now : D) (before now : FleetSeen P) (e : Ending) (out out_now : Option (List ℕ)) where
+    (Given : List ℕ → Type 0) (origin : BackFrom) (limits : Limits) (disk disk_now : D) (before now : FleetSeen P) (e : CommandEnd) (out out_now : Option (List ℕ)) where
   rolls-either : (r : Rollout) (opened : D) → RollsBack trace tell r origin limits opened disk_now before now e out out_now → StartsEither trace origin r limits.migration opened disk_now
   rolls-either r opened rolls = elim rolls.ends as (λ _. StartsEither trace origin r limits.migration opened disk_now) [
     | inl levels ↦

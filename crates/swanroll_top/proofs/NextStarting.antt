@@ -14,18 +14,18 @@ use Rattle.intent_journal.specs.Parts.{Kept}
 use Rattle.intent_journal.specs.Phases.{kept_by, kept_of}
 use Rattle.intent_journal.specs.Recovered.{KeepsNow, MayStand, kept_for}
 use Rattle.intent_journal.specs.Verdicts.{Fresh, NoJournal, NoStart, NotLegal, OfAnother, Stands, Verdict, verdict}
-use Rattle.shared_history.specs.Histories.{Opening}
+use Rattle.shared_book.specs.Histories.{Opening}
 use Rattle.shared_book.specs.Images.{GoesOnFrom, Stays}
 use Rattle.shared_book.specs.Opened.{opening_of}
-use Rattle.rollout_ports.specs.Berths.{FleetPorts}
+use Rattle.switch_ports.specs.Berths.{FleetPorts}
 use Rattle.rollout_report.specs.Journals.{digest_for}
-use Rattle.rollout_run.specs.declared.running.Limits.{Limits}
-use Rattle.rollout_service.specs.Outcomes.{HasRolled, IfRolled, OnUnopened}
-use Rattle.rollout_service.specs.declared.answer.RunAnswer.{RunAnswer}
-use Rattle.rollout_service.specs.declared.answer.RunAnswer.TheVariants as answer
+use Rattle.controller_run.specs.declared.running.Limits.{Limits}
+use Rattle.controller_run.specs.RolloutEnds.{HasRolled, IfRolled, OnUnopened}
+use Rattle.controller_run.specs.declared.rollout_end.RolloutEnd.{RolloutEnd}
+use Rattle.controller_run.specs.declared.rollout_end.RolloutEnd.TheVariants as answer
 use Rattle.swanroll_top.specs.NextStarts.{IsTakenAgain, LeavesToNext, MayBeFound, NextStart, StartsAgain}
 use Rattle.swanroll_top.specs.Rollouts.{FleetSeen, Rolls}
-use Rattle.text_commands.specs.declared.ending.Ending.{Ending}
+use Rattle.text_commands.specs.declared.command_end.CommandEnd.{CommandEnd}
 
 -- whatever an opened journal keeps is of its digest and migration
 pub kept-owner : (r : Rollout) (digest : Digest) (v : Verdict) (what : Kept) → kept_for r digest v ≡ Some what → (what.digest ≡ digest.bytes) × (what.migration ≡ digest.migration)
@@ -110,11 +110,11 @@ module _ {D : Type 0} (trace : D → DiskTrace) (r : Rollout) (digest : Digest) 
   unopened-again run = left-again (trace disk).bytes (trace now).bytes run
 
 module _ {D P : Type 0} (trace : D → DiskTrace) (tell : P → PortTrace) (r : Rollout) (digest : Digest) (policy : OpView → ℕ) (rounds : ℕ) (disk disk_now : D) (before now : FleetPorts P) where
-  pub rolled-again : (a : RunAnswer) → HasRolled trace tell r digest policy rounds disk before now disk_now a → StartsAgain trace r digest disk disk_now
+  pub rolled-again : (a : RolloutEnd) → HasRolled trace tell r digest policy rounds disk before now disk_now a → StartsAgain trace r digest disk disk_now
   rolled-again a has =
       opened-again trace r digest disk disk_now (opening_of has.book policy) has.book.disk (trace disk).bytes (trace disk_now).bytes has.opened.rollout has.opened.found has.opened.on.keeps has.opened.on.meanwhile has.run.stays
 
-  answer-again : (a : RunAnswer) (Q : Type 0) → IfRolled a (HasRolled trace tell r digest policy rounds disk before now disk_now a)
+  answer-again : (a : RolloutEnd) (Q : Type 0) → IfRolled a (HasRolled trace tell r digest policy rounds disk before now disk_now a)
       → OnUnopened a (λ why. IsLeft trace r digest disk why disk_now × Q) → StartsAgain trace r digest disk disk_now
   answer-again (answer.Finished operations found) Q has left = rolled-again (answer.Finished operations found) has
   answer-again (answer.Held count) Q has left = rolled-again (answer.Held count) has
@@ -123,7 +123,7 @@ module _ {D P : Type 0} (trace : D → DiskTrace) (tell : P → PortTrace) (r : 
   answer-again answer.Memory Q has left = rolled-again answer.Memory has
   answer-again (answer.Unopened why) Q has left = left-again trace r digest disk disk_now (trace disk).bytes (trace disk_now).bytes left.0.meanwhile
 
-module _ {D P : Type 0} (trace : D → DiskTrace) (tell : P → PortTrace) (Given : List ℕ → Type 0) (disk disk_now : D) (before now : FleetSeen P) (limits : Limits) (policy : OpView → ℕ) (e : Ending) (out out_now : Option (List ℕ)) where
+module _ {D P : Type 0} (trace : D → DiskTrace) (tell : P → PortTrace) (Given : List ℕ → Type 0) (disk disk_now : D) (before now : FleetSeen P) (limits : Limits) (policy : OpView → ℕ) (e : CommandEnd) (out out_now : Option (List ℕ)) where
   pub rolls-next : Rolls trace tell Given limits policy disk disk_now before now e out out_now → NextStart trace limits Given disk disk_now
   rolls-next (inl none) = inl none.disk_is
   rolls-next (inr rolled) = elim rolled.rolls [

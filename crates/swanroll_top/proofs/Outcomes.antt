@@ -1,4 +1,4 @@
--- How a run ends behind a rollout, by what came of it.
+-- How a run ends after a rollout, by what came of it.
 use Rattle.std.proofs.Common.{◌≡◌, ◌⊎◌, ◌≤◌, ℕ, List, length, true, Option, Result, Ok, Err, refl, sym, ap, ◌∙◌, subst, inl, inr, arith}
 use Rattle.rollout_rules.specs.History.{History}
 use Rattle.rollout_rules.specs.Wan.{Rollout}
@@ -9,31 +9,31 @@ use Rattle.wan_edge.specs.Streams.{Rose}
 use Rattle.intent_journal.specs.declared.digest.Digest.{Digest}
 use Rattle.intent_journal.specs.declared.fault.JournalFault.{JournalFault}
 use Rattle.intent_journal.specs.declared.fault.JournalFault.TheVariants as fault
-use Rattle.shared_history.specs.declared.note.Cause.{Cause}
-use Rattle.shared_history.specs.declared.note.Cause.TheVariants as cause
-use Rattle.shared_history.specs.declared.reply.Halt.{Halt}
+use Rattle.shared_book.specs.declared.note.Cause.{Cause}
+use Rattle.shared_book.specs.declared.note.Cause.TheVariants as cause
+use Rattle.shared_book.specs.declared.call_reply.Halt.{Halt}
 use Rattle.shared_book.specs.Homes.{homes_of}
 use Rattle.shared_book.specs.Opened.{opening_of}
-use Rattle.rollout_ports.specs.Berths.{FleetPorts}
-use Rattle.rollout_ports.specs.Homes.{working_homes}
-use Rattle.rollout_run.specs.Causes.{IsCause}
-use Rattle.rollout_run.specs.Ran.{EndsRun, Ran}
-use Rattle.rollout_run.specs.declared.end.RunEnd.{RunEnd}
-use Rattle.rollout_run.specs.declared.end.RunEnd.TheVariants as run
+use Rattle.switch_ports.specs.Berths.{FleetPorts}
+use Rattle.switch_ports.specs.Homes.{working_homes}
+use Rattle.controller_run.specs.Causes.{IsCause}
+use Rattle.controller_run.specs.Ran.{EndsRun, Ran}
+use Rattle.controller_run.specs.declared.end.RunEnd.{RunEnd}
+use Rattle.controller_run.specs.declared.end.RunEnd.TheVariants as run
 use Rattle.intent_journal.specs.Openings.{IsLeft}
-use Rattle.rollout_service.specs.Outcomes.{HasRolled, IfRolled, OnUnopened, answer_for}
-use Rattle.rollout_service.specs.declared.answer.RunAnswer.{RunAnswer}
-use Rattle.rollout_service.specs.declared.answer.RunAnswer.TheVariants as answer
-use Rattle.text_commands.specs.Endings.{ending_of_journal, status_of}
+use Rattle.controller_run.specs.RolloutEnds.{HasRolled, IfRolled, OnUnopened, answer_for}
+use Rattle.controller_run.specs.declared.rollout_end.RolloutEnd.{RolloutEnd}
+use Rattle.controller_run.specs.declared.rollout_end.RolloutEnd.TheVariants as answer
+use Rattle.text_commands.specs.CommandEnds.{ending_of_journal, status_of}
 use Rattle.swanroll_top.specs.Rollouts.{EndsRollout, IsDiskFault, ending_of_stop, line_or_ending, may_end}
 use Rattle.text_commands.specs.Runs.{EndsWith, Follows, Gives}
-use Rattle.text_commands.specs.declared.ending.Ending.{Ending}
-use Rattle.text_commands.specs.declared.ending.Ending.TheVariants.{Done, Usage, AboveLimit, Input, NotValid, NoPlan, Unshown, ReadFault, WriteFault, DiskFault, GuestFault, Refused, NotFinished, OutOfMemory}
+use Rattle.text_commands.specs.declared.command_end.CommandEnd.{CommandEnd}
+use Rattle.text_commands.specs.declared.command_end.CommandEnd.TheVariants.{Done, Usage, AboveLimit, Input, NotValid, NoPlan, Unshown, ReadFault, WriteFault, DiskFault, GuestFault, Refused, NotFinished, OutOfMemory}
 use Rattle.text_commands.proofs.Programs.{ends-unwritten}
 
 -- ---- an ending in place of a text
 
-pub gives-follows : (answer : Result (List ℕ) Ending) (e : Ending) (out : Option (List ℕ)) → Gives {A = List ℕ} (Err e) answer → Follows answer e out out
+pub gives-follows : (answer : Result (List ℕ) CommandEnd) (e : CommandEnd) (out : Option (List ℕ)) → Gives {A = List ℕ} (Err e) answer → Follows answer e out out
 gives-follows answer Done out h = subst (λ r. EndsWith r Done out out) (sym h) (refl, refl)
 gives-follows answer Usage out h = subst (λ r. EndsWith r Usage out out) (sym h) (refl, refl)
 gives-follows answer AboveLimit out h = subst (λ r. EndsWith r AboveLimit out out) (sym h) (refl, refl)
@@ -49,8 +49,8 @@ gives-follows answer (Refused f) out h = subst (λ r. EndsWith r (Refused f) out
 gives-follows answer (NotFinished u) out h = subst (λ r. EndsWith r (NotFinished u) out out) (sym h) (refl, refl)
 gives-follows answer OutOfMemory out h = refl
 
--- the ending is the one that is given, but for want of memory
-pub given-or-memory : (answer : Result (List ℕ) Ending) (e : Ending) → Gives {A = List ℕ} (Err e) answer → (answer ≡ Err e) ⊎ (e ≡ OutOfMemory)
+-- the ending is the one that is given, but for lack of memory
+pub given-or-memory : (answer : Result (List ℕ) CommandEnd) (e : CommandEnd) → Gives {A = List ℕ} (Err e) answer → (answer ≡ Err e) ⊎ (e ≡ OutOfMemory)
 given-or-memory answer Done h = inl h
 given-or-memory answer Usage h = inl h
 given-or-memory answer AboveLimit h = inl h
@@ -68,7 +68,7 @@ given-or-memory answer OutOfMemory h = inr refl
 
 -- ---- by the answer
 
-abbrev MayEndSo : Result (List ℕ) Ending → Type 0
+abbrev MayEndSo : Result (List ℕ) CommandEnd → Type 0
 MayEndSo (Ok text) = Unit {0}
 MayEndSo (Err e) = may_end e ≡ true
 
@@ -89,7 +89,7 @@ journal-may fault.BadStart = refl
 journal-may fault.Disk = refl
 journal-may fault.Memory = refl
 
-answer-may : (a : RunAnswer) → MayEndSo (line_or_ending a)
+answer-may : (a : RolloutEnd) → MayEndSo (line_or_ending a)
 answer-may (answer.Finished operations found) = tt
 answer-may (answer.Held left) = refl
 answer-may (answer.Stopped r halt) = stop-may r halt.cause
@@ -97,11 +97,11 @@ answer-may (answer.NoPort r switch) = refl
 answer-may answer.Memory = refl
 answer-may (answer.Unopened why) = journal-may why
 
-pub text-ends : (text : List ℕ) (e : Ending) (out now : Option (List ℕ)) → EndsWith (Ok text) e out now → EndsRollout e out now
+pub text-ends : (text : List ℕ) (e : CommandEnd) (out now : Option (List ℕ)) → EndsWith (Ok text) e out now → EndsRollout e out now
 text-ends text e out now (inl done) = record { may = ap may_end done.0; silent = λ zero seven. absurd (zero (ap status_of done.0)) }
 text-ends text e out now (inr cut) = record { may = ap may_end cut.0; silent = λ zero seven. absurd (seven (ap status_of cut.0)) }
 
-pub err-ends : (a : RunAnswer) (e : Ending) (out : Option (List ℕ)) → Gives {A = List ℕ} (Err e) (line_or_ending a) → EndsRollout e out out
+pub err-ends : (a : RolloutEnd) (e : CommandEnd) (out : Option (List ℕ)) → Gives {A = List ℕ} (Err e) (line_or_ending a) → EndsRollout e out out
 err-ends a e out h = record {
   may = elim (given-or-memory (line_or_ending a) e h) [
     | inl is ↦ subst MayEndSo is (answer-may a)
@@ -129,13 +129,13 @@ journal-disk fault.BadStart h = absurd cc
 journal-disk fault.Disk h = refl
 journal-disk fault.Memory h = absurd cc
 
-abbrev pub without_text : Ending → Result (List ℕ) Ending
+abbrev pub without_text : CommandEnd → Result (List ℕ) CommandEnd
 without_text e = Err e
 
-pub same-ending : (x e : Ending) → without_text x ≡ without_text e → x ≡ e
+pub same-ending : (x e : CommandEnd) → without_text x ≡ without_text e → x ≡ e
 same-ending x e h = cc
 
-disk-answer : (a : RunAnswer) → line_or_ending a ≡ Err DiskFault → IsDiskFault a
+disk-answer : (a : RolloutEnd) → line_or_ending a ≡ Err DiskFault → IsDiskFault a
 disk-answer (answer.Finished operations found) h = absurd cc
 disk-answer (answer.Held left) h = absurd cc
 disk-answer (answer.Stopped r halt) h = stop-disk r halt.cause (same-ending (ending_of_stop r halt.cause) DiskFault h)
@@ -143,15 +143,15 @@ disk-answer (answer.NoPort r switch) h = absurd cc
 disk-answer answer.Memory h = absurd cc
 disk-answer (answer.Unopened why) h = journal-disk why (same-ending (ending_of_journal why) DiskFault h)
 
-pub err-disk : (a : RunAnswer) (e : Ending) → Gives {A = List ℕ} (Err e) (line_or_ending a) → e ≡ DiskFault → IsDiskFault a
+pub err-disk : (a : RolloutEnd) (e : CommandEnd) → Gives {A = List ℕ} (Err e) (line_or_ending a) → e ≡ DiskFault → IsDiskFault a
 err-disk a e h is = disk-answer a (subst (λ x. Gives {A = List ℕ} (Err x) (line_or_ending a)) is h)
 
-pub text-not-disk : (text : List ℕ) (e : Ending) (out now : Option (List ℕ)) → EndsWith (Ok text) e out now → e ≡ DiskFault → ⊥
+pub text-not-disk : (text : List ℕ) (e : CommandEnd) (out now : Option (List ℕ)) → EndsWith (Ok text) e out now → e ≡ DiskFault → ⊥
 text-not-disk text e out now (inl done) is = let no : Done ≡ DiskFault = sym done.0 ∙ is in cc
 text-not-disk text e out now (inr cut) is = let no : WriteFault ≡ DiskFault = sym cut.0 ∙ is in cc
 
 -- a rollout that gives no line has written nothing
-pub err-not-cut : (a : RunAnswer) (e : Ending) → Gives {A = List ℕ} (Err e) (line_or_ending a) → e ≡ WriteFault → ⊥
+pub err-not-cut : (a : RolloutEnd) (e : CommandEnd) → Gives {A = List ℕ} (Err e) (line_or_ending a) → e ≡ WriteFault → ⊥
 err-not-cut a e h is = no-cut a (subst (λ x. Gives {A = List ℕ} (Err x) (line_or_ending a)) is h)
   where
     stop-cut : (r : Rollout) (why : Cause) → ending_of_stop r why ≡ WriteFault → ⊥
@@ -171,7 +171,7 @@ err-not-cut a e h is = no-cut a (subst (λ x. Gives {A = List ℕ} (Err x) (line
     journal-cut fault.Disk h = cc
     journal-cut fault.Memory h = cc
 
-    no-cut : (a : RunAnswer) → line_or_ending a ≡ Err WriteFault → ⊥
+    no-cut : (a : RolloutEnd) → line_or_ending a ≡ Err WriteFault → ⊥
     no-cut (answer.Finished operations found) h = cc
     no-cut (answer.Held left) h = cc
     no-cut (answer.Stopped r halt) h = stop-cut r halt.cause (same-ending (ending_of_stop r halt.cause) WriteFault h)
@@ -181,7 +181,7 @@ err-not-cut a e h is = no-cut a (subst (λ x. Gives {A = List ℕ} (Err x) (line
 
 -- ---- what a fault of the disk says of the disk
 
-both-unopened : (a : RunAnswer) (P : JournalFault → Type 0) (Q : Type 0) → OnUnopened a P → OnUnopened a (λ _. Q) → OnUnopened a (λ why. P why × Q)
+both-unopened : (a : RolloutEnd) (P : JournalFault → Type 0) (Q : Type 0) → OnUnopened a P → OnUnopened a (λ _. Q) → OnUnopened a (λ why. P why × Q)
 both-unopened (answer.Finished operations found) P Q p q = tt
 both-unopened (answer.Held left) P Q p q = tt
 both-unopened (answer.Stopped r halt) P Q p q = tt
@@ -189,7 +189,7 @@ both-unopened (answer.NoPort r switch) P Q p q = tt
 both-unopened answer.Memory P Q p q = tt
 both-unopened (answer.Unopened why) P Q p q = (p, q)
 
-more-unopened : (a : RunAnswer) (P Q : Type 0) → (P → Q) → OnUnopened a (λ _. P) → OnUnopened a (λ _. Q)
+more-unopened : (a : RolloutEnd) (P Q : Type 0) → (P → Q) → OnUnopened a (λ _. P) → OnUnopened a (λ _. Q)
 more-unopened (answer.Finished operations found) P Q more p = tt
 more-unopened (answer.Held left) P Q more p = tt
 more-unopened (answer.Stopped r halt) P Q more p = tt
@@ -198,7 +198,7 @@ more-unopened answer.Memory P Q more p = tt
 more-unopened (answer.Unopened why) P Q more p = more p
 
 -- no journal was opened, and no port
-pub unopened-ports : (a : RunAnswer) (P : JournalFault → Type 0) (Q R : Type 0) → (Q → R) → OnUnopened a P → OnUnopened a (λ _. Q) → OnUnopened a (λ why. P why × R)
+pub unopened-ports : (a : RolloutEnd) (P : JournalFault → Type 0) (Q R : Type 0) → (Q → R) → OnUnopened a P → OnUnopened a (λ _. Q) → OnUnopened a (λ why. P why × R)
 unopened-ports a P Q R more p q = both-unopened a P R p (more-unopened a Q R more q)
 
 stopped-end : (r other : Rollout) (found : ℕ) (h : History) (end : RunEnd) (halt : Halt) → answer.Stopped r halt ≡ answer_for other found h end → end ≡ run.Stopped halt
@@ -229,7 +229,7 @@ module _ {D P : Type 0} (trace : D → DiskTrace) (tell : P → PortTrace)
       subst (λ (why : Cause). IsCause tell o digest.migration (homes_of o.rollout.problem) rounds (Rose (trace opened.disk).faults (trace ran.closed.disk).faults) ends.log ends.reason.first why ends.reason.now) is held in
       rose-later (trace disk).faults (trace opened.disk).faults (trace disk_now).faults rolled.opened.on.count (subst (λ (d : D). Rose (trace opened.disk).faults (trace d).faults) (sym ran.back) rose)
 
-  pub disk-failed : (a : RunAnswer) → IsDiskFault a → IfRolled a (HasRolled trace tell r digest policy rounds disk before now disk_now a)
+  pub disk-failed : (a : RolloutEnd) → IsDiskFault a → IfRolled a (HasRolled trace tell r digest policy rounds disk before now disk_now a)
       → OnUnopened a (λ why. IsLeft trace r digest disk why disk_now) → Rose (trace disk).faults (trace disk_now).faults
   disk-failed (answer.Finished operations found) is rolled left = absurd is
   disk-failed (answer.Held left) is rolled unopened = absurd is

@@ -1,14 +1,14 @@
 -- What the ending of a report, or of a rollout, says of the input and the sink.
 use Rattle.std.proofs.Common.{◌≡◌, ℕ, List, Option, refl}
 use Rattle.wan_edge.specs.Streams.{SourceTrace}
-use Rattle.text_commands.specs.Endings.{status_of}
+use Rattle.text_commands.specs.CommandEnds.{status_of}
 use Rattle.swanroll_top.specs.Reports.{FollowsReport, RunsReport}
 use Rattle.swanroll_top.specs.Rollouts.{FollowsRollout, RunsRollout}
-use Rattle.text_commands.specs.declared.ending.Ending.{Ending}
-use Rattle.text_commands.specs.declared.ending.Ending.TheVariants.{Done, Usage, AboveLimit, Input, NotValid, NoPlan, Unshown, ReadFault, WriteFault, DiskFault, GuestFault, Refused, NotFinished, OutOfMemory}
+use Rattle.text_commands.specs.declared.command_end.CommandEnd.{CommandEnd}
+use Rattle.text_commands.specs.declared.command_end.CommandEnd.TheVariants.{Done, Usage, AboveLimit, Input, NotValid, NoPlan, Unshown, ReadFault, WriteFault, DiskFault, GuestFault, Refused, NotFinished, OutOfMemory}
 
 module _ (m : ℕ) (source source_now : SourceTrace) (stored out out_now : Option (List ℕ)) where
-  pub reports-of : (t : Ending) → RunsReport m source source_now stored t out out_now → (status_of t ≡ 6 → ⊥) → (status_of t ≡ 8 → ⊥) → (status_of t ≡ 12 → ⊥)
+  pub reports-of : (t : CommandEnd) → RunsReport m source source_now stored t out out_now → (status_of t ≡ 6 → ⊥) → (status_of t ≡ 8 → ⊥) → (status_of t ≡ 12 → ⊥)
       → FollowsReport m source source_now stored t out out_now
   reports-of Done r read disk memory = r
   reports-of Usage r read disk memory = r
@@ -25,7 +25,7 @@ module _ (m : ℕ) (source source_now : SourceTrace) (stored out out_now : Optio
   reports-of (NotFinished u) r read disk memory = r
   reports-of OutOfMemory r read disk memory = absurd (memory refl)
 
-  pub report-unwritten : (t : Ending) → RunsReport m source source_now stored t out out_now → (status_of t ≡ 0 → ⊥) → (status_of t ≡ 7 → ⊥) → out_now ≡ out
+  pub report-unwritten : (t : CommandEnd) → RunsReport m source source_now stored t out out_now → (status_of t ≡ 0 → ⊥) → (status_of t ≡ 7 → ⊥) → out_now ≡ out
   report-unwritten Done r done cut = r.silent done cut
   report-unwritten Usage r done cut = r.silent done cut
   report-unwritten AboveLimit r done cut = r.silent done cut
@@ -42,7 +42,7 @@ module _ (m : ℕ) (source source_now : SourceTrace) (stored out out_now : Optio
   report-unwritten OutOfMemory r done cut = r
 
 module _ (source source_now : SourceTrace) (out out_now : Option (List ℕ)) where
-  pub rollouts-of : (t : Ending) → RunsRollout source source_now t out out_now → (status_of t ≡ 6 → ⊥) → (status_of t ≡ 12 → ⊥) → FollowsRollout source source_now t out out_now
+  pub rollouts-of : (t : CommandEnd) → RunsRollout source source_now t out out_now → (status_of t ≡ 6 → ⊥) → (status_of t ≡ 12 → ⊥) → FollowsRollout source source_now t out out_now
   rollouts-of Done r read memory = r
   rollouts-of Usage r read memory = r
   rollouts-of AboveLimit r read memory = r
@@ -58,7 +58,7 @@ module _ (source source_now : SourceTrace) (out out_now : Option (List ℕ)) whe
   rollouts-of (NotFinished u) r read memory = r
   rollouts-of OutOfMemory r read memory = absurd (memory refl)
 
-  pub rollout-unwritten : (t : Ending) → RunsRollout source source_now t out out_now → (status_of t ≡ 0 → ⊥) → (status_of t ≡ 7 → ⊥) → out_now ≡ out
+  pub rollout-unwritten : (t : CommandEnd) → RunsRollout source source_now t out out_now → (status_of t ≡ 0 → ⊥) → (status_of t ≡ 7 → ⊥) → out_now ≡ out
   rollout-unwritten Done r done cut = r.silent done cut
   rollout-unwritten Usage r done cut = r.silent done cut
   rollout-unwritten AboveLimit r done cut = r.silent done cut

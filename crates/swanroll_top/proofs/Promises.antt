@@ -3,15 +3,15 @@ use Rattle.std.proofs.Common.{◌≡◌, ℕ, Bool, List, drop, String, Option, 
 use Rattle.std.specs.declared.alloc.Global.{Global}
 use Rattle.rollout_rules.specs.declared.op.OpView.{OpView}
 use Rattle.agent_service.specs.Services.{Guests}
-use Rattle.rollout_ports.specs.Berths.{FleetPorts, ports_of}
+use Rattle.switch_ports.specs.Berths.{FleetPorts, ports_of}
 use Rattle.rollback_service.specs.declared.origin.BackFrom.{BackFrom}
-use Rattle.rollout_run.specs.declared.running.Limits.{Limits}
+use Rattle.controller_run.specs.declared.running.Limits.{Limits}
 use Rattle.sim_run.specs.declared.shape.Shape.{Shape}
 use Rattle.swanroll_top.specs.AgentPromise.{BringsService, ServesAsOne}
 use Rattle.swanroll_top.specs.Agents.{service_answer}
 use Rattle.swanroll_top.specs.DrainPromise.{BringsDrain, DrainPromise}
 use Rattle.swanroll_top.specs.Drains.{DrainsAs}
-use Rattle.text_commands.specs.Endings.{ending_of_unread, status_of, tells_place}
+use Rattle.text_commands.specs.CommandEnds.{ending_of_unread, status_of, tells_place}
 use Rattle.swanroll_top.specs.HeldPromise.{BringsHeld, HeldPromise}
 use Rattle.text_commands.specs.Program.{NotesLine, Streams}
 use Rattle.swanroll_top.specs.Promise.{Brings, EndsUnread, Keeps, Promise, Ran, StartPromise}
@@ -28,8 +28,8 @@ use Rattle.swanroll_top.specs.Uses.{uses_of}
 use Rattle.swanroll_top.specs.Views.{Objects, Outside, Views, outside, seen, source_at, streams, used, written_at}
 use Rattle.swanroll_top.specs.Words.{Asked, a_drain, a_report, a_rollback, a_run, a_text, a_trial, an_agent, asked_by, what_is_held}
 use Rattle.text_commands.specs.declared.arguments.Unread.{Unread}
-use Rattle.text_commands.specs.declared.ending.Ending.{Ending}
-use Rattle.text_commands.specs.declared.ending.Ending.TheVariants.{Usage, DiskFault}
+use Rattle.text_commands.specs.declared.command_end.CommandEnd.{CommandEnd}
+use Rattle.text_commands.specs.declared.command_end.CommandEnd.TheVariants.{Usage, DiskFault}
 use Rattle.text_commands.proofs.KeptTexts.{text-keeps, unread-known}
 use Rattle.swanroll_top.proofs.Agents.{serves-as}
 use Rattle.swanroll_top.proofs.DrainEnds.{drains-behind}
@@ -67,7 +67,7 @@ same-guests before now c s = ap (λ x. guests_with x now.served) c ∙ ap (λ x.
 -- ---- by what is told of an ending
 
 -- `trial`
-trial-keeps : (policy : OpView → ℕ) (shape : Shape) (before after : Streams) (e : Ending) (status : ℕ) → RunsTrial policy shape before.source after.source e before.sink.written after.sink.written
+trial-keeps : (policy : OpView → ℕ) (shape : Shape) (before after : Streams) (e : CommandEnd) (status : ℕ) → RunsTrial policy shape before.source after.source e before.sink.written after.sink.written
     → IsTold e status before.notes.written after.notes.written before.notes.faults after.notes.faults → TrialPromise policy shape before after status
 trial-keeps policy shape before after e status runs told =
     let told_runs = told-brings (λ x. RunsTrial policy shape before.source after.source x before.sink.written after.sink.written) before.sink.written after.sink.written e told.told told.is runs
@@ -87,7 +87,7 @@ trial-keeps policy shape before after e status runs told =
 
 module _ {S K D F P G : Type 0} (views : Views S K D F P G) where
   -- `report`
-  report-keeps : (m : ℕ) (before after : Outside S K D F) (e : Ending) (status : ℕ) → BringsReport views m (used before) e (used after)
+  report-keeps : (m : ℕ) (before after : Outside S K D F) (e : CommandEnd) (status : ℕ) → BringsReport views m (used before) e (used after)
       → IsTold e status (views.sink before.notes).written (views.sink after.notes).written (views.sink before.notes).faults (views.sink after.notes).faults → ReportPromise views m before status after
   report-keeps m before after e status brings told =
       let source = views.source before.source in
@@ -114,7 +114,7 @@ module _ {S K D F P G : Type 0} (views : Views S K D F P G) where
       }
 
   -- `run`
-  run-keeps : (limits : Limits) (policy : OpView → ℕ) (before after : Outside S K D F) (e : Ending) (status : ℕ) → BringsRollout views limits policy (used before) e (used after)
+  run-keeps : (limits : Limits) (policy : OpView → ℕ) (before after : Outside S K D F) (e : CommandEnd) (status : ℕ) → BringsRollout views limits policy (used before) e (used after)
       → IsTold e status (views.sink before.notes).written (views.sink after.notes).written (views.sink before.notes).faults (views.sink after.notes).faults → RunPromise views limits policy before status after
   run-keeps limits policy before after e status brings told =
       let source = views.source before.source in
@@ -150,7 +150,7 @@ module _ {S K D F P G : Type 0} (views : Views S K D F P G) where
       }
 
   -- `agent`, whose line takes no memory
-  agent-one : (guests : ℕ) (before after : Outside S K D F) (e : Ending) (status : ℕ) → BringsService views guests (used before) e (used after)
+  agent-one : (guests : ℕ) (before after : Outside S K D F) (e : CommandEnd) (status : ℕ) → BringsService views guests (used before) e (used after)
       → IsTold e status (views.sink before.notes).written (views.sink after.notes).written (views.sink before.notes).faults (views.sink after.notes).faults → ServesAsOne views guests before status after
   agent-one guests before after e status brings told =
       let same : told.told ≡ e = known-told e told.told brings.known told.is in
@@ -158,11 +158,11 @@ module _ {S K D F P G : Type 0} (views : Views S K D F P G) where
         ending = e;
         brings = brings;
         is_status = told.is_status ∙ ap status_of same;
-        line = subst (λ (x : Ending). NotesLine x (streams views before) (streams views after)) same told.line;
+        line = subst (λ (x : CommandEnd). NotesLine x (streams views before) (streams views after)) same told.line;
       }
 
   -- `drain`
-  drain-keeps : (limits : Limits) (before after : Outside S K D F) (e : Ending) (status : ℕ) → BringsDrain views limits (used before) e (used after)
+  drain-keeps : (limits : Limits) (before after : Outside S K D F) (e : CommandEnd) (status : ℕ) → BringsDrain views limits (used before) e (used after)
       → IsTold e status (views.sink before.notes).written (views.sink after.notes).written (views.sink before.notes).faults (views.sink after.notes).faults → DrainPromise views limits before status after
   drain-keeps limits before after e status brings told =
       let source = views.source before.source in
@@ -198,7 +198,7 @@ module _ {S K D F P G : Type 0} (views : Views S K D F P G) where
       }
 
   -- `rollback`
-  rollback-keeps : (origin : BackFrom) (limits : Limits) (before after : Outside S K D F) (e : Ending) (status : ℕ) → BringsRollback views origin limits (used before) e (used after)
+  rollback-keeps : (origin : BackFrom) (limits : Limits) (before after : Outside S K D F) (e : CommandEnd) (status : ℕ) → BringsRollback views origin limits (used before) e (used after)
       → IsTold e status (views.sink before.notes).written (views.sink after.notes).written (views.sink before.notes).faults (views.sink after.notes).faults → RollbackPromise views origin limits before status after
   rollback-keeps origin limits before after e status brings told =
       let source = views.source before.source in
@@ -234,7 +234,7 @@ module _ {S K D F P G : Type 0} (views : Views S K D F P G) where
       }
 
   -- `held`
-  held-keeps : (rounds : ℕ) (before after : Outside S K D F) (e : Ending) (status : ℕ) → BringsHeld views rounds (used before) e (used after)
+  held-keeps : (rounds : ℕ) (before after : Outside S K D F) (e : CommandEnd) (status : ℕ) → BringsHeld views rounds (used before) e (used after)
       → IsTold e status (views.sink before.notes).written (views.sink after.notes).written (views.sink before.notes).faults (views.sink after.notes).faults → HeldPromise views rounds before status after
   held-keeps rounds before after e status brings told =
       let source = views.source before.source in
@@ -259,7 +259,7 @@ module _ {S K D F P G : Type 0} (views : Views S K D F P G) where
       }
 
   -- each command
-  command-keeps : (c : Asked) (before after : Outside S K D F) (e : Ending) (status : ℕ) → Brings views c (used before) e (used after)
+  command-keeps : (c : Asked) (before after : Outside S K D F) (e : CommandEnd) (status : ℕ) → Brings views c (used before) e (used after)
       → IsTold e status (views.sink before.notes).written (views.sink after.notes).written (views.sink before.notes).faults (views.sink after.notes).faults → Keeps views (Some c) before status after
   command-keeps (a_text what) before after e status brings told = text-keeps what (streams views before) (streams views after) e status brings told
   command-keeps (a_report m) before after e status brings told = report-keeps m before after e status brings told
@@ -271,7 +271,7 @@ module _ {S K D F P G : Type 0} (views : Views S K D F P G) where
   command-keeps (what_is_held rounds) before after e status brings told = held-keeps rounds before after e status brings told
 
   -- nothing was written but a text, or a part of it
-  command-silent : (c : Asked) (before after : Objects S K D F) (e : Ending) → Brings views c before e after → (status_of e ≡ 0 → ⊥) → (status_of e ≡ 7 → ⊥) → written_at views after ≡ written_at views before
+  command-silent : (c : Asked) (before after : Objects S K D F) (e : CommandEnd) → Brings views c before e after → (status_of e ≡ 0 → ⊥) → (status_of e ≡ 7 → ⊥) → written_at views after ≡ written_at views before
   command-silent (a_text what) before after e brings done cut = text-unwritten what (source_at views before) (source_at views after) (written_at views before) (written_at views after) e brings done cut
   command-silent (a_report m) before after e brings done cut = report-unwritten m (source_at views before) (source_at views after) (views.disk brings.opened).bytes (written_at views before) (written_at views after) e brings.runs done cut
   command-silent (an_agent guests) before after e brings done cut = follows-unwritten (service_answer brings.came) e (written_at views before) (written_at views after) brings.follows done cut
@@ -282,7 +282,7 @@ module _ {S K D F P G : Type 0} (views : Views S K D F P G) where
   command-silent (what_is_held rounds) before after e brings done cut = rollout-unwritten (source_at views before) (source_at views after) (written_at views before) (written_at views after) e brings.runs done cut
 
   -- a command was done
-  pub promised : (asked : Option Asked) (c : Asked) (before after : Outside S K D F) (e : Ending) (status : ℕ) → asked ≡ Some c → Ran views c (used before) e (used after)
+  pub promised : (asked : Option Asked) (c : Asked) (before after : Outside S K D F) (e : CommandEnd) (status : ℕ) → asked ≡ Some c → Ran views c (used before) e (used after)
       → IsTold e status (views.sink before.notes).written (views.sink after.notes).written (views.sink before.notes).faults (views.sink after.notes).faults
       → (status ≡ 0 → after.notes ≡ before.notes) → Promise views asked before status after
   promised asked c before after e status is ran told quiet =
@@ -297,7 +297,7 @@ module _ {S K D F P G : Type 0} (views : Views S K D F P G) where
       })
 
   -- what was asked for is this command
-  pub ran-as : (asked c : Asked) (before after : Objects S K D F) (e : Ending) → asked ≡ c → Ran views c before e after → Ran views asked before e after
+  pub ran-as : (asked c : Asked) (before after : Objects S K D F) (e : CommandEnd) → asked ≡ c → Ran views c before e after → Ran views asked before e after
   ran-as asked c before after e is ran = subst (λ a. Ran views a before e after) (sym is) ran
 
   -- words that are no command line leave all but the notes as it was
@@ -321,7 +321,7 @@ module _ {S K D F P G : Type 0} (views : Views S K D F P G) where
   read-started policies arguments list all words before after status is words_are promise =
       subst (λ r. StartPromise views policies r list before status after) (sym is) (record { read = subst (λ w. Promise views (asked_by policies w) before status after) words_are promise; unread = tt })
 
-  pub unread-started : {A : Type 0} (policies : List (List ℕ × (OpView → ℕ))) (arguments : Result A Unread) (list : A → List (String Global)) (why : Unread) (e : Ending)
+  pub unread-started : {A : Type 0} (policies : List (List ℕ × (OpView → ℕ))) (arguments : Result A Unread) (list : A → List (String Global)) (why : Unread) (e : CommandEnd)
       (source : S) (sink : K) (notes notes_now : K) (disk : D) (fleet : F) (status : ℕ) → arguments ≡ Err why → e ≡ ending_of_unread why
       → IsTold e status (views.sink notes).written (views.sink notes_now).written (views.sink notes).faults (views.sink notes_now).faults
       → StartPromise views policies arguments list (outside source sink notes disk fleet) status (outside source sink notes_now disk fleet)

@@ -1,4 +1,4 @@
--- Behind a rollout that was begun the network is safe, behind status 0 at the target, and behind status 14 the policy holds back the rest.
+-- After a rollout that was begun the network is safe, after status 0 at the target, and after status 14 the policy holds back the rest.
 use Rattle.std.proofs.Common.{◌≡◌, ◌⊎◌, ℕ, ◌<◌, ◌^◌, List, [], ◌∷◌, length, nat_lt, Bool, true, false, if◌then◌else◌, Option, Some, None, IfSome, Ok, Err, refl, sym, ap, Result, ◌∙◌, subst, inl, inr, arith}
 use Rattle.std.specs.List.{All, AllByRecursion}
 use Rattle.std.proofs.lemmas.List.Elements.{All-head, All-tail}
@@ -17,37 +17,37 @@ use Rattle.dependency_graph.specs.Graph.{op_total}
 use Rattle.intent_journal.specs.Verdicts.{verdict}
 use Rattle.intent_journal.specs.declared.fault.JournalFault.{JournalFault}
 use Rattle.intent_journal.specs.declared.fault.JournalFault.TheVariants as fault
-use Rattle.shared_history.specs.declared.note.Cause.{Cause}
-use Rattle.shared_history.specs.declared.note.Cause.TheVariants as cause
-use Rattle.shared_history.specs.declared.note.Written.{Written}
-use Rattle.shared_history.specs.Histories.{Opening, added, history_of}
-use Rattle.shared_history.specs.Legal.{is_legal_shared}
-use Rattle.shared_history.proofs.Lists.{list-is_legal}
+use Rattle.shared_book.specs.declared.note.Cause.{Cause}
+use Rattle.shared_book.specs.declared.note.Cause.TheVariants as cause
+use Rattle.shared_book.specs.declared.note.Written.{Written}
+use Rattle.shared_book.specs.Histories.{Opening, added, history_of}
+use Rattle.shared_book.specs.Legal.{is_legal_shared}
+use Rattle.shared_book.proofs.Lists.{list-is_legal}
 use Rattle.shared_book.specs.Homes.{homes_of}
 use Rattle.shared_book.specs.Opened.{opening_of}
-use Rattle.rollout_book.specs.Chronicles.{Chronicled}
-use Rattle.port_session.specs.Sessions.{first_talk}
-use Rattle.worker_ports.specs.declared.ports.Berth.{Berth}
-use Rattle.rollout_ports.specs.Berths.{FleetPorts}
-use Rattle.rollout_ports.specs.Hands.{first_talks}
-use Rattle.rollout_ports.specs.Homes.{working_homes}
-use Rattle.rollout_ports.specs.Opening.{IsGiven}
+use Rattle.rollout_book.specs.JournaledRounds.{Journaled}
+use Rattle.port_session.specs.Sessions.{first_session}
+use Rattle.switch_ports.specs.declared.ports.Berth.{Berth}
+use Rattle.switch_ports.specs.Berths.{FleetPorts}
+use Rattle.switch_ports.specs.Hands.{first_sessions}
+use Rattle.switch_ports.specs.Homes.{working_homes}
+use Rattle.switch_ports.specs.Opening.{IsGiven}
 use Rattle.rollout_laws.proofs.Within.{held-safe}
 use Rattle.switch_laws.proofs.Stands.{held_at_end, held_stands}
-use Rattle.holding_laws.proofs.Each.{each_at_end, each_stands}
+use Rattle.completion_laws.proofs.Each.{each_at_end, each_stands}
 use Rattle.rollout_report.specs.Journals.{digest_for}
-use Rattle.rollout_run.specs.PortRuns.{IsBack}
-use Rattle.rollout_run.specs.Ran.{EndsRun, Ran}
-use Rattle.rollout_run.specs.declared.end.RunEnd.{RunEnd}
-use Rattle.rollout_run.specs.declared.end.RunEnd.TheVariants as run
-use Rattle.rollout_run.specs.declared.running.Limits.{Limits}
-use Rattle.rollout_run.proofs.Standing.{runs_at}
+use Rattle.controller_run.specs.PortRuns.{IsBack}
+use Rattle.controller_run.specs.Ran.{EndsRun, Ran}
+use Rattle.controller_run.specs.declared.end.RunEnd.{RunEnd}
+use Rattle.controller_run.specs.declared.end.RunEnd.TheVariants as run
+use Rattle.controller_run.specs.declared.running.Limits.{Limits}
+use Rattle.controller_run.proofs.Standing.{runs_at}
 use Rattle.completion_laws.proofs.Excused.{held-rests, held-still}
 use Rattle.intent_journal.specs.Openings.{IsLeft, found_by}
-use Rattle.rollout_service.specs.Outcomes.{HasRolled, IfRolled, OnUnopened, answer_for}
-use Rattle.rollout_service.specs.declared.answer.RunAnswer.{RunAnswer}
-use Rattle.rollout_service.specs.declared.answer.RunAnswer.TheVariants as outcome
-use Rattle.text_commands.specs.Endings.{ending_of_journal, status_of}
+use Rattle.controller_run.specs.RolloutEnds.{HasRolled, IfRolled, OnUnopened, answer_for}
+use Rattle.controller_run.specs.declared.rollout_end.RolloutEnd.{RolloutEnd}
+use Rattle.controller_run.specs.declared.rollout_end.RolloutEnd.TheVariants as outcome
+use Rattle.text_commands.specs.CommandEnds.{ending_of_journal, status_of}
 use Rattle.text_commands.specs.Lines.{IsToldAs}
 use Rattle.text_commands.specs.Answers.{rollout_in, rollout_to}
 use Rattle.swanroll_top.specs.Rollouts.{FleetSeen, IsUnbegun, Rolls, RollsAs, RollsOpened, RollsOut, RollsOutOf, ending_of_stop, finished_line, line_or_ending}
@@ -55,8 +55,8 @@ use Rattle.text_commands.specs.Program.{IsUnfinished}
 use Rattle.text_commands.specs.Runs.{EndsWith, Follows}
 use Rattle.swanroll_top.specs.Targets.{BeginsNothing, EndsAtTarget, EndsSafely, EndsWithin, IsOfBegun, ReachesTarget, RestsHeld, StaysSafe}
 use Rattle.text_commands.specs.Unfinished.{unfinished_status}
-use Rattle.text_commands.specs.declared.ending.Ending.{Ending}
-use Rattle.text_commands.specs.declared.ending.Ending.TheVariants.{Done, Usage, AboveLimit, Input, NotValid, NoPlan, Unshown, ReadFault, WriteFault, DiskFault, GuestFault, Refused, NotFinished, OutOfMemory}
+use Rattle.text_commands.specs.declared.command_end.CommandEnd.{CommandEnd}
+use Rattle.text_commands.specs.declared.command_end.CommandEnd.TheVariants.{Done, Usage, AboveLimit, Input, NotValid, NoPlan, Unshown, ReadFault, WriteFault, DiskFault, GuestFault, Refused, NotFinished, OutOfMemory}
 use Rattle.text_commands.specs.declared.unfinished.Unfinished.{Unfinished}
 use Rattle.text_commands.specs.declared.unfinished.Unfinished.TheVariants.{RoundsSpent, PortFault, Above, NotMine, NoAnswer, Held}
 use Rattle.text_commands.proofs.Answering.{is_answer, rollout-answers}
@@ -64,9 +64,9 @@ use Rattle.swanroll_top.proofs.Elsewhere.{none-settled}
 use Rattle.text_commands.proofs.Programs.{follows-ends, told-same}
 use Rattle.text_commands.proofs.Statuses.{is-done, is-unfinished, not-status}
 
--- ---- endings that come only behind a rollout that was begun
+-- ---- endings that come only after a rollout that was begun
 
-abbrev pub is_of_begun : Ending → Bool
+abbrev pub is_of_begun : CommandEnd → Bool
 is_of_begun Done = true
 is_of_begun WriteFault = true
 is_of_begun (NotFinished (RoundsSpent rounds item number)) = true
@@ -76,7 +76,7 @@ is_of_begun (NotFinished (NoAnswer r switch byte)) = true
 is_of_begun (NotFinished (Held left)) = true
 is_of_begun ending = false
 
-pub of-begun : (e : Ending) → IsOfBegun (status_of e) → is_of_begun e ≡ true
+pub of-begun : (e : CommandEnd) → IsOfBegun (status_of e) → is_of_begun e ≡ true
 of-begun Done h = refl
 of-begun Usage h = absurd cc
 of-begun AboveLimit h = absurd cc
@@ -98,11 +98,11 @@ of-begun (NotFinished (Held left)) h = refl
 of-begun OutOfMemory h = absurd cc
 
 -- what such an ending isn't
-pub not-begun : (e x : Ending) → is_of_begun e ≡ true → e ≡ x → is_of_begun x ≡ false → ⊥
+pub not-begun : (e x : CommandEnd) → is_of_begun e ≡ true → e ≡ x → is_of_begun x ≡ false → ⊥
 not-begun e x begun is other = let both : true ≡ false = sym begun ∙ (ap is_of_begun is ∙ other) in cc
 
 -- it wants no memory
-pub begun-memory : (e : Ending) → is_of_begun e ≡ true → status_of e ≡ 12 → ⊥
+pub begun-memory : (e : CommandEnd) → is_of_begun e ≡ true → status_of e ≡ 12 → ⊥
 begun-memory Done begun h = omega (arith, h)
 begun-memory Usage begun h = cc
 begun-memory AboveLimit begun h = cc
@@ -118,14 +118,14 @@ begun-memory (Refused f) begun h = cc
 begun-memory (NotFinished u) begun h = not-status 12 refl u h
 begun-memory OutOfMemory begun h = cc
 
-pub begun-ends : (answer : Result (List ℕ) Ending) (e : Ending) (out now : Option (List ℕ)) → is_of_begun e ≡ true → Follows answer e out now → EndsWith answer e out now
+pub begun-ends : (answer : Result (List ℕ) CommandEnd) (e : CommandEnd) (out now : Option (List ℕ)) → is_of_begun e ≡ true → Follows answer e out now → EndsWith answer e out now
 begun-ends answer e out now begun h = follows-ends answer e out now h (begun-memory e begun)
 
-refused-begun : (long : Bool) (input : List ℕ) (e : Ending) → is_of_begun e ≡ true → (if long then Err AboveLimit else rollout_in input) ≡ Err e → ⊥
+refused-begun : (long : Bool) (input : List ℕ) (e : CommandEnd) → is_of_begun e ≡ true → (if long then Err AboveLimit else rollout_in input) ≡ Err e → ⊥
 refused-begun true input e begun h = not-begun e AboveLimit begun (cc h) refl
 refused-begun false input e begun h = answer-begun e begun (rollout-answers input e h)
   where
-    answer-begun : (e : Ending) → is_of_begun e ≡ true → is_answer e ≡ true → ⊥
+    answer-begun : (e : CommandEnd) → is_of_begun e ≡ true → is_answer e ≡ true → ⊥
     answer-begun Done begun h = cc
     answer-begun Usage begun h = cc
     answer-begun AboveLimit begun h = cc
@@ -142,7 +142,7 @@ refused-begun false input e begun h = answer-begun e begun (rollout-answers inpu
     answer-begun OutOfMemory begun h = cc
 
 -- no input is refused so
-to-begun : (input : List ℕ) (e : Ending) → is_of_begun e ≡ true → rollout_to input ≡ Err e → ⊥
+to-begun : (input : List ℕ) (e : CommandEnd) → is_of_begun e ≡ true → rollout_to input ≡ Err e → ⊥
 unfolding rollout_to
 to-begun input e begun h = refused-begun (nat_lt MOST_INPUT (length input)) input e begun h
 
@@ -154,7 +154,7 @@ journal-begun fault.BadStart = refl
 journal-begun fault.Disk = refl
 journal-begun fault.Memory = refl
 
-pub unbegun-refused : (Given : List ℕ → Type 0) (e : Ending) → is_of_begun e ≡ true → IsUnbegun Given e → ⊥
+pub unbegun-refused : (Given : List ℕ → Type 0) (e : CommandEnd) → is_of_begun e ≡ true → IsUnbegun Given e → ⊥
 unbegun-refused Given Done begun h = to-begun h.input Done refl h.refused
 unbegun-refused Given Usage begun h = absurd cc
 unbegun-refused Given AboveLimit begun h = absurd cc
@@ -170,9 +170,9 @@ unbegun-refused Given (Refused f) begun h = absurd cc
 unbegun-refused Given (NotFinished u) begun h = to-begun h.input (NotFinished u) begun h.refused
 unbegun-refused Given OutOfMemory begun h = absurd cc
 
--- ---- an answer behind a run that was begun
+-- ---- an answer after a run that was begun
 
-abbrev pub is_ran : RunAnswer → Bool
+abbrev pub is_ran : RolloutEnd → Bool
 is_ran (outcome.Finished operations found) = true
 is_ran (outcome.Held left) = true
 is_ran (outcome.Stopped r halt) = true
@@ -180,7 +180,7 @@ is_ran (outcome.NoPort r switch) = false
 is_ran outcome.Memory = false
 is_ran (outcome.Unopened why) = false
 
-ends-ran : (a : RunAnswer) (e : Ending) (out now : Option (List ℕ)) → is_of_begun e ≡ true → EndsWith (line_or_ending a) e out now → is_ran a ≡ true
+ends-ran : (a : RolloutEnd) (e : CommandEnd) (out now : Option (List ℕ)) → is_of_begun e ≡ true → EndsWith (line_or_ending a) e out now → is_ran a ≡ true
 ends-ran (outcome.Finished operations found) e out now begun h = refl
 ends-ran (outcome.Held left) e out now begun h = refl
 ends-ran (outcome.Stopped r halt) e out now begun h = refl
@@ -188,8 +188,8 @@ ends-ran (outcome.NoPort r switch) e out now begun h = absurd (not-begun e (NotF
 ends-ran outcome.Memory e out now begun h = absurd (not-begun e OutOfMemory begun h.0 refl)
 ends-ran (outcome.Unopened why) e out now begun h = absurd (not-begun e (ending_of_journal why) begun h.0 (journal-begun why))
 
--- the run behind it was begun
-module _ {D P : Type 0} (tell : P → PortTrace) (homes : List ℕ) (opened closed : Chronicled D) (before now : FleetPorts P) where
+-- the run after it was begun
+module _ {D P : Type 0} (tell : P → PortTrace) (homes : List ℕ) (opened closed : Journaled D) (before now : FleetPorts P) where
   ran-begun : (r : Rollout) (found : ℕ) (h : History) (Ran : RunEnd → Type 0) (end : RunEnd) → is_ran (answer_for r found h end) ≡ true → EndsRun tell homes opened closed before now (Ran end) end → Ran end
   ran-begun r found h Ran run.Finished is ran = ran
   ran-begun r found h Ran run.Held is ran = ran
@@ -233,11 +233,11 @@ held-end r found h run.Memory count is = absurd cc
 
 module _ {P : Type 0} (tell : P → PortTrace) (o : Opening) (migration : ℕ) (log : List Written) (before now : FleetPorts P)
     (net : IsNetwork o.rollout.problem) (valid : is_valid_plan o.rollout.problem o.rollout.plan ≡ true) (legal : is_legal_shared o log ≡ true) (small : migration < 2 ^ 32) where
-  pub berths-within : (bs : List (Berth P)) → AllByRecursion (IsGiven tell before.waiting) bs → All (IsBack tell o migration (homes_of o.rollout.problem) log now.kept) (first_talks bs)
+  pub berths-within : (bs : List (Berth P)) → AllByRecursion (IsGiven tell before.waiting) bs → All (IsBack tell o migration (homes_of o.rollout.problem) log now.kept) (first_sessions bs)
       → AllByRecursion (EndsWithin tell o.rollout migration o.found (history_of o log) before now) bs
   berths-within [] given back = tt
   berths-within (b ∷ bs) given all =
-      let back : IsBack tell o migration (homes_of o.rollout.problem) log now.kept (first_talk b.switch b.port) = All-head (IsBack tell o migration (homes_of o.rollout.problem) log now.kept) (first_talk b.switch b.port) (first_talks bs) all in (
+      let back : IsBack tell o migration (homes_of o.rollout.problem) log now.kept (first_session b.switch b.port) = All-head (IsBack tell o migration (homes_of o.rollout.problem) log now.kept) (first_session b.switch b.port) (first_sessions bs) all in (
         record {
           given = given.0;
           back = back.now.port;
@@ -245,14 +245,14 @@ module _ {P : Type 0} (tell : P → PortTrace) (o : Opening) (migration : ℕ) (
           holds = λ starts. held_stands o.rollout migration (homes_of o.rollout.problem) o.found (added log) back.run.sent _ _ net valid (list-is_legal o log legal) small (runs_at o migration (homes_of o.rollout.problem) log _ _ back.run starts);
           each = each_stands o migration (homes_of o.rollout.problem) log _ _ net valid legal small back.run;
         },
-        berths-within bs given.1 (All-tail (IsBack tell o migration (homes_of o.rollout.problem) log now.kept) (first_talk b.switch b.port) (first_talks bs) all),
+        berths-within bs given.1 (All-tail (IsBack tell o migration (homes_of o.rollout.problem) log now.kept) (first_session b.switch b.port) (first_sessions bs) all),
       )
 
   berths-end : is_finished o.rollout.problem o.rollout.plan (history_of o log) ≡ true → (bs : List (Berth P)) → AllByRecursion (IsGiven tell before.waiting) bs
-      → All (IsBack tell o migration (homes_of o.rollout.problem) log now.kept) (first_talks bs) → AllByRecursion (EndsAtTarget tell o.rollout migration o.found before now) bs
+      → All (IsBack tell o migration (homes_of o.rollout.problem) log now.kept) (first_sessions bs) → AllByRecursion (EndsAtTarget tell o.rollout migration o.found before now) bs
   berths-end finished [] given back = tt
   berths-end finished (b ∷ bs) given all =
-      let back : IsBack tell o migration (homes_of o.rollout.problem) log now.kept (first_talk b.switch b.port) = All-head (IsBack tell o migration (homes_of o.rollout.problem) log now.kept) (first_talk b.switch b.port) (first_talks bs) all in (
+      let back : IsBack tell o migration (homes_of o.rollout.problem) log now.kept (first_session b.switch b.port) = All-head (IsBack tell o migration (homes_of o.rollout.problem) log now.kept) (first_session b.switch b.port) (first_sessions bs) all in (
         record {
           given = given.0;
           back = back.now.port;
@@ -260,7 +260,7 @@ module _ {P : Type 0} (tell : P → PortTrace) (o : Opening) (migration : ℕ) (
           holds = λ starts. held_at_end o.rollout migration (homes_of o.rollout.problem) o.found (added log) back.run.sent _ _ net valid (list-is_legal o log legal) small finished (runs_at o migration (homes_of o.rollout.problem) log _ _ back.run starts);
           each = each_at_end o migration (homes_of o.rollout.problem) log _ _ net valid legal small finished back.run;
         },
-        berths-end finished bs given.1 (All-tail (IsBack tell o migration (homes_of o.rollout.problem) log now.kept) (first_talk b.switch b.port) (first_talks bs) all),
+        berths-end finished bs given.1 (All-tail (IsBack tell o migration (homes_of o.rollout.problem) log now.kept) (first_session b.switch b.port) (first_sessions bs) all),
       )
 
 -- ---- a disk that was opened
@@ -271,7 +271,7 @@ is-told (Some image) h = (image, refl)
 
 -- the input is a rollout, and it was run from the image that its disk told
 pub record RunsFrom {D P : Type 0} (trace : D → DiskTrace) (tell : P → PortTrace)
-    (Given : List ℕ → Type 0) (limits : Limits) (policy : OpView → ℕ) (disk disk_now : D) (before now : FleetSeen P) (e : Ending) (out out_now : Option (List ℕ)) : Type 0 where
+    (Given : List ℕ → Type 0) (limits : Limits) (policy : OpView → ℕ) (disk disk_now : D) (before now : FleetSeen P) (e : CommandEnd) (out out_now : Option (List ℕ)) : Type 0 where
   pub input : List ℕ
   pub given : Given input
   pub r : Rollout
@@ -283,7 +283,7 @@ pub record RunsFrom {D P : Type 0} (trace : D → DiskTrace) (tell : P → PortT
   pub rolls : RollsOut trace tell r limits policy opened disk_now before now e out out_now
 
 module _ {D P : Type 0} (trace : D → DiskTrace) (tell : P → PortTrace)
-    (Given : List ℕ → Type 0) (disk disk_now : D) (before now : FleetSeen P) (limits : Limits) (policy : OpView → ℕ) (e : Ending) (out out_now : Option (List ℕ)) where
+    (Given : List ℕ → Type 0) (disk disk_now : D) (before now : FleetSeen P) (limits : Limits) (policy : OpView → ℕ) (e : CommandEnd) (out out_now : Option (List ℕ)) where
   runs-from : (e ≡ DiskFault → ⊥) → RollsOutOf trace tell Given limits policy disk disk_now before now e out out_now → RunsFrom trace tell Given limits policy disk disk_now before now e out out_now
   runs-from unlike rolled = elim rolled.rolls [
     | inl fails ↦ absurd (unlike fails.is)
@@ -317,8 +317,8 @@ module _ {D P : Type 0} (trace : D → DiskTrace) (tell : P → PortTrace)
 -- ---- a rollout that was run
 
 module _ {D P : Type 0} (trace : D → DiskTrace) (tell : P → PortTrace)
-    (Given : List ℕ → Type 0) (disk disk_now : D) (before now : FleetSeen P) (limits : Limits) (policy : OpView → ℕ) (e : Ending) (out out_now : Option (List ℕ))
-    (rolled : RunsFrom trace tell Given limits policy disk disk_now before now e out out_now) (a : RunAnswer)
+    (Given : List ℕ → Type 0) (disk disk_now : D) (before now : FleetSeen P) (limits : Limits) (policy : OpView → ℕ) (e : CommandEnd) (out out_now : Option (List ℕ))
+    (rolled : RunsFrom trace tell Given limits policy disk disk_now before now e out out_now) (a : RolloutEnd)
     (has : HasRolled trace tell rolled.r (digest_for rolled.r limits.migration) policy limits.rounds rolled.opened before.ports now.ports disk_now a) where
   abbrev pub Begun : RunEnd → Type 0
   Begun end = Ran trace tell (opening_of has.book policy) (trace has.book.disk).moment (trace has.book.disk).faults limits.migration limits.rounds
@@ -393,7 +393,7 @@ module _ {D P : Type 0} (trace : D → DiskTrace) (tell : P → PortTrace)
 
 module _ {D P : Type 0} (trace : D → DiskTrace) (tell : P → PortTrace)
     (Given : List ℕ → Type 0) (disk disk_now : D) (before now : FleetSeen P) (limits : Limits) (policy : OpView → ℕ) (out out_now : Option (List ℕ)) where
-  rolled-if : (r : Rollout) (opened : D) (a : RunAnswer) → is_ran a ≡ true → IfRolled a (HasRolled trace tell r (digest_for r limits.migration) policy limits.rounds opened before.ports now.ports disk_now a)
+  rolled-if : (r : Rollout) (opened : D) (a : RolloutEnd) → is_ran a ≡ true → IfRolled a (HasRolled trace tell r (digest_for r limits.migration) policy limits.rounds opened before.ports now.ports disk_now a)
       → HasRolled trace tell r (digest_for r limits.migration) policy limits.rounds opened before.ports now.ports disk_now a
   rolled-if r opened (outcome.Finished operations found) is has = has
   rolled-if r opened (outcome.Held left) is has = has
@@ -402,7 +402,7 @@ module _ {D P : Type 0} (trace : D → DiskTrace) (tell : P → PortTrace)
   rolled-if r opened outcome.Memory is has = has
   rolled-if r opened (outcome.Unopened why) is has = absurd cc
 
-  begun-safe : (e : Ending) → is_of_begun e ≡ true → Rolls trace tell Given limits policy disk disk_now before now e out out_now
+  begun-safe : (e : CommandEnd) → is_of_begun e ≡ true → Rolls trace tell Given limits policy disk disk_now before now e out out_now
       → StaysSafe trace tell limits Given disk before.ports now.ports
   begun-safe e begun (inl none) = absurd (unbegun-refused Given e begun none.why)
   begun-safe e begun (inr way) =
@@ -413,7 +413,7 @@ module _ {D P : Type 0} (trace : D → DiskTrace) (tell : P → PortTrace)
       stays-safe trace tell Given disk disk_now before now limits policy e out out_now rolled a has has.run.end
       (has-run trace tell Given disk disk_now before now limits policy e out out_now rolled a has is)
 
-  answer-reaches : (rolled : RunsFrom trace tell Given limits policy disk disk_now before now Done out out_now) (a : RunAnswer)
+  answer-reaches : (rolled : RunsFrom trace tell Given limits policy disk disk_now before now Done out out_now) (a : RolloutEnd)
       → IfRolled a (HasRolled trace tell rolled.r (digest_for rolled.r limits.migration) policy limits.rounds rolled.opened before.ports now.ports disk_now a)
       → Follows (line_or_ending a) Done out out_now → ReachesTarget trace tell limits Given disk before.ports now.ports out out_now
   answer-reaches rolled (outcome.Finished operations count) has (inl done) =
@@ -442,7 +442,7 @@ module _ {D P : Type 0} (trace : D → DiskTrace) (tell : P → PortTrace)
 
   -- by the answer of a run that says held
   module _ (count : ℕ) where
-    answer-rests : (rolled : RunsFrom trace tell Given limits policy disk disk_now before now (NotFinished (Held count)) out out_now) (a : RunAnswer)
+    answer-rests : (rolled : RunsFrom trace tell Given limits policy disk disk_now before now (NotFinished (Held count)) out out_now) (a : RolloutEnd)
         → IfRolled a (HasRolled trace tell rolled.r (digest_for rolled.r limits.migration) policy limits.rounds rolled.opened before.ports now.ports disk_now a)
         → Follows (line_or_ending a) (NotFinished (Held count)) out out_now → RestsHeld trace tell limits policy Given disk before.ports now.ports
     answer-rests rolled (outcome.Finished operations found) has (inl done) = absurd (cc (done.0))
@@ -472,11 +472,11 @@ module _ {D P : Type 0} (trace : D → DiskTrace) (tell : P → PortTrace)
 -- ---- whatever the ending
 
 module _ {D P : Type 0} (trace : D → DiskTrace) (tell : P → PortTrace)
-    (Given : List ℕ → Type 0) (disk disk_now : D) (before now : FleetSeen P) (limits : Limits) (policy : OpView → ℕ) (e : Ending) (out out_now : Option (List ℕ)) where
+    (Given : List ℕ → Type 0) (disk disk_now : D) (before now : FleetSeen P) (limits : Limits) (policy : OpView → ℕ) (e : CommandEnd) (out out_now : Option (List ℕ)) where
   as-it-was : now ≡ before → EndsSafely trace tell limits Given disk before.ports now.ports
   as-it-was same = inl (inl (ap (λ (f : FleetSeen P). f.ports) same))
 
-  answer-ends : (rolled : RunsFrom trace tell Given limits policy disk disk_now before now e out out_now) (a : RunAnswer) (Q : JournalFault → Type 0)
+  answer-ends : (rolled : RunsFrom trace tell Given limits policy disk disk_now before now e out out_now) (a : RolloutEnd) (Q : JournalFault → Type 0)
       → IfRolled a (HasRolled trace tell rolled.r (digest_for rolled.r limits.migration) policy limits.rounds rolled.opened before.ports now.ports disk_now a)
       → OnUnopened a (λ why. Q why × (now ≡ before)) → EndsSafely trace tell limits Given disk before.ports now.ports
   answer-ends rolled (outcome.Finished operations found) Q has left =
@@ -506,7 +506,7 @@ is-held (NotMine r switch item) h = absurd (omega (arith, h))
 is-held (NoAnswer r switch byte) h = absurd (omega (arith, h))
 is-held (Held count) h = (count, refl)
 
-pub begun-told : (e told : Ending) → IsToldAs e told → is_of_begun told ≡ true → e ≡ told
+pub begun-told : (e told : CommandEnd) → IsToldAs e told → is_of_begun told ≡ true → e ≡ told
 begun-told e told by begun = told-same e told by (λ m. not-begun told OutOfMemory begun m refl)
 
 module _ {D P : Type 0} (trace : D → DiskTrace) (tell : P → PortTrace)
@@ -524,7 +524,7 @@ module _ {D P : Type 0} (trace : D → DiskTrace) (tell : P → PortTrace)
       let told : rolls.told ≡ Done = is-done rolls.told (sym rolls.is_status ∙ zero) in
       let done : rolls.ending ≡ Done = begun-told rolls.ending rolls.told rolls.told_as (ap is_of_begun told) ∙ told in
       done-reaches trace tell Given disk disk_now before now limits policy out out_now
-      (subst (λ (e : Ending). Rolls trace tell Given limits policy disk disk_now before now e out out_now) done rolls.rolls)
+      (subst (λ (e : CommandEnd). Rolls trace tell Given limits policy disk disk_now before now e out out_now) done rolls.rolls)
 
   pub held-rest : (limits : Limits) (policy : OpView → ℕ) (status : ℕ) → RollsAs trace tell Given limits policy disk disk_now before now status out out_now → status ≡ 14
       → RestsHeld trace tell limits policy Given disk before.ports now.ports
@@ -535,4 +535,4 @@ module _ {D P : Type 0} (trace : D → DiskTrace) (tell : P → PortTrace)
       let told : rolls.told ≡ NotFinished (Held count.0) = unfinished.1 ∙ ap NotFinished count.1 in
       let held : rolls.ending ≡ NotFinished (Held count.0) = begun-told rolls.ending rolls.told rolls.told_as (ap is_of_begun told) ∙ told in
       held-rests-by trace tell Given disk disk_now before now limits policy out out_now count.0
-      (subst (λ (e : Ending). Rolls trace tell Given limits policy disk disk_now before now e out out_now) held rolls.rolls)
+      (subst (λ (e : CommandEnd). Rolls trace tell Given limits policy disk disk_now before now e out out_now) held rolls.rolls)

@@ -5,8 +5,8 @@ use Rattle.rollout_rules.specs.Worked.{fresh}
 use Rattle.rollout_rules.specs.Legal.{unsettled}
 use Rattle.wan_edge.specs.Ports.{NothingToCome, PortTrace}
 use Rattle.wan_edge.specs.Streams.{Rose}
-use Rattle.port_session.specs.Sessions.{first_talk}
-use Rattle.worker_ports.specs.Views.{view}
+use Rattle.port_session.specs.Sessions.{first_session}
+use Rattle.switch_ports.specs.Views.{view}
 use Rattle.shared_book.specs.Homes.{homes_of}
 use Rattle.switch_laws.specs.Runs.{StartsAsFound}
 use Rattle.switch_laws.specs.Worked.{two_flows}
@@ -18,7 +18,7 @@ use Rattle.text_commands.specs.Worked.{by_item}
 use Rattle.swanroll_top.specs.Worked.{answered_once, failed_once, fleet_with, in_rounds, itself, never_used, none_begins, unanswered, waiting_at_first}
 
 -- whatever the homes of items are
-never-used-starts : StartsAsFound two_flows 4 (homes_of two_flows.problem) (fresh []) (view itself (first_talk 0 never_used))
+never-used-starts : StartsAsFound two_flows 4 (homes_of two_flows.problem) (fresh []) (view itself (first_session 0 never_used))
 never-used-starts = record {
   honest = refl;
   none_kept = refl;

@@ -15,14 +15,14 @@ use Rattle.intent_journal.specs.declared.fault.JournalFault.{JournalFault}
 use Rattle.intent_journal.specs.declared.fault.JournalFault.TheVariants as journal
 use Rattle.rollout_report.specs.Journals.{Tells, journal_report}
 use Rattle.text_commands.specs.Answers.{◌>>=◌, checked, or_ending, unless_broken, rollout_in, rollout_to}
-use Rattle.text_commands.specs.Endings.{ending_of, ending_of_journal, status_of}
+use Rattle.text_commands.specs.CommandEnds.{ending_of, ending_of_journal, status_of}
 use Rattle.text_commands.specs.Reading.{IsCut, IsShortInput}
 use Rattle.swanroll_top.specs.Reports.{EndsJournal, EndsReport, FollowsReport, FollowsReported, IsLate, ReadsDocument, RunsReport, or_journal}
 use Rattle.text_commands.specs.Runs.{EndsWith, Gives, IsInput, IsReadToEnd}
 use Rattle.text_commands.specs.Safety.{IsValid}
 use Rattle.text_commands.specs.Taken.{IsValidDocument}
-use Rattle.text_commands.specs.declared.ending.Ending.{Ending}
-use Rattle.text_commands.specs.declared.ending.Ending.TheVariants.{Done, Usage, AboveLimit, Input, NotValid, NoPlan, Unshown, ReadFault, WriteFault, DiskFault, GuestFault, Refused, NotFinished, OutOfMemory}
+use Rattle.text_commands.specs.declared.command_end.CommandEnd.{CommandEnd}
+use Rattle.text_commands.specs.declared.command_end.CommandEnd.TheVariants.{Done, Usage, AboveLimit, Input, NotValid, NoPlan, Unshown, ReadFault, WriteFault, DiskFault, GuestFault, Refused, NotFinished, OutOfMemory}
 use Rattle.text_commands.proofs.Answering.{is_answer, rollout-answers, rollout-gives}
 use Rattle.text_commands.proofs.Documents.{checked-by}
 use Rattle.text_commands.proofs.Inputs.{beyond-input}
@@ -32,7 +32,7 @@ use Rattle.text_commands.proofs.Statuses.{not-status}
 
 -- ---- whether an input is a document with a valid plan
 
-abbrev pub IsJudgedAs : List ℕ → Result Rollout Ending → Type 0
+abbrev pub IsJudgedAs : List ℕ → Result Rollout CommandEnd → Type 0
 IsJudgedAs input (Ok o) = IsValidDocument input
 IsJudgedAs input (Err e) = (e ≡ OutOfMemory) ⊎ ((IsValidDocument input → ⊥) × (status_of e ≡ 3))
 
@@ -72,7 +72,7 @@ long-rollout input long = rw (lt-ltb MOST_INPUT (length input) long) refl
 
 -- ---- what an ending says
 
-late-status : (answer : Result (List ℕ) Ending) (e : Ending) (out now : Option (List ℕ)) → IsLate answer → EndsWith answer e out now → status_of e ≡ 3 → ⊥
+late-status : (answer : Result (List ℕ) CommandEnd) (e : CommandEnd) (out now : Option (List ℕ)) → IsLate answer → EndsWith answer e out now → status_of e ≡ 3 → ⊥
 late-status (Ok text) e out now late (inl done) three = omega (arith, ap status_of done.0, three)
 late-status (Ok text) e out now late (inr cut) three = omega (arith, ap status_of cut.0, three)
 late-status (Err (Refused f)) e out now late h three = omega (arith, ap status_of h.0, three)
@@ -90,19 +90,19 @@ late-status (Err DiskFault) e out now late h three = late
 late-status (Err GuestFault) e out now late h three = late
 late-status (Err OutOfMemory) e out now late h three = late
 
-unwritten : (answer : Result (List ℕ) Ending) (e : Ending) (out now : Option (List ℕ)) → EndsWith answer e out now → (status_of e ≡ 0 → ⊥) → (status_of e ≡ 7 → ⊥) → now ≡ out
+unwritten : (answer : Result (List ℕ) CommandEnd) (e : CommandEnd) (out now : Option (List ℕ)) → EndsWith answer e out now → (status_of e ≡ 0 → ⊥) → (status_of e ≡ 7 → ⊥) → now ≡ out
 unwritten (Ok text) e out now (inl done) zero seven = absurd (zero (ap status_of done.0))
 unwritten (Ok text) e out now (inr cut) zero seven = absurd (seven (ap status_of cut.0))
 unwritten (Err x) e out now h zero seven = h.1
 
-module _ (m : ℕ) (told out out_now : Option (List ℕ)) (input : List ℕ) (e : Ending) where
-  refused-exactly : (r : Result Rollout Ending) → IsJudgedAs input r → EndsReport m r told e out out_now → (e ≡ OutOfMemory → ⊥)
+module _ (m : ℕ) (told out out_now : Option (List ℕ)) (input : List ℕ) (e : CommandEnd) where
+  refused-exactly : (r : Result Rollout CommandEnd) → IsJudgedAs input r → EndsReport m r told e out out_now → (e ≡ OutOfMemory → ⊥)
       → (status_of e ≡ 3 → IsValidDocument input → ⊥) × ((IsValidDocument input → ⊥) → status_of e ≡ 3)
   refused-exactly (Ok o) valid ends some = (λ three _. late-status ends.answer e out out_now ends.late ends.ends three, λ n. absurd (n valid))
   refused-exactly (Err x) (inl memory) ends some = absurd (some (ends.0 ∙ memory))
   refused-exactly (Err x) (inr judged) ends some = (λ _. judged.0, λ _. ap status_of ends.0 ∙ judged.1)
 
-  ends-silent : (r : Result Rollout Ending) → EndsReport m r told e out out_now → (status_of e ≡ 0 → ⊥) → (status_of e ≡ 7 → ⊥) → out_now ≡ out
+  ends-silent : (r : Result Rollout CommandEnd) → EndsReport m r told e out out_now → (status_of e ≡ 0 → ⊥) → (status_of e ≡ 7 → ⊥) → out_now ≡ out
   ends-silent (Ok o) ends zero seven = unwritten ends.answer e out out_now ends.ends zero seven
   ends-silent (Err x) ends zero seven = ends.1
 
@@ -134,7 +134,7 @@ reads-document source source_now input o read is =
 -- ---- a source that was read to its end, and one that wasn't
 
 module _ (m : ℕ) (source source_now : SourceTrace) (told out out_now : Option (List ℕ)) (input : List ℕ) where
-  follows-report : (e : Ending) → IsShortInput source source_now input → EndsReport m (rollout_in input) told e out out_now → (e ≡ OutOfMemory → ⊥) → FollowsReport m source source_now told e out out_now
+  follows-report : (e : CommandEnd) → IsShortInput source source_now input → EndsReport m (rollout_in input) told e out out_now → (e ≡ OutOfMemory → ⊥) → FollowsReport m source source_now told e out out_now
   follows-report e s ends some = record {
     input = input;
     read = s.input;
@@ -143,7 +143,7 @@ module _ (m : ℕ) (source source_now : SourceTrace) (told out out_now : Option 
     silent = ends-silent m told out out_now input e (rollout_in input) ends;
   }
 
-  pub short-reports : (e : Ending) → IsShortInput source source_now input → FollowsReported m (rollout_in input) told e out out_now → RunsReport m source source_now told e out out_now
+  pub short-reports : (e : CommandEnd) → IsShortInput source source_now input → FollowsReported m (rollout_in input) told e out out_now → RunsReport m source source_now told e out out_now
   short-reports Done s h = follows-report Done s h (λ e. cc)
   short-reports Usage s h = follows-report Usage s h (λ e. cc)
   short-reports AboveLimit s h = follows-report AboveLimit s h (λ e. cc)
@@ -173,7 +173,7 @@ beyond-reports m before now told out g =
     let i = beyond-input before now g in
     long-reports m before now told out i.input i.is i.long
 
-pub cut-reports : (m : ℕ) (source source_now : SourceTrace) (told out : Option (List ℕ)) (e : Ending) → IsCut source e source_now → RunsReport m source source_now told e out out
+pub cut-reports : (m : ℕ) (source source_now : SourceTrace) (told out : Option (List ℕ)) (e : CommandEnd) → IsCut source e source_now → RunsReport m source source_now told e out out
 cut-reports m source source_now told out Done r = absurd r
 cut-reports m source source_now told out Usage r = absurd r
 cut-reports m source source_now told out AboveLimit r = beyond-reports m source source_now told out r
@@ -192,7 +192,7 @@ cut-reports m source source_now told out OutOfMemory r = refl
 -- ---- what a journal comes to
 
 module _ (m : ℕ) (o : Rollout) (image : List ℕ) (out : Option (List ℕ)) where
-  reported-text : (text : List ℕ) (e : Ending) (now : Option (List ℕ)) → Tells (Ok text) (journal_report o m image) → EndsWith (Ok text) e out now → FollowsReported m (Ok o) (Some image) e out now
+  reported-text : (text : List ℕ) (e : CommandEnd) (now : Option (List ℕ)) → Tells (Ok text) (journal_report o m image) → EndsWith (Ok text) e out now → FollowsReported m (Ok o) (Some image) e out now
   reported-text text e now tells (inl done) =
       subst (λ x. FollowsReported m (Ok o) (Some image) x out now) (sym done.0)
       (record { image = image; stored = refl; answer = Ok text; late = tt; is = ap or_journal tells; ends = inl (refl, done.1) })
@@ -212,7 +212,7 @@ module _ (m : ℕ) (o : Rollout) (image : List ℕ) (out : Option (List ℕ)) wh
   reported-fault journal.BadStart tells =
       record { image = image; stored = refl; answer = Err (Refused journal.BadStart); late = tt; is = ap or_journal tells; ends = (refl, refl) }
 
-pub reported : (m : ℕ) (o : Rollout) (told out now : Option (List ℕ)) (answer : Result (List ℕ) JournalFault) (e : Ending) → IsTold told → IfSome told (λ image. Tells answer (journal_report o m image))
+pub reported : (m : ℕ) (o : Rollout) (told out now : Option (List ℕ)) (answer : Result (List ℕ) JournalFault) (e : CommandEnd) → IsTold told → IfSome told (λ image. Tells answer (journal_report o m image))
     → EndsJournal answer e out now → FollowsReported m (Ok o) told e out now
 reported m o None out now answer e some tells ends = absurd (cc some)
 reported m o (Some image) out now (Ok text) e some tells ends = reported-text m o image out text e now tells ends
@@ -221,7 +221,7 @@ reported m o (Some image) out now (Err cause) e some tells ends =
     (subst (λ w. FollowsReported m (Ok o) (Some image) (ending_of_journal cause) out w) (sym ends.1) (reported-fault m o image out cause tells))
 
 -- a report of a rollout never ends as if its input were refused
-pub reported-late : (m : ℕ) (o : Rollout) (told out now : Option (List ℕ)) (e : Ending) → FollowsReported m (Ok o) told e out now → status_of e ≡ 3 → ⊥
+pub reported-late : (m : ℕ) (o : Rollout) (told out now : Option (List ℕ)) (e : CommandEnd) → FollowsReported m (Ok o) told e out now → status_of e ≡ 3 → ⊥
 reported-late m o told out now Done h three = late-status h.answer Done out now h.late h.ends three
 reported-late m o told out now Usage h three = late-status h.answer Usage out now h.late h.ends three
 reported-late m o told out now AboveLimit h three = late-status h.answer AboveLimit out now h.late h.ends three
@@ -254,17 +254,17 @@ fault-no-write (journal.OtherPlan kept wanted) h = cc
 fault-no-write (journal.Illegal place) h = cc
 fault-no-write journal.BadStart h = cc
 
-pub text-no-disk : (text : List ℕ) (e : Ending) (out now : Option (List ℕ)) → EndsWith (Ok text) e out now → e ≡ DiskFault → ⊥
+pub text-no-disk : (text : List ℕ) (e : CommandEnd) (out now : Option (List ℕ)) → EndsWith (Ok text) e out now → e ≡ DiskFault → ⊥
 text-no-disk text e out now (inl done) h = let no : Done ≡ DiskFault = sym done.0 ∙ h in cc
 text-no-disk text e out now (inr cut) h = let no : WriteFault ≡ DiskFault = sym cut.0 ∙ h in cc
 
 -- ---- an input that is refused
 
-module _ (m : ℕ) (told out : Option (List ℕ)) (r : Result Rollout Ending) where
-  refused-by : (e : Ending) → r ≡ Err e → EndsReport m r told e out out
+module _ (m : ℕ) (told out : Option (List ℕ)) (r : Result Rollout CommandEnd) where
+  refused-by : (e : CommandEnd) → r ≡ Err e → EndsReport m r told e out out
   refused-by e is = subst (λ x. EndsReport m x told e out out) (sym is) (refl, refl)
 
-  pub input-refused : (e : Ending) → (r ≡ Err DiskFault → ⊥) → Gives {A = Rollout} (Err e) r → FollowsReported m r told e out out
+  pub input-refused : (e : CommandEnd) → (r ≡ Err DiskFault → ⊥) → Gives {A = Rollout} (Err e) r → FollowsReported m r told e out out
   input-refused Done never g = refused-by Done g
   input-refused Usage never g = refused-by Usage g
   input-refused AboveLimit never g = refused-by AboveLimit g
@@ -280,15 +280,15 @@ module _ (m : ℕ) (told out : Option (List ℕ)) (r : Result Rollout Ending) wh
   input-refused (NotFinished u) never g = refused-by (NotFinished u) g
   input-refused OutOfMemory never g = refl
 
-pub input-no-disk : (input : List ℕ) (e : Ending) → Gives {A = Rollout} (Err e) (rollout_in input) → e ≡ DiskFault → ⊥
+pub input-no-disk : (input : List ℕ) (e : CommandEnd) → Gives {A = Rollout} (Err e) (rollout_in input) → e ≡ DiskFault → ⊥
 input-no-disk input e g is = let no : is_answer DiskFault ≡ true = ap is_answer (sym is) ∙ rollout-gives input e g in cc
 
-pub input-no-write : (input : List ℕ) (e : Ending) → Gives {A = Rollout} (Err e) (rollout_in input) → e ≡ WriteFault → ⊥
+pub input-no-write : (input : List ℕ) (e : CommandEnd) → Gives {A = Rollout} (Err e) (rollout_in input) → e ≡ WriteFault → ⊥
 input-no-write input e g is = let no : is_answer WriteFault ≡ true = ap is_answer (sym is) ∙ rollout-gives input e g in cc
 
 -- ---- no report ends as if nothing had been read
 
-late-ends : (answer : Result (List ℕ) Ending) (e : Ending) (out now : Option (List ℕ)) → IsLate answer → EndsWith answer e out now → (status_of e ≡ 0) ⊎ ((status_of e ≡ 7) ⊎ (status_of e ≡ 10))
+late-ends : (answer : Result (List ℕ) CommandEnd) (e : CommandEnd) (out now : Option (List ℕ)) → IsLate answer → EndsWith answer e out now → (status_of e ≡ 0) ⊎ ((status_of e ≡ 7) ⊎ (status_of e ≡ 10))
 late-ends (Ok text) e out now late (inl done) = inl (ap status_of done.0)
 late-ends (Ok text) e out now late (inr cut) = inr (inl (ap status_of cut.0))
 late-ends (Err (Refused f)) e out now late h = inr (inr (ap status_of h.0))
@@ -307,30 +307,30 @@ late-ends (Err GuestFault) e out now late h = absurd late
 late-ends (Err OutOfMemory) e out now late h = absurd late
 
 module _ (m : ℕ) (told out now : Option (List ℕ)) where
-  no-fault : (r : Result Rollout Ending) → ((x : Ending) → r ≡ Err x → is_answer x ≡ true) → EndsReport m r told ReadFault out now → ⊥
+  no-fault : (r : Result Rollout CommandEnd) → ((x : CommandEnd) → r ≡ Err x → is_answer x ≡ true) → EndsReport m r told ReadFault out now → ⊥
   no-fault (Ok o) answers ends = elim (late-ends ends.answer ReadFault out now ends.late ends.ends) [ inl h ↦ omega (arith, h) | inr more ↦ elim more [ inl h ↦ omega (arith, h) | inr h ↦ omega (arith, h) ] ]
   no-fault (Err x) answers ends = let no : is_answer ReadFault ≡ true = ap is_answer ends.0 ∙ answers x refl in cc
 
-  no-words : (r : Result Rollout Ending) → ((x : Ending) → r ≡ Err x → is_answer x ≡ true) → EndsReport m r told Usage out now → ⊥
+  no-words : (r : Result Rollout CommandEnd) → ((x : CommandEnd) → r ≡ Err x → is_answer x ≡ true) → EndsReport m r told Usage out now → ⊥
   no-words (Ok o) answers ends = elim (late-ends ends.answer Usage out now ends.late ends.ends) [ inl h ↦ omega (arith, h) | inr more ↦ elim more [ inl h ↦ omega (arith, h) | inr h ↦ omega (arith, h) ] ]
   no-words (Err x) answers ends = let no : is_answer Usage ≡ true = ap is_answer ends.0 ∙ answers x refl in cc
 
-  no-guests : (r : Result Rollout Ending) → ((x : Ending) → r ≡ Err x → is_answer x ≡ true) → EndsReport m r told GuestFault out now → ⊥
+  no-guests : (r : Result Rollout CommandEnd) → ((x : CommandEnd) → r ≡ Err x → is_answer x ≡ true) → EndsReport m r told GuestFault out now → ⊥
   no-guests (Ok o) answers ends = elim (late-ends ends.answer GuestFault out now ends.late ends.ends) [ inl h ↦ omega (arith, h) | inr more ↦ elim more [ inl h ↦ omega (arith, h) | inr h ↦ omega (arith, h) ] ]
   no-guests (Err x) answers ends = let no : is_answer GuestFault ≡ true = ap is_answer ends.0 ∙ answers x refl in cc
 
-  no-rollouts : (u : Unfinished) (r : Result Rollout Ending) → ((x : Ending) → r ≡ Err x → is_answer x ≡ true) → EndsReport m r told (NotFinished u) out now → ⊥
+  no-rollouts : (u : Unfinished) (r : Result Rollout CommandEnd) → ((x : CommandEnd) → r ≡ Err x → is_answer x ≡ true) → EndsReport m r told (NotFinished u) out now → ⊥
   no-rollouts u (Ok o) answers ends = elim (late-ends ends.answer (NotFinished u) out now ends.late ends.ends) [ inl h ↦ not-status 0 refl u h | inr more ↦ elim more [ inl h ↦ not-status 7 refl u h | inr h ↦ not-status 10 refl u h ] ]
   no-rollouts u (Err x) answers ends = let no : is_answer (NotFinished u) ≡ true = ap is_answer ends.0 ∙ answers x refl in cc
 
-  pub report-no-rollout : (u : Unfinished) (input : List ℕ) (e : Ending) → FollowsReported m (rollout_in input) told e out now → e ≡ NotFinished u → ⊥
+  pub report-no-rollout : (u : Unfinished) (input : List ℕ) (e : CommandEnd) → FollowsReported m (rollout_in input) told e out now → e ≡ NotFinished u → ⊥
   report-no-rollout u input e h is = no-rollouts u (rollout_in input) (rollout-answers input) (subst (λ x. FollowsReported m (rollout_in input) told x out now) is h)
 
-  pub report-no-read : (input : List ℕ) (e : Ending) → FollowsReported m (rollout_in input) told e out now → e ≡ ReadFault → ⊥
+  pub report-no-read : (input : List ℕ) (e : CommandEnd) → FollowsReported m (rollout_in input) told e out now → e ≡ ReadFault → ⊥
   report-no-read input e h is = no-fault (rollout_in input) (rollout-answers input) (subst (λ x. FollowsReported m (rollout_in input) told x out now) is h)
 
-  pub report-no-usage : (input : List ℕ) (e : Ending) → FollowsReported m (rollout_in input) told e out now → e ≡ Usage → ⊥
+  pub report-no-usage : (input : List ℕ) (e : CommandEnd) → FollowsReported m (rollout_in input) told e out now → e ≡ Usage → ⊥
   report-no-usage input e h is = no-words (rollout_in input) (rollout-answers input) (subst (λ x. FollowsReported m (rollout_in input) told x out now) is h)
 
-  pub report-no-guest : (input : List ℕ) (e : Ending) → FollowsReported m (rollout_in input) told e out now → e ≡ GuestFault → ⊥
+  pub report-no-guest : (input : List ℕ) (e : CommandEnd) → FollowsReported m (rollout_in input) told e out now → e ≡ GuestFault → ⊥
   report-no-guest input e h is = no-guests (rollout_in input) (rollout-answers input) (subst (λ x. FollowsReported m (rollout_in input) told x out now) is h)

@@ -7,27 +7,27 @@ use Rattle.wan_edge.specs.Streams.{Rose, SourceTrace}
 use Rattle.intent_journal.specs.Placements.{IsPlacingFault}
 use Rattle.intent_journal.specs.declared.fault.JournalFault.{JournalFault}
 use Rattle.intent_journal.specs.declared.fault.JournalFault.TheVariants as fault
-use Rattle.shared_history.specs.declared.note.Cause.{Cause}
-use Rattle.shared_history.specs.declared.note.Cause.TheVariants as cause
-use Rattle.shared_history.specs.declared.reply.Halt.{Halt}
+use Rattle.shared_book.specs.declared.note.Cause.{Cause}
+use Rattle.shared_book.specs.declared.note.Cause.TheVariants as cause
+use Rattle.shared_book.specs.declared.call_reply.Halt.{Halt}
 use Rattle.shared_book.specs.Homes.{homes_of}
 use Rattle.shared_book.specs.Opened.{opening_of}
-use Rattle.rollout_book.specs.Chronicles.{Chronicled}
-use Rattle.rollout_ports.specs.Berths.{FleetPorts}
-use Rattle.rollout_ports.specs.Homes.{working_homes}
+use Rattle.rollout_book.specs.JournaledRounds.{Journaled}
+use Rattle.switch_ports.specs.Berths.{FleetPorts}
+use Rattle.switch_ports.specs.Homes.{working_homes}
 use Rattle.rollout_report.specs.Journals.{digest_for}
-use Rattle.rollout_run.specs.Causes.{IsCause}
-use Rattle.rollout_run.specs.Ran.{EndsRun, Ran}
-use Rattle.rollout_run.specs.declared.end.RunEnd.{RunEnd}
-use Rattle.rollout_run.specs.declared.end.RunEnd.TheVariants as run
-use Rattle.rollout_run.specs.declared.running.Limits.{Limits}
+use Rattle.controller_run.specs.Causes.{IsCause}
+use Rattle.controller_run.specs.Ran.{EndsRun, Ran}
+use Rattle.controller_run.specs.declared.end.RunEnd.{RunEnd}
+use Rattle.controller_run.specs.declared.end.RunEnd.TheVariants as run
+use Rattle.controller_run.specs.declared.running.Limits.{Limits}
 use Rattle.rollback_plan.specs.Turning.{back}
 use Rattle.rollback_service.specs.Levellings.{HasLevelled, level_for, start_of}
 use Rattle.rollback_service.specs.Placings.{HasPlaced, IsNotPlaced, IsSeen, MayPlace, kept_from}
 use Rattle.rollback_service.specs.declared.answer.LevelAnswer.{LevelAnswer}
 use Rattle.rollback_service.specs.declared.answer.LevelAnswer.TheVariants as level
 use Rattle.rollback_service.specs.declared.origin.BackFrom.{BackFrom}
-use Rattle.text_commands.specs.Endings.{ending_of_journal, status_of}
+use Rattle.text_commands.specs.CommandEnds.{ending_of_journal, status_of}
 use Rattle.text_commands.specs.Reading.{IsShortInput}
 use Rattle.text_commands.specs.Answers.{rollout_in}
 use Rattle.swanroll_top.specs.Reports.{ReadsDocument}
@@ -35,8 +35,8 @@ use Rattle.swanroll_top.specs.Rollbacks.{Closes, FindsNoJournal, Levels, Reverts
 use Rattle.swanroll_top.specs.Rollouts.{FleetSeen, IsUnbegun, RefusesAs, ending_of_stop}
 use Rattle.text_commands.specs.Runs.{Follows, IsInput}
 use Rattle.swanroll_top.specs.Targets.{BeginsNothing}
-use Rattle.text_commands.specs.declared.ending.Ending.{Ending}
-use Rattle.text_commands.specs.declared.ending.Ending.TheVariants.{WriteFault, DiskFault, NotFinished, OutOfMemory}
+use Rattle.text_commands.specs.declared.command_end.CommandEnd.{CommandEnd}
+use Rattle.text_commands.specs.declared.command_end.CommandEnd.TheVariants.{WriteFault, DiskFault, NotFinished, OutOfMemory}
 use Rattle.text_commands.specs.declared.unfinished.Unfinished.TheVariants.{PortFault}
 use Rattle.swanroll_top.proofs.Outcomes.{journal-disk, rose-later, stop-disk, text-not-disk}
 use Rattle.text_commands.proofs.Programs.{follows-ends}
@@ -47,7 +47,7 @@ use Rattle.swanroll_top.proofs.Rolling.{never-disk, unbegun}
 
 module _ {D P : Type 0} (trace : D → DiskTrace) (tell : P → PortTrace)
     (origin : BackFrom) (limits : Limits) (disk disk_now : D) (before now : FleetSeen P) (out out_now : Option (List ℕ)) where
-  pub input-reverts : (source source_now : SourceTrace) (input : List ℕ) (e : Ending) → IsShortInput source source_now input
+  pub input-reverts : (source source_now : SourceTrace) (input : List ℕ) (e : CommandEnd) → IsShortInput source source_now input
       → RevertsIn trace tell (rollout_in input) origin limits disk disk_now before now e out out_now
       → Reverts trace tell (IsInput source source_now) origin limits disk disk_now before now e out out_now
   input-reverts source source_now input e short (inl refused) = inl (record { why = unbegun source source_now input e short refused.why; disk_is = refused.disk_is; fleet_is = refused.fleet_is })
@@ -59,14 +59,14 @@ module _ {D P : Type 0} (trace : D → DiskTrace) (tell : P → PortTrace)
     rolls = begun.2;
   })
 
-  -- behind which input a disk failed
-  pub reverts-behind : (source source_now : SourceTrace) (e : Ending) → e ≡ DiskFault → Reverts trace tell (IsInput source source_now) origin limits disk disk_now before now e out out_now → ReadsDocument source source_now
+  -- after which input a disk failed
+  pub reverts-behind : (source source_now : SourceTrace) (e : CommandEnd) → e ≡ DiskFault → Reverts trace tell (IsInput source source_now) origin limits disk disk_now before now e out out_now → ReadsDocument source source_now
   reverts-behind source source_now e is (inl none) =
       let why : RefusesAs (IsInput source source_now) DiskFault = subst (IsUnbegun (IsInput source source_now)) is none.why in
       absurd (never-disk why.input why.refused)
   reverts-behind source source_now e is (inr roll) = reads-document source source_now roll.input roll.r roll.given roll.is
 
--- ---- behind a level
+-- ---- after a level
 
 module _ {D : Type 0} (trace : D → DiskTrace) (r : Rollout) (migration : ℕ) (start : List ℕ) (disk disk_now : D) (answer : Result Rollout JournalFault)
     (seen : IsSeen trace disk) (may : MayPlace trace (kept_from r migration start) disk disk_now) where
@@ -76,13 +76,13 @@ module _ {D : Type 0} (trace : D → DiskTrace) (r : Rollout) (migration : ℕ) 
   abbrev NotPlaced : JournalFault → Type 0
   NotPlaced why = IsNotPlaced trace why disk disk_now
 
-  pub placed-takes : (there : Rollout) (e : Ending) (out out_now : Option (List ℕ)) → answer ≡ Ok there → IfOk answer Placed
+  pub placed-takes : (there : Rollout) (e : CommandEnd) (out out_now : Option (List ℕ)) → answer ≡ Ok there → IfOk answer Placed
       → ((x : Rollout) → there ≡ back x → Follows (Ok (back_text x)) e out out_now) → TakesBack trace r migration start disk disk_now e out out_now
   placed-takes there e out out_now is placed follows =
       let both : Placed there = subst (λ (a : Result Rollout JournalFault). IfOk a Placed) is placed in
       record { seen = seen; may = may; ends = inl (record { placed = both.1; follows = follows r both.0 }) }
 
-  pub unplaced-takes : (why : JournalFault) (e : Ending) (out : Option (List ℕ)) → answer ≡ Err why → IfErr answer NotPlaced → e ≡ ending_of_journal why → TakesBack trace r migration start disk disk_now e out out
+  pub unplaced-takes : (why : JournalFault) (e : CommandEnd) (out : Option (List ℕ)) → answer ≡ Err why → IfErr answer NotPlaced → e ≡ ending_of_journal why → TakesBack trace r migration start disk disk_now e out out
   unplaced-takes why e out is left ends =
       record { seen = seen; may = may; ends = inr (record { cause = why; left = subst (λ (a : Result Rollout JournalFault). IfErr a NotPlaced) is left; is = ends; silent = refl }) }
 
@@ -113,7 +113,7 @@ is_run (level.Stopped r halt) = true
 is_run (level.NoPort r switch) = false
 is_run level.Memory = false
 
-module _ {D P : Type 0} (tell : P → PortTrace) (homes : List ℕ) (opened closed : Chronicled D) (before now : FleetPorts P) where
+module _ {D P : Type 0} (tell : P → PortTrace) (homes : List ℕ) (opened closed : Journaled D) (before now : FleetPorts P) where
   level-begun : (r : Rollout) (start : List ℕ) (Ran : RunEnd → Type 0) (end : RunEnd) → is_run (level_for r start end) ≡ true → EndsRun tell homes opened closed before now (Ran end) end → Ran end
   level-begun r start Ran run.Finished is ran = ran
   level-begun r start Ran run.Held is ran = ran
@@ -184,7 +184,7 @@ place-rose : {D : Type 0} (trace : D → DiskTrace) (why : JournalFault) (old ne
 place-rose trace why old new left is = subst (λ (w : JournalFault). IsPlacingFault w (trace old).bytes (trace old).faults (trace new).faults) is left.why
 
 module _ {D P : Type 0} (trace : D → DiskTrace) (tell : P → PortTrace)
-    (r : Rollout) (origin : BackFrom) (limits : Limits) (disk disk_now : D) (before now : FleetSeen P) (e : Ending) (out out_now : Option (List ℕ)) (fails : e ≡ DiskFault) where
+    (r : Rollout) (origin : BackFrom) (limits : Limits) (disk disk_now : D) (before now : FleetSeen P) (e : CommandEnd) (out out_now : Option (List ℕ)) (fails : e ≡ DiskFault) where
   takes-rose : (levelled : D) (other : Rollout) (start : List ℕ) → TakesBack trace other limits.migration start levelled disk_now e out out_now → Rose (trace levelled).faults (trace disk_now).faults
   takes-rose levelled other start takes = elim takes.ends as (λ c. Rose (trace levelled).faults (trace disk_now).faults) [
     | inl writes ↦

@@ -8,16 +8,16 @@ use Rattle.wan_edge.specs.Streams.{SourceTrace}
 use Rattle.disk_model.specs.Traces.{DiskTrace}
 use Rattle.wan_edge.specs.Ports.{PortTrace}
 use Rattle.wan_edge.specs.ReadAll.{GoesBeyond}
-use Rattle.rollout_run.specs.declared.running.Limits.{Limits}
-use Rattle.text_commands.specs.Endings.{status_of}
+use Rattle.controller_run.specs.declared.running.Limits.{Limits}
+use Rattle.text_commands.specs.CommandEnds.{status_of}
 use Rattle.text_commands.specs.Reading.{IsCut, IsShortInput}
 use Rattle.text_commands.specs.Answers.{rollout_in, rollout_to}
 use Rattle.swanroll_top.specs.Reports.{ReadsDocument}
 use Rattle.swanroll_top.specs.Rollouts.{EndsRollout, FleetSeen, FollowsRollout, FollowsRolled, IsRefused, IsUnbegun, LeavesAll, RefusesAs, Rolls, RollsIn, RollsOut, RunsRollout, may_end}
 use Rattle.text_commands.specs.Runs.{EndsWith, Gives, IsInput}
 use Rattle.text_commands.specs.Taken.{IsValidDocument}
-use Rattle.text_commands.specs.declared.ending.Ending.{Ending}
-use Rattle.text_commands.specs.declared.ending.Ending.TheVariants.{Done, Usage, AboveLimit, Input, NotValid, NoPlan, Unshown, ReadFault, WriteFault, DiskFault, GuestFault, Refused, NotFinished, OutOfMemory}
+use Rattle.text_commands.specs.declared.command_end.CommandEnd.{CommandEnd}
+use Rattle.text_commands.specs.declared.command_end.CommandEnd.TheVariants.{Done, Usage, AboveLimit, Input, NotValid, NoPlan, Unshown, ReadFault, WriteFault, DiskFault, GuestFault, Refused, NotFinished, OutOfMemory}
 use Rattle.text_commands.proofs.Answering.{is_answer, rollout-answers}
 use Rattle.text_commands.proofs.Inputs.{beyond-input}
 use Rattle.swanroll_top.proofs.Reporting.{IsJudgedAs, beyond-reports, long-rollout, reads-document, rollout-judged, short-rollout}
@@ -25,7 +25,7 @@ use Rattle.text_commands.proofs.Statuses.{not-status}
 
 -- ---- an input that is refused
 
-pub gives-refused : (rollout : Result Rollout Ending) (e : Ending) → Gives {A = Rollout} (Err e) rollout → IsRefused rollout e
+pub gives-refused : (rollout : Result Rollout CommandEnd) (e : CommandEnd) → Gives {A = Rollout} (Err e) rollout → IsRefused rollout e
 gives-refused rollout Done h = h
 gives-refused rollout Usage h = h
 gives-refused rollout AboveLimit h = h
@@ -41,8 +41,8 @@ gives-refused rollout (Refused f) h = h
 gives-refused rollout (NotFinished u) h = h
 gives-refused rollout OutOfMemory h = tt
 
--- by an answer to the input, or for want of memory
-refused-answer : (input : List ℕ) (e : Ending) → IsRefused (rollout_in input) e → is_answer e ≡ true
+-- by an answer to the input, or for lack of memory
+refused-answer : (input : List ℕ) (e : CommandEnd) → IsRefused (rollout_in input) e → is_answer e ≡ true
 refused-answer input Done h = rollout-answers input Done h
 refused-answer input Usage h = rollout-answers input Usage h
 refused-answer input AboveLimit h = refl
@@ -58,21 +58,21 @@ refused-answer input (Refused f) h = rollout-answers input (Refused f) h
 refused-answer input (NotFinished u) h = rollout-answers input (NotFinished u) h
 refused-answer input OutOfMemory h = refl
 
--- an ending that neither refuses an input nor comes behind a rollout
-pub never-follows : (input : List ℕ) (e : Ending) (out now : Option (List ℕ)) → is_answer e ≡ false → may_end e ≡ false → FollowsRolled (rollout_in input) e out now → ⊥
+-- an ending that neither refuses an input nor comes after a rollout
+pub never-follows : (input : List ℕ) (e : CommandEnd) (out now : Option (List ℕ)) → is_answer e ≡ false → may_end e ≡ false → FollowsRolled (rollout_in input) e out now → ⊥
 never-follows input e out now answer may (inl refused) = let both : true ≡ false = sym (refused-answer input e refused.0) ∙ answer in cc
 never-follows input e out now answer may (inr begun) = let both : true ≡ false = sym begun.1.may ∙ may in cc
 
-pub never : (input : List ℕ) (x e : Ending) (out now : Option (List ℕ)) → is_answer x ≡ false → may_end x ≡ false → FollowsRolled (rollout_in input) e out now → e ≡ x → ⊥
+pub never : (input : List ℕ) (x e : CommandEnd) (out now : Option (List ℕ)) → is_answer x ≡ false → may_end x ≡ false → FollowsRolled (rollout_in input) e out now → e ≡ x → ⊥
 never input x e out now answer may h is = never-follows input x out now answer may (subst (λ y. FollowsRolled (rollout_in input) y out now) is h)
 
-pub not-refused : (input : List ℕ) (x e : Ending) → is_answer x ≡ false → IsRefused (rollout_in input) e → e ≡ x → ⊥
+pub not-refused : (input : List ℕ) (x e : CommandEnd) → is_answer x ≡ false → IsRefused (rollout_in input) e → e ≡ x → ⊥
 not-refused input x e answer h is = let both : true ≡ false = sym (refused-answer input x (subst (λ y. IsRefused (rollout_in input) y) is h)) ∙ answer in cc
 
 -- ---- what is read and written
 
 -- a rollout that was begun ends with no status of an input
-begun-status : (e : Ending) → may_end e ≡ true → status_of e ≡ 3 → ⊥
+begun-status : (e : CommandEnd) → may_end e ≡ true → status_of e ≡ 3 → ⊥
 begun-status Done m h = omega (arith, h)
 begun-status Usage m h = omega (arith, h)
 begun-status AboveLimit m h = cc
@@ -88,7 +88,7 @@ begun-status (Refused f) m h = omega (arith, h)
 begun-status (NotFinished u) m h = not-status 3 refl u h
 begun-status OutOfMemory m h = omega (arith, h)
 
-refused-ending : (rollout : Result Rollout Ending) (e : Ending) → (e ≡ OutOfMemory → ⊥) → IsRefused rollout e → rollout ≡ Err e
+refused-ending : (rollout : Result Rollout CommandEnd) (e : CommandEnd) → (e ≡ OutOfMemory → ⊥) → IsRefused rollout e → rollout ≡ Err e
 refused-ending rollout Done some h = h
 refused-ending rollout Usage some h = h
 refused-ending rollout AboveLimit some h = h
@@ -104,8 +104,8 @@ refused-ending rollout (Refused f) some h = h
 refused-ending rollout (NotFinished u) some h = h
 refused-ending rollout OutOfMemory some h = absurd (some refl)
 
-module _ (input : List ℕ) (e : Ending) (some : e ≡ OutOfMemory → ⊥) (out out_now : Option (List ℕ)) where
-  refused-exactly : (r : Result Rollout Ending) → IsJudgedAs input r → FollowsRolled r e out out_now → ((status_of e ≡ 3) → (IsValidDocument input → ⊥)) × ((IsValidDocument input → ⊥) → status_of e ≡ 3)
+module _ (input : List ℕ) (e : CommandEnd) (some : e ≡ OutOfMemory → ⊥) (out out_now : Option (List ℕ)) where
+  refused-exactly : (r : Result Rollout CommandEnd) → IsJudgedAs input r → FollowsRolled r e out out_now → ((status_of e ≡ 3) → (IsValidDocument input → ⊥)) × ((IsValidDocument input → ⊥) → status_of e ≡ 3)
   refused-exactly (Ok o) valid (inl refused) = absurd (let no : Ok o ≡ Err e = refused-ending (Ok o) e some refused.0 in cc)
   refused-exactly (Ok o) valid (inr begun) = (λ three. absurd (begun-status e begun.1.may three), λ invalid. absurd (invalid valid))
   refused-exactly (Err x) judged (inr begun) = absurd (let no : Err x ≡ Ok begun.0.0 = begun.0.1 in cc)
@@ -134,7 +134,7 @@ memory-silent input out out_now (inl refused) = refused.1
 memory-silent input out out_now (inr begun) = begun.1.silent (λ h. omega (arith, h)) (λ h. omega (arith, h))
 
 module _ (source source_now : SourceTrace) (out out_now : Option (List ℕ)) (input : List ℕ) (short : IsShortInput source source_now input) where
-  pub short-rollouts : (e : Ending) → FollowsRolled (rollout_in input) e out out_now → RunsRollout source source_now e out out_now
+  pub short-rollouts : (e : CommandEnd) → FollowsRolled (rollout_in input) e out out_now → RunsRollout source source_now e out out_now
   short-rollouts Done h = follows-rollout input Done (λ m. cc) out out_now source source_now short h
   short-rollouts Usage h = follows-rollout input Usage (λ m. cc) out out_now source source_now short h
   short-rollouts AboveLimit h = follows-rollout input AboveLimit (λ m. cc) out out_now source source_now short h
@@ -156,7 +156,7 @@ beyond-rollouts source source_now out g =
     let r = beyond-reports 0 source source_now None out g in
     record { input = r.input; read = r.read; refused = r.refused; silent = r.silent }
 
-pub cut-rollouts : (source source_now : SourceTrace) (out : Option (List ℕ)) (e : Ending) → IsCut source e source_now → RunsRollout source source_now e out out
+pub cut-rollouts : (source source_now : SourceTrace) (out : Option (List ℕ)) (e : CommandEnd) → IsCut source e source_now → RunsRollout source source_now e out out
 cut-rollouts source source_now out Done r = absurd r
 cut-rollouts source source_now out Usage r = absurd r
 cut-rollouts source source_now out AboveLimit r = beyond-rollouts source source_now out r
@@ -177,7 +177,7 @@ beyond-unbegun source source_now g =
     let i = beyond-input source source_now g in
     record { input = i.input; given = i.is; refused = long-rollout i.input i.long }
 
-pub cut-unbegun : (source source_now : SourceTrace) (e : Ending) → IsCut source e source_now → IsUnbegun (IsInput source source_now) e
+pub cut-unbegun : (source source_now : SourceTrace) (e : CommandEnd) → IsCut source e source_now → IsUnbegun (IsInput source source_now) e
 cut-unbegun source source_now Done r = absurd r
 cut-unbegun source source_now Usage r = absurd r
 cut-unbegun source source_now AboveLimit r = beyond-unbegun source source_now r
@@ -194,13 +194,13 @@ cut-unbegun source source_now (NotFinished u) r = absurd r
 cut-unbegun source source_now OutOfMemory r = tt
 
 -- an input within the limit that is refused
-pub unbegun : (source source_now : SourceTrace) (input : List ℕ) (e : Ending) → IsShortInput source source_now input → IsRefused (rollout_in input) e → IsUnbegun (IsInput source source_now) e
+pub unbegun : (source source_now : SourceTrace) (input : List ℕ) (e : CommandEnd) → IsShortInput source source_now input → IsRefused (rollout_in input) e → IsUnbegun (IsInput source source_now) e
 unbegun source source_now input e short h = by_ending e h
   where
-    refuses : (x : Ending) → rollout_in input ≡ Err x → RefusesAs (IsInput source source_now) x
+    refuses : (x : CommandEnd) → rollout_in input ≡ Err x → RefusesAs (IsInput source source_now) x
     refuses x is = record { input = input; given = short.input; refused = short-rollout input short.within ∙ is }
 
-    by_ending : (x : Ending) → IsRefused (rollout_in input) x → IsUnbegun (IsInput source source_now) x
+    by_ending : (x : CommandEnd) → IsRefused (rollout_in input) x → IsUnbegun (IsInput source source_now) x
     by_ending Done h = refuses Done h
     by_ending Usage h = refuses Usage h
     by_ending AboveLimit h = refuses AboveLimit h
@@ -220,7 +220,7 @@ unbegun source source_now input e short h = by_ending e h
 
 module _ {D P : Type 0} (trace : D → DiskTrace) (tell : P → PortTrace)
     (limits : Limits) (policy : OpView → ℕ) (disk disk_now : D) (before fleet_now : FleetSeen P) (out out_now : Option (List ℕ)) where
-  pub input-rolls : (source source_now : SourceTrace) (input : List ℕ) (e : Ending) → IsShortInput source source_now input
+  pub input-rolls : (source source_now : SourceTrace) (input : List ℕ) (e : CommandEnd) → IsShortInput source source_now input
       → RollsIn trace tell (rollout_in input) limits policy disk disk_now before fleet_now e out out_now
       → Rolls trace tell (IsInput source source_now) limits policy disk disk_now before fleet_now e out out_now
   input-rolls source source_now input e short (inl refused) = inl (record { why = unbegun source source_now input e short refused.why; disk_is = refused.disk_is; fleet_is = refused.fleet_is })
@@ -237,13 +237,13 @@ module _ {D P : Type 0} (trace : D → DiskTrace) (tell : P → PortTrace)
 -- no input is refused as if the disk had failed
 pub never-disk : (input : List ℕ) → rollout_to input ≡ Err DiskFault → ⊥
 never-disk input is = elim (cases_lt MOST_INPUT (length input)) [
-  | inl long ↦ let no : ◌≡◌ {A = Result Rollout Ending} (Err AboveLimit) (Err DiskFault) = sym (long-rollout input long) ∙ is in cc
+  | inl long ↦ let no : ◌≡◌ {A = Result Rollout CommandEnd} (Err AboveLimit) (Err DiskFault) = sym (long-rollout input long) ∙ is in cc
   | inr within ↦ let no : is_answer DiskFault ≡ true = rollout-answers input DiskFault (sym (short-rollout input within) ∙ is) in cc
 ]
 
--- behind which input it failed
+-- after which input it failed
 pub rolls-behind : {D P : Type 0} (trace : D → DiskTrace) (tell : P → PortTrace)
-    (source source_now : SourceTrace) (limits : Limits) (policy : OpView → ℕ) (disk disk_now : D) (before now : FleetSeen P) (e : Ending) (out out_now : Option (List ℕ)) → e ≡ DiskFault
+    (source source_now : SourceTrace) (limits : Limits) (policy : OpView → ℕ) (disk disk_now : D) (before now : FleetSeen P) (e : CommandEnd) (out out_now : Option (List ℕ)) → e ≡ DiskFault
     → Rolls trace tell (IsInput source source_now) limits policy disk disk_now before now e out out_now → ReadsDocument source source_now
 rolls-behind trace tell source source_now limits policy disk disk_now before now e out out_now is (inl unbegun) =
     let why : RefusesAs (IsInput source source_now) DiskFault = subst (IsUnbegun (IsInput source source_now)) is unbegun.why in

@@ -6,38 +6,38 @@ use Rattle.wan_edge.specs.Streams.{SourceTrace}
 use Rattle.file_sight.specs.Sights.{Looks}
 use Rattle.file_sight.specs.declared.unseen.Unseen.{Unseen}
 use Rattle.file_sight.specs.declared.unseen.Unseen.TheVariants as unseen
-use Rattle.watch_laws.proofs.Watched.{there_once}
-use Rattle.swanroll_top.specs.JournalRoom.{journal_room}
+use Rattle.rollout_report.proofs.Watched.{there_once}
+use Rattle.retarget_service.specs.JournalRoom.{journal_room}
 use Rattle.swanroll_top.specs.Live.{ReportsSeen, WasThere, ending_of_unseen, in_memory}
 use Rattle.text_commands.specs.Reading.{IsCut}
 use Rattle.swanroll_top.specs.Reports.{FollowsReported}
-use Rattle.text_commands.specs.declared.ending.Ending.{Ending}
-use Rattle.text_commands.specs.declared.ending.Ending.TheVariants.{Done, Usage, AboveLimit, Input, NotValid, NoPlan, Unshown, ReadFault, WriteFault, DiskFault, GuestFault, Refused, NotFinished, OutOfMemory}
-use Rattle.swanroll_top.specs.declared.live.LiveEnding.{LiveEnding}
-use Rattle.swanroll_top.specs.declared.live.LiveEnding.TheVariants.{Ended, InUse}
+use Rattle.text_commands.specs.declared.command_end.CommandEnd.{CommandEnd}
+use Rattle.text_commands.specs.declared.command_end.CommandEnd.TheVariants.{Done, Usage, AboveLimit, Input, NotValid, NoPlan, Unshown, ReadFault, WriteFault, DiskFault, GuestFault, Refused, NotFinished, OutOfMemory}
+use Rattle.swanroll_top.specs.declared.live.LiveEnd.{LiveEnd}
+use Rattle.swanroll_top.specs.declared.live.LiveEnd.TheVariants.{Ended, InUse}
 
-pub ended-is : (one other : Ending) → Ended one ≡ Ended other → one ≡ other
+pub ended-is : (one other : CommandEnd) → Ended one ≡ Ended other → one ≡ other
 ended-is one other is = cc is
 
 -- an error by its ending
-abbrev pub IsErrEnding : Result (List ℕ) Ending → Ending → Type 0
+abbrev pub IsErrEnding : Result (List ℕ) CommandEnd → CommandEnd → Type 0
 IsErrEnding answer e = answer ≡ Err e
 
-abbrev as_err : Ending → Result (List ℕ) Ending
+abbrev as_err : CommandEnd → Result (List ℕ) CommandEnd
 as_err e = Err e
 
-pub err-same : (one other : Ending) → one ≡ other → IsErrEnding (Err one) other
+pub err-same : (one other : CommandEnd) → one ≡ other → IsErrEnding (Err one) other
 err-same one other is = ap as_err is
 
-pub read-cause : (e : Ending) (P : Type 0) → (IsErrEnding (Err e) ReadFault → P) → Ended e ≡ Ended ReadFault → P
+pub read-cause : (e : CommandEnd) (P : Type 0) → (IsErrEnding (Err e) ReadFault → P) → Ended e ≡ Ended ReadFault → P
 read-cause e P cause is = cause (err-same e ReadFault (ended-is e ReadFault is))
 
 -- a source that wasn't read to its end is no fault of the file or of the sink
-pub cut-no-disk : (source source_now : SourceTrace) (e : Ending) → IsCut source e source_now → Ended e ≡ Ended DiskFault → ⊥
-cut-no-disk source source_now e cut is = subst (λ (x : Ending). IsCut source x source_now) (ended-is e DiskFault is) cut
+pub cut-no-disk : (source source_now : SourceTrace) (e : CommandEnd) → IsCut source e source_now → Ended e ≡ Ended DiskFault → ⊥
+cut-no-disk source source_now e cut is = subst (λ (x : CommandEnd). IsCut source x source_now) (ended-is e DiskFault is) cut
 
-pub cut-no-write : (source source_now : SourceTrace) (e : Ending) → IsCut source e source_now → Ended e ≡ Ended WriteFault → ⊥
-cut-no-write source source_now e cut is = subst (λ (x : Ending). IsCut source x source_now) (ended-is e WriteFault is) cut
+pub cut-no-write : (source source_now : SourceTrace) (e : CommandEnd) → IsCut source e source_now → Ended e ≡ Ended WriteFault → ⊥
+cut-no-write source source_now e cut is = subst (λ (x : CommandEnd). IsCut source x source_now) (ended-is e WriteFault is) cut
 
 -- ---- a file that wasn't seen
 
@@ -56,21 +56,21 @@ module _ {W : Type 0} (trace : W → SourceTrace) (m : ℕ) (o : Rollout) (limit
   by_why unseen.InUse moved = record { seen = None; sees = tt; follows = ((o, refl), refl); failed = λ e. cc; moved = λ e. (limit, moved) }
   by_why unseen.Memory any = record { seen = None; sees = tt; follows = refl; failed = λ e. cc; moved = λ e. cc }
 
-  pub unseen-reports : (why : Unseen) (ending : LiveEnding) → ending ≡ ending_of_unseen why → Looks trace limit before (Err why) now → ReportsSeen trace m (Ok o) before now ending out out
-  unseen-reports why ending is looks = subst (λ (e : LiveEnding). ReportsSeen trace m (Ok o) before now e out out) (sym is) (by_why why looks)
+  pub unseen-reports : (why : Unseen) (ending : LiveEnd) → ending ≡ ending_of_unseen why → Looks trace limit before (Err why) now → ReportsSeen trace m (Ok o) before now ending out out
+  unseen-reports why ending is looks = subst (λ (e : LiveEnd). ReportsSeen trace m (Ok o) before now e out out) (sym is) (by_why why looks)
 
 unseen_writes : (why : Unseen) → ending_of_unseen why ≡ Ended WriteFault → ⊥
 unseen_writes unseen.Failed is = cc
 unseen_writes unseen.InUse is = cc
 unseen_writes unseen.Memory is = cc
 
-pub unseen-no-write : (why : Unseen) (ending : LiveEnding) → ending ≡ ending_of_unseen why → ending ≡ Ended WriteFault → ⊥
+pub unseen-no-write : (why : Unseen) (ending : LiveEnd) → ending ≡ ending_of_unseen why → ending ≡ Ended WriteFault → ⊥
 unseen-no-write why ending is write = unseen_writes why (sym is ∙ write)
 
 -- ---- a report over a disk in memory
 
 module _ (m : ℕ) (o : Rollout) (out now : Option (List ℕ)) where
-  by_memory : (told : Option (List ℕ)) (e : Ending) → FollowsReported m (Ok o) told e out now → FollowsReported m (Ok o) told (in_memory e) out now
+  by_memory : (told : Option (List ℕ)) (e : CommandEnd) → FollowsReported m (Ok o) told e out now → FollowsReported m (Ok o) told (in_memory e) out now
   by_memory told Done h = h
   by_memory told Usage h = h
   by_memory told AboveLimit h = h
@@ -86,13 +86,13 @@ module _ (m : ℕ) (o : Rollout) (out now : Option (List ℕ)) where
   by_memory told (NotFinished u) h = h
   by_memory told OutOfMemory h = h
 
-  pub seen-follows : (disk : Storing) (image : List ℕ) (e ending : Ending) → disk.timeline.medium.bytes ≡ image → FollowsReported m (Ok o) (Some disk.timeline.medium.bytes) e out now → ending ≡ in_memory e
+  pub seen-follows : (disk : Storing) (image : List ℕ) (e ending : CommandEnd) → disk.timeline.medium.bytes ≡ image → FollowsReported m (Ok o) (Some disk.timeline.medium.bytes) e out now → ending ≡ in_memory e
       → FollowsReported m (Ok o) (Some image) ending out now
   seen-follows disk image e ending bytes follows is =
-      subst (λ (x : Ending). FollowsReported m (Ok o) (Some image) x out now) (sym is)
+      subst (λ (x : CommandEnd). FollowsReported m (Ok o) (Some image) x out now) (sym is)
       (by_memory (Some image) e (subst (λ (b : List ℕ). FollowsReported m (Ok o) (Some b) e out now) bytes follows))
 
-memory_disk : (e : Ending) → in_memory e ≡ DiskFault → ⊥
+memory_disk : (e : CommandEnd) → in_memory e ≡ DiskFault → ⊥
 memory_disk Done is = cc
 memory_disk Usage is = cc
 memory_disk AboveLimit is = cc
@@ -108,10 +108,10 @@ memory_disk (Refused f) is = cc
 memory_disk (NotFinished u) is = cc
 memory_disk OutOfMemory is = cc
 
-pub seen-no-disk : (e ending : Ending) → ending ≡ in_memory e → ending ≡ DiskFault → ⊥
+pub seen-no-disk : (e ending : CommandEnd) → ending ≡ in_memory e → ending ≡ DiskFault → ⊥
 seen-no-disk e ending is disk = memory_disk e (sym is ∙ disk)
 
-memory_write : (e : Ending) → in_memory e ≡ WriteFault → e ≡ WriteFault
+memory_write : (e : CommandEnd) → in_memory e ≡ WriteFault → e ≡ WriteFault
 memory_write Done is = is
 memory_write Usage is = is
 memory_write AboveLimit is = is
@@ -127,7 +127,7 @@ memory_write (Refused f) is = is
 memory_write (NotFinished u) is = is
 memory_write OutOfMemory is = is
 
-pub seen-write : (e ending : Ending) → ending ≡ in_memory e → ending ≡ WriteFault → e ≡ WriteFault
+pub seen-write : (e ending : CommandEnd) → ending ≡ in_memory e → ending ≡ WriteFault → e ≡ WriteFault
 seen-write e ending is write = memory_write e (sym is ∙ write)
 
 -- ---- what was read was there

@@ -13,14 +13,14 @@ use Rattle.rollout_laws.proofs.Histories.{is_counted}
 use Rattle.wan_edge.specs.Ports.{PortTrace}
 use Rattle.wan_edge.specs.Switches.{Holdings}
 use Rattle.shared_book.specs.Homes.{homes_of}
-use Rattle.port_session.specs.Sessions.{first_talk}
-use Rattle.worker_ports.specs.Views.{PortView, view}
-use Rattle.worker_ports.specs.declared.ports.Berth.{Berth}
-use Rattle.rollout_ports.specs.Berths.{FleetPorts}
+use Rattle.port_session.specs.Sessions.{first_session}
+use Rattle.switch_ports.specs.Views.{SessionTrace, view}
+use Rattle.switch_ports.specs.declared.ports.Berth.{Berth}
+use Rattle.switch_ports.specs.Berths.{FleetPorts}
 use Rattle.switch_laws.specs.Holdings.{AreHeldAt, IsHeldAt}
 use Rattle.switch_laws.proofs.Answered.{some_at}
 use Rattle.switch_laws.proofs.Stands.{if_some}
-use Rattle.holding_laws.specs.Untold.{EachMayHold, IsFoundWith, MayHold}
+use Rattle.completion_laws.specs.Untold.{EachMayHold, IsFoundWith, MayHold}
 use Rattle.swanroll_top.specs.DrainTargets.{AreHeldSettled, EndsSettled, IsHeldSettled}
 use Rattle.swanroll_top.specs.Targets.{EndsWithin}
 
@@ -32,7 +32,7 @@ module _ (P Q : Holdings → Type 0) (more : (holdings : Holdings) → P holding
   told-more (Some a) (Some b) None holds = tt
   told-more (Some a) (Some b) (Some c) holds = more c holds
 
-  pub each-more : (r : Rollout) (migration : ℕ) (homes : List (Option ℕ)) (found : History) (first : PortView) (now : PortTrace) → EachMayHold r migration homes found first now P → EachMayHold r migration homes found first now Q
+  pub each-more : (r : Rollout) (migration : ℕ) (homes : List (Option ℕ)) (found : History) (first : SessionTrace) (now : PortTrace) → EachMayHold r migration homes found first now P → EachMayHold r migration homes found first now Q
   each-more r migration homes found first now each =
       if_some now.offered (λ offered. IfSome now.heard (λ heard. (earlier : List ℕ) (before after : Holdings) → IsFoundWith r migration homes found first earlier before → MayHold (earlier ++ offered) heard before after → Q after))
       (λ offered offered_is. if_some now.heard (λ heard. (earlier : List ℕ) (before after : Holdings) → IsFoundWith r migration homes found first earlier before → MayHold (earlier ++ offered) heard before after → Q after)
@@ -71,7 +71,7 @@ module _ {P : Type 0} (tell : P → PortTrace) (r : Rollout) (migration : ℕ) (
       holds = λ starts. told-more (AreHeldAt r migration (homes_of r.problem) b.switch h) (AreHeldSettled r migration (homes_of r.problem) b.switch h) (settled-of r migration h legal idle b.switch)
           (tell all.0.back).offered (tell all.0.back).heard (tell all.0.back).held (all.0.holds starts);
       each = each-more (AreHeldAt r migration (homes_of r.problem) b.switch h) (AreHeldSettled r migration (homes_of r.problem) b.switch h) (settled-of r migration h legal idle b.switch)
-          r migration (homes_of r.problem) found (view tell (first_talk b.switch b.port)) (tell all.0.back) all.0.each;
+          r migration (homes_of r.problem) found (view tell (first_session b.switch b.port)) (tell all.0.back) all.0.each;
     },
     berths-settled bs all.1,
   )

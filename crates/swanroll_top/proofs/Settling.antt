@@ -1,4 +1,4 @@
--- Behind a drain that was begun the network is safe and nothing was begun behind the list found; behind status 0 nothing is in flight, and the switches hold what is settled.
+-- After a drain that was begun the network is safe and nothing was begun after the list found; after status 0 nothing is in flight, and the switches hold what is settled.
 use Rattle.std.proofs.Common.{◌≡◌, ◌+◌, ◌-◌, ◌<◌, ◌≤◌, ◌==◌, ℕ, List, [], ◌∷◌, length, true, false, Option, Some, Ok, IfSome, refl, sym, ap, ◌∙◌, subst, inl, inr, arith, eqb-true, ne_eqb}
 use Rattle.std.specs.List.{All, AllByRecursion}
 use Rattle.std.proofs.lemmas.List.Elements.{All-head, All-tail, All-weaker}
@@ -24,29 +24,29 @@ use Rattle.wan_edge.specs.Streams.{Appends}
 use Rattle.intent_journal.specs.Openings.{IsLeft, found_by}
 use Rattle.intent_journal.specs.Verdicts.{verdict}
 use Rattle.intent_journal.specs.declared.fault.JournalFault.{JournalFault}
-use Rattle.shared_history.specs.declared.note.Written.{Written}
-use Rattle.shared_history.specs.Histories.{Opening, added, history_of}
-use Rattle.shared_history.proofs.Lists.{list-is_legal}
+use Rattle.shared_book.specs.declared.note.Written.{Written}
+use Rattle.shared_book.specs.Histories.{Opening, added, history_of}
+use Rattle.shared_book.proofs.Lists.{list-is_legal}
 use Rattle.shared_book.specs.Homes.{homes_of}
 use Rattle.shared_book.specs.Opened.{opening_of}
 use Rattle.shared_book.proofs.Unstopped.{unstopped}
-use Rattle.rollout_book.specs.Chronicles.{Chronicled}
-use Rattle.port_session.specs.Sessions.{first_talk}
-use Rattle.worker_ports.specs.declared.ports.Berth.{Berth}
-use Rattle.rollout_ports.specs.Berths.{FleetPorts}
-use Rattle.rollout_ports.specs.Hands.{first_talks}
-use Rattle.rollout_ports.specs.Homes.{working_homes}
+use Rattle.rollout_book.specs.JournaledRounds.{Journaled}
+use Rattle.port_session.specs.Sessions.{first_session}
+use Rattle.switch_ports.specs.declared.ports.Berth.{Berth}
+use Rattle.switch_ports.specs.Berths.{FleetPorts}
+use Rattle.switch_ports.specs.Hands.{first_sessions}
+use Rattle.switch_ports.specs.Homes.{working_homes}
 use Rattle.switch_laws.proofs.Begun.{begun_within}
 use Rattle.rollout_report.specs.Journals.{digest_for}
-use Rattle.rollout_run.specs.Keeping.{IsBegun}
-use Rattle.rollout_run.specs.PortRuns.{IsBack}
-use Rattle.rollout_run.specs.Ran.{Ran}
-use Rattle.rollout_run.specs.declared.end.RunEnd.{RunEnd}
-use Rattle.rollout_run.specs.declared.end.RunEnd.TheVariants as run
-use Rattle.rollout_run.specs.declared.running.Limits.{Limits}
-use Rattle.rollout_service.specs.Outcomes.{HasRolled, IfRolled, OnUnopened, answer_for}
-use Rattle.rollout_service.specs.declared.answer.RunAnswer.{RunAnswer}
-use Rattle.rollout_service.specs.declared.answer.RunAnswer.TheVariants as outcome
+use Rattle.controller_run.specs.Keeping.{IsBegun}
+use Rattle.controller_run.specs.PortRuns.{IsBack}
+use Rattle.controller_run.specs.Ran.{Ran}
+use Rattle.controller_run.specs.declared.end.RunEnd.{RunEnd}
+use Rattle.controller_run.specs.declared.end.RunEnd.TheVariants as run
+use Rattle.controller_run.specs.declared.running.Limits.{Limits}
+use Rattle.controller_run.specs.RolloutEnds.{HasRolled, IfRolled, OnUnopened, answer_for}
+use Rattle.controller_run.specs.declared.rollout_end.RolloutEnd.{RolloutEnd}
+use Rattle.controller_run.specs.declared.rollout_end.RolloutEnd.TheVariants as outcome
 use Rattle.completion_laws.proofs.Excused.{held-still}
 use Rattle.completion_laws.proofs.InFlight.{still-flies}
 use Rattle.rollback_plan.specs.Levels.{HoldsFrom}
@@ -54,14 +54,14 @@ use Rattle.rollback_service.specs.Drainings.{HoldsAll}
 use Rattle.levelling_laws.proofs.Drained.{list-begins_nothing}
 use Rattle.swanroll_top.specs.Drains.{Drains, DrainsAs, DrainsOpened, DrainsOut, DrainsOutOf, drained_line, drained_or_ending, line_with_left}
 use Rattle.swanroll_top.specs.DrainTargets.{DrainsSafely, EndsDrainSafely, IsBegunIn, IsDrained, SendsAgain, settled_in_all}
-use Rattle.text_commands.specs.Endings.{ending_of_journal}
+use Rattle.text_commands.specs.CommandEnds.{ending_of_journal}
 use Rattle.swanroll_top.specs.NextStarts.{NextStart}
 use Rattle.text_commands.specs.Answers.{rollout_to}
 use Rattle.swanroll_top.specs.Rollouts.{FleetSeen, RollsOut}
 use Rattle.text_commands.specs.Runs.{EndsWith, Follows}
 use Rattle.swanroll_top.specs.Targets.{IsOfBegun, StaysSafe}
-use Rattle.text_commands.specs.declared.ending.Ending.{Ending}
-use Rattle.text_commands.specs.declared.ending.Ending.TheVariants.{Done, DiskFault, NotFinished, OutOfMemory}
+use Rattle.text_commands.specs.declared.command_end.CommandEnd.{CommandEnd}
+use Rattle.text_commands.specs.declared.command_end.CommandEnd.TheVariants.{Done, DiskFault, NotFinished, OutOfMemory}
 use Rattle.text_commands.specs.declared.unfinished.Unfinished.TheVariants.{PortFault}
 use Rattle.swanroll_top.proofs.Elsewhere.{none-settled}
 use Rattle.swanroll_top.proofs.Levelling.{levels-holds, stop-not-done}
@@ -112,10 +112,10 @@ module _ (o : Opening) (log : List Written) (legal : is_legal o.rollout.problem 
 
 module _ {P : Type 0} (tell : P → PortTrace) (o : Opening) (migration : ℕ) (log : List Written) (now : FleetPorts P)
     (legal : is_legal o.rollout.problem o.rollout.plan (history_of o log) ≡ true) (none : (n : ℕ) → begins_in (added log) n ≡ 0) where
-  berths-again : (bs : List (Berth P)) → All (IsBack tell o migration (homes_of o.rollout.problem) log now.kept) (first_talks bs) → AllByRecursion (SendsAgain tell o.rollout migration o.found now) bs
+  berths-again : (bs : List (Berth P)) → All (IsBack tell o migration (homes_of o.rollout.problem) log now.kept) (first_sessions bs) → AllByRecursion (SendsAgain tell o.rollout migration o.found now) bs
   berths-again [] all = tt
   berths-again (b ∷ bs) all =
-      let back : IsBack tell o migration (homes_of o.rollout.problem) log now.kept (first_talk b.switch b.port) = All-head (IsBack tell o migration (homes_of o.rollout.problem) log now.kept) (first_talk b.switch b.port) (first_talks bs) all in (
+      let back : IsBack tell o migration (homes_of o.rollout.problem) log now.kept (first_session b.switch b.port) = All-head (IsBack tell o migration (homes_of o.rollout.problem) log now.kept) (first_session b.switch b.port) (first_sessions bs) all in (
         record {
           back = back.now.port;
           kept = back.is_kept;
@@ -123,7 +123,7 @@ module _ {P : Type 0} (tell : P → PortTrace) (o : Opening) (migration : ℕ) (
           each = All-weaker (IsBegun o (history_of o log)) (IsBegunIn o.found) (command-begun o log legal none) back.run.sent back.run.begun;
           part = back.run.story.part;
         },
-        berths-again bs (All-tail (IsBack tell o migration (homes_of o.rollout.problem) log now.kept) (first_talk b.switch b.port) (first_talks bs) all),
+        berths-again bs (All-tail (IsBack tell o migration (homes_of o.rollout.problem) log now.kept) (first_session b.switch b.port) (first_sessions bs) all),
       )
 
 -- ---- how it ended
@@ -147,8 +147,8 @@ finished-so r found h (run.Stopped halt) all count is = absurd cc
 finished-so r found h (run.NoPort switch) all count is = absurd cc
 finished-so r found h run.Memory all count is = absurd cc
 
--- such an ending comes only behind a run that was begun
-drained-ran : (n : ℕ) (a : RunAnswer) (e : Ending) (out now : Option (List ℕ)) → is_of_begun e ≡ true → EndsWith (drained_or_ending n a) e out now → is_ran a ≡ true
+-- such an ending comes only after a run that was begun
+drained-ran : (n : ℕ) (a : RolloutEnd) (e : CommandEnd) (out now : Option (List ℕ)) → is_of_begun e ≡ true → EndsWith (drained_or_ending n a) e out now → is_ran a ≡ true
 drained-ran n (outcome.Finished all found) e out now begun h = refl
 drained-ran n (outcome.Held left) e out now begun h = refl
 drained-ran n (outcome.Stopped r halt) e out now begun h = refl
@@ -159,10 +159,10 @@ drained-ran n (outcome.Unopened why) e out now begun h = absurd (not-begun e (en
 -- ---- a run under a policy that holds all back
 
 module _ {D P : Type 0} (trace : D → DiskTrace) (tell : P → PortTrace)
-    (Given : List ℕ → Type 0) (disk disk_now : D) (before now : FleetSeen P) (limits : Limits) (policy : OpView → ℕ) (holds : HoldsAll policy) (e : Ending) (w w_now : Option (List ℕ))
-    (from : RunsFrom trace tell Given limits policy disk disk_now before now e w w_now) (a : RunAnswer)
+    (Given : List ℕ → Type 0) (disk disk_now : D) (before now : FleetSeen P) (limits : Limits) (policy : OpView → ℕ) (holds : HoldsAll policy) (e : CommandEnd) (w w_now : Option (List ℕ))
+    (from : RunsFrom trace tell Given limits policy disk disk_now before now e w w_now) (a : RolloutEnd)
     (has : HasRolled trace tell from.r (digest_for from.r limits.migration) policy limits.rounds from.opened before.ports now.ports disk_now a) where
-  abbrev book : Chronicled D
+  abbrev book : Journaled D
   book = has.book
 
   abbrev o : Opening
@@ -266,7 +266,7 @@ module _ {D P : Type 0} (trace : D → DiskTrace) (tell : P → PortTrace)
 -- ---- a drain, from the image that its disk told
 
 record DrainsFrom {D P : Type 0} (trace : D → DiskTrace) (tell : P → PortTrace)
-    (Given : List ℕ → Type 0) (limits : Limits) (disk disk_now : D) (before now : FleetSeen P) (e : Ending) (out out_now : Option (List ℕ)) : Type 0 where
+    (Given : List ℕ → Type 0) (limits : Limits) (disk disk_now : D) (before now : FleetSeen P) (e : CommandEnd) (out out_now : Option (List ℕ)) : Type 0 where
   pub input : List ℕ
   pub given : Given input
   pub r : Rollout
@@ -278,7 +278,7 @@ record DrainsFrom {D P : Type 0} (trace : D → DiskTrace) (tell : P → PortTra
   pub drains : DrainsOut trace tell r limits opened disk_now before now e out out_now
 
 module _ {D P : Type 0} (trace : D → DiskTrace) (tell : P → PortTrace)
-    (Given : List ℕ → Type 0) (limits : Limits) (disk disk_now : D) (before now : FleetSeen P) (e : Ending) (out out_now : Option (List ℕ)) where
+    (Given : List ℕ → Type 0) (limits : Limits) (disk disk_now : D) (before now : FleetSeen P) (e : CommandEnd) (out out_now : Option (List ℕ)) where
   drains-from : (way : DrainsOutOf trace tell Given limits disk disk_now before now e out out_now) → DrainsOpened trace tell way.r limits disk disk_now before now e out out_now
       → DrainsFrom trace tell Given limits disk disk_now before now e out out_now
   drains-from way begun = record {
@@ -319,7 +319,7 @@ module _ {D P : Type 0} (trace : D → DiskTrace) (tell : P → PortTrace)
     rolls = rolls_of d.r d.opened d.drains;
   }
 
-  abbrev RolledTo : DrainsFrom trace tell Given limits disk disk_now before now e out out_now → RunAnswer → Type 0
+  abbrev RolledTo : DrainsFrom trace tell Given limits disk disk_now before now e out out_now → RolloutEnd → Type 0
   RolledTo d a = HasRolled trace tell d.r (digest_for d.r limits.migration) d.drains.policy limits.rounds d.opened before.ports now.ports disk_now a
 
   -- whenever a crash comes
@@ -339,18 +339,18 @@ module _ {D P : Type 0} (trace : D → DiskTrace) (tell : P → PortTrace)
 
   -- ---- whatever the ending
 
-  ran-safely : (d : DrainsFrom trace tell Given limits disk disk_now before now e out out_now) (a : RunAnswer) → RolledTo d a → is_ran a ≡ true → DrainsSafely trace tell limits Given disk before.ports now.ports
+  ran-safely : (d : DrainsFrom trace tell Given limits disk disk_now before now e out out_now) (a : RolloutEnd) → RolledTo d a → is_ran a ≡ true → DrainsSafely trace tell limits Given disk before.ports now.ports
   ran-safely d a has is =
       drains-safely trace tell Given disk disk_now before now limits d.drains.policy d.drains.holds OutOfMemory out out (run_of d) a has has.run.end
       (drain-begun trace tell Given disk disk_now before now limits d.drains.policy d.drains.holds OutOfMemory out out (run_of d) a has is)
 
-  never-ran : (d : DrainsFrom trace tell Given limits disk disk_now before now e out out_now) (a : RunAnswer) → RolledTo d a → is_ran a ≡ false → EndsDrainSafely trace tell limits Given disk before.ports now.ports
+  never-ran : (d : DrainsFrom trace tell Given limits disk disk_now before now e out out_now) (a : RolloutEnd) → RolledTo d a → is_ran a ≡ false → EndsDrainSafely trace tell limits Given disk before.ports now.ports
   never-ran d a has isnt = drain-unbegun trace tell Given disk disk_now before now limits d.drains.policy d.drains.holds OutOfMemory out out (run_of d) a has isnt
 
   as-it-was : now ≡ before → EndsDrainSafely trace tell limits Given disk before.ports now.ports
   as-it-was same = inl (inl (ap (λ (f : FleetSeen P). f.ports) same))
 
-  answer-ends : (d : DrainsFrom trace tell Given limits disk disk_now before now e out out_now) (a : RunAnswer) (Q : JournalFault → Type 0) → IfRolled a (RolledTo d a) → OnUnopened a (λ why. Q why × (now ≡ before))
+  answer-ends : (d : DrainsFrom trace tell Given limits disk disk_now before now e out out_now) (a : RolloutEnd) (Q : JournalFault → Type 0) → IfRolled a (RolledTo d a) → OnUnopened a (λ why. Q why × (now ≡ before))
       → EndsDrainSafely trace tell limits Given disk before.ports now.ports
   answer-ends d (outcome.Finished all found) Q has left = inr (ran-safely d (outcome.Finished all found) has refl)
   answer-ends d (outcome.Held count) Q has left = inr (ran-safely d (outcome.Held count) has refl)
@@ -370,7 +370,7 @@ module _ {D P : Type 0} (trace : D → DiskTrace) (tell : P → PortTrace)
 
   -- ---- by the ending
 
-  rolled-then : (d : DrainsFrom trace tell Given limits disk disk_now before now e out out_now) (a : RunAnswer) → is_ran a ≡ true → IfRolled a (RolledTo d a) → RolledTo d a
+  rolled-then : (d : DrainsFrom trace tell Given limits disk disk_now before now e out out_now) (a : RolloutEnd) → is_ran a ≡ true → IfRolled a (RolledTo d a) → RolledTo d a
   rolled-then d (outcome.Finished all found) is has = has
   rolled-then d (outcome.Held left) is has = has
   rolled-then d (outcome.Stopped other halt) is has = has
@@ -394,7 +394,7 @@ module _ {D P : Type 0} (trace : D → DiskTrace) (tell : P → PortTrace)
   abbrev From : Type 0
   From = DrainsFrom trace tell Given limits disk disk_now before now Done out out_now
 
-  answer-drained : (d : From) (a : RunAnswer) → IfRolled a (RolledTo trace tell Given limits disk disk_now before now Done out out_now d a) → Follows (drained_or_ending (op_total d.r) a) Done out out_now
+  answer-drained : (d : From) (a : RolloutEnd) → IfRolled a (RolledTo trace tell Given limits disk disk_now before now Done out out_now d a) → Follows (drained_or_ending (op_total d.r) a) Done out out_now
       → IsDrained trace tell limits Given disk before.ports now.ports out out_now
   answer-drained d (outcome.Finished all count) has (inl done) =
       drain-finished trace tell Given disk disk_now before now limits d.drains.policy d.drains.holds OutOfMemory out out (run_of trace tell Given limits disk disk_now before now Done out out_now d) (outcome.Finished all count) has
@@ -430,4 +430,4 @@ module _ {D P : Type 0} (trace : D → DiskTrace) (tell : P → PortTrace)
   drains-still status rolls zero =
       let told : rolls.told ≡ Done = is-done rolls.told (sym rolls.is_status ∙ zero) in
       let done : rolls.ending ≡ Done = begun-told rolls.ending rolls.told rolls.told_as (ap is_of_begun told) ∙ told in
-      done-drained (subst (λ (e : Ending). Drains trace tell Given limits disk disk_now before now e out out_now) done rolls.rolls)
+      done-drained (subst (λ (e : CommandEnd). Drains trace tell Given limits disk disk_now before now e out out_now) done rolls.rolls)

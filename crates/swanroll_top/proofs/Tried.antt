@@ -13,15 +13,15 @@ use Rattle.case_gen.proofs.Planned.{has_plan}
 use Rattle.sim_run.specs.TrialText.{trial_text}
 use Rattle.sim_run.specs.declared.shape.Shape.{Shape}
 use Rattle.text_commands.specs.Answers.{chosen_by}
-use Rattle.text_commands.specs.Endings.{ending_without}
+use Rattle.text_commands.specs.CommandEnds.{ending_without}
 use Rattle.text_commands.specs.Runs.{Follows, Gives}
 use Rattle.swanroll_top.specs.Tries.{IsShape, case_of, events_of, tried, with_plan}
-use Rattle.text_commands.specs.declared.ending.Ending.{Ending}
-use Rattle.text_commands.specs.declared.ending.Ending.TheVariants.{Done, Usage, AboveLimit, Input, NotValid, NoPlan, Unshown, ReadFault, WriteFault, DiskFault, GuestFault, Refused, NotFinished, OutOfMemory}
+use Rattle.text_commands.specs.declared.command_end.CommandEnd.{CommandEnd}
+use Rattle.text_commands.specs.declared.command_end.CommandEnd.TheVariants.{Done, Usage, AboveLimit, Input, NotValid, NoPlan, Unshown, ReadFault, WriteFault, DiskFault, GuestFault, Refused, NotFinished, OutOfMemory}
 use Rattle.text_commands.specs.declared.words.Planner.TheVariants.{Slack}
 use Rattle.text_commands.proofs.Planned.{IsChoice, there-by}
 
-not-ok : (r : Result (List ℕ) Ending) (e : Ending) → IsOk r → r ≡ Err e → ⊥
+not-ok : (r : Result (List ℕ) CommandEnd) (e : CommandEnd) → IsOk r → r ≡ Err e → ⊥
 not-ok (Ok text) e ok is = cc
 not-ok (Err x) e ok is = cc
 
@@ -51,10 +51,10 @@ module _ (policy : OpView → ℕ) (s : Shape) where
   tried-unplanned p q (Stuck link) made same is = ap (with_plan policy s) (ap (chosen_by Slack) (sym made) ∙ is) ∙ ap (λ x. Err (NoPlan (record { problem = x; cause = Stuck link }))) (sym (same ∙ made))
 
   -- so a trial that gives no text ran out of memory
-  no-ending : (e : Ending) → IsShape s → tried policy s ≡ Err e → ⊥
+  no-ending : (e : CommandEnd) → IsShape s → tried policy s ≡ Err e → ⊥
   no-ending e is h = not-ok (tried policy s) e (is-tried is) h
 
-  pub only-memory : (e : Ending) → IsShape s → Gives {A = List ℕ} (Err e) (tried policy s) → e ≡ OutOfMemory
+  pub only-memory : (e : CommandEnd) → IsShape s → Gives {A = List ℕ} (Err e) (tried policy s) → e ≡ OutOfMemory
   only-memory Done is h = absurd (no-ending Done is h)
   only-memory Usage is h = absurd (no-ending Usage is h)
   only-memory AboveLimit is h = absurd (no-ending AboveLimit is h)
@@ -71,5 +71,5 @@ module _ (policy : OpView → ℕ) (s : Shape) where
   only-memory OutOfMemory is h = refl
 
   -- and nothing was written
-  pub unwritten : (e : Ending) (out : Option (List ℕ)) → e ≡ OutOfMemory → Follows (tried policy s) e out out
+  pub unwritten : (e : CommandEnd) (out : Option (List ℕ)) → e ≡ OutOfMemory → Follows (tried policy s) e out out
   unwritten e out is = subst (λ x. Follows (tried policy s) x out out) (sym is) refl

@@ -1,9 +1,9 @@
 -- The promise of `drain`, which awaits what the rollout of its input has in flight, from the journal on the disk over the ports of the fleet, and begins nothing.
 use Rattle.std.specs.Prelude.{◌≡◌, ◌≢◌, ℕ}
-use Rattle.rollout_run.specs.declared.running.Limits.{Limits}
+use Rattle.controller_run.specs.declared.running.Limits.{Limits}
 use Rattle.swanroll_top.specs.Drains.{Drains, DrainsAs}
 use Rattle.swanroll_top.specs.DrainTargets.{DrainsSafely, EndsDrainSafely, IsDrained}
-use Rattle.text_commands.specs.Endings.{status_of}
+use Rattle.text_commands.specs.CommandEnds.{status_of}
 use Rattle.text_commands.specs.Lines.{IsToldAs}
 use Rattle.swanroll_top.specs.NextStarts.{NextStart}
 use Rattle.text_commands.specs.Program.{NotesLine}
@@ -12,10 +12,10 @@ use Rattle.swanroll_top.specs.Rollouts.{RunsRollout}
 use Rattle.swanroll_top.specs.RunPromise.{RollsAndNotes}
 use Rattle.swanroll_top.specs.Targets.{IsOfBegun}
 use Rattle.swanroll_top.specs.Views.{Objects, Outside, Views, guests_of, input_of, seen, source_at, streams, used, written_at}
-use Rattle.text_commands.specs.declared.ending.Ending.{Ending}
+use Rattle.text_commands.specs.declared.command_end.CommandEnd.{CommandEnd}
 
 -- what a drain has brought about that ended so
-pub record BringsDrain {S K D F P G : Type 0} (views : Views S K D F P G) (limits : Limits) (before : Objects S K D F) (ending : Ending) (after : Objects S K D F) : Type 0 where
+pub record BringsDrain {S K D F P G : Type 0} (views : Views S K D F P G) (limits : Limits) (before : Objects S K D F) (ending : CommandEnd) (after : Objects S K D F) : Type 0 where
   pub runs : RunsRollout (source_at views before) (source_at views after) ending (written_at views before) (written_at views after)
   pub guests : guests_of (views.fleet after.fleet) ≡ guests_of (views.fleet before.fleet)
   pub rolls : Drains views.disk views.port
@@ -24,11 +24,11 @@ pub record BringsDrain {S K D F P G : Type 0} (views : Views S K D F P G) (limit
 -- How a drain ended, said once, as of a run: what came of the disk and of the ports and what was written, the status, and the line of the notes.
 pub record DrainsAsOne {S K D F P G : Type 0} (views : Views S K D F P G) (limits : Limits) (before : Outside S K D F) (status : ℕ) (after : Outside S K D F) : Type 0 where
   -- how it ended
-  pub ending : Ending
+  pub ending : CommandEnd
   -- what it has brought about that ended so
   pub brings : BringsDrain views limits (used before) ending (used after)
-  -- the ending that is told: this one, or want of memory for its line
-  pub told : Ending
+  -- the ending that is told: this one, or lack of memory for its line
+  pub told : CommandEnd
   pub told_as : IsToldAs ending told
   -- the status and the line are those of the ending that is told
   pub is_status : status ≡ status_of told
@@ -44,16 +44,16 @@ pub record DrainPromise {S K D F P G : Type 0} (views : Views S K D F P G) (limi
   -- the rollout is drained from what the journal had, or disk and ports are as they were
   pub rolls : DrainsAs views.disk views.port
       (input_of views (used before) (used after)) limits before.disk after.disk (seen (views.fleet before.fleet)) (seen (views.fleet after.fleet)) status (written_at views (used before)) (written_at views (used after))
-  -- a disk fails only behind an input that was read to its end and isn't refused
+  -- a disk fails only after an input that was read to its end and isn't refused
   pub failed : status ≡ 8 → ReadsDocument (views.source before.source) (views.source after.source)
   -- whenever a crash comes, the next start of this rollout isn't refused for what this one has left
   pub next : NextStart views.disk limits (input_of views (used before) (used after)) before.disk after.disk
-  -- whatever the status, nothing went out, or the network is safe, and nothing was begun behind the list found
+  -- whatever the status, nothing went out, or the network is safe, and nothing was begun after the list found
   pub ends : EndsDrainSafely views.disk views.port limits (input_of views (used before) (used after)) before.disk (views.fleet before.fleet).ports (views.fleet after.fleet).ports
-  -- the network is safe behind each drain that was begun, and nothing was begun behind the list found
+  -- the network is safe after each drain that was begun, and nothing was begun after the list found
   pub safe : IsOfBegun status
       → DrainsSafely views.disk views.port limits (input_of views (used before) (used after)) before.disk (views.fleet before.fleet).ports (views.fleet after.fleet).ports
-  -- and behind status 0 nothing is in flight, and the switches hold what is settled
+  -- and after status 0 nothing is in flight, and the switches hold what is settled
   pub still : status ≡ 0
       → IsDrained views.disk views.port limits (input_of views (used before) (used after)) before.disk (views.fleet before.fleet).ports (views.fleet after.fleet).ports
       (written_at views (used before)) (written_at views (used after))

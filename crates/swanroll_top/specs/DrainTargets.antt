@@ -1,4 +1,4 @@
--- What stands behind a drain: the network is safe, and nothing was begun behind the list found; behind status 0 nothing is in flight, and each switch holds
+-- What stands after a drain: the network is safe, and nothing was begun after the list found; after status 0 nothing is in flight, and each switch holds
 -- the contents of what is settled.
 use Rattle.std.specs.Prelude.{◌≡◌, ◌⊎◌, ℕ, ◌<◌, ◌≤◌, List, All, Option, Some, IfSome}
 use Rattle.std.specs.List.{AllByRecursion}
@@ -16,17 +16,17 @@ use Rattle.wan_edge.specs.Ports.{AppendsFront, PortTrace}
 use Rattle.wan_edge.specs.Streams.{Appends}
 use Rattle.wan_edge.specs.Switches.{Holdings}
 use Rattle.port_session.specs.Offers.{frames_of}
-use Rattle.port_session.specs.Sessions.{first_talk}
-use Rattle.worker_ports.specs.Lots.{home_at, own}
-use Rattle.worker_ports.specs.Views.{view}
-use Rattle.worker_ports.specs.declared.ports.Berth.{Berth}
+use Rattle.port_session.specs.Sessions.{first_session}
+use Rattle.switch_ports.specs.Outboxes.{home_at, own}
+use Rattle.switch_ports.specs.Views.{view}
+use Rattle.switch_ports.specs.declared.ports.Berth.{Berth}
 use Rattle.shared_book.specs.Homes.{homes_of}
-use Rattle.rollout_ports.specs.Berths.{FleetPorts}
-use Rattle.rollout_ports.specs.Opening.{IsGiven}
+use Rattle.switch_ports.specs.Berths.{FleetPorts}
+use Rattle.switch_ports.specs.Opening.{IsGiven}
 use Rattle.switch_laws.specs.Holdings.{IsUntouched}
 use Rattle.switch_laws.specs.Runs.{StartsAsFound}
-use Rattle.holding_laws.specs.Untold.{EachMayHold}
-use Rattle.rollout_run.specs.declared.running.Limits.{Limits}
+use Rattle.completion_laws.specs.Untold.{EachMayHold}
+use Rattle.controller_run.specs.declared.running.Limits.{Limits}
 use Rattle.swanroll_top.specs.Drains.{drained_line}
 use Rattle.swanroll_top.specs.Targets.{BeginsNothing, StaysSafe}
 
@@ -45,15 +45,15 @@ abbrev pub AreHeldSettled : Rollout → ℕ → List (Option ℕ) → ℕ → Hi
 AreHeldSettled r migration homes switch h holdings =
     (n : ℕ) → n < item_count r.problem → home_at homes n ≡ Some switch → IsHeldSettled r migration h n (holdings n)
 
--- The port of this berth was opened, and one is back at its switch. As behind a rollout, where the switch held at entry what the list found allows it holds exactly what
+-- The port of this berth was opened, and one is back at its switch. As after a rollout, where the switch held at entry what the list found allows it holds exactly what
 -- is settled now: by what the port tells of it (holds), and whatever it may hold by what went out and came back (each).
 pub record EndsSettled {P : Type 0} (tell : P → PortTrace) (r : Rollout) (migration : ℕ) (found h : History) (before now : FleetPorts P) (berth : Berth P) : Type 0 where
   pub given : IsGiven tell before.waiting berth
   pub back : P
   pub kept : now.kept berth.switch ≡ Some back
-  pub holds : StartsAsFound r migration (homes_of r.problem) found (view tell (first_talk berth.switch berth.port))
+  pub holds : StartsAsFound r migration (homes_of r.problem) found (view tell (first_session berth.switch berth.port))
       → IfSome (tell back).offered (λ _. IfSome (tell back).heard (λ _. IfSome (tell back).held (AreHeldSettled r migration (homes_of r.problem) berth.switch h)))
-  pub each : EachMayHold r migration (homes_of r.problem) found (view tell (first_talk berth.switch berth.port)) (tell back) (AreHeldSettled r migration (homes_of r.problem) berth.switch h)
+  pub each : EachMayHold r migration (homes_of r.problem) found (view tell (first_session berth.switch berth.port)) (tell back) (AreHeldSettled r migration (homes_of r.problem) berth.switch h)
 
 -- ---- what went out
 
@@ -61,7 +61,7 @@ pub record EndsSettled {P : Type 0} (tell : P → PortTrace) (r : Rollout) (migr
 abbrev pub IsBegunIn : History → Command → Type 0
 IsBegunIn h c = c.number ≤ begun h c.item
 
--- One port is back at the switch of this berth. Behind what had gone out there before, no more went out than a front of the frames of commands that the list found has begun.
+-- One port is back at the switch of this berth. After what had gone out there before, no more went out than a front of the frames of commands that the list found has begun.
 pub record SendsAgain {P : Type 0} (tell : P → PortTrace) (r : Rollout) (migration : ℕ) (found : History) (now : FleetPorts P) (berth : Berth P) : Type 0 where
   pub back : P
   pub kept : now.kept berth.switch ≡ Some back
@@ -69,9 +69,9 @@ pub record SendsAgain {P : Type 0} (tell : P → PortTrace) (r : Rollout) (migra
   pub each : All (IsBegunIn found) sent
   pub part : AppendsFront (tell berth.port).offered (frames_of migration (own (homes_of r.problem) berth.switch sent)) (tell back).offered
 
--- ---- behind a drain
+-- ---- after a drain
 
--- The input is a rollout, and it was begun to drain it. It is safe, as each rollout is that was begun; behind the list found stand answers alone, and commands of that list alone went out.
+-- The input is a rollout, and it was begun to drain it. It is safe, as each rollout is that was begun; after the list found stand answers alone, and commands of that list alone went out.
 pub record DrainsSafely {D P : Type 0} (trace : D → DiskTrace) (tell : P → PortTrace) (limits : Limits) (Given : List ℕ → Type 0) (disk : D) (before now : FleetPorts P) : Type 0 where
   pub stays : StaysSafe trace tell limits Given disk before now
   pub dones : (n : ℕ) → begins_in stays.added n ≡ 0

@@ -10,21 +10,19 @@ use Rattle.intent_journal.specs.Openings.{IsLeft}
 use Rattle.wan_edge.specs.Ports.{PortTrace}
 use Rattle.wan_edge.specs.Streams.{Rose}
 use Rattle.rollout_report.specs.Journals.{digest_for}
-use Rattle.rollout_run.specs.declared.running.Limits.{Limits}
-use Rattle.rollout_service.specs.Outcomes.{HasRolled, IfRolled, OnUnopened}
-use Rattle.rollout_service.specs.declared.answer.RunAnswer.{RunAnswer}
-use Rattle.rollout_service.specs.declared.answer.RunAnswer.TheVariants as outcome
+use Rattle.controller_run.specs.declared.running.Limits.{Limits}
+use Rattle.controller_run.specs.RolloutEnds.{HasRolled, IfRolled, OnUnopened}
+use Rattle.controller_run.specs.declared.rollout_end.RolloutEnd.{RolloutEnd}
+use Rattle.controller_run.specs.declared.rollout_end.RolloutEnd.TheVariants as outcome
 use Rattle.rollback_service.specs.Drainings.{HoldsAll}
-use Rattle.text_commands.specs.Endings.{ending_of_journal, status_of}
-use Rattle.swanroll_top.specs.JournalRoom.{journal_room}
+use Rattle.text_commands.specs.CommandEnds.{status_of}
+use Rattle.retarget_service.specs.JournalRoom.{journal_room}
 use Rattle.text_commands.specs.Lines.{IsToldAs}
 use Rattle.text_commands.specs.Answers.{rollout_to}
-use Rattle.swanroll_top.specs.Rollouts.{FailsToOpen, FleetSeen, IsRefused, IsUnbegun, LeavesAll, ending_of_stop}
+use Rattle.swanroll_top.specs.Rollouts.{FailsToOpen, FleetSeen, IsRefused, IsUnbegun, LeavesAll, ending_of_rollout}
 use Rattle.text_commands.specs.Runs.{Follows}
 use Rattle.text_commands.specs.Safety.{IsValid}
-use Rattle.text_commands.specs.declared.ending.Ending.{Ending}
-use Rattle.text_commands.specs.declared.ending.Ending.TheVariants.{NotFinished, OutOfMemory}
-use Rattle.text_commands.specs.declared.unfinished.Unfinished.TheVariants.{PortFault}
+use Rattle.text_commands.specs.declared.command_end.CommandEnd.{CommandEnd}
 
 -- how many operations there are, and how many of them are settled
 abbrev pub drained_line : ℕ → ℕ → List ℕ
@@ -35,24 +33,21 @@ abbrev pub line_with_left : ℕ → ℕ → List ℕ
 line_with_left operations left = drained_line operations (operations - left)
 
 -- The line of a rollout of so many operations that is drained: none is left, or those that are held back. Or how the run ends without one.
-abbrev pub drained_or_ending : ℕ → RunAnswer → Result (List ℕ) Ending
+abbrev pub drained_or_ending : ℕ → RolloutEnd → Result (List ℕ) CommandEnd
 drained_or_ending operations (outcome.Finished all found) = Ok (line_with_left operations 0)
 drained_or_ending operations (outcome.Held left) = Ok (line_with_left operations left)
-drained_or_ending operations (outcome.Stopped r halt) = Err (ending_of_stop r halt.cause)
-drained_or_ending operations (outcome.NoPort r switch) = Err (NotFinished (PortFault r switch))
-drained_or_ending operations outcome.Memory = Err OutOfMemory
-drained_or_ending operations (outcome.Unopened why) = Err (ending_of_journal why)
+drained_or_ending operations end = Err (ending_of_rollout end)
 
 -- The rollout of an input, whose plan is valid, was run from what its disk had, over the ports of a fleet, under a policy that holds all back, and the run ends as the answer says.
 -- Where no journal was opened, no port was; where a port is missing, the fleet failed to give it.
 pub record DrainsOut {D P : Type 0} (trace : D → DiskTrace) (tell : P → PortTrace)
-    (r : Rollout) (limits : Limits) (disk disk_now : D) (before now : FleetSeen P) (ending : Ending) (out out_now : Option (List ℕ)) : Type 0 where
+    (r : Rollout) (limits : Limits) (disk disk_now : D) (before now : FleetSeen P) (ending : CommandEnd) (out out_now : Option (List ℕ)) : Type 0 where
   pub network : IsNetwork r.problem
   pub valid : IsValid r.problem r.plan
   pub small : limits.migration < 2 ^ 32
   pub policy : OpView → ℕ
   pub holds : HoldsAll policy
-  pub answer : RunAnswer
+  pub answer : RolloutEnd
   pub rolled : IfRolled answer (HasRolled trace tell r (digest_for r limits.migration) policy limits.rounds disk before.ports now.ports disk_now answer)
   pub unopened : OnUnopened answer (λ why. IsLeft trace r (digest_for r limits.migration) disk why disk_now × (now ≡ before))
   pub no_port : (other : Rollout) (switch : ℕ) → answer ≡ outcome.NoPort other switch → Rose before.faults now.faults
@@ -60,7 +55,7 @@ pub record DrainsOut {D P : Type 0} (trace : D → DiskTrace) (tell : P → Port
 
 -- The disk was opened, tells its bytes since, no more than there is room for a journal of this rollout, and the rollout was drained from these.
 pub record DrainsOpened {D P : Type 0} (trace : D → DiskTrace) (tell : P → PortTrace)
-    (r : Rollout) (limits : Limits) (disk disk_now : D) (before now : FleetSeen P) (ending : Ending) (out out_now : Option (List ℕ)) : Type 0 where
+    (r : Rollout) (limits : Limits) (disk disk_now : D) (before now : FleetSeen P) (ending : CommandEnd) (out out_now : Option (List ℕ)) : Type 0 where
   pub opened : D
   pub opens : Opens (trace disk) (trace opened)
   pub told : IsTold (trace opened).bytes
@@ -69,7 +64,7 @@ pub record DrainsOpened {D P : Type 0} (trace : D → DiskTrace) (tell : P → P
 
 -- that, or the disk couldn't be opened
 abbrev pub OpensAndDrains : {D P : Type 0} → (D → DiskTrace) → (P → PortTrace)
-    → Rollout → Limits → D → D → FleetSeen P → FleetSeen P → Ending → Option (List ℕ) → Option (List ℕ) → Type 0
+    → Rollout → Limits → D → D → FleetSeen P → FleetSeen P → CommandEnd → Option (List ℕ) → Option (List ℕ) → Type 0
 OpensAndDrains trace tell r limits disk disk_now before now ending out out_now =
     FailsToOpen trace disk disk_now before now ending out out_now
     ⊎ DrainsOpened trace tell r limits disk disk_now before now ending out out_now
@@ -78,7 +73,7 @@ OpensAndDrains trace tell r limits disk disk_now before now ending out out_now =
 
 -- The input is a rollout, and it was drained, unless its disk couldn't be opened.
 pub record DrainsOutOf {D P : Type 0} (trace : D → DiskTrace) (tell : P → PortTrace)
-    (Given : List ℕ → Type 0) (limits : Limits) (disk disk_now : D) (before now : FleetSeen P) (ending : Ending) (out out_now : Option (List ℕ)) : Type 0 where
+    (Given : List ℕ → Type 0) (limits : Limits) (disk disk_now : D) (before now : FleetSeen P) (ending : CommandEnd) (out out_now : Option (List ℕ)) : Type 0 where
   pub input : List ℕ
   pub given : Given input
   pub r : Rollout
@@ -87,14 +82,14 @@ pub record DrainsOutOf {D P : Type 0} (trace : D → DiskTrace) (tell : P → Po
 
 -- that, or nothing was begun
 abbrev pub Drains : {D P : Type 0} → (D → DiskTrace) → (P → PortTrace)
-    → (List ℕ → Type 0) → Limits → D → D → FleetSeen P → FleetSeen P → Ending → Option (List ℕ) → Option (List ℕ) → Type 0
+    → (List ℕ → Type 0) → Limits → D → D → FleetSeen P → FleetSeen P → CommandEnd → Option (List ℕ) → Option (List ℕ) → Type 0
 Drains trace tell Given limits disk disk_now before now ending out out_now =
     LeavesAll (IsUnbegun Given ending) disk disk_now before now
     ⊎ DrainsOutOf trace tell Given limits disk disk_now before now ending out out_now
 
 -- the same of an input that is this rollout
 abbrev pub DrainsIn : {D P : Type 0} → (D → DiskTrace) → (P → PortTrace)
-    → Result Rollout Ending → Limits → D → D → FleetSeen P → FleetSeen P → Ending → Option (List ℕ) → Option (List ℕ) → Type 0
+    → Result Rollout CommandEnd → Limits → D → D → FleetSeen P → FleetSeen P → CommandEnd → Option (List ℕ) → Option (List ℕ) → Type 0
 DrainsIn trace tell rollout limits disk disk_now before now ending out out_now =
     LeavesAll (IsRefused rollout ending) disk disk_now before now
     ⊎ ((r : Rollout) × (rollout ≡ Ok r) × OpensAndDrains trace tell r limits disk disk_now before now ending out out_now)
@@ -102,8 +97,8 @@ DrainsIn trace tell rollout limits disk disk_now before now ending out out_now =
 -- the same by the status
 pub record DrainsAs {D P : Type 0} (trace : D → DiskTrace) (tell : P → PortTrace)
     (Given : List ℕ → Type 0) (limits : Limits) (disk disk_now : D) (before now : FleetSeen P) (status : ℕ) (out out_now : Option (List ℕ)) : Type 0 where
-  pub ending : Ending
-  pub told : Ending
+  pub ending : CommandEnd
+  pub told : CommandEnd
   pub told_as : IsToldAs ending told
   pub is_status : status ≡ status_of told
   pub rolls : Drains trace tell Given limits disk disk_now before now ending out out_now

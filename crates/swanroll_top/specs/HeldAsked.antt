@@ -9,12 +9,12 @@ use Rattle.held_service.specs.declared.not_told.NotTold.TheVariants as not_told
 use Rattle.text_commands.specs.Answers.{rollout_to}
 use Rattle.swanroll_top.specs.Rollouts.{FleetSeen, IsRefused, IsUnbegun}
 use Rattle.text_commands.specs.Runs.{Follows}
-use Rattle.text_commands.specs.declared.ending.Ending.{Ending}
-use Rattle.text_commands.specs.declared.ending.Ending.TheVariants.{NotFinished, OutOfMemory}
+use Rattle.text_commands.specs.declared.command_end.CommandEnd.{CommandEnd}
+use Rattle.text_commands.specs.declared.command_end.CommandEnd.TheVariants.{NotFinished, OutOfMemory}
 use Rattle.text_commands.specs.declared.unfinished.Unfinished.TheVariants.{RoundsSpent, PortFault, NotMine, NoAnswer}
 
 -- how a run ends where a switch didn't tell all that it was asked: a question is named as operation 0 of its item
-abbrev pub ending_of_not_told : Rollout → ℕ → NotTold → Ending
+abbrev pub ending_of_not_told : Rollout → ℕ → NotTold → CommandEnd
 ending_of_not_told r rounds (not_told.Spent item) = NotFinished (RoundsSpent rounds item 0)
 ending_of_not_told r rounds (not_told.NoPort switch) = NotFinished (PortFault r switch)
 ending_of_not_told r rounds (not_told.Port switch) = NotFinished (PortFault r switch)
@@ -23,12 +23,12 @@ ending_of_not_told r rounds (not_told.NoAnswer switch byte) = NotFinished (NoAns
 ending_of_not_told r rounds not_told.Memory = OutOfMemory
 
 -- what is written where all of them told, or how the run ends without it
-abbrev pub told_or_ending : Rollout → ℕ → Result (List ℕ) NotTold → Result (List ℕ) Ending
+abbrev pub told_or_ending : Rollout → ℕ → Result (List ℕ) NotTold → Result (List ℕ) CommandEnd
 told_or_ending r rounds (Ok text) = Ok text
 told_or_ending r rounds (Err why) = Err (ending_of_not_told r rounds why)
 
 -- The switches of a rollout were asked, and the run ends as they answered. Where a port is missing, the fleet failed to give it.
-pub record AsksRollout {P : Type 0} (tell : P → PortTrace) (r : Rollout) (rounds : ℕ) (before now : FleetSeen P) (ending : Ending) (out out_now : Option (List ℕ)) : Type 0 where
+pub record AsksRollout {P : Type 0} (tell : P → PortTrace) (r : Rollout) (rounds : ℕ) (before now : FleetSeen P) (ending : CommandEnd) (out out_now : Option (List ℕ)) : Type 0 where
   pub answer : Result (List ℕ) NotTold
   pub asks : AsksAll answer tell r.problem r.plan rounds before.ports now.ports
   pub no_port : (w : ℕ) → IsErrOf answer (not_told.NoPort w) → Rose before.faults now.faults
@@ -42,7 +42,7 @@ pub record LeavesFleet {P : Type 0} (cause : Type 0) (before now : FleetSeen P) 
   pub fleet_is : now ≡ before
 
 -- The input is a rollout, and its switches were asked.
-pub record AsksRolloutOf {P : Type 0} (tell : P → PortTrace) (Given : List ℕ → Type 0) (rounds : ℕ) (before now : FleetSeen P) (ending : Ending) (out out_now : Option (List ℕ)) : Type 0 where
+pub record AsksRolloutOf {P : Type 0} (tell : P → PortTrace) (Given : List ℕ → Type 0) (rounds : ℕ) (before now : FleetSeen P) (ending : CommandEnd) (out out_now : Option (List ℕ)) : Type 0 where
   pub input : List ℕ
   pub given : Given input
   pub r : Rollout
@@ -50,11 +50,11 @@ pub record AsksRolloutOf {P : Type 0} (tell : P → PortTrace) (Given : List ℕ
   pub asks : AsksRollout tell r rounds before now ending out out_now
 
 -- either way
-abbrev pub Asks : {P : Type 0} → (P → PortTrace) → (List ℕ → Type 0) → ℕ → FleetSeen P → FleetSeen P → Ending → Option (List ℕ) → Option (List ℕ) → Type 0
+abbrev pub Asks : {P : Type 0} → (P → PortTrace) → (List ℕ → Type 0) → ℕ → FleetSeen P → FleetSeen P → CommandEnd → Option (List ℕ) → Option (List ℕ) → Type 0
 Asks tell Given rounds before now ending out out_now = LeavesFleet (IsUnbegun Given ending) before now ⊎ AsksRolloutOf tell Given rounds before now ending out out_now
 
 -- the same of an input that is this rollout
-abbrev pub AsksIn : {P : Type 0} → (P → PortTrace) → Result Rollout Ending → ℕ → FleetSeen P → FleetSeen P → Ending → Option (List ℕ) → Option (List ℕ) → Type 0
+abbrev pub AsksIn : {P : Type 0} → (P → PortTrace) → Result Rollout CommandEnd → ℕ → FleetSeen P → FleetSeen P → CommandEnd → Option (List ℕ) → Option (List ℕ) → Type 0
 AsksIn tell rollout rounds before now ending out out_now =
     LeavesFleet (IsRefused rollout ending) before now ⊎ ((r : Rollout) × (rollout ≡ Ok r) × AsksRollout tell r rounds before now ending out out_now)
 

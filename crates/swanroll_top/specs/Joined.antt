@@ -1,4 +1,4 @@
--- What all switches hold together behind a run, as one choice of how far each item has come.
+-- What all switches hold together after a run, as one choice of how far each item has come.
 use Rattle.std.specs.Prelude.{◌≡◌, ℕ, ◌==◌, List, ◌++◌, Option, Some, None, slice_index, if◌then◌else◌}
 use Rattle.std.specs.List.{list_any}
 use Rattle.rollout_rules.specs.Wan.{Rollout}
@@ -6,14 +6,14 @@ use Rattle.rollout_rules.specs.Agent.{Holding}
 use Rattle.rollout_rules.specs.History.{History, settled}
 use Rattle.wan_edge.specs.Ports.{PortTrace}
 use Rattle.wan_edge.specs.Switches.{Holdings}
-use Rattle.port_session.specs.Sessions.{first_talk}
-use Rattle.worker_ports.specs.Lots.{home_at}
-use Rattle.worker_ports.specs.Views.{view}
-use Rattle.worker_ports.specs.declared.ports.Berth.{Berth}
+use Rattle.port_session.specs.Sessions.{first_session}
+use Rattle.switch_ports.specs.Outboxes.{home_at}
+use Rattle.switch_ports.specs.Views.{view}
+use Rattle.switch_ports.specs.declared.ports.Berth.{Berth}
 use Rattle.shared_book.specs.Homes.{homes_of}
-use Rattle.rollout_ports.specs.Berths.{FleetPorts}
+use Rattle.switch_ports.specs.Berths.{FleetPorts}
 use Rattle.switch_laws.specs.Runs.{StartsAsFound}
-use Rattle.holding_laws.specs.Untold.{IsFoundWith, MayHold}
+use Rattle.completion_laws.specs.Untold.{IsFoundWith, MayHold}
 
 -- how far what a switch holds has brought an item in a migration: to its number, or, where an earlier migration left it, to where it was at the start
 abbrev pub number_in : ℕ → ℕ → Holding → ℕ
@@ -31,7 +31,7 @@ chosen r migration found switches holdings n = chosen_by migration found switche
 
 -- The switch of this berth was right when the run began, and its port, which is back, tells what went over it and that the switch holds this.
 pub record TellsHeld {P : Type 0} (tell : P → PortTrace) (r : Rollout) (migration : ℕ) (found : History) (now : FleetPorts P) (holdings : ℕ → Holdings) (berth : Berth P) : Type 0 where
-  pub starts : StartsAsFound r migration (homes_of r.problem) found (view tell (first_talk berth.switch berth.port))
+  pub starts : StartsAsFound r migration (homes_of r.problem) found (view tell (first_session berth.switch berth.port))
   pub back : P
   pub kept : now.kept berth.switch ≡ Some back
   pub offered : List ℕ
@@ -50,5 +50,5 @@ pub record MayHoldNow {P : Type 0} (tell : P → PortTrace) (r : Rollout) (migra
   pub told_heard : (tell back).heard ≡ Some heard
   pub earlier : List ℕ
   pub before : Holdings
-  pub found_with : IsFoundWith r migration (homes_of r.problem) found (view tell (first_talk berth.switch berth.port)) earlier before
+  pub found_with : IsFoundWith r migration (homes_of r.problem) found (view tell (first_session berth.switch berth.port)) earlier before
   pub may : MayHold (earlier ++ offered) heard before (holdings berth.switch)

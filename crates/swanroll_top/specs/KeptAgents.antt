@@ -10,11 +10,11 @@ use Rattle.agent_service.specs.declared.service.Service.{Service}
 use Rattle.agent_state.specs.declared.fault.StateFault.{StateFault}
 use Rattle.agent_state.specs.declared.fault.StateFault.TheVariants.{Damaged, Disk, Memory, NotState}
 use Rattle.swanroll_top.specs.Agents.{service_line}
-use Rattle.text_commands.specs.Endings.{line_of, status_of}
+use Rattle.text_commands.specs.CommandEnds.{line_of, status_of}
 use Rattle.swanroll_top.specs.Words.{Asked, an_agent}
-use Rattle.text_commands.specs.declared.ending.Ending.{Ending}
-use Rattle.swanroll_top.specs.declared.kept_ending.KeptEnding.{KeptEnding}
-use Rattle.swanroll_top.specs.declared.kept_ending.KeptEnding.TheVariants.{Ended, State}
+use Rattle.text_commands.specs.declared.command_end.CommandEnd.{CommandEnd}
+use Rattle.swanroll_top.specs.declared.kept_end.KeptEnd.{KeptEnd}
+use Rattle.swanroll_top.specs.declared.kept_end.KeptEnd.TheVariants.{Ended, State}
 
 -- how many guests an agent is asked to serve, where one is asked for
 abbrev pub guests_in : Option Asked → Option ℕ
@@ -33,11 +33,11 @@ state_line (NotState first) = codes "state: first byte " ++ decimal first ++ cod
 state_line (Damaged place) = codes "state: batch " ++ decimal place ++ codes " damaged\n"
 state_line Memory = codes "out of memory\n"
 
-abbrev pub kept_status : KeptEnding → ℕ
+abbrev pub kept_status : KeptEnd → ℕ
 kept_status (Ended ending) = status_of ending
 kept_status (State why) = state_status why
 
-abbrev pub kept_line : KeptEnding → List ℕ
+abbrev pub kept_line : KeptEnd → List ℕ
 kept_line (Ended ending) = line_of ending
 kept_line (State why) = state_line why
 

@@ -1,4 +1,4 @@
--- What stands behind a rollback: the network is safe, nothing was begun past what the list found had begun but what leads up to a stage, and behind status 0
+-- What stands after a rollback: the network is safe, nothing was begun past what the list found had begun but what leads up to a stage, and after status 0
 -- exactly so much is settled and the journal of the way back stands, which begins there.
 use Rattle.std.specs.Prelude.{◌≡◌, ◌⊎◌, ⊤, ℕ, ◌<◌, ◌≤◌, true, List, ◌++◌, All, Option, Some, IfSome, IsTrue, slice_index}
 use Rattle.std.specs.List.{AllByRecursion}
@@ -18,15 +18,15 @@ use Rattle.intent_journal.specs.Images.{journal_in}
 use Rattle.intent_journal.specs.Openings.{IsOpenedOn}
 use Rattle.rollout_book.specs.Lists.{HasList}
 use Rattle.port_session.specs.Offers.{frames_of}
-use Rattle.port_session.specs.Sessions.{first_talk}
-use Rattle.worker_ports.specs.Lots.{home_at, own}
-use Rattle.worker_ports.specs.Views.{view}
-use Rattle.worker_ports.specs.declared.ports.Berth.{Berth}
+use Rattle.port_session.specs.Sessions.{first_session}
+use Rattle.switch_ports.specs.Outboxes.{home_at, own}
+use Rattle.switch_ports.specs.Views.{view}
+use Rattle.switch_ports.specs.declared.ports.Berth.{Berth}
 use Rattle.shared_book.specs.Homes.{homes_of}
-use Rattle.rollout_ports.specs.Berths.{FleetPorts}
-use Rattle.rollout_ports.specs.Opening.{IsGiven}
+use Rattle.switch_ports.specs.Berths.{FleetPorts}
+use Rattle.switch_ports.specs.Opening.{IsGiven}
 use Rattle.switch_laws.specs.Runs.{StartsAsFound}
-use Rattle.holding_laws.specs.Untold.{EachMayHold}
+use Rattle.completion_laws.specs.Untold.{EachMayHold}
 use Rattle.rollback_plan.specs.Levels.{back_start, is_levelled}
 use Rattle.rollback_plan.specs.Turns.{BeginsBack, HasComeSoFar, IsOnTheTurn, comes_to}
 use Rattle.rollback_service.specs.Levellings.{TurnsFrom, ceiling_of, start_of}
@@ -34,7 +34,7 @@ use Rattle.rollback_service.specs.Placings.{HasPlaced, kept_from}
 use Rattle.rollback_service.specs.declared.origin.BackFrom.{BackFrom}
 use Rattle.rollback_service.specs.declared.origin.BackFrom.TheVariants as whence
 use Rattle.rollout_report.specs.Journals.{digest_for}
-use Rattle.rollout_run.specs.declared.running.Limits.{Limits}
+use Rattle.controller_run.specs.declared.running.Limits.{Limits}
 use Rattle.swanroll_top.specs.DrainTargets.{EndsSettled}
 use Rattle.swanroll_top.specs.Rollbacks.{back_text}
 use Rattle.text_commands.specs.Safety.{MayBeginBack}
@@ -51,7 +51,7 @@ pub record IsMovedToStage (r : Rollout) (migration s n : ℕ) (holding : Holding
   pub pair : holding.held ≡ pair_of migration (operations_to r s n)
   pub content : 0 < operations_to r s n → holding.content ≡ content r.problem r.plan (item_at r.problem n) s
 
--- It holds what an earlier migration left, and the item has no operation up to the stage behind the start.
+-- It holds what an earlier migration left, and the item has no operation up to the stage after the start.
 pub record IsLeftAtStage (r : Rollout) (migration s : ℕ) (start : List ℕ) (n : ℕ) (holding : Holding) : Type 0 where
   pub earlier : holding.held.migration < migration
   pub none_left : operations_to r s n ≡ slice_index start n
@@ -64,15 +64,15 @@ abbrev pub AreHeldAtStage : Rollout → ℕ → ℕ → List (Option ℕ) → �
 AreHeldAtStage r migration s homes switch start holdings =
     (n : ℕ) → n < item_count r.problem → home_at homes n ≡ Some switch → IsHeldAtStage r migration s start n (holdings n)
 
--- The port of this berth was opened, and one is back at its switch. As behind a rollout, where the switch held at entry what the list found allows it holds exactly the
+-- The port of this berth was opened, and one is back at its switch. As after a rollout, where the switch held at entry what the list found allows it holds exactly the
 -- contents of the stage now: by what the port tells of it (holds), and whatever it may hold by what went out and came back (each).
 pub record EndsAtStage {P : Type 0} (tell : P → PortTrace) (r : Rollout) (migration s : ℕ) (found : History) (before now : FleetPorts P) (berth : Berth P) : Type 0 where
   pub given : IsGiven tell before.waiting berth
   pub back : P
   pub kept : now.kept berth.switch ≡ Some back
-  pub holds : StartsAsFound r migration (homes_of r.problem) found (view tell (first_talk berth.switch berth.port))
+  pub holds : StartsAsFound r migration (homes_of r.problem) found (view tell (first_session berth.switch berth.port))
       → IfSome (tell back).offered (λ _. IfSome (tell back).heard (λ _. IfSome (tell back).held (AreHeldAtStage r migration s (homes_of r.problem) berth.switch found.start)))
-  pub each : EachMayHold r migration (homes_of r.problem) found (view tell (first_talk berth.switch berth.port)) (tell back) (AreHeldAtStage r migration s (homes_of r.problem) berth.switch found.start)
+  pub each : EachMayHold r migration (homes_of r.problem) found (view tell (first_session berth.switch berth.port)) (tell back) (AreHeldAtStage r migration s (homes_of r.problem) berth.switch found.start)
 
 -- ---- what went out
 
@@ -80,7 +80,7 @@ pub record EndsAtStage {P : Type 0} (tell : P → PortTrace) (r : Rollout) (migr
 abbrev pub LeadsSoFar : Rollout → History → ℕ → Command → Type 0
 LeadsSoFar r found s c = c.number ≤ comes_to r.problem r.plan found s c.item
 
--- One port is back at the switch of this berth. Behind what had gone out there before, no more went out than a front of the frames of such commands.
+-- One port is back at the switch of this berth. After what had gone out there before, no more went out than a front of the frames of such commands.
 pub record SendsSoFar {P : Type 0} (tell : P → PortTrace) (r : Rollout) (migration : ℕ) (found : History) (s : ℕ) (now : FleetPorts P) (berth : Berth P) : Type 0 where
   pub back : P
   pub kept : now.kept berth.switch ≡ Some back
@@ -100,7 +100,7 @@ pub record HasListFrom (r : Rollout) (found : History) (image : List ℕ) : Type
 abbrev pub IsFoundOrPlaced : Rollout → ℕ → List ℕ → History → List ℕ → Type 0
 IsFoundOrPlaced r migration start found image = HasListFrom r found image ⊎ (journal_in image ≡ Some (kept_from r migration start))
 
--- ---- behind a rollback
+-- ---- after a rollback
 
 -- The input is a rollout, and it was begun to level it: at the stage to which the list found had come, or at the first one at which it may turn. It is safe, as each rollout is that was begun.
 pub record LevelsSafely {D P : Type 0} (trace : D → DiskTrace) (tell : P → PortTrace) (origin : BackFrom) (limits : Limits) (Given : List ℕ → Type 0) (disk disk_now : D) (before now : FleetPorts P) : Type 0 where

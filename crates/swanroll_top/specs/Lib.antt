@@ -6,13 +6,11 @@ pub mod LiveWords
 pub mod Live
 pub mod Watches
 pub mod LeftWords
-pub mod LeftLines
-pub mod LeftEndings
+pub mod LeftEnds
 pub mod LeftPromise
 pub mod Leavings
 pub mod Agents
 pub mod Tries
-pub mod JournalRoom
 pub mod Rollouts
 pub mod NextStarts
 pub mod Targets

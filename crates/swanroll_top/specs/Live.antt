@@ -7,29 +7,29 @@ use Rattle.file_sight.specs.Sights.{HasMoved, IsSeen, IsUnread, IsUnreadAgain}
 use Rattle.file_sight.specs.declared.unseen.Unseen.{Unseen}
 use Rattle.file_sight.specs.declared.unseen.Unseen.TheVariants as unseen
 use Rattle.rollout_report.specs.Journals.{journal_report}
-use Rattle.watch_laws.specs.Kept.{AreOneJournal}
-use Rattle.watch_laws.specs.Watching.{AreMoments, AreReadFrom, HeldOnce, Moment}
-use Rattle.swanroll_top.specs.JournalRoom.{journal_room}
+use Rattle.rollout_report.specs.Kept.{AreOneJournal}
+use Rattle.rollout_report.specs.Watching.{AreMoments, AreReadFrom, HeldOnce, Moment}
+use Rattle.retarget_service.specs.JournalRoom.{journal_room}
 use Rattle.text_commands.specs.Answers.{rollout_to}
 use Rattle.swanroll_top.specs.Reports.{FollowsReported, RunsReport}
 use Rattle.text_commands.specs.Runs.{IsInput, IsTold}
-use Rattle.text_commands.specs.declared.ending.Ending.{Ending}
-use Rattle.text_commands.specs.declared.ending.Ending.TheVariants.{DiskFault, OutOfMemory, ReadFault, WriteFault}
-use Rattle.swanroll_top.specs.declared.live.LiveEnding.{LiveEnding}
-use Rattle.swanroll_top.specs.declared.live.LiveEnding.TheVariants.{Ended, InUse}
+use Rattle.text_commands.specs.declared.command_end.CommandEnd.{CommandEnd}
+use Rattle.text_commands.specs.declared.command_end.CommandEnd.TheVariants.{DiskFault, OutOfMemory, ReadFault, WriteFault}
+use Rattle.swanroll_top.specs.declared.live.LiveEnd.{LiveEnd}
+use Rattle.swanroll_top.specs.declared.live.LiveEnd.TheVariants.{Ended, InUse}
 
 -- the ending of a report that comes to the same: where the file is in use the journal's device fails
-abbrev pub plain : LiveEnding → Ending
+abbrev pub plain : LiveEnd → CommandEnd
 plain (Ended ending) = ending
 plain InUse = DiskFault
 
-abbrev pub ending_of_unseen : Unseen → LiveEnding
+abbrev pub ending_of_unseen : Unseen → LiveEnd
 ending_of_unseen unseen.Failed = Ended DiskFault
 ending_of_unseen unseen.InUse = InUse
 ending_of_unseen unseen.Memory = Ended OutOfMemory
 
--- how a report over a disk in memory ends, which fails for want of memory alone
-abbrev pub in_memory : Ending → Ending
+-- how a report over a disk in memory ends, which fails for lack of memory alone
+abbrev pub in_memory : CommandEnd → CommandEnd
 in_memory DiskFault = OutOfMemory
 in_memory other = other
 
@@ -46,7 +46,7 @@ pub record Sees {W : Type 0} (trace : W → SourceTrace) (before now : W) (image
   pub is : IsSeen trace limit before now image
 
 -- A report of this rollout, or of an input that is refused, that ended so: by what was read of the file.
-pub record ReportsSeen {W : Type 0} (trace : W → SourceTrace) (migration : ℕ) (rollout : Result Rollout Ending) (before now : W) (ending : LiveEnding) (out out_now : Option (List ℕ)) : Type 0 where
+pub record ReportsSeen {W : Type 0} (trace : W → SourceTrace) (migration : ℕ) (rollout : Result Rollout CommandEnd) (before now : W) (ending : LiveEnd) (out out_now : Option (List ℕ)) : Type 0 where
   pub seen : Option (List ℕ)
   pub sees : IfSome seen (Sees trace before now)
   pub follows : FollowsReported migration rollout seen (plain ending) out out_now
@@ -54,7 +54,7 @@ pub record ReportsSeen {W : Type 0} (trace : W → SourceTrace) (migration : ℕ
   pub moved : ending ≡ InUse → (limit : ℕ) × HasMoved trace limit before now
 
 -- the same by what the source told and tells
-pub record ReportsLive {W : Type 0} (trace : W → SourceTrace) (migration : ℕ) (source source_now : SourceTrace) (before now : W) (ending : LiveEnding) (out out_now : Option (List ℕ)) : Type 0 where
+pub record ReportsLive {W : Type 0} (trace : W → SourceTrace) (migration : ℕ) (source source_now : SourceTrace) (before now : W) (ending : LiveEnd) (out out_now : Option (List ℕ)) : Type 0 where
   pub seen : Option (List ℕ)
   pub sees : IfSome seen (Sees trace before now)
   pub runs : RunsReport migration source source_now seen (plain ending) out out_now
@@ -66,7 +66,7 @@ abbrev pub NotesText : List ℕ → SinkTrace → SinkTrace → Type 0
 NotesText text before now = Appends before.written text now.written ⊎ (AppendsPart before.written text now.written × Rose before.faults now.faults)
 
 -- the status and the line of an ending
-abbrev pub LiveTold : LiveEnding → ℕ → SinkTrace → SinkTrace → Type 0
+abbrev pub LiveTold : LiveEnd → ℕ → SinkTrace → SinkTrace → Type 0
 LiveTold (Ended ending) status before now = IsTold ending status before.written now.written before.faults now.faults
 LiveTold InUse status before now = (status ≡ 8) × NotesText (codes "journal: in use, try again\n") before now
 
@@ -76,7 +76,7 @@ WasThere image = (home : Home) (moments : List Moment) → AreMoments home momen
 
 -- What `report --live` promises, by the source, the file, the sink and the notes before and now.
 pub record LivePromise {W : Type 0} (trace : W → SourceTrace) (migration : ℕ) (source source_now : SourceTrace) (file file_now : W) (sink sink_now notes notes_now : SinkTrace) (status : ℕ) : Type 0 where
-  pub ending : LiveEnding
+  pub ending : LiveEnd
   -- the text is the report of what was read of the file, as of a disk that tells these bytes
   pub does : ReportsLive trace migration source source_now file file_now ending sink.written sink_now.written
   -- and that was the journal once

@@ -9,7 +9,7 @@ use Rattle.intent_journal.specs.Images.{journal_in}
 use Rattle.intent_journal.specs.Openings.{found_by}
 use Rattle.intent_journal.specs.Verdicts.{verdict}
 use Rattle.rollout_report.specs.Journals.{digest_for}
-use Rattle.rollout_run.specs.declared.running.Limits.{Limits}
+use Rattle.controller_run.specs.declared.running.Limits.{Limits}
 use Rattle.rollback_plan.specs.Turns.{BeginsBack}
 use Rattle.rollback_service.specs.Levellings.{TurnsFrom, start_of}
 use Rattle.rollback_service.specs.Placings.{kept_from}

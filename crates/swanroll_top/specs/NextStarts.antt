@@ -15,7 +15,7 @@ use Rattle.intent_journal.specs.Parts.{Kept}
 use Rattle.intent_journal.specs.Recovered.{MayStand}
 use Rattle.intent_journal.specs.Verdicts.{verdict}
 use Rattle.rollout_report.specs.Journals.{digest_for}
-use Rattle.rollout_run.specs.declared.running.Limits.{Limits}
+use Rattle.controller_run.specs.declared.running.Limits.{Limits}
 use Rattle.text_commands.specs.Answers.{rollout_to}
 
 -- The image is one that the next opening of this rollout takes: its journal was made for the same digest and migration, has the start of the history that was

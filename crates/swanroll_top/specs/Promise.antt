@@ -5,7 +5,7 @@ use Rattle.rollout_rules.specs.declared.op.OpView.{OpView}
 use Rattle.wan_edge.specs.Streams.{Rose}
 use Rattle.swanroll_top.specs.AgentPromise.{AgentPromise, BringsService}
 use Rattle.swanroll_top.specs.DrainPromise.{BringsDrain, DrainPromise}
-use Rattle.text_commands.specs.Endings.{ending_of_unread}
+use Rattle.text_commands.specs.CommandEnds.{ending_of_unread}
 use Rattle.swanroll_top.specs.HeldPromise.{BringsHeld, HeldPromise}
 use Rattle.text_commands.specs.Program.{IsEnded, IsRun}
 use Rattle.swanroll_top.specs.ReportPromise.{BringsReport, ReportPromise}
@@ -20,8 +20,8 @@ use Rattle.swanroll_top.specs.Uses.{uses_of}
 use Rattle.swanroll_top.specs.Views.{Objects, Outside, Views, source_at, streams, used, written_at}
 use Rattle.swanroll_top.specs.Words.{Asked, a_drain, a_report, a_rollback, a_run, a_text, a_trial, an_agent, asked_by, what_is_held}
 use Rattle.text_commands.specs.declared.arguments.Unread.{Unread}
-use Rattle.text_commands.specs.declared.ending.Ending.{Ending}
-use Rattle.text_commands.specs.declared.ending.Ending.TheVariants.{Usage, ReadFault, WriteFault, DiskFault, GuestFault, NotFinished}
+use Rattle.text_commands.specs.declared.command_end.CommandEnd.{CommandEnd}
+use Rattle.text_commands.specs.declared.command_end.CommandEnd.TheVariants.{Usage, ReadFault, WriteFault, DiskFault, GuestFault, NotFinished}
 use Rattle.text_commands.specs.declared.unfinished.Unfinished.{Unfinished}
 
 -- ---- what a command doesn't use
@@ -45,7 +45,7 @@ pub record LeavesUnnamed {S K D F P G : Type 0} (views : Views S K D F P G) (use
 -- ---- by the ending, before anything is noted
 
 -- what each command has brought about that ended so
-abbrev pub Brings : {S K D F P G : Type 0} → Views S K D F P G → Asked → Objects S K D F → Ending → Objects S K D F → Type 0
+abbrev pub Brings : {S K D F P G : Type 0} → Views S K D F P G → Asked → Objects S K D F → CommandEnd → Objects S K D F → Type 0
 Brings views (a_text what) before ending after = Runs what (source_at views before) (source_at views after) ending (written_at views before) (written_at views after)
 Brings views (a_report migration) before ending after = BringsReport views migration before ending after
 Brings views (an_agent guests) before ending after = BringsService views guests before ending after
@@ -56,7 +56,7 @@ Brings views (a_rollback limits origin) before ending after = BringsRollback vie
 Brings views (what_is_held rounds) before ending after = BringsHeld views rounds before ending after
 
 -- What is so of every command that ended so.
-pub record Ran {S K D F P G : Type 0} (views : Views S K D F P G) (asked : Asked) (before : Objects S K D F) (ending : Ending) (after : Objects S K D F) : Type 0 where
+pub record Ran {S K D F P G : Type 0} (views : Views S K D F P G) (asked : Asked) (before : Objects S K D F) (ending : CommandEnd) (after : Objects S K D F) : Type 0 where
   -- what it has brought about
   pub brings : Brings views asked before ending after
   -- a fault comes only where its object counted one
@@ -105,7 +105,7 @@ pub record Promise {S K D F P G : Type 0} (views : Views S K D F P G) (asked : O
 -- ---- from the arguments on
 
 -- The program ended before any word was read: all but the notes is as it was.
-pub record EndsUnread {S K D F P G : Type 0} (views : Views S K D F P G) (ending : Ending) (before : Outside S K D F) (status : ℕ) (after : Outside S K D F) : Type 0 where
+pub record EndsUnread {S K D F P G : Type 0} (views : Views S K D F P G) (ending : CommandEnd) (before : Outside S K D F) (status : ℕ) (after : Outside S K D F) : Type 0 where
   pub ended : IsEnded ending (streams views before) (streams views after) status
   pub untouched : used after ≡ used before
 

@@ -9,12 +9,12 @@ use Rattle.rollout_laws.specs.Waiting.{HoldsNothing}
 use Rattle.wan_edge.specs.Ports.{PortTrace}
 use Rattle.wan_edge.specs.Streams.{Rose, SourceTrace}
 use Rattle.intent_journal.specs.Verdicts.{verdict}
-use Rattle.port_session.specs.Sessions.{first_talk}
-use Rattle.worker_ports.specs.Views.{view}
+use Rattle.port_session.specs.Sessions.{first_session}
+use Rattle.switch_ports.specs.Views.{view}
 use Rattle.shared_book.specs.Homes.{homes_of}
-use Rattle.rollout_ports.specs.Homes.{working_homes}
+use Rattle.switch_ports.specs.Homes.{working_homes}
 use Rattle.rollout_report.specs.Journals.{digest_for}
-use Rattle.rollout_run.specs.declared.running.Limits.{Limits}
+use Rattle.controller_run.specs.declared.running.Limits.{Limits}
 use Rattle.intent_journal.specs.Openings.{found_by}
 use Rattle.completion_laws.specs.Answering.{IsReady}
 use Rattle.text_commands.specs.Answers.{rollout_to}
@@ -35,7 +35,7 @@ pub record GoesOnFrom (migration : ℕ) (source source_now : SourceTrace) (store
 pub record WaitsReady {P : Type 0} (tell : P → PortTrace) (r : Rollout) (migration : ℕ) (found : History) (waiting : ℕ → Option P) (switch : ℕ) : Type 0 where
   pub port : P
   pub waits : waiting switch ≡ Some port
-  pub ready : IsReady r migration (homes_of r.problem) found (view tell (first_talk switch port))
+  pub ready : IsReady r migration (homes_of r.problem) found (view tell (first_session switch port))
 
 -- So it is with each switch with an operation, over a fleet that tells what waits. Rounds are given for all that isn't settled, and the policy holds
 -- nothing back.

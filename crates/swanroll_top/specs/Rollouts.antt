@@ -6,26 +6,26 @@ use Rattle.rollout_rules.specs.declared.op.OpView.{OpView}
 use Rattle.disk_model.specs.Traces.{DiskTrace}
 use Rattle.disk_mirror.specs.Openings.{IsTold, Opens, OpensWithin}
 use Rattle.intent_journal.specs.declared.fault.JournalFault.TheVariants as fault
-use Rattle.shared_history.specs.declared.note.Cause.{Cause}
-use Rattle.shared_history.specs.declared.note.Cause.TheVariants as cause
+use Rattle.shared_book.specs.declared.note.Cause.{Cause}
+use Rattle.shared_book.specs.declared.note.Cause.TheVariants as cause
 use Rattle.wan_edge.specs.Ports.{PortTrace}
 use Rattle.wan_edge.specs.Streams.{Rose, SourceTrace}
-use Rattle.rollout_ports.specs.Berths.{FleetPorts, ports_of}
+use Rattle.switch_ports.specs.Berths.{FleetPorts, ports_of}
 use Rattle.rollout_report.specs.Journals.{digest_for}
-use Rattle.rollout_run.specs.declared.running.Limits.{Limits}
+use Rattle.controller_run.specs.declared.running.Limits.{Limits}
 use Rattle.intent_journal.specs.Openings.{IsLeft}
-use Rattle.rollout_service.specs.Outcomes.{HasRolled, IfRolled, OnUnopened}
-use Rattle.rollout_service.specs.declared.answer.RunAnswer.{RunAnswer}
-use Rattle.rollout_service.specs.declared.answer.RunAnswer.TheVariants as outcome
-use Rattle.text_commands.specs.Endings.{ending_of_journal, status_of}
-use Rattle.swanroll_top.specs.JournalRoom.{journal_room}
+use Rattle.controller_run.specs.RolloutEnds.{HasRolled, IfRolled, OnUnopened}
+use Rattle.controller_run.specs.declared.rollout_end.RolloutEnd.{RolloutEnd}
+use Rattle.controller_run.specs.declared.rollout_end.RolloutEnd.TheVariants as outcome
+use Rattle.text_commands.specs.CommandEnds.{ending_of_journal, status_of}
+use Rattle.retarget_service.specs.JournalRoom.{journal_room}
 use Rattle.text_commands.specs.Lines.{IsToldAs}
 use Rattle.text_commands.specs.Answers.{rollout_to}
 use Rattle.text_commands.specs.Runs.{Follows, IsInput}
 use Rattle.text_commands.specs.Safety.{IsValid}
 use Rattle.text_commands.specs.Taken.{IsValidDocument}
-use Rattle.text_commands.specs.declared.ending.Ending.{Ending}
-use Rattle.text_commands.specs.declared.ending.Ending.TheVariants.{DiskFault, Done, NotFinished, OutOfMemory, ReadFault, Refused, WriteFault}
+use Rattle.text_commands.specs.declared.command_end.CommandEnd.{CommandEnd}
+use Rattle.text_commands.specs.declared.command_end.CommandEnd.TheVariants.{DiskFault, Done, NotFinished, OutOfMemory, ReadFault, Refused, WriteFault}
 use Rattle.text_commands.specs.declared.unfinished.Unfinished.TheVariants.{RoundsSpent, PortFault, Above, NotMine, NoAnswer, Held}
 
 -- how many operations there are, and how many entries the journal had at first
@@ -33,7 +33,7 @@ abbrev pub finished_line : ℕ → ℕ → List ℕ
 finished_line operations found = codes "finished: operations " ++ decimal operations ++ codes ", found " ++ decimal found ++ codes "\n"
 
 -- how a run ends that was stopped for this cause
-abbrev pub ending_of_stop : Rollout → Cause → Ending
+abbrev pub ending_of_stop : Rollout → Cause → CommandEnd
 ending_of_stop r (cause.Spent rounds item number) = NotFinished (RoundsSpent rounds item number)
 ending_of_stop r (cause.Port switch) = NotFinished (PortFault r switch)
 ending_of_stop r (cause.Above item held begun) = NotFinished (Above item held begun)
@@ -42,17 +42,22 @@ ending_of_stop r (cause.NoAnswer switch byte) = NotFinished (NoAnswer r switch b
 ending_of_stop r cause.Disk = DiskFault
 ending_of_stop r cause.Memory = OutOfMemory
 
+-- how a command ends whose rollout has gone so
+abbrev pub ending_of_rollout : RolloutEnd → CommandEnd
+ending_of_rollout (outcome.Finished operations found) = Done
+ending_of_rollout (outcome.Held left) = NotFinished (Held left)
+ending_of_rollout (outcome.Stopped r halt) = ending_of_stop r halt.cause
+ending_of_rollout (outcome.NoPort r switch) = NotFinished (PortFault r switch)
+ending_of_rollout outcome.Memory = OutOfMemory
+ending_of_rollout (outcome.Unopened why) = ending_of_journal why
+
 -- the line of a rollout that is finished, or how the run ends without one
-abbrev pub line_or_ending : RunAnswer → Result (List ℕ) Ending
+abbrev pub line_or_ending : RolloutEnd → Result (List ℕ) CommandEnd
 line_or_ending (outcome.Finished operations found) = Ok (finished_line operations found)
-line_or_ending (outcome.Held left) = Err (NotFinished (Held left))
-line_or_ending (outcome.Stopped r halt) = Err (ending_of_stop r halt.cause)
-line_or_ending (outcome.NoPort r switch) = Err (NotFinished (PortFault r switch))
-line_or_ending outcome.Memory = Err OutOfMemory
-line_or_ending (outcome.Unopened why) = Err (ending_of_journal why)
+line_or_ending end = Err (ending_of_rollout end)
 
 -- the answers that tell a fault of the disk
-abbrev pub IsDiskFault : RunAnswer → Type 0
+abbrev pub IsDiskFault : RolloutEnd → Type 0
 IsDiskFault (outcome.Finished operations found) = ⊥
 IsDiskFault (outcome.Held left) = ⊥
 IsDiskFault (outcome.Stopped r halt) = halt.cause ≡ cause.Disk
@@ -73,18 +78,18 @@ fleet_of waiting kept lent named faults fleet = record { ports = ports_of waitin
 -- The rollout of an input, whose plan is valid, was run from what its disk had, over the ports of a fleet, and the run ends as the answer says.
 -- Where no journal was opened, no port was; where a port is missing, the fleet failed to give it.
 pub record RollsOut {D P : Type 0} (trace : D → DiskTrace) (tell : P → PortTrace)
-    (r : Rollout) (limits : Limits) (policy : OpView → ℕ) (disk disk_now : D) (before now : FleetSeen P) (ending : Ending) (out out_now : Option (List ℕ)) : Type 0 where
+    (r : Rollout) (limits : Limits) (policy : OpView → ℕ) (disk disk_now : D) (before now : FleetSeen P) (ending : CommandEnd) (out out_now : Option (List ℕ)) : Type 0 where
   pub network : IsNetwork r.problem
   pub valid : IsValid r.problem r.plan
   pub small : limits.migration < 2 ^ 32
-  pub answer : RunAnswer
+  pub answer : RolloutEnd
   pub rolled : IfRolled answer (HasRolled trace tell r (digest_for r limits.migration) policy limits.rounds disk before.ports now.ports disk_now answer)
   pub unopened : OnUnopened answer (λ why. IsLeft trace r (digest_for r limits.migration) disk why disk_now × (now ≡ before))
   pub no_port : (other : Rollout) (switch : ℕ) → answer ≡ outcome.NoPort other switch → Rose before.faults now.faults
   pub follows : Follows (line_or_ending answer) ending out out_now
 
 -- The disk couldn't be opened, which it counted. Nothing was begun.
-pub record FailsToOpen {D P : Type 0} (trace : D → DiskTrace) (disk disk_now : D) (before now : FleetSeen P) (ending : Ending) (out out_now : Option (List ℕ)) : Type 0 where
+pub record FailsToOpen {D P : Type 0} (trace : D → DiskTrace) (disk disk_now : D) (before now : FleetSeen P) (ending : CommandEnd) (out out_now : Option (List ℕ)) : Type 0 where
   pub is : ending ≡ DiskFault
   pub opens : Opens (trace disk) (trace disk_now)
   pub failed : Rose (trace disk).faults (trace disk_now).faults
@@ -93,7 +98,7 @@ pub record FailsToOpen {D P : Type 0} (trace : D → DiskTrace) (disk disk_now :
 
 -- The disk was opened, tells its bytes since, no more than there is room for a journal of this rollout, and the rollout was run from these.
 pub record RollsOpened {D P : Type 0} (trace : D → DiskTrace) (tell : P → PortTrace)
-    (r : Rollout) (limits : Limits) (policy : OpView → ℕ) (disk disk_now : D) (before now : FleetSeen P) (ending : Ending) (out out_now : Option (List ℕ)) : Type 0 where
+    (r : Rollout) (limits : Limits) (policy : OpView → ℕ) (disk disk_now : D) (before now : FleetSeen P) (ending : CommandEnd) (out out_now : Option (List ℕ)) : Type 0 where
   pub opened : D
   pub opens : Opens (trace disk) (trace opened)
   pub told : IsTold (trace opened).bytes
@@ -102,7 +107,7 @@ pub record RollsOpened {D P : Type 0} (trace : D → DiskTrace) (tell : P → Po
 
 -- either way
 abbrev pub OpensAndRolls : {D P : Type 0} → (D → DiskTrace) → (P → PortTrace)
-    → Rollout → Limits → (OpView → ℕ) → D → D → FleetSeen P → FleetSeen P → Ending → Option (List ℕ) → Option (List ℕ) → Type 0
+    → Rollout → Limits → (OpView → ℕ) → D → D → FleetSeen P → FleetSeen P → CommandEnd → Option (List ℕ) → Option (List ℕ) → Type 0
 OpensAndRolls trace tell r limits policy disk disk_now before now ending out out_now =
     FailsToOpen trace disk disk_now before now ending out out_now
     ⊎ RollsOpened trace tell r limits policy disk disk_now before now ending out out_now
@@ -110,18 +115,18 @@ OpensAndRolls trace tell r limits policy disk disk_now before now ending out out
 -- ---- by the input: which bytes that may be is given by a test on them, as that they are what was read
 
 -- the input is no document with a valid plan, and this is how it is refused
-pub record RefusesAs (Given : List ℕ → Type 0) (ending : Ending) : Type 0 where
+pub record RefusesAs (Given : List ℕ → Type 0) (ending : CommandEnd) : Type 0 where
   pub input : List ℕ
   pub given : Given input
   pub refused : rollout_to input ≡ Err ending
 
 -- why nothing was begun: the source failed, memory ran out, or the input was refused
-abbrev pub IsUnbegun : (List ℕ → Type 0) → Ending → Type 0
+abbrev pub IsUnbegun : (List ℕ → Type 0) → CommandEnd → Type 0
 IsUnbegun Given ReadFault = ⊤
 IsUnbegun Given OutOfMemory = ⊤
 IsUnbegun Given ending = RefusesAs Given ending
 
-abbrev pub IsRefused : Result Rollout Ending → Ending → Type 0
+abbrev pub IsRefused : Result Rollout CommandEnd → CommandEnd → Type 0
 IsRefused rollout OutOfMemory = ⊤
 IsRefused rollout ending = rollout ≡ Err ending
 
@@ -133,7 +138,7 @@ pub record LeavesAll {D P : Type 0} (cause : Type 0) (disk disk_now : D) (before
 
 -- The input is a rollout, and it was run, unless its disk couldn't be opened.
 pub record RollsOutOf {D P : Type 0} (trace : D → DiskTrace) (tell : P → PortTrace)
-    (Given : List ℕ → Type 0) (limits : Limits) (policy : OpView → ℕ) (disk disk_now : D) (before now : FleetSeen P) (ending : Ending) (out out_now : Option (List ℕ)) : Type 0 where
+    (Given : List ℕ → Type 0) (limits : Limits) (policy : OpView → ℕ) (disk disk_now : D) (before now : FleetSeen P) (ending : CommandEnd) (out out_now : Option (List ℕ)) : Type 0 where
   pub input : List ℕ
   pub given : Given input
   pub r : Rollout
@@ -142,14 +147,14 @@ pub record RollsOutOf {D P : Type 0} (trace : D → DiskTrace) (tell : P → Por
 
 -- either way
 abbrev pub Rolls : {D P : Type 0} → (D → DiskTrace) → (P → PortTrace)
-    → (List ℕ → Type 0) → Limits → (OpView → ℕ) → D → D → FleetSeen P → FleetSeen P → Ending → Option (List ℕ) → Option (List ℕ) → Type 0
+    → (List ℕ → Type 0) → Limits → (OpView → ℕ) → D → D → FleetSeen P → FleetSeen P → CommandEnd → Option (List ℕ) → Option (List ℕ) → Type 0
 Rolls trace tell Given limits policy disk disk_now before now ending out out_now =
     LeavesAll (IsUnbegun Given ending) disk disk_now before now
     ⊎ RollsOutOf trace tell Given limits policy disk disk_now before now ending out out_now
 
 -- the same of an input that is this rollout
 abbrev pub RollsIn : {D P : Type 0} → (D → DiskTrace) → (P → PortTrace)
-    → Result Rollout Ending → Limits → (OpView → ℕ) → D → D → FleetSeen P → FleetSeen P → Ending → Option (List ℕ) → Option (List ℕ) → Type 0
+    → Result Rollout CommandEnd → Limits → (OpView → ℕ) → D → D → FleetSeen P → FleetSeen P → CommandEnd → Option (List ℕ) → Option (List ℕ) → Type 0
 RollsIn trace tell rollout limits policy disk disk_now before now ending out out_now =
     LeavesAll (IsRefused rollout ending) disk disk_now before now
     ⊎ ((r : Rollout) × (rollout ≡ Ok r) × OpensAndRolls trace tell r limits policy disk disk_now before now ending out out_now)
@@ -157,8 +162,8 @@ RollsIn trace tell rollout limits policy disk disk_now before now ending out out
 -- the same by the status
 pub record RollsAs {D P : Type 0} (trace : D → DiskTrace) (tell : P → PortTrace)
     (Given : List ℕ → Type 0) (limits : Limits) (policy : OpView → ℕ) (disk disk_now : D) (before now : FleetSeen P) (status : ℕ) (out out_now : Option (List ℕ)) : Type 0 where
-  pub ending : Ending
-  pub told : Ending
+  pub ending : CommandEnd
+  pub told : CommandEnd
   pub told_as : IsToldAs ending told
   pub is_status : status ≡ status_of told
   pub rolls : Rolls trace tell Given limits policy disk disk_now before now ending out out_now
@@ -166,7 +171,7 @@ pub record RollsAs {D P : Type 0} (trace : D → DiskTrace) (tell : P → PortTr
 -- ---- what is read and written
 
 -- how a run may end whose rollout was begun
-abbrev pub may_end : Ending → Bool
+abbrev pub may_end : CommandEnd → Bool
 may_end Done = true
 may_end WriteFault = true
 may_end DiskFault = true
@@ -175,24 +180,24 @@ may_end (NotFinished u) = true
 may_end OutOfMemory = true
 may_end ending = false
 
-pub record EndsRollout (ending : Ending) (out out_now : Option (List ℕ)) : Type 0 where
+pub record EndsRollout (ending : CommandEnd) (out out_now : Option (List ℕ)) : Type 0 where
   pub may : may_end ending ≡ true
   pub silent : (status_of ending ≡ 0 → ⊥) → (status_of ending ≡ 7 → ⊥) → out_now ≡ out
 
 -- the input was refused, and nothing was written; or the rollout was begun
-abbrev pub FollowsRolled : Result Rollout Ending → Ending → Option (List ℕ) → Option (List ℕ) → Type 0
+abbrev pub FollowsRolled : Result Rollout CommandEnd → CommandEnd → Option (List ℕ) → Option (List ℕ) → Type 0
 FollowsRolled rollout ending out out_now =
     (IsRefused rollout ending × (out_now ≡ out)) ⊎ (((r : Rollout) × (rollout ≡ Ok r)) × EndsRollout ending out out_now)
 
 -- The input of a rollout. It is refused exactly where it is no document with a valid plan.
-pub record FollowsRollout (source source_now : SourceTrace) (ending : Ending) (out out_now : Option (List ℕ)) : Type 0 where
+pub record FollowsRollout (source source_now : SourceTrace) (ending : CommandEnd) (out out_now : Option (List ℕ)) : Type 0 where
   pub input : List ℕ
   pub read : IsInput source source_now input
   pub refused : (status_of ending ≡ 3) ↔ (IsValidDocument input → ⊥)
   pub silent : (status_of ending ≡ 0 → ⊥) → (status_of ending ≡ 7 → ⊥) → out_now ≡ out
 
--- what an ending of a rollout says: after a fault of the source, and for want of memory, that nothing was written
-abbrev pub RunsRollout : SourceTrace → SourceTrace → Ending → Option (List ℕ) → Option (List ℕ) → Type 0
+-- what an ending of a rollout says: after a fault of the source, and for lack of memory, that nothing was written
+abbrev pub RunsRollout : SourceTrace → SourceTrace → CommandEnd → Option (List ℕ) → Option (List ℕ) → Type 0
 RunsRollout source source_now ReadFault out out_now = out_now ≡ out
 RunsRollout source source_now OutOfMemory out out_now = out_now ≡ out
 RunsRollout source source_now ending out out_now = FollowsRollout source source_now ending out out_now

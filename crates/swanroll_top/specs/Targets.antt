@@ -1,4 +1,4 @@
--- What stands behind a rollout: the network is safe, and behind status 0 it is at the target.
+-- What stands after a rollout: the network is safe, and after status 0 it is at the target.
 use Rattle.std.specs.Prelude.{◌≡◌, ◌⊎◌, Bool, true, false, ◌==◌, ℕ, List, [], ◌∷◌, length, Option, Some, None, Ok, IfSome, IsTrue}
 use Rattle.std.specs.List.{AllByRecursion, list_any}
 use Rattle.rollout_rules.specs.Wan.{Problem, Rollout}
@@ -15,20 +15,20 @@ use Rattle.wan_edge.specs.Ports.{PortTrace}
 use Rattle.wan_edge.specs.Streams.{Appends}
 use Rattle.dependency_graph.specs.Graph.{op_total}
 use Rattle.intent_journal.specs.Verdicts.{verdict}
-use Rattle.port_session.specs.Sessions.{first_talk}
-use Rattle.worker_ports.specs.Lots.{home_at}
-use Rattle.worker_ports.specs.Views.{view}
-use Rattle.shared_history.specs.Legal.{is_still}
+use Rattle.port_session.specs.Sessions.{first_session}
+use Rattle.switch_ports.specs.Outboxes.{home_at}
+use Rattle.switch_ports.specs.Views.{view}
+use Rattle.shared_book.specs.Legal.{is_still}
 use Rattle.shared_book.specs.Homes.{homes_of}
-use Rattle.worker_ports.specs.declared.ports.Berth.{Berth}
-use Rattle.rollout_ports.specs.Berths.{AreNamed, FleetPorts, switches_of}
-use Rattle.rollout_ports.specs.Homes.{working_homes}
-use Rattle.rollout_ports.specs.Opening.{GivesBack, IsGiven}
+use Rattle.switch_ports.specs.declared.ports.Berth.{Berth}
+use Rattle.switch_ports.specs.Berths.{AreNamed, FleetPorts, switches_of}
+use Rattle.switch_ports.specs.Homes.{working_homes}
+use Rattle.switch_ports.specs.Opening.{GivesBack, IsGiven}
 use Rattle.switch_laws.specs.Holdings.{AreHeldAt, AreHeldAtEnd}
 use Rattle.switch_laws.specs.Runs.{StartsAsFound}
-use Rattle.holding_laws.specs.Untold.{EachMayHold}
+use Rattle.completion_laws.specs.Untold.{EachMayHold}
 use Rattle.rollout_report.specs.Journals.{digest_for}
-use Rattle.rollout_run.specs.declared.running.Limits.{Limits}
+use Rattle.controller_run.specs.declared.running.Limits.{Limits}
 use Rattle.intent_journal.specs.Openings.{found_by}
 use Rattle.text_commands.specs.Answers.{rollout_to}
 use Rattle.swanroll_top.specs.Rollouts.{finished_line}
@@ -40,25 +40,25 @@ pub record EndsWithin {P : Type 0} (tell : P → PortTrace) (r : Rollout) (migra
   pub given : IsGiven tell before.waiting berth
   pub back : P
   pub kept : now.kept berth.switch ≡ Some back
-  pub holds : StartsAsFound r migration (homes_of r.problem) found (view tell (first_talk berth.switch berth.port))
+  pub holds : StartsAsFound r migration (homes_of r.problem) found (view tell (first_session berth.switch berth.port))
       → IfSome (tell back).offered (λ _. IfSome (tell back).heard (λ _. IfSome (tell back).held (AreHeldAt r migration (homes_of r.problem) berth.switch h)))
-  pub each : EachMayHold r migration (homes_of r.problem) found (view tell (first_talk berth.switch berth.port)) (tell back) (AreHeldAt r migration (homes_of r.problem) berth.switch h)
+  pub each : EachMayHold r migration (homes_of r.problem) found (view tell (first_session berth.switch berth.port)) (tell back) (AreHeldAt r migration (homes_of r.problem) berth.switch h)
 
--- The same behind a history in which all is settled: it holds exactly the target.
+-- The same after a history in which all is settled: it holds exactly the target.
 pub record EndsAtTarget {P : Type 0} (tell : P → PortTrace) (r : Rollout) (migration : ℕ) (found : History) (before now : FleetPorts P) (berth : Berth P) : Type 0 where
   pub given : IsGiven tell before.waiting berth
   pub back : P
   pub kept : now.kept berth.switch ≡ Some back
-  pub holds : StartsAsFound r migration (homes_of r.problem) found (view tell (first_talk berth.switch berth.port))
+  pub holds : StartsAsFound r migration (homes_of r.problem) found (view tell (first_session berth.switch berth.port))
       → IfSome (tell back).offered (λ _. IfSome (tell back).heard (λ _. IfSome (tell back).held (AreHeldAtEnd r migration (homes_of r.problem) berth.switch found.start)))
-  pub each : EachMayHold r migration (homes_of r.problem) found (view tell (first_talk berth.switch berth.port)) (tell back) (AreHeldAtEnd r migration (homes_of r.problem) berth.switch found.start)
+  pub each : EachMayHold r migration (homes_of r.problem) found (view tell (first_session berth.switch berth.port)) (tell back) (AreHeldAtEnd r migration (homes_of r.problem) berth.switch found.start)
 
 -- whether a home is one of these switches
 abbrev pub is_among : List ℕ → Option ℕ → Bool
 is_among switches None = false
 is_among switches (Some switch) = list_any (λ s. switch == s) switches
 
--- The input, of which this test holds, is a rollout, and it was begun. The disk was opened, and told an image. Behind the history that was found there are entries with which it is
+-- The input, of which this test holds, is a rollout, and it was begun. The disk was opened, and told an image. After the history that was found there are entries with which it is
 -- legal, and whatever the switches hold between what it settles and what it begins, and whichever of their next updates have applied, the network is safe. Each switch with an
 -- operation has a port, which was asked for by the name that the problem has for it, and holds what that history allows; of an item whose home is another switch nothing was settled.
 pub record StaysSafe {D P : Type 0} (trace : D → DiskTrace) (tell : P → PortTrace) (limits : Limits) (Given : List ℕ → Type 0) (disk : D) (before now : FleetPorts P) : Type 0 where
@@ -96,7 +96,7 @@ pub record RestsHeld {D P : Type 0} (trace : D → DiskTrace) (tell : P → Port
   pub held : (n : ℕ) → may_begin stays.r.problem stays.r.plan (with_entries stays.found stays.added) (next_op (with_entries stays.found stays.added) n) ≡ true
       → is_held_back policy (view_of stays.r.problem stays.r.plan (with_entries stays.found stays.added) n) ≡ true
 
--- the statuses that come only behind a rollout that was begun
+-- the statuses that come only after a rollout that was begun
 abbrev pub IsOfBegun : ℕ → Type 0
 IsOfBegun status = IsTrue (list_any (λ s. s == status) (0 ∷ 5 ∷ 7 ∷ 11 ∷ 14 ∷ []))
 

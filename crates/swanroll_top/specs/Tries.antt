@@ -9,14 +9,14 @@ use Rattle.fewest_plan.specs.declared.cause.Cause.{Cause}
 use Rattle.wan_edge.specs.Streams.{SourceTrace}
 use Rattle.case_gen.specs.Cases.{after_case, case}
 use Rattle.case_gen.specs.Draws.{seeded}
-use Rattle.rollout_run.specs.declared.running.Limits.{Limits}
+use Rattle.controller_run.specs.declared.running.Limits.{Limits}
 use Rattle.sim_run.specs.TrialText.{trial_text}
 use Rattle.sim_run.specs.declared.shape.Shape.{Shape}
 use Rattle.text_commands.specs.Answers.{chosen_by}
-use Rattle.text_commands.specs.Endings.{ending_without}
+use Rattle.text_commands.specs.CommandEnds.{ending_without}
 use Rattle.text_commands.specs.Runs.{EndsWith, Follows}
 use Rattle.swanroll_top.specs.Words.{Asked, a_rollback, a_trial}
-use Rattle.text_commands.specs.declared.ending.Ending.{Ending}
+use Rattle.text_commands.specs.declared.command_end.CommandEnd.{CommandEnd}
 use Rattle.text_commands.specs.declared.words.Planner.TheVariants.{Slack}
 
 -- the numbers of which a case can be made
@@ -37,7 +37,7 @@ IsAskedShape (a_trial shape policy) = IsShape shape
 IsAskedShape (a_rollback limits origin) = HasNext limits
 IsAskedShape other = ⊤
 
--- the case of these numbers, and what is left to draw behind it
+-- the case of these numbers, and what is left to draw after it
 abbrev pub case_of : Shape → Problem
 case_of s = case s.k s.switches s.flows (seeded s.seed)
 
@@ -45,21 +45,21 @@ abbrev pub events_of : Shape → Lcg
 events_of s = after_case s.flows (seeded s.seed)
 
 -- the text of the trial with the plan chosen for its case
-abbrev pub with_plan : (OpView → ℕ) → Shape → Result Choice Cause → Result (List ℕ) Ending
+abbrev pub with_plan : (OpView → ℕ) → Shape → Result Choice Cause → Result (List ℕ) CommandEnd
 with_plan policy s (Ok choice) = Ok (trial_text (case_of s) choice.plan choice.rate_steps policy s (events_of s))
 with_plan policy s (Err cause) = Err (ending_without (case_of s) cause)
 
-unfoldable pub tried : (OpView → ℕ) → Shape → Result (List ℕ) Ending
+unfoldable pub tried : (OpView → ℕ) → Shape → Result (List ℕ) CommandEnd
 tried policy s = with_plan policy s (chosen_by Slack (case_of s))
 
 -- nothing was read, and the run ends as that says; where memory ran out nothing was written
-pub record RunsTrial (policy : OpView → ℕ) (s : Shape) (source source_now : SourceTrace) (ending : Ending) (out out_now : Option (List ℕ)) : Type 0 where
+pub record RunsTrial (policy : OpView → ℕ) (s : Shape) (source source_now : SourceTrace) (ending : CommandEnd) (out out_now : Option (List ℕ)) : Type 0 where
   pub unread : source_now ≡ source
   pub shape : IsShape s
   pub follows : Follows (tried policy s) ending out out_now
 
 -- the same where memory sufficed
-pub record FollowsTrial (policy : OpView → ℕ) (s : Shape) (source source_now : SourceTrace) (ending : Ending) (out out_now : Option (List ℕ)) : Type 0 where
+pub record FollowsTrial (policy : OpView → ℕ) (s : Shape) (source source_now : SourceTrace) (ending : CommandEnd) (out out_now : Option (List ℕ)) : Type 0 where
   pub unread : source_now ≡ source
   pub shape : IsShape s
   pub answer : EndsWith (tried policy s) ending out out_now

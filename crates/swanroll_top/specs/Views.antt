@@ -1,10 +1,10 @@
 -- What the outside objects of the call tell, and these objects at a moment.
-use Rattle.std.specs.Prelude.{ℕ, List, Option}
+use Rattle.std.specs.Prelude.{ℕ, Bool, List, Option}
 use Rattle.disk_model.specs.Traces.{DiskTrace}
 use Rattle.wan_edge.specs.Ports.{PortTrace}
 use Rattle.wan_edge.specs.Streams.{SinkTrace, SourceTrace}
 use Rattle.agent_service.specs.Services.{Guests, Tells}
-use Rattle.rollout_ports.specs.Berths.{FleetPorts}
+use Rattle.switch_ports.specs.Berths.{FleetPorts, ports_of}
 use Rattle.text_commands.specs.Program.{Streams}
 use Rattle.swanroll_top.specs.Rollouts.{FleetSeen}
 use Rattle.text_commands.specs.Runs.{IsInput}
@@ -29,6 +29,21 @@ pub record Views (S K D F P G : Type 0) : Type 1 where
   pub fleet : F → FleetTrace P G
   pub port : P → PortTrace
   pub guest : Tells G
+
+-- what a fleet tells, by each of its parts
+abbrev pub fleet_told : {F P G : Type 0} → (F → Option (ℕ → Option P)) → (F → ℕ → Option P) → (F → ℕ → Bool) → (F → ℕ → Option (List ℕ)) → (F → Option (List G)) → (F → List G) → (F → ℕ) → (F → ℕ) → F → FleetTrace P G
+fleet_told waiting kept lent named coming served visiting faults fleet = record {
+  ports = ports_of waiting kept lent named fleet;
+  guests = record { coming = coming fleet; served = served fleet; visiting = visiting fleet };
+  faults = faults fleet;
+}
+
+-- what guests tell, as sources and as sinks
+abbrev pub guest_told : {G : Type 0} → (G → SourceTrace) → (G → SinkTrace) → Tells G
+guest_told source sink = record { source = source; sink = sink }
+
+abbrev pub views_of : {S K D F P G : Type 0} → (S → SourceTrace) → (K → SinkTrace) → (D → DiskTrace) → (F → FleetTrace P G) → (P → PortTrace) → Tells G → Views S K D F P G
+views_of source sink disk fleet port guest = record { source = source; sink = sink; disk = disk; fleet = fleet; port = port; guest = guest }
 
 -- what a command may use
 pub record Objects (S K D F : Type 0) : Type 0 where

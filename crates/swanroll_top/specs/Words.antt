@@ -1,4 +1,4 @@
--- Which words are a command line, and what they ask for. Behind the word of a command stand pairs of a name and a value.
+-- Which words are a command line, and what they ask for. After the word of a command stand pairs of a name and a value.
 use Rattle.std.specs.Prelude.{ℕ, ◌&&◌, nat_le, nat_lt, List, [], ◌∷◌, ◌++◌, map, String, string_bytes, codes, bytes_eq, Option, Some, None, option_map, option_and_then, if◌then◌else◌}
 use Rattle.std.specs.declared.alloc.Global.{Global}
 use denote.Param.Members.{Mut}
@@ -8,7 +8,7 @@ use Rattle.rollout_rules.specs.declared.limits.TheConstants.{MOST_FLOWS, MOST_SW
 use Rattle.order_policy.specs.Answers.{rank_by}
 use Rattle.rollback_service.specs.declared.origin.BackFrom.{BackFrom}
 use Rattle.rollback_service.specs.declared.origin.BackFrom.TheVariants.{Here, Level}
-use Rattle.rollout_run.specs.declared.running.Limits.{Limits}
+use Rattle.controller_run.specs.declared.running.Limits.{Limits}
 use Rattle.sim_run.specs.declared.shape.Shape.{Shape}
 use Rattle.text_commands.specs.Words.{TextAsked, are_pairs, number_in, numbered, policy_in, text_asked, text_kind_named, text_names_of, text_with_pairs, value_or}
 use Rattle.text_commands.specs.declared.words.TextKind.{TextKind}

@@ -4,7 +4,7 @@ use Rattle.rollout_rules.specs.Release.{held_back}
 use Rattle.rollout_rules.specs.declared.op.OpView.{OpView}
 use Rattle.wan_edge.specs.Ports.{PortTrace}
 use Rattle.switch_laws.specs.Worked.{answering, silent, unused}
-use Rattle.rollout_run.specs.declared.running.Limits.{Limits}
+use Rattle.controller_run.specs.declared.running.Limits.{Limits}
 use Rattle.completion_laws.specs.Worked.{promptly}
 use Rattle.swanroll_top.specs.Rollouts.{FleetSeen}
 

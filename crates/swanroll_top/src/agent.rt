@@ -8,48 +8,53 @@ ghost use Rattle.text_commands.specs.Runs.{Follows};
 use agent_service::{Service, ServiceFault, serve_guests};
 use lists::{Memory, Text};
 use std::alloc::Global;
-use text_commands::{Ending, write_text};
+use text_commands::{CommandEnd, write_text};
 use wan_edge::{Fleet, Sink};
 
 /// One agent serves this many guests of the fleet, up to 64 at once and under one floor, or fewer where no more
 /// come, and a line says how many were served or refused, how many commands were carried out, and how many were
 /// refused.
-pub fn agent<K: Sink, F: Fleet>(alloc: Global, guests: u32, fleet: &mut F, sink: &mut K) -> Ending
+pub fn agent<K: Sink, F: Fleet>(
+    alloc: Global,
+    guests: u32,
+    fleet: &mut F,
+    sink: &mut K,
+) -> CommandEnd
     ensures runs { RunsAgent (record { source = F.Guest.Source.told; sink = F.Guest.Sink.told })
         guests
         (record { coming = F.coming fleet.old; served = F.served fleet.old })
         (record { coming = F.coming fleet.new; served = F.served fleet.new }) result
         (K.told sink.old).written (K.told sink.new).written }
-    ensures guest_fault { result ≡ Ending.GuestFault
+    ensures guest_fault { result ≡ CommandEnd.GuestFault
         → Rose (F.faults fleet.old) (F.faults fleet.new) }
-    ensures write_fault { result ≡ Ending.WriteFault
+    ensures write_fault { result ≡ CommandEnd.WriteFault
         → Rose (K.told sink.old).faults (K.told sink.new).faults }
     ensures visiting { F.visiting fleet.new ≡ F.visiting fleet.old }
     ensures ports { (F.waiting fleet.new ≡ F.waiting fleet.old)
         × (F.kept fleet.new ≡ F.kept fleet.old)
         × (F.lent fleet.new ≡ F.lent fleet.old)
         × (F.named fleet.new ≡ F.named fleet.old) }
-    ensures others { (result ≢ Ending.Usage)
-        × (result ≢ Ending.ReadFault)
-        × (result ≢ Ending.DiskFault) }
+    ensures others { (result ≢ CommandEnd.Usage)
+        × (result ≢ CommandEnd.ReadFault)
+        × (result ≢ CommandEnd.DiskFault) }
 {
     match serve_guests(alloc, fleet, guests) {
         Ok(service) => write_service(alloc, &service, sink),
-        Err(ServiceFault::Fleet) => Ending::GuestFault,
-        Err(ServiceFault::Memory) => Ending::OutOfMemory,
+        Err(ServiceFault::Fleet) => CommandEnd::GuestFault,
+        Err(ServiceFault::Memory) => CommandEnd::OutOfMemory,
     }
 }
 
-pub(crate) fn write_service<K: Sink>(alloc: Global, service: &Service, sink: &mut K) -> Ending
+pub(crate) fn write_service<K: Sink>(alloc: Global, service: &Service, sink: &mut K) -> CommandEnd
     ensures own { EndsOwn result }
     ensures follows { Follows (Ok (service_line service.now)) result (K.told sink.old).written
         (K.told sink.new).written }
-    ensures cause { result ≡ Ending.WriteFault
+    ensures cause { result ≡ CommandEnd.WriteFault
         → Rose (K.told sink.old).faults (K.told sink.new).faults }
 {
     match line_of(alloc, service) {
         Ok(line) => write_text(sink, line.as_str()),
-        Err(_) => Ending::OutOfMemory,
+        Err(_) => CommandEnd::OutOfMemory,
     }
 }
 

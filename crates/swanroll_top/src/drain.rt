@@ -7,20 +7,19 @@ ghost use Rattle.text_commands.specs.Answers.{rollout_in};
 ghost use Rattle.swanroll_top.specs.Rollouts.{EndsRollout, FollowsRolled, IsDiskFault, RunsRollout, fleet_of};
 ghost use Rattle.text_commands.specs.Runs.{Follows, Gives, IsInput};
 
-use crate::journal_room::journal_room;
-use crate::rollout::ending_of_stop;
-use crate::run::Closed;
+use crate::rollout_ending::ending_of_rollout;
+use crate::run::CommandResult;
+use controller_run::{Limits, RolloutEnd};
 use dependency_graph::checked_plan_is_valid;
 use disk_mirror::Openable;
 use disk_model::Disk;
 use lists::{Memory, Text};
+use retarget_service::journal_room;
 use rollback_service::{Drained, run_draining};
-use rollout_run::Limits;
-use rollout_service::RunAnswer;
 use std::alloc::Global;
 use std::sync::Wait;
 use std::thread::Threads;
-use text_commands::{Ending, Unfinished, read_input, rollout_of, write_text};
+use text_commands::{CommandEnd, read_input, rollout_of, write_text};
 use wan_edge::{Fleet, Nums8, Sink, Source};
 use wan_model::CheckedPlan;
 
@@ -34,7 +33,7 @@ pub fn drain_out<R: Wait + Threads + Sync, S: Source, K: Sink, D: Openable + Dro
     sink: &mut K,
     disk: D,
     fleet: &mut F,
-) -> Closed<D>
+) -> CommandResult<D>
 where
     F::Port: Drop + Send,
     ensures runs { RunsRollout (S.told source.old) (S.told source.new) result.ending
@@ -46,17 +45,17 @@ where
     ensures guests { (F.coming fleet.new ≡ F.coming fleet.old)
         × (F.served fleet.new ≡ F.served fleet.old)
         × (F.visiting fleet.new ≡ F.visiting fleet.old) }
-    ensures read_fault { result.ending ≡ Ending.ReadFault
+    ensures read_fault { result.ending ≡ CommandEnd.ReadFault
         → Rose (S.told source.old).faults (S.told source.new).faults }
-    ensures write_fault { result.ending ≡ Ending.WriteFault
+    ensures write_fault { result.ending ≡ CommandEnd.WriteFault
         → Rose (K.told sink.old).faults (K.told sink.new).faults }
-    ensures disk_fault { result.ending ≡ Ending.DiskFault
+    ensures disk_fault { result.ending ≡ CommandEnd.DiskFault
         → Rose (D.told disk).faults (D.told result.disk).faults }
-    ensures others { (result.ending ≢ Ending.Usage) × (result.ending ≢ Ending.GuestFault) }
+    ensures others { (result.ending ≢ CommandEnd.Usage) × (result.ending ≢ CommandEnd.GuestFault) }
 {
     match read_input(alloc, source) {
         Ok(input) => drain_input(rt, alloc, limits, input, sink, disk, fleet),
-        Err(ending) => Closed { ending, disk },
+        Err(ending) => CommandResult { ending, disk },
     }
 }
 
@@ -68,7 +67,7 @@ fn drain_input<R: Wait + Threads + Sync, K: Sink, D: Openable + Drop + Send, F: 
     sink: &mut K,
     disk: D,
     fleet: &mut F,
-) -> Closed<D>
+) -> CommandResult<D>
 where
     F::Port: Drop + Send,
     ensures follows { FollowsRolled (rollout_in input) result.ending (K.told sink.old).written
@@ -80,14 +79,14 @@ where
     ensures guests { (F.coming fleet.new ≡ F.coming fleet.old)
         × (F.served fleet.new ≡ F.served fleet.old)
         × (F.visiting fleet.new ≡ F.visiting fleet.old) }
-    ensures write_fault { result.ending ≡ Ending.WriteFault
+    ensures write_fault { result.ending ≡ CommandEnd.WriteFault
         → Rose (K.told sink.old).faults (K.told sink.new).faults }
-    ensures disk_fault { result.ending ≡ Ending.DiskFault
+    ensures disk_fault { result.ending ≡ CommandEnd.DiskFault
         → Rose (D.told disk).faults (D.told result.disk).faults }
 {
     match rollout_of(alloc, input) {
         Ok(plan) => drain_plan(rt, alloc, limits, plan, sink, disk, fleet),
-        Err(ending) => Closed { ending, disk },
+        Err(ending) => CommandResult { ending, disk },
     }
 }
 
@@ -100,7 +99,7 @@ fn drain_plan<R: Wait + Threads + Sync, K: Sink, D: Openable + Drop + Send, F: F
     sink: &mut K,
     mut disk: D,
     fleet: &mut F,
-) -> Closed<D>
+) -> CommandResult<D>
 where
     F::Port: Drop + Send,
     ensures rolls { OpensAndDrains D.told F.Port.told plan limits disk result.disk
@@ -111,17 +110,17 @@ where
     ensures guests { (F.coming fleet.new ≡ F.coming fleet.old)
         × (F.served fleet.new ≡ F.served fleet.old)
         × (F.visiting fleet.new ≡ F.visiting fleet.old) }
-    ensures write_fault { result.ending ≡ Ending.WriteFault
+    ensures write_fault { result.ending ≡ CommandEnd.WriteFault
         → Rose (K.told sink.old).faults (K.told sink.new).faults }
-    ensures disk_fault { result.ending ≡ Ending.DiskFault
+    ensures disk_fault { result.ending ≡ CommandEnd.DiskFault
         → Rose (D.told disk).faults (D.told result.disk).faults }
 {
     match disk.open(journal_room(&plan)) {
         Ok(()) => drain_opened(rt, alloc, limits, plan, sink, disk, fleet),
         Err(_) => {
             drop(plan);
-            Closed {
-                ending: Ending::DiskFault,
+            CommandResult {
+                ending: CommandEnd::DiskFault,
                 disk,
             }
         }
@@ -136,7 +135,7 @@ fn drain_opened<R: Wait + Threads + Sync, K: Sink, D: Disk + Drop + Send, F: Fle
     sink: &mut K,
     disk: D,
     fleet: &mut F,
-) -> Closed<D>
+) -> CommandResult<D>
 where
     F::Port: Drop + Send,
     ensures rolls { DrainsOut D.told F.Port.told plan limits disk result.disk
@@ -147,9 +146,9 @@ where
     ensures guests { (F.coming fleet.new ≡ F.coming fleet.old)
         × (F.served fleet.new ≡ F.served fleet.old)
         × (F.visiting fleet.new ≡ F.visiting fleet.old) }
-    ensures write_fault { result.ending ≡ Ending.WriteFault
+    ensures write_fault { result.ending ≡ CommandEnd.WriteFault
         → Rose (K.told sink.old).faults (K.told sink.new).faults }
-    ensures disk_fault { result.ending ≡ Ending.DiskFault
+    ensures disk_fault { result.ending ≡ CommandEnd.DiskFault
         → Rose (D.told disk).faults (D.told result.disk).faults }
 {
     checked_plan_is_valid(&plan);
@@ -158,19 +157,24 @@ where
         operations,
         answer,
     } = run_draining(rt, alloc, plan, limits, disk, fleet);
-    Closed {
+    CommandResult {
         ending: write_drained(alloc, operations, answer, sink),
         disk,
     }
 }
 
 /// Writes the line of a rollout that is drained, or says how the run ends without one.
-fn write_drained<K: Sink>(alloc: Global, operations: u32, answer: RunAnswer, sink: &mut K) -> Ending
+fn write_drained<K: Sink>(
+    alloc: Global,
+    operations: u32,
+    answer: RolloutEnd,
+    sink: &mut K,
+) -> CommandEnd
     ensures follows { Follows (drained_or_ending operations answer) result
         (K.told sink.old).written (K.told sink.new).written }
     ensures ends { EndsRollout result (K.told sink.old).written (K.told sink.new).written }
-    ensures disk { result ≡ Ending.DiskFault → IsDiskFault answer }
-    ensures write_fault { result ≡ Ending.WriteFault
+    ensures disk { result ≡ CommandEnd.DiskFault → IsDiskFault answer }
+    ensures write_fault { result ≡ CommandEnd.WriteFault
         → Rose (K.told sink.old).faults (K.told sink.new).faults }
 {
     match line_of(alloc, operations, answer) {
@@ -179,18 +183,13 @@ fn write_drained<K: Sink>(alloc: Global, operations: u32, answer: RunAnswer, sin
     }
 }
 
-fn line_of(alloc: Global, operations: u32, answer: RunAnswer) -> Result<Text, Ending>
+fn line_of(alloc: Global, operations: u32, answer: RolloutEnd) -> Result<Text, CommandEnd>
     ensures { Gives result (drained_or_ending operations answer) }
 {
     match answer {
-        RunAnswer::Finished { .. } => Ok(line_with_left(alloc, operations, 0)?),
-        RunAnswer::Held { left } => Ok(line_with_left(alloc, operations, left)?),
-        RunAnswer::Stopped(plan, halt) => Err(ending_of_stop(plan, halt.cause)),
-        RunAnswer::NoPort(plan, switch) => {
-            Err(Ending::NotFinished(Unfinished::PortFault(plan, switch)))
-        }
-        RunAnswer::Memory => Err(Ending::OutOfMemory),
-        RunAnswer::Unopened(cause) => Err(Ending::from(cause)),
+        RolloutEnd::Finished { .. } => Ok(line_with_left(alloc, operations, 0)?),
+        RolloutEnd::Held { left } => Ok(line_with_left(alloc, operations, left)?),
+        end => Err(ending_of_rollout(end)),
     }
 }
 

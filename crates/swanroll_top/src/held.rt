@@ -9,7 +9,7 @@ ghost use Rattle.text_commands.specs.Runs.{IsInput};
 
 use held_service::{NotTold, held_text};
 use std::alloc::Global;
-use text_commands::{Ending, Unfinished, read_input, rollout_of, write_text};
+use text_commands::{CommandEnd, Unfinished, read_input, rollout_of, write_text};
 use wan_edge::{Fleet, Nums8, Sink, Source};
 use wan_model::CheckedPlan;
 
@@ -21,7 +21,7 @@ pub fn held<S: Source, K: Sink, F: Fleet>(
     source: &mut S,
     sink: &mut K,
     fleet: &mut F,
-) -> Ending
+) -> CommandEnd
     ensures runs { RunsRollout (S.told source.old) (S.told source.new) result
         (K.told sink.old).written (K.told sink.new).written }
     ensures asks { Asks F.Port.told (IsInput (S.told source.old) (S.told source.new)) rounds
@@ -31,12 +31,12 @@ pub fn held<S: Source, K: Sink, F: Fleet>(
     ensures guests { (F.coming fleet.new ≡ F.coming fleet.old)
         × (F.served fleet.new ≡ F.served fleet.old)
         × (F.visiting fleet.new ≡ F.visiting fleet.old) }
-    ensures read_fault { result ≡ Ending.ReadFault
+    ensures read_fault { result ≡ CommandEnd.ReadFault
         → Rose (S.told source.old).faults (S.told source.new).faults }
-    ensures write_fault { result ≡ Ending.WriteFault
+    ensures write_fault { result ≡ CommandEnd.WriteFault
         → Rose (K.told sink.old).faults (K.told sink.new).faults }
-    ensures no_disk { result ≢ Ending.DiskFault }
-    ensures others { (result ≢ Ending.Usage) × (result ≢ Ending.GuestFault) }
+    ensures no_disk { result ≢ CommandEnd.DiskFault }
+    ensures others { (result ≢ CommandEnd.Usage) × (result ≢ CommandEnd.GuestFault) }
 {
     match read_input(alloc, source) {
         Ok(input) => ask_input(alloc, rounds, input, sink, fleet),
@@ -50,7 +50,7 @@ fn ask_input<K: Sink, F: Fleet>(
     input: Nums8,
     sink: &mut K,
     fleet: &mut F,
-) -> Ending
+) -> CommandEnd
     ensures follows { FollowsRolled (rollout_in input) result (K.told sink.old).written
         (K.told sink.new).written }
     ensures asks { AsksIn F.Port.told (rollout_in input) rounds
@@ -60,9 +60,9 @@ fn ask_input<K: Sink, F: Fleet>(
     ensures guests { (F.coming fleet.new ≡ F.coming fleet.old)
         × (F.served fleet.new ≡ F.served fleet.old)
         × (F.visiting fleet.new ≡ F.visiting fleet.old) }
-    ensures write_fault { result ≡ Ending.WriteFault
+    ensures write_fault { result ≡ CommandEnd.WriteFault
         → Rose (K.told sink.old).faults (K.told sink.new).faults }
-    ensures no_disk { result ≢ Ending.DiskFault }
+    ensures no_disk { result ≢ CommandEnd.DiskFault }
 {
     match rollout_of(alloc, input) {
         Ok(plan) => ask_plan(alloc, rounds, plan, sink, fleet),
@@ -77,7 +77,7 @@ fn ask_plan<K: Sink, F: Fleet>(
     plan: CheckedPlan,
     sink: &mut K,
     fleet: &mut F,
-) -> Ending
+) -> CommandEnd
     ensures asks { AsksRollout F.Port.told plan rounds
         (fleet_of F.waiting F.kept F.lent F.named F.faults fleet.old)
         (fleet_of F.waiting F.kept F.lent F.named F.faults fleet.new) result
@@ -86,9 +86,9 @@ fn ask_plan<K: Sink, F: Fleet>(
     ensures guests { (F.coming fleet.new ≡ F.coming fleet.old)
         × (F.served fleet.new ≡ F.served fleet.old)
         × (F.visiting fleet.new ≡ F.visiting fleet.old) }
-    ensures write_fault { result ≡ Ending.WriteFault
+    ensures write_fault { result ≡ CommandEnd.WriteFault
         → Rose (K.told sink.old).faults (K.told sink.new).faults }
-    ensures no_disk { result ≢ Ending.DiskFault }
+    ensures no_disk { result ≢ CommandEnd.DiskFault }
 {
     match held_text(alloc, &plan, rounds, fleet) {
         Ok(text) => {
@@ -101,29 +101,29 @@ fn ask_plan<K: Sink, F: Fleet>(
 
 /// How the run ends where a switch didn't tell all that it was asked. A question has number 0, so that it's
 /// named as operation 0 of its item.
-fn ending_of_not_told(plan: CheckedPlan, rounds: u32, why: NotTold) -> Ending
+fn ending_of_not_told(plan: CheckedPlan, rounds: u32, why: NotTold) -> CommandEnd
     ensures { result ≡ ending_of_not_told plan rounds why }
 {
     match why {
         NotTold::Spent(item) => {
             drop(plan);
-            Ending::NotFinished(Unfinished::RoundsSpent {
+            CommandEnd::NotFinished(Unfinished::RoundsSpent {
                 rounds,
                 item,
                 number: 0,
             })
         }
-        NotTold::NoPort(switch) => Ending::NotFinished(Unfinished::PortFault(plan, switch)),
-        NotTold::Port(switch) => Ending::NotFinished(Unfinished::PortFault(plan, switch)),
+        NotTold::NoPort(switch) => CommandEnd::NotFinished(Unfinished::PortFault(plan, switch)),
+        NotTold::Port(switch) => CommandEnd::NotFinished(Unfinished::PortFault(plan, switch)),
         NotTold::NotAsked { switch, item } => {
-            Ending::NotFinished(Unfinished::NotMine(plan, switch, item))
+            CommandEnd::NotFinished(Unfinished::NotMine(plan, switch, item))
         }
         NotTold::NoAnswer { switch, byte } => {
-            Ending::NotFinished(Unfinished::NoAnswer(plan, switch, byte))
+            CommandEnd::NotFinished(Unfinished::NoAnswer(plan, switch, byte))
         }
         NotTold::Memory => {
             drop(plan);
-            Ending::OutOfMemory
+            CommandEnd::OutOfMemory
         }
     }
 }

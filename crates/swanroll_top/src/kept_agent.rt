@@ -7,7 +7,7 @@ ghost use Rattle.swanroll_top.specs.KeptAgents.{IsServed, KeepsAgent, guests_in,
 ghost use Rattle.swanroll_top.specs.Words.{asked, asked_by};
 
 use crate::agent::write_service;
-use crate::kept_ending::KeptEnding;
+use crate::kept_end::KeptEnd;
 use crate::top::Ended;
 use crate::words::{Command, command_of};
 use agent_service::{KeepFault, keep_guests};
@@ -15,7 +15,7 @@ use agent_state::StateFault;
 use disk_mirror::Openable;
 use order_policy::{Policies, Policy};
 use std::alloc::Global;
-use text_commands::{Ending, Line, Unread, out_of_memory, words_of};
+use text_commands::{CommandEnd, Line, Unread, out_of_memory, words_of};
 use wan_edge::{Fleet, Sink, write_all};
 
 // How many bytes the file of an agent may have when it is opened.
@@ -73,7 +73,7 @@ pub fn keep_agent<K: Sink, D: Openable, F: Fleet>(
     match disk.open(STATE_ROOM) {
         Ok(()) => keep_opened(alloc, guests, sink, notes, disk, fleet),
         Err(_) => Ended {
-            status: tell(alloc, notes, KeptEnding::State(StateFault::Disk)),
+            status: tell(alloc, notes, KeptEnd::State(StateFault::Disk)),
             disk,
         },
     }
@@ -114,7 +114,7 @@ fn serve<K: Sink, D: Openable, F: Fleet>(
     sink: &mut K,
     disk: &mut D,
     fleet: &mut F,
-) -> KeptEnding
+) -> KeptEnd
     ensures any_moment { IfSome (D.told disk.old).bytes
         (λ image. LeavesOnly D.told disk.old disk.new
         (MayBeLeft (D.told disk.old).may_leave image)) }
@@ -133,15 +133,15 @@ fn serve<K: Sink, D: Openable, F: Fleet>(
         × (F.named fleet.new ≡ F.named fleet.old) }
 {
     match keep_guests(alloc, fleet, disk, guests) {
-        Ok(service) => KeptEnding::Ended(write_service(alloc, &service, sink)),
-        Err(KeepFault::Fleet) => KeptEnding::Ended(Ending::GuestFault),
-        Err(KeepFault::NoRoom) => KeptEnding::Ended(Ending::OutOfMemory),
-        Err(KeepFault::State(why)) => KeptEnding::State(why),
+        Ok(service) => KeptEnd::Ended(write_service(alloc, &service, sink)),
+        Err(KeepFault::Fleet) => KeptEnd::Ended(CommandEnd::GuestFault),
+        Err(KeepFault::NoRoom) => KeptEnd::Ended(CommandEnd::OutOfMemory),
+        Err(KeepFault::State(why)) => KeptEnd::State(why),
     }
 }
 
 // Writes the line of an ending, and answers its status; without memory for the line, that of want of it.
-fn tell<K: Sink>(alloc: Global, notes: &mut K, ending: KeptEnding) -> u8
+fn tell<K: Sink>(alloc: Global, notes: &mut K, ending: KeptEnd) -> u8
     ensures { (result ≡ kept_status ending) ⊎ (result ≡ 12) }
 {
     let line = ending.line(alloc);

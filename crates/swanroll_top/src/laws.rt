@@ -8,20 +8,20 @@ ghost use Rattle.rollout_rules.specs.Items.{item_count};
 ghost use Rattle.rollout_rules.specs.Safe.{IsSafe};
 ghost use Rattle.rollout_laws.specs.Good.{places_held};
 ghost use Rattle.wan_edge.specs.Switches.{Holdings};
-ghost use Rattle.rollout_ports.specs.Berths.{FleetPorts};
-ghost use Rattle.rollout_ports.specs.Homes.{working_homes};
+ghost use Rattle.switch_ports.specs.Berths.{FleetPorts};
+ghost use Rattle.switch_ports.specs.Homes.{working_homes};
 ghost use Rattle.dependency_graph.specs.Graph.{op_total};
 ghost use Rattle.rollout_rules.specs.declared.op.OpView.{OpView};
 ghost use Rattle.agent_service.specs.Services.{Guests};
 ghost use Rattle.intent_journal.specs.States.{Home};
 ghost use Rattle.rollback_service.specs.declared.origin.BackFrom.{BackFrom};
 ghost use Rattle.wan_edge.specs.Streams.{SinkTrace, SourceTrace};
-ghost use Rattle.watch_laws.specs.Watching.{AreMoments, AreReadFrom, Moment};
-ghost use Rattle.rollout_run.specs.declared.running.Limits.{Limits};
+ghost use Rattle.rollout_report.specs.Watching.{AreMoments, AreReadFrom, Moment};
+ghost use Rattle.controller_run.specs.declared.running.Limits.{Limits};
 ghost use Rattle.swanroll_top.specs.SameTexts.{AreAskedTheSame};
 ghost use Rattle.swanroll_top.specs.Agents.{ServesAs};
 ghost use Rattle.text_commands.specs.Answers.{rollout_to};
-ghost use Rattle.swanroll_top.specs.JournalRoom.{journal_room};
+ghost use Rattle.retarget_service.specs.JournalRoom.{journal_room};
 ghost use Rattle.swanroll_top.specs.Live.{LivePromise, WroteOnce};
 ghost use Rattle.rollout_report.specs.Journals.{journal_report};
 ghost use Rattle.text_commands.specs.Program.{Streams};
@@ -229,7 +229,7 @@ pub fn a_journal_has_room()
         → 35 + 3 * (45 + 4 * item_count r.problem + 28 * op_total r) ≤ journal_room r }
 {}
 
-/// Where a run says that the rest is held back, the network is safe as behind every rollout that was begun,
+/// Where a run says that the rest is held back, the network is safe as after every rollout that was begun,
 /// not every operation is settled, none is in flight, and each that may begin is one that the policy holds
 /// back.
 pub fn a_rollout_is_held_by_its_policy_alone<D: Disk, F: Fleet>()
@@ -243,7 +243,7 @@ pub fn a_rollout_is_held_by_its_policy_alone<D: Disk, F: Fleet>()
         now.ports }
 {}
 
-/// What all switches hold together behind a rollout, a drain or a rollback that was begun is one of the choices
+/// What all switches hold together after a rollout, a drain or a rollback that was begun is one of the choices
 /// for which the network is safe, with each item whose home has no port where the history found left it: as the
 /// ports tell it, and whatever honest switches may hold by what went over their ports.
 pub fn what_all_switches_hold_is_safe<D: Disk, F: Fleet>()

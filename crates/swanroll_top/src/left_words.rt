@@ -28,7 +28,7 @@ fn left_of(words: &[String]) -> Option<u32>
     }
 }
 
-// What is asked for by this word and those behind it.
+// What is asked for by this word and those after it.
 fn left_at(word: &str, rest: &[String]) -> Option<u32>
     ensures { result ≡ left_at word.now (map string_bytes rest.now) }
 {

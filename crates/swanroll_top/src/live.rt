@@ -6,12 +6,12 @@ ghost use Rattle.text_commands.specs.Answers.{rollout_in};
 ghost use Rattle.swanroll_top.specs.Reports.{FollowsReported};
 
 use crate::journal_report::report_opened;
-use crate::journal_room::journal_room;
-use crate::run::Closed;
+use crate::run::CommandResult;
 use disk_model::MemoryDisk;
 use file_sight::{Sight, Unseen, look};
+use retarget_service::journal_room;
 use std::alloc::Global;
-use text_commands::{Ending, note, read_input, rollout_of};
+use text_commands::{CommandEnd, note, read_input, rollout_of};
 use wan_edge::{Nums8, Sink, Source, Turns, write_all};
 use wan_model::CheckedPlan;
 
@@ -20,23 +20,23 @@ const LARGEST_SIGHT: u64 = 4_611_686_018_427_387_904;
 
 /// How a report of a journal as it stands ends: as one of a journal that is opened, or without one.
 #[derive(Debug, Drop)]
-pub enum LiveEnding {
-    Ended(Ending),
+pub enum LiveEnd {
+    Ended(CommandEnd),
     /// A controller took the file over while it was read.
     InUse,
 }
 
-impl From<Unseen> for LiveEnding {
+impl From<Unseen> for LiveEnd {
     ghost use Rattle.std.specs.Prelude.{◌≡◌};
     ghost use Rattle.swanroll_top.specs.Live.{ending_of_unseen};
 
     ghost from_gives = { λ why ending. ending ≡ ending_of_unseen why };
 
-    fn from(why: Unseen) -> LiveEnding {
+    fn from(why: Unseen) -> LiveEnd {
         match why {
-            Unseen::Failed => LiveEnding::Ended(Ending::DiskFault),
-            Unseen::InUse => LiveEnding::InUse,
-            Unseen::Memory => LiveEnding::Ended(Ending::OutOfMemory),
+            Unseen::Failed => LiveEnd::Ended(CommandEnd::DiskFault),
+            Unseen::InUse => LiveEnd::InUse,
+            Unseen::Memory => LiveEnd::Ended(CommandEnd::OutOfMemory),
         }
     }
 }
@@ -66,18 +66,18 @@ fn live_ending<S: Source, K: Sink, W: Sight>(
     source: &mut S,
     sink: &mut K,
     file: &mut W,
-) -> LiveEnding
+) -> LiveEnd
     ensures reports { ReportsLive W.told migration (S.told source.old) (S.told source.new)
         file.old file.new result (K.told sink.old).written
         (K.told sink.new).written }
-    ensures read_fault { result ≡ LiveEnding.Ended Ending.ReadFault
+    ensures read_fault { result ≡ LiveEnd.Ended CommandEnd.ReadFault
         → Rose (S.told source.old).faults (S.told source.new).faults }
-    ensures write_fault { result ≡ LiveEnding.Ended Ending.WriteFault
+    ensures write_fault { result ≡ LiveEnd.Ended CommandEnd.WriteFault
         → Rose (K.told sink.old).faults (K.told sink.new).faults }
 {
     match read_input(alloc, source) {
         Ok(input) => live_input(alloc, migration, input, sink, file),
-        Err(ending) => LiveEnding::Ended(ending),
+        Err(ending) => LiveEnd::Ended(ending),
     }
 }
 
@@ -87,15 +87,15 @@ fn live_input<K: Sink, W: Sight>(
     input: Nums8,
     sink: &mut K,
     file: &mut W,
-) -> LiveEnding
+) -> LiveEnd
     ensures reports { ReportsSeen W.told migration (rollout_in input) file.old file.new
         result (K.told sink.old).written (K.told sink.new).written }
-    ensures write_fault { result ≡ LiveEnding.Ended Ending.WriteFault
+    ensures write_fault { result ≡ LiveEnd.Ended CommandEnd.WriteFault
         → Rose (K.told sink.old).faults (K.told sink.new).faults }
 {
     match rollout_of(alloc, input) {
         Ok(plan) => live_plan(alloc, plan, migration, sink, file),
-        Err(ending) => LiveEnding::Ended(ending),
+        Err(ending) => LiveEnd::Ended(ending),
     }
 }
 
@@ -106,17 +106,17 @@ fn live_plan<K: Sink, W: Sight>(
     migration: u32,
     sink: &mut K,
     file: &mut W,
-) -> LiveEnding
+) -> LiveEnd
     ensures reports { ReportsSeen W.told migration (Ok plan) file.old file.new result
         (K.told sink.old).written (K.told sink.new).written }
-    ensures write_fault { result ≡ LiveEnding.Ended Ending.WriteFault
+    ensures write_fault { result ≡ LiveEnd.Ended CommandEnd.WriteFault
         → Rose (K.told sink.old).faults (K.told sink.new).faults }
 {
     match look(alloc, limit_of(journal_room(&plan)), file) {
-        Ok(image) => LiveEnding::Ended(report_seen(alloc, plan, migration, sink, image)),
+        Ok(image) => LiveEnd::Ended(report_seen(alloc, plan, migration, sink, image)),
         Err(why) => {
             drop(plan);
-            LiveEnding::from(why)
+            LiveEnd::from(why)
         }
     }
 }
@@ -140,37 +140,37 @@ fn report_seen<K: Sink>(
     migration: u32,
     sink: &mut K,
     image: Nums8,
-) -> Ending
+) -> CommandEnd
     ensures follows { FollowsReported migration (Ok plan) (Some image) result
         (K.told sink.old).written (K.told sink.new).written }
-    ensures no_disk { result ≢ Ending.DiskFault }
-    ensures write_fault { result ≡ Ending.WriteFault
+    ensures no_disk { result ≢ CommandEnd.DiskFault }
+    ensures write_fault { result ≡ CommandEnd.WriteFault
         → Rose (K.told sink.old).faults (K.told sink.new).faults }
 {
     let turns = Turns::new(alloc);
     let disk = MemoryDisk::new(alloc, image, turns);
-    let Closed { ending, disk } = report_opened(alloc, plan, migration, sink, disk);
+    let CommandResult { ending, disk } = report_opened(alloc, plan, migration, sink, disk);
     drop(disk);
     in_memory(ending)
 }
 
 /// A disk in memory fails for want of it alone.
-pub(crate) fn in_memory(ending: Ending) -> Ending
+pub(crate) fn in_memory(ending: CommandEnd) -> CommandEnd
     ensures { result ≡ in_memory ending }
 {
     match ending {
-        Ending::DiskFault => Ending::OutOfMemory,
+        CommandEnd::DiskFault => CommandEnd::OutOfMemory,
         other => other,
     }
 }
 
 /// Writes the line of an ending, and answers its status.
-pub(crate) fn tell<K: Sink>(alloc: Global, notes: &mut K, ending: LiveEnding) -> u8
+pub(crate) fn tell<K: Sink>(alloc: Global, notes: &mut K, ending: LiveEnd) -> u8
     ensures { LiveTold ending result (K.told notes.old) (K.told notes.new) }
 {
     match ending {
-        LiveEnding::Ended(ending) => note(alloc, notes, ending),
-        LiveEnding::InUse => {
+        LiveEnd::Ended(ending) => note(alloc, notes, ending),
+        LiveEnd::InUse => {
             write_in_use(notes);
             8
         }

@@ -5,7 +5,7 @@ ghost use Rattle.swanroll_top.specs.LiveWords.{live_at, live_behind, live_in, li
 ghost use Rattle.text_commands.specs.Words.{are_pairs};
 
 use crate::words::migration_of;
-use text_commands::{Unread, begins_with_dash, numbered, words_of};
+use text_commands::{Unread, begins_with_dash, number_from, words_of};
 
 /// How many seconds may lie between two looks.
 const MOST_SECONDS: u64 = 86_400;
@@ -39,7 +39,7 @@ fn live_of(words: &[String]) -> Option<LiveAsked>
     }
 }
 
-// What is asked for by this word and those behind it.
+// What is asked for by this word and those after it.
 fn live_at(word: &str, rest: &[String]) -> Option<LiveAsked>
     ensures { result ≡ live_at word.now (map string_bytes rest.now) }
 {
@@ -49,7 +49,7 @@ fn live_at(word: &str, rest: &[String]) -> Option<LiveAsked>
     None
 }
 
-// The same behind the word of a report.
+// The same after the word of a report.
 fn live_behind(words: &[String]) -> Option<LiveAsked>
     ensures { result ≡ live_behind (map string_bytes words.now) }
 {
@@ -71,7 +71,7 @@ fn live_with(word: &str, pairs: &[String]) -> Option<LiveAsked>
 fn live_pairs(pairs: &[String]) -> Option<LiveAsked>
     ensures { result ≡ live_pairs (map string_bytes pairs.now) }
 {
-    let seconds = numbered(pairs, "--follow", "0", 0, MOST_SECONDS)?;
+    let seconds = number_from(pairs, "--follow", "0", 0, MOST_SECONDS)?;
     let migration = migration_of(pairs)?;
     Some(LiveAsked { migration, seconds })
 }

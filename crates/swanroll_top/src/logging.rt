@@ -1,9 +1,8 @@
 ghost use Rattle.std.specs.Prelude.{◌≡◌, drop, IfSome};
 ghost use Rattle.order_policy.specs.Named.{answers_in};
 ghost use Rattle.rollout_log.specs.Logs.{IsLog};
-ghost use Rattle.rollout_ports.specs.Berths.{ports_of};
 ghost use Rattle.swanroll_top.specs.Promise.{StartPromise};
-ghost use Rattle.swanroll_top.specs.Views.{outside};
+ghost use Rattle.swanroll_top.specs.Views.{fleet_told, guest_told, outside, views_of};
 
 use crate::arguments::start;
 use crate::top::Ended;
@@ -18,7 +17,7 @@ use text_commands::Unread;
 use wan_edge::{Fleet, Sink, Source};
 
 /// The same as [`start`], over a disk with a log: what was written to the log is a front of the lines of a list
-/// that was durable on the disk, behind how many entries it had when the log began.
+/// that was durable on the disk, after how many entries it had when the log began.
 pub fn start_logged<
     R: Wait + Threads + Sync,
     S: Source,
@@ -40,22 +39,10 @@ pub fn start_logged<
 ) -> Ended<Logged<D, L, C>>
 where
     F::Port: Drop + Send,
-    ensures starts { StartPromise (record {
-      source = S.told;
-      sink = K.told;
-      disk = λ logged. D.told logged.disk;
-      fleet = λ fleet. record {
-        ports = ports_of F.waiting F.kept F.lent F.named fleet;
-        guests = record {
-          coming = F.coming fleet;
-          served = F.served fleet;
-          visiting = F.visiting fleet;
-        };
-        faults = F.faults fleet;
-      };
-      port = F.Port.told;
-      guest = record { source = F.Guest.Source.told; sink = F.Guest.Sink.told };
-    }) (answers_in policies.now) arguments (λ all. all.items)
+    ensures starts { StartPromise (views_of S.told K.told (λ logged. D.told logged.disk)
+        (fleet_told F.waiting F.kept F.lent F.named F.coming F.served F.visiting F.faults)
+        F.Port.told (guest_told F.Guest.Source.told F.Guest.Sink.told))
+        (answers_in policies.now) arguments (λ all. all.items)
         (outside source.old sink.old notes.old disk fleet.old) result.status
         (outside source.new sink.new notes.new result.disk fleet.new) }
     ensures logs { IfSome (L.told result.disk.log).written (IsLog D.told) }

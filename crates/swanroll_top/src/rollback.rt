@@ -8,23 +8,23 @@ ghost use Rattle.rollback_service.specs.Levellings.{IsStartBack, MayStart};
 ghost use Rattle.rollback_plan.specs.Turning as turning;
 ghost use Rattle.text_commands.specs.Answers.{rollout_in};
 ghost use Rattle.swanroll_top.specs.Rollbacks.{Closes, OpensAndRollsBack, Reverts, RevertsIn, RollsBack, TakesBack, back_text};
-ghost use Rattle.swanroll_top.specs.Rollouts.{EndsRollout, FollowsRolled, RunsRollout, fleet_of};
+ghost use Rattle.swanroll_top.specs.Rollouts.{EndsRollout, FollowsRolled, RunsRollout, ending_of_rollout, fleet_of};
 ghost use Rattle.text_commands.specs.Runs.{Follows, IsInput};
 
-use crate::journal_room::journal_room;
-use crate::rollout::ending_of_stop;
-use crate::run::Closed;
+use crate::rollout_ending::ending_of_rollout;
+use crate::run::CommandResult;
+use controller_run::{Limits, RolloutEnd};
 use dependency_graph::checked_plan_is_valid;
 use disk_mirror::Openable;
 use disk_model::Disk;
 use intent_journal::Unopened;
 use lists::Ids;
+use retarget_service::journal_room;
 use rollback_service::{BackFrom, LevelAnswer, Levelled, Placed, place_back, run_levelling};
-use rollout_run::Limits;
 use std::alloc::Global;
 use std::sync::Wait;
 use std::thread::Threads;
-use text_commands::{Ending, Unfinished, document_of, read_input, rollout_of, write_text};
+use text_commands::{CommandEnd, document_of, read_input, rollout_of, write_text};
 use wan_edge::{Fleet, Nums8, Sink, Source};
 use wan_model::CheckedPlan;
 
@@ -40,7 +40,7 @@ pub fn roll_back<R: Wait + Threads + Sync, S: Source, K: Sink, D: Openable + Dro
     sink: &mut K,
     disk: D,
     fleet: &mut F,
-) -> Closed<D>
+) -> CommandResult<D>
 where
     F::Port: Drop + Send,
     requires migration { limits.migration + 1 < 2 ^ 32 }
@@ -53,17 +53,17 @@ where
     ensures guests { (F.coming fleet.new ≡ F.coming fleet.old)
         × (F.served fleet.new ≡ F.served fleet.old)
         × (F.visiting fleet.new ≡ F.visiting fleet.old) }
-    ensures read_fault { result.ending ≡ Ending.ReadFault
+    ensures read_fault { result.ending ≡ CommandEnd.ReadFault
         → Rose (S.told source.old).faults (S.told source.new).faults }
-    ensures write_fault { result.ending ≡ Ending.WriteFault
+    ensures write_fault { result.ending ≡ CommandEnd.WriteFault
         → Rose (K.told sink.old).faults (K.told sink.new).faults }
-    ensures disk_fault { result.ending ≡ Ending.DiskFault
+    ensures disk_fault { result.ending ≡ CommandEnd.DiskFault
         → Rose (D.told disk).faults (D.told result.disk).faults }
-    ensures others { (result.ending ≢ Ending.Usage) × (result.ending ≢ Ending.GuestFault) }
+    ensures others { (result.ending ≢ CommandEnd.Usage) × (result.ending ≢ CommandEnd.GuestFault) }
 {
     match read_input(alloc, source) {
         Ok(input) => roll_back_input(rt, alloc, limits, origin, input, sink, disk, fleet),
-        Err(ending) => Closed { ending, disk },
+        Err(ending) => CommandResult { ending, disk },
     }
 }
 
@@ -76,7 +76,7 @@ fn roll_back_input<R: Wait + Threads + Sync, K: Sink, D: Openable + Drop + Send,
     sink: &mut K,
     disk: D,
     fleet: &mut F,
-) -> Closed<D>
+) -> CommandResult<D>
 where
     F::Port: Drop + Send,
     requires { limits.migration + 1 < 2 ^ 32 }
@@ -90,14 +90,14 @@ where
     ensures guests { (F.coming fleet.new ≡ F.coming fleet.old)
         × (F.served fleet.new ≡ F.served fleet.old)
         × (F.visiting fleet.new ≡ F.visiting fleet.old) }
-    ensures write_fault { result.ending ≡ Ending.WriteFault
+    ensures write_fault { result.ending ≡ CommandEnd.WriteFault
         → Rose (K.told sink.old).faults (K.told sink.new).faults }
-    ensures disk_fault { result.ending ≡ Ending.DiskFault
+    ensures disk_fault { result.ending ≡ CommandEnd.DiskFault
         → Rose (D.told disk).faults (D.told result.disk).faults }
 {
     match rollout_of(alloc, input) {
         Ok(plan) => roll_back_plan(rt, alloc, limits, origin, plan, sink, disk, fleet),
-        Err(ending) => Closed { ending, disk },
+        Err(ending) => CommandResult { ending, disk },
     }
 }
 
@@ -111,7 +111,7 @@ fn roll_back_plan<R: Wait + Threads + Sync, K: Sink, D: Openable + Drop + Send, 
     sink: &mut K,
     mut disk: D,
     fleet: &mut F,
-) -> Closed<D>
+) -> CommandResult<D>
 where
     F::Port: Drop + Send,
     requires { limits.migration + 1 < 2 ^ 32 }
@@ -123,17 +123,17 @@ where
     ensures guests { (F.coming fleet.new ≡ F.coming fleet.old)
         × (F.served fleet.new ≡ F.served fleet.old)
         × (F.visiting fleet.new ≡ F.visiting fleet.old) }
-    ensures write_fault { result.ending ≡ Ending.WriteFault
+    ensures write_fault { result.ending ≡ CommandEnd.WriteFault
         → Rose (K.told sink.old).faults (K.told sink.new).faults }
-    ensures disk_fault { result.ending ≡ Ending.DiskFault
+    ensures disk_fault { result.ending ≡ CommandEnd.DiskFault
         → Rose (D.told disk).faults (D.told result.disk).faults }
 {
     match disk.open(journal_room(&plan)) {
         Ok(()) => roll_back_opened(rt, alloc, limits, origin, plan, sink, disk, fleet),
         Err(_) => {
             drop(plan);
-            Closed {
-                ending: Ending::DiskFault,
+            CommandResult {
+                ending: CommandEnd::DiskFault,
                 disk,
             }
         }
@@ -149,7 +149,7 @@ fn roll_back_opened<R: Wait + Threads + Sync, K: Sink, D: Disk + Drop + Send, F:
     sink: &mut K,
     disk: D,
     fleet: &mut F,
-) -> Closed<D>
+) -> CommandResult<D>
 where
     F::Port: Drop + Send,
     requires { limits.migration + 1 < 2 ^ 32 }
@@ -161,9 +161,9 @@ where
     ensures guests { (F.coming fleet.new ≡ F.coming fleet.old)
         × (F.served fleet.new ≡ F.served fleet.old)
         × (F.visiting fleet.new ≡ F.visiting fleet.old) }
-    ensures write_fault { result.ending ≡ Ending.WriteFault
+    ensures write_fault { result.ending ≡ CommandEnd.WriteFault
         → Rose (K.told sink.old).faults (K.told sink.new).faults }
-    ensures disk_fault { result.ending ≡ Ending.DiskFault
+    ensures disk_fault { result.ending ≡ CommandEnd.DiskFault
         → Rose (D.told disk).faults (D.told result.disk).faults }
 {
     checked_plan_is_valid(&plan);
@@ -174,8 +174,8 @@ where
         }
         Err(unopened) => {
             let Unopened { disk, cause } = unopened;
-            Closed {
-                ending: Ending::from(cause),
+            CommandResult {
+                ending: CommandEnd::from(cause),
                 disk,
             }
         }
@@ -189,29 +189,31 @@ fn close<K: Sink, D: Disk>(
     answer: LevelAnswer,
     sink: &mut K,
     disk: D,
-) -> Closed<D>
+) -> CommandResult<D>
     requires start { MayStart answer }
     requires migration { migration + 1 < 2 ^ 32 }
     ensures closes { Closes D.told migration answer disk result.disk result.ending
         (K.told sink.old).written (K.told sink.new).written }
     ensures ends { EndsRollout result.ending (K.told sink.old).written (K.told sink.new).written }
-    ensures write_fault { result.ending ≡ Ending.WriteFault
+    ensures write_fault { result.ending ≡ CommandEnd.WriteFault
         → Rose (K.told sink.old).faults (K.told sink.new).faults }
 {
     match answer {
         LevelAnswer::Level(plan, start) => take_back(alloc, migration, plan, start, sink, disk),
-        LevelAnswer::Stopped(plan, halt) => Closed {
-            ending: ending_of_stop(plan, halt.cause),
-            disk,
-        },
-        LevelAnswer::NoPort(plan, switch) => Closed {
-            ending: Ending::NotFinished(Unfinished::PortFault(plan, switch)),
-            disk,
-        },
-        LevelAnswer::Memory => Closed {
-            ending: Ending::OutOfMemory,
-            disk,
-        },
+        LevelAnswer::Stopped(plan, halt) => unlevel(RolloutEnd::Stopped(plan, halt), disk),
+        LevelAnswer::NoPort(plan, switch) => unlevel(RolloutEnd::NoPort(plan, switch), disk),
+        LevelAnswer::Memory => unlevel(RolloutEnd::Memory, disk),
+    }
+}
+
+// Ends as a rollout does that has gone so, with nothing placed.
+fn unlevel<D>(end: RolloutEnd, disk: D) -> CommandResult<D>
+    ensures ending { result.ending ≡ ending_of_rollout end }
+    ensures disk { result.disk ≡ disk }
+{
+    CommandResult {
+        ending: ending_of_rollout(end),
+        disk,
     }
 }
 
@@ -223,35 +225,35 @@ fn take_back<K: Sink, D: Disk>(
     start: Ids,
     sink: &mut K,
     disk: D,
-) -> Closed<D>
+) -> CommandResult<D>
     requires start { IsStartBack plan start }
     requires migration { migration + 1 < 2 ^ 32 }
     ensures takes { TakesBack D.told plan migration start disk result.disk result.ending
         (K.told sink.old).written (K.told sink.new).written }
     ensures ends { EndsRollout result.ending (K.told sink.old).written (K.told sink.new).written }
-    ensures write_fault { result.ending ≡ Ending.WriteFault
+    ensures write_fault { result.ending ≡ CommandEnd.WriteFault
         → Rose (K.told sink.old).faults (K.told sink.new).faults }
 {
     let Placed { disk, answer } = place_back(alloc, plan, migration, start, disk);
     match answer {
-        Ok(there) => Closed {
+        Ok(there) => CommandResult {
             ending: write_back(alloc, there, sink),
             disk,
         },
-        Err(cause) => Closed {
-            ending: Ending::from(cause),
+        Err(cause) => CommandResult {
+            ending: CommandEnd::from(cause),
             disk,
         },
     }
 }
 
 /// Writes the document of a rollout back, and a line feed.
-fn write_back<K: Sink>(alloc: Global, there: CheckedPlan, sink: &mut K) -> Ending
+fn write_back<K: Sink>(alloc: Global, there: CheckedPlan, sink: &mut K) -> CommandEnd
     ensures follows { (r : Rollout)
         → there ≡ turning.back r
         → Follows (Ok (back_text r)) result (K.told sink.old).written (K.told sink.new).written }
     ensures ends { EndsRollout result (K.told sink.old).written (K.told sink.new).written }
-    ensures write_fault { result ≡ Ending.WriteFault
+    ensures write_fault { result ≡ CommandEnd.WriteFault
         → Rose (K.told sink.old).faults (K.told sink.new).faults }
 {
     match document_of(alloc, &there) {
@@ -261,7 +263,7 @@ fn write_back<K: Sink>(alloc: Global, there: CheckedPlan, sink: &mut K) -> Endin
         }
         Err(_) => {
             drop(there);
-            Ending::OutOfMemory
+            CommandEnd::OutOfMemory
         }
     }
 }

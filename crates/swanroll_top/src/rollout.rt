@@ -4,23 +4,22 @@ ghost use Rattle.std.specs.Prelude.{◌≡◌, ◌≢◌, ◌++◌, IfOk};
 ghost use Rattle.order_policy.specs.Answers.{rank_by};
 ghost use Rattle.wan_edge.specs.Streams.{Rose};
 ghost use Rattle.text_commands.specs.Answers.{rollout_in};
-ghost use Rattle.swanroll_top.specs.Rollouts.{EndsRollout, FollowsRolled, IsDiskFault, OpensAndRolls, Rolls, RollsIn, RollsOut, RunsRollout, ending_of_stop, finished_line, fleet_of, line_or_ending};
+ghost use Rattle.swanroll_top.specs.Rollouts.{EndsRollout, FollowsRolled, IsDiskFault, OpensAndRolls, Rolls, RollsIn, RollsOut, RunsRollout, finished_line, fleet_of, line_or_ending};
 ghost use Rattle.text_commands.specs.Runs.{Follows, Gives, IsInput};
 
-use crate::journal_room::journal_room;
-use crate::run::Closed;
+use crate::rollout_ending::ending_of_rollout;
+use crate::run::CommandResult;
+use controller_run::{Limits, RolloutEnd, RolloutResult, run_rollout};
 use dependency_graph::checked_plan_is_valid;
 use disk_mirror::Openable;
 use disk_model::Disk;
 use lists::{Memory, Text};
 use order_policy::Policy;
-use rollout_run::Limits;
-use rollout_service::{Outcome, RunAnswer, run_rollout};
-use shared_history::Cause;
+use retarget_service::journal_room;
 use std::alloc::Global;
 use std::sync::Wait;
 use std::thread::Threads;
-use text_commands::{Ending, Unfinished, read_input, rollout_of, write_text};
+use text_commands::{CommandEnd, read_input, rollout_of, write_text};
 use wan_edge::{Fleet, Nums8, Sink, Source};
 use wan_model::CheckedPlan;
 
@@ -35,7 +34,7 @@ pub fn roll_out<R: Wait + Threads + Sync, S: Source, K: Sink, D: Openable + Drop
     sink: &mut K,
     disk: D,
     fleet: &mut F,
-) -> Closed<D>
+) -> CommandResult<D>
 where
     F::Port: Drop + Send,
     ensures runs { RunsRollout (S.told source.old) (S.told source.new) result.ending
@@ -48,17 +47,17 @@ where
     ensures guests { (F.coming fleet.new ≡ F.coming fleet.old)
         × (F.served fleet.new ≡ F.served fleet.old)
         × (F.visiting fleet.new ≡ F.visiting fleet.old) }
-    ensures read_fault { result.ending ≡ Ending.ReadFault
+    ensures read_fault { result.ending ≡ CommandEnd.ReadFault
         → Rose (S.told source.old).faults (S.told source.new).faults }
-    ensures write_fault { result.ending ≡ Ending.WriteFault
+    ensures write_fault { result.ending ≡ CommandEnd.WriteFault
         → Rose (K.told sink.old).faults (K.told sink.new).faults }
-    ensures disk_fault { result.ending ≡ Ending.DiskFault
+    ensures disk_fault { result.ending ≡ CommandEnd.DiskFault
         → Rose (D.told disk).faults (D.told result.disk).faults }
-    ensures others { (result.ending ≢ Ending.Usage) × (result.ending ≢ Ending.GuestFault) }
+    ensures others { (result.ending ≢ CommandEnd.Usage) × (result.ending ≢ CommandEnd.GuestFault) }
 {
     match read_input(alloc, source) {
         Ok(input) => roll_out_input(rt, alloc, limits, policy, input, sink, disk, fleet),
-        Err(ending) => Closed { ending, disk },
+        Err(ending) => CommandResult { ending, disk },
     }
 }
 
@@ -71,7 +70,7 @@ fn roll_out_input<R: Wait + Threads + Sync, K: Sink, D: Openable + Drop + Send, 
     sink: &mut K,
     disk: D,
     fleet: &mut F,
-) -> Closed<D>
+) -> CommandResult<D>
 where
     F::Port: Drop + Send,
     ensures follows { FollowsRolled (rollout_in input) result.ending (K.told sink.old).written
@@ -84,14 +83,14 @@ where
     ensures guests { (F.coming fleet.new ≡ F.coming fleet.old)
         × (F.served fleet.new ≡ F.served fleet.old)
         × (F.visiting fleet.new ≡ F.visiting fleet.old) }
-    ensures write_fault { result.ending ≡ Ending.WriteFault
+    ensures write_fault { result.ending ≡ CommandEnd.WriteFault
         → Rose (K.told sink.old).faults (K.told sink.new).faults }
-    ensures disk_fault { result.ending ≡ Ending.DiskFault
+    ensures disk_fault { result.ending ≡ CommandEnd.DiskFault
         → Rose (D.told disk).faults (D.told result.disk).faults }
 {
     match rollout_of(alloc, input) {
         Ok(plan) => roll_out_plan(rt, alloc, limits, policy, plan, sink, disk, fleet),
-        Err(ending) => Closed { ending, disk },
+        Err(ending) => CommandResult { ending, disk },
     }
 }
 
@@ -105,7 +104,7 @@ fn roll_out_plan<R: Wait + Threads + Sync, K: Sink, D: Openable + Drop + Send, F
     sink: &mut K,
     mut disk: D,
     fleet: &mut F,
-) -> Closed<D>
+) -> CommandResult<D>
 where
     F::Port: Drop + Send,
     ensures rolls { OpensAndRolls D.told F.Port.told plan limits (rank_by policy.now.answers) disk
@@ -116,17 +115,17 @@ where
     ensures guests { (F.coming fleet.new ≡ F.coming fleet.old)
         × (F.served fleet.new ≡ F.served fleet.old)
         × (F.visiting fleet.new ≡ F.visiting fleet.old) }
-    ensures write_fault { result.ending ≡ Ending.WriteFault
+    ensures write_fault { result.ending ≡ CommandEnd.WriteFault
         → Rose (K.told sink.old).faults (K.told sink.new).faults }
-    ensures disk_fault { result.ending ≡ Ending.DiskFault
+    ensures disk_fault { result.ending ≡ CommandEnd.DiskFault
         → Rose (D.told disk).faults (D.told result.disk).faults }
 {
     match disk.open(journal_room(&plan)) {
         Ok(()) => roll_out_opened(rt, alloc, limits, policy, plan, sink, disk, fleet),
         Err(_) => {
             drop(plan);
-            Closed {
-                ending: Ending::DiskFault,
+            CommandResult {
+                ending: CommandEnd::DiskFault,
                 disk,
             }
         }
@@ -142,7 +141,7 @@ fn roll_out_opened<R: Wait + Threads + Sync, K: Sink, D: Disk + Drop + Send, F: 
     sink: &mut K,
     disk: D,
     fleet: &mut F,
-) -> Closed<D>
+) -> CommandResult<D>
 where
     F::Port: Drop + Send,
     ensures rolls { RollsOut D.told F.Port.told plan limits (rank_by policy.now.answers) disk
@@ -153,26 +152,26 @@ where
     ensures guests { (F.coming fleet.new ≡ F.coming fleet.old)
         × (F.served fleet.new ≡ F.served fleet.old)
         × (F.visiting fleet.new ≡ F.visiting fleet.old) }
-    ensures write_fault { result.ending ≡ Ending.WriteFault
+    ensures write_fault { result.ending ≡ CommandEnd.WriteFault
         → Rose (K.told sink.old).faults (K.told sink.new).faults }
-    ensures disk_fault { result.ending ≡ Ending.DiskFault
+    ensures disk_fault { result.ending ≡ CommandEnd.DiskFault
         → Rose (D.told disk).faults (D.told result.disk).faults }
 {
     checked_plan_is_valid(&plan);
-    let Outcome { disk, answer } = run_rollout(rt, alloc, plan, policy, limits, disk, fleet);
-    Closed {
+    let RolloutResult { disk, answer } = run_rollout(rt, alloc, plan, policy, limits, disk, fleet);
+    CommandResult {
         ending: write_outcome(alloc, answer, sink),
         disk,
     }
 }
 
 /// Writes the line of a rollout that is finished, or says how the run ends without one.
-fn write_outcome<K: Sink>(alloc: Global, answer: RunAnswer, sink: &mut K) -> Ending
+fn write_outcome<K: Sink>(alloc: Global, answer: RolloutEnd, sink: &mut K) -> CommandEnd
     ensures follows { Follows (line_or_ending answer) result (K.told sink.old).written
         (K.told sink.new).written }
     ensures ends { EndsRollout result (K.told sink.old).written (K.told sink.new).written }
-    ensures disk { result ≡ Ending.DiskFault → IsDiskFault answer }
-    ensures write_fault { result ≡ Ending.WriteFault
+    ensures disk { result ≡ CommandEnd.DiskFault → IsDiskFault answer }
+    ensures write_fault { result ≡ CommandEnd.WriteFault
         → Rose (K.told sink.old).faults (K.told sink.new).faults }
 {
     match line_of(alloc, answer) {
@@ -181,18 +180,12 @@ fn write_outcome<K: Sink>(alloc: Global, answer: RunAnswer, sink: &mut K) -> End
     }
 }
 
-fn line_of(alloc: Global, answer: RunAnswer) -> Result<Text, Ending>
+fn line_of(alloc: Global, answer: RolloutEnd) -> Result<Text, CommandEnd>
     ensures { Gives result (line_or_ending answer) }
 {
     match answer {
-        RunAnswer::Finished { operations, found } => Ok(finished_line(alloc, operations, found)?),
-        RunAnswer::Held { left } => Err(Ending::NotFinished(Unfinished::Held(left))),
-        RunAnswer::Stopped(plan, halt) => Err(ending_of_stop(plan, halt.cause)),
-        RunAnswer::NoPort(plan, switch) => {
-            Err(Ending::NotFinished(Unfinished::PortFault(plan, switch)))
-        }
-        RunAnswer::Memory => Err(Ending::OutOfMemory),
-        RunAnswer::Unopened(cause) => Err(Ending::from(cause)),
+        RolloutEnd::Finished { operations, found } => Ok(finished_line(alloc, operations, found)?),
+        end => Err(ending_of_rollout(end)),
     }
 }
 
@@ -201,40 +194,4 @@ fn finished_line(alloc: Global, operations: u32, found: u32) -> Result<Text, Mem
 {
     let line = format!(in alloc; "finished: operations {operations}, found {found}\n")?;
     Ok(Text::from(line))
-}
-
-/// How a run ends whose rollout was stopped for this cause.
-pub fn ending_of_stop(plan: CheckedPlan, cause: Cause) -> Ending
-    ensures { result ≡ ending_of_stop plan cause }
-{
-    match cause {
-        Cause::Spent {
-            rounds,
-            item,
-            number,
-        } => {
-            drop(plan);
-            Ending::NotFinished(Unfinished::RoundsSpent {
-                rounds,
-                item,
-                number,
-            })
-        }
-        Cause::Port(switch) => Ending::NotFinished(Unfinished::PortFault(plan, switch)),
-        Cause::Above { item, held, begun } => {
-            drop(plan);
-            Ending::NotFinished(Unfinished::Above { item, held, begun })
-        }
-        Cause::NotMine { switch, item } => {
-            Ending::NotFinished(Unfinished::NotMine(plan, switch, item))
-        }
-        Cause::NoAnswer { switch, byte } => {
-            Ending::NotFinished(Unfinished::NoAnswer(plan, switch, byte))
-        }
-        Cause::Disk => Ending::DiskFault,
-        Cause::Memory => {
-            drop(plan);
-            Ending::OutOfMemory
-        }
-    }
 }

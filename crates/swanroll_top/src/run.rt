@@ -1,7 +1,6 @@
-ghost use Rattle.rollout_ports.specs.Berths.{ports_of};
 ghost use Rattle.swanroll_top.specs.Promise.{Ran};
 ghost use Rattle.swanroll_top.specs.Tries.{IsAskedShape};
-ghost use Rattle.swanroll_top.specs.Views.{objects};
+ghost use Rattle.swanroll_top.specs.Views.{fleet_told, guest_told, objects, views_of};
 ghost use Rattle.swanroll_top.specs.Words.{asked};
 
 use crate::agent::agent;
@@ -16,13 +15,13 @@ use disk_mirror::Openable;
 use std::alloc::Global;
 use std::sync::Wait;
 use std::thread::Threads;
-use text_commands::{Ending, run_text};
+use text_commands::{CommandEnd, run_text};
 use wan_edge::{Fleet, Sink, Source};
 
 /// How a command ended, and the disk.
 #[derive(Drop)]
-pub struct Closed<D> {
-    pub ending: Ending,
+pub struct CommandResult<D> {
+    pub ending: CommandEnd,
     pub disk: D,
 }
 
@@ -35,36 +34,24 @@ pub fn run<R: Wait + Threads + Sync, S: Source, K: Sink, D: Openable + Drop + Se
     sink: &mut K,
     disk: D,
     fleet: &mut F,
-) -> Closed<D>
+) -> CommandResult<D>
 where
     F::Port: Drop + Send,
     requires { IsAskedShape (asked command) }
-    ensures { Ran (record {
-      source = S.told;
-      sink = K.told;
-      disk = D.told;
-      fleet = λ fleet. record {
-        ports = ports_of F.waiting F.kept F.lent F.named fleet;
-        guests = record {
-          coming = F.coming fleet;
-          served = F.served fleet;
-          visiting = F.visiting fleet;
-        };
-        faults = F.faults fleet;
-      };
-      port = F.Port.told;
-      guest = record { source = F.Guest.Source.told; sink = F.Guest.Sink.told };
-    }) (asked command.entry)
+    ensures { Ran (views_of S.told K.told D.told
+        (fleet_told F.waiting F.kept F.lent F.named F.coming F.served F.visiting F.faults)
+        F.Port.told (guest_told F.Guest.Source.told F.Guest.Sink.told))
+        (asked command.entry)
         (objects source.old sink.old disk fleet.old) result.ending
         (objects source.new sink.new result.disk fleet.new) }
 {
     match command {
-        Command::Text(text) => Closed {
+        Command::Text(text) => CommandResult {
             ending: run_text(alloc, text, source, sink),
             disk,
         },
         Command::Report(migration) => report(alloc, migration, source, sink, disk),
-        Command::Agent(guests) => Closed {
+        Command::Agent(guests) => CommandResult {
             ending: agent(alloc, guests, fleet, sink),
             disk,
         },
@@ -75,11 +62,11 @@ where
             roll_back(rt, alloc, limits, origin, source, sink, disk, fleet)
         }
         Command::Drain(limits) => drain_out(rt, alloc, limits, source, sink, disk, fleet),
-        Command::Held(rounds) => Closed {
+        Command::Held(rounds) => CommandResult {
             ending: held(alloc, rounds, source, sink, fleet),
             disk,
         },
-        Command::Trial(shape, policy) => Closed {
+        Command::Trial(shape, policy) => CommandResult {
             ending: trial(alloc, &shape, policy, sink),
             disk,
         },

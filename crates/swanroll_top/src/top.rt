@@ -1,17 +1,16 @@
 ghost use Rattle.order_policy.specs.Named.{answers_in};
-ghost use Rattle.rollout_ports.specs.Berths.{ports_of};
 ghost use Rattle.swanroll_top.specs.Promise.{Promise};
-ghost use Rattle.swanroll_top.specs.Views.{outside};
+ghost use Rattle.swanroll_top.specs.Views.{fleet_told, guest_told, outside, views_of};
 ghost use Rattle.swanroll_top.specs.Words.{asked_by};
 
-use crate::run::{Closed, run};
+use crate::run::{CommandResult, run};
 use crate::words::command_of;
 use disk_mirror::Openable;
 use order_policy::{Policies, Policy};
 use std::alloc::Global;
 use std::sync::Wait;
 use std::thread::Threads;
-use text_commands::{Ending, note};
+use text_commands::{CommandEnd, note};
 use wan_edge::{Fleet, Sink, Source};
 
 /// How the program ended: its exit status, and the disk.
@@ -59,33 +58,21 @@ pub fn swanroll<R: Wait + Threads + Sync, S: Source, K: Sink, D: Openable + Drop
 ) -> Ended<D>
 where
     F::Port: Drop + Send,
-    ensures { Promise (record {
-      source = S.told;
-      sink = K.told;
-      disk = D.told;
-      fleet = λ fleet. record {
-        ports = ports_of F.waiting F.kept F.lent F.named fleet;
-        guests = record {
-          coming = F.coming fleet;
-          served = F.served fleet;
-          visiting = F.visiting fleet;
-        };
-        faults = F.faults fleet;
-      };
-      port = F.Port.told;
-      guest = record { source = F.Guest.Source.told; sink = F.Guest.Sink.told };
-    }) (asked_by (answers_in policies.now) words.now)
+    ensures { Promise (views_of S.told K.told D.told
+        (fleet_told F.waiting F.kept F.lent F.named F.coming F.served F.visiting F.faults)
+        F.Port.told (guest_told F.Guest.Source.told F.Guest.Sink.told))
+        (asked_by (answers_in policies.now) words.now)
         (outside source.old sink.old notes.old disk fleet.old) result.status
         (outside source.new sink.new notes.new result.disk fleet.new) }
 {
     match command_of(words, policies) {
         Some(command) => {
-            let Closed { ending, disk } = run(rt, alloc, command, source, sink, disk, fleet);
+            let CommandResult { ending, disk } = run(rt, alloc, command, source, sink, disk, fleet);
             let status = note(alloc, notes, ending);
             Ended { status, disk }
         }
         None => Ended {
-            status: note(alloc, notes, Ending::Usage),
+            status: note(alloc, notes, CommandEnd::Usage),
             disk,
         },
     }

@@ -12,21 +12,21 @@ use lists::Text;
 use order_policy::Policy;
 use sim_run::{Shape, run_trial};
 use std::alloc::Global;
-use text_commands::{Ending, by_slack, write_text};
+use text_commands::{CommandEnd, by_slack, write_text};
 use wan_edge::Sink;
 
 /// Makes the case of these numbers, chooses a plan for it, and writes the text of its trial under a policy.
-pub fn trial<K: Sink>(alloc: Global, shape: &Shape, policy: &Policy, sink: &mut K) -> Ending
+pub fn trial<K: Sink>(alloc: Global, shape: &Shape, policy: &Policy, sink: &mut K) -> CommandEnd
     requires { IsShape shape.now }
     ensures follows { Follows (tried (rank_by policy.now.answers) shape.now) result
         (K.told sink.old).written (K.told sink.new).written }
-    ensures write_fault { result ≡ Ending.WriteFault
+    ensures write_fault { result ≡ CommandEnd.WriteFault
         → Rose (K.told sink.old).faults (K.told sink.new).faults }
-    ensures no_rollout { (u : Unfinished) → result ≢ Ending.NotFinished u }
-    ensures others { (result ≢ Ending.Usage)
-        × (result ≢ Ending.ReadFault)
-        × (result ≢ Ending.DiskFault)
-        × (result ≢ Ending.GuestFault) }
+    ensures no_rollout { (u : Unfinished) → result ≢ CommandEnd.NotFinished u }
+    ensures others { (result ≢ CommandEnd.Usage)
+        × (result ≢ CommandEnd.ReadFault)
+        × (result ≢ CommandEnd.DiskFault)
+        × (result ≢ CommandEnd.GuestFault) }
 {
     match text_of(alloc, shape, policy) {
         Ok(text) => write_text(sink, text.as_str()),
@@ -34,7 +34,7 @@ pub fn trial<K: Sink>(alloc: Global, shape: &Shape, policy: &Policy, sink: &mut 
     }
 }
 
-fn text_of(alloc: Global, shape: &Shape, policy: &Policy) -> Result<Text, Ending>
+fn text_of(alloc: Global, shape: &Shape, policy: &Policy) -> Result<Text, CommandEnd>
     requires { IsShape shape.now }
     ensures { Gives result (tried (rank_by policy.now.answers) shape.now) }
 {

@@ -1,4 +1,4 @@
-use crate::live::LiveEnding;
+use crate::live::LiveEnd;
 use lists::Text;
 
 /// What came of one look in a row of looks.
@@ -6,5 +6,5 @@ use lists::Text;
 pub(crate) enum Turn {
     /// It goes on; this text was written last.
     Goes(Text),
-    Ends(LiveEnding),
+    Ends(LiveEnd),
 }

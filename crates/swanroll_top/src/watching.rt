@@ -5,20 +5,20 @@ ghost use Rattle.text_commands.specs.Answers.{rollout_in};
 ghost use Rattle.text_commands.specs.Runs.{Gives};
 ghost use Rattle.swanroll_top.specs.Watches.{ImageText, TextOr, TurnOf, WatchPromise, WatchesInput, WatchesRollout, Writes, WritesAnew, ends_finished, last_bytes, or_live, turn_after, turn_behind, turn_of};
 
-use crate::journal_room::journal_room;
-use crate::live::{LiveEnding, in_memory, limit_of, tell};
+use crate::live::{LiveEnd, in_memory, limit_of, tell};
 use crate::live_words::LiveAsked;
 use crate::turning::Turn;
 use disk_model::MemoryDisk;
 use file_sight::{Sight, look};
 use intent_journal::JournalFault;
 use lists::{Memory, Text};
+use retarget_service::journal_room;
 use rollout_report::{Reported, report_journal};
 use std::alloc::Global;
 use std::sync::Wait;
 use std::thread::sleep;
 use std::time::{Clock, Duration};
-use text_commands::{Ending, read_input, rollout_of, write_text};
+use text_commands::{CommandEnd, read_input, rollout_of, write_text};
 use wan_edge::{Nums8, Sink, Source, Turns};
 use wan_model::CheckedPlan;
 
@@ -55,13 +55,13 @@ fn watch_all<R: Wait, C: Clock, S: Source, K: Sink, W: Sight>(
     source: &mut S,
     sink: &mut K,
     file: &mut W,
-) -> LiveEnding
+) -> LiveEnd
     ensures { WatchesInput W.told asked.migration (S.told source.old) (S.told source.new)
         (K.told sink.old).written result (K.told sink.new).written }
 {
     match read_input(alloc, source) {
         Ok(input) => watch_input(rt, clock, alloc, asked, input.as_slice(), sink, file),
-        Err(ending) => LiveEnding::Ended(ending),
+        Err(ending) => LiveEnd::Ended(ending),
     }
 }
 
@@ -73,7 +73,7 @@ fn watch_input<R: Wait, C: Clock, K: Sink, W: Sight>(
     input: &[u8],
     sink: &mut K,
     file: &mut W,
-) -> LiveEnding
+) -> LiveEnd
     ensures { WatchesRollout W.told asked.migration (rollout_in input.now)
         (K.told sink.old).written result (K.told sink.new).written }
 {
@@ -109,12 +109,12 @@ fn look_once<K: Sink, W: Sight>(
 }
 
 /// A look at a file that is in use is passed over.
-fn without_text(why: LiveEnding, last: Text) -> Turn
+fn without_text(why: LiveEnd, last: Text) -> Turn
     ensures { result ≡ turn_of why last }
 {
     match why {
-        LiveEnding::InUse => Turn::Goes(last),
-        LiveEnding::Ended(ending) => Turn::Ends(LiveEnding::Ended(ending)),
+        LiveEnd::InUse => Turn::Goes(last),
+        LiveEnd::Ended(ending) => Turn::Ends(LiveEnd::Ended(ending)),
     }
 }
 
@@ -128,7 +128,7 @@ fn written_anew<K: Sink>(sink: &mut K, text: Text, last: Text) -> Turn
         return Turn::Goes(last);
     }
     drop(last);
-    written(sink, text)
+    write_turn(sink, text)
 }
 
 fn is_same(one: &Text, other: &Text) -> bool
@@ -137,33 +137,33 @@ fn is_same(one: &Text, other: &Text) -> bool
     one.as_str() == other.as_str()
 }
 
-fn written<K: Sink>(sink: &mut K, text: Text) -> Turn
+fn write_turn<K: Sink>(sink: &mut K, text: Text) -> Turn
     ensures { Writes text (K.told sink.old).written result (K.told sink.new).written }
 {
     let ending = write_text(sink, text.as_str());
     after(ending, text)
 }
 
-/// How it goes on behind a writing that ended so.
-fn after(ending: Ending, text: Text) -> Turn
+/// How it goes on after a writing that ended so.
+fn after(ending: CommandEnd, text: Text) -> Turn
     ensures { result ≡ turn_after ending text }
 {
     match ending {
-        Ending::Done => behind(text),
+        CommandEnd::Done => behind(text),
         other => {
             drop(text);
-            Turn::Ends(LiveEnding::Ended(other))
+            Turn::Ends(LiveEnd::Ended(other))
         }
     }
 }
 
-/// How it goes on behind this text.
+/// How it goes on after this text.
 fn behind(text: Text) -> Turn
     ensures { result ≡ turn_behind text }
 {
     let ends = ends_finished(text.as_str().as_bytes());
     if ends {
-        Turn::Ends(LiveEnding::Ended(Ending::Done))
+        Turn::Ends(LiveEnd::Ended(CommandEnd::Done))
     } else {
         Turn::Goes(text)
     }
@@ -193,22 +193,22 @@ fn live_text<W: Sight>(
     migration: u32,
     input: &[u8],
     file: &mut W,
-) -> Result<Text, LiveEnding>
+) -> Result<Text, LiveEnd>
     ensures { TextOr W.told migration (rollout_in input.now) result }
 {
     match plan_of(alloc, input) {
         Ok(plan) => text_seen(alloc, plan, migration, file),
-        Err(ending) => Err(LiveEnding::Ended(ending)),
+        Err(ending) => Err(LiveEnd::Ended(ending)),
     }
 }
 
 /// The plan of the document that the bytes are, which stay.
-fn plan_of(alloc: Global, input: &[u8]) -> Result<CheckedPlan, Ending>
+fn plan_of(alloc: Global, input: &[u8]) -> Result<CheckedPlan, CommandEnd>
     ensures { Gives result (rollout_in input.now) }
 {
     match copy_of(alloc, input) {
         Ok(bytes) => rollout_of(alloc, bytes),
-        Err(_) => Err(Ending::OutOfMemory),
+        Err(_) => Err(CommandEnd::OutOfMemory),
     }
 }
 
@@ -225,25 +225,20 @@ fn text_seen<W: Sight>(
     plan: CheckedPlan,
     migration: u32,
     file: &mut W,
-) -> Result<Text, LiveEnding>
+) -> Result<Text, LiveEnd>
     ensures { TextOr W.told migration (Ok plan) result }
 {
     match look(alloc, limit_of(journal_room(&plan)), file) {
         Ok(image) => text_at(alloc, plan, migration, image),
         Err(why) => {
             drop(plan);
-            Err(LiveEnding::from(why))
+            Err(LiveEnd::from(why))
         }
     }
 }
 
 /// The report of the journal that these bytes are, by a disk in memory.
-fn text_at(
-    alloc: Global,
-    plan: CheckedPlan,
-    migration: u32,
-    image: Nums8,
-) -> Result<Text, LiveEnding>
+fn text_at(alloc: Global, plan: CheckedPlan, migration: u32, image: Nums8) -> Result<Text, LiveEnd>
     ensures { ImageText (journal_report plan migration image) result }
 {
     let turns = Turns::new(alloc);
@@ -253,11 +248,11 @@ fn text_at(
     or_live(answer)
 }
 
-fn or_live(answer: Result<Text, JournalFault>) -> Result<Text, LiveEnding>
+fn or_live(answer: Result<Text, JournalFault>) -> Result<Text, LiveEnd>
     ensures { result ≡ or_live answer }
 {
     match answer {
         Ok(text) => Ok(text),
-        Err(cause) => Err(LiveEnding::Ended(in_memory(Ending::from(cause)))),
+        Err(cause) => Err(LiveEnd::Ended(in_memory(CommandEnd::from(cause)))),
     }
 }

@@ -6,13 +6,13 @@ ghost use Rattle.text_commands.specs.Words.{are_pairs, policy_in, text_asked, te
 ghost use Rattle.swanroll_top.specs.Words.{asked, asked_by, before_last, guests_in, held_in, in_millions, kind_named, limits_in, migration_in, names_of, origin_in, origin_named, other_kind_named, rollback_in, shape_in, trial_numbers, with_kind};
 ghost use Rattle.swanroll_top.specs.Tries.{HasNext, IsAskedShape, IsShape};
 
+use controller_run::Limits;
 use order_policy::{Policies, Policy};
 use rollback_service::BackFrom;
 use rollout_rules::{MOST_FLOWS, MOST_SWITCHES};
-use rollout_run::Limits;
 use sim_run::Shape;
 use text_commands::{
-    LARGEST_SEED, MOST_EVENTS, TextCommand, TextKind, begins_with_dash, number_in, numbered,
+    LARGEST_SEED, MOST_EVENTS, TextCommand, TextKind, begins_with_dash, number_from, number_in,
     planner_of, script_shape_of, text_kind_named, text_takes, value_or,
 };
 
@@ -63,7 +63,7 @@ pub enum Kind {
     Held,
 }
 
-/// What the words ask for, if they are a command line: the word of a command, and behind it pairs of a
+/// What the words ask for, if they are a command line: the word of a command, and after it pairs of a
 /// name and a value, each name at most once and in any order. A policy is asked for by its name and has
 /// to be there. The program's own name isn't among the words.
 #[tactic(auto, unfolding(crate::specs::Words::asked_by))]
@@ -218,8 +218,8 @@ pub(crate) fn migration_of(pairs: &[String]) -> Option<u32>
 fn limits_of(pairs: &[String]) -> Option<Limits>
     ensures { result ≡ limits_in (map string_bytes pairs.now) }
 {
-    let workers = numbered(pairs, "--workers", "2", 1, MOST_WORKERS)?;
-    let rounds = numbered(pairs, "--rounds", "1000", 1, MOST_ROUNDS)?;
+    let workers = number_from(pairs, "--workers", "2", 1, MOST_WORKERS)?;
+    let rounds = number_from(pairs, "--rounds", "1000", 1, MOST_ROUNDS)?;
     let migration = migration_of(pairs)?;
     Some(Limits {
         workers: workers as u32,
@@ -267,7 +267,7 @@ fn origin_named(word: &str) -> Option<BackFrom>
 fn held_of(pairs: &[String]) -> Option<u32>
     ensures { result ≡ held_in (map string_bytes pairs.now) }
 {
-    let rounds = numbered(pairs, "--rounds", "10", 1, MOST_ROUNDS)?;
+    let rounds = number_from(pairs, "--rounds", "10", 1, MOST_ROUNDS)?;
     Some(rounds as u32)
 }
 
@@ -292,11 +292,11 @@ fn shape_of(pairs: &[String]) -> Option<Shape>
     ensures shape { result ≡ shape_in (map string_bytes pairs.now) }
     ensures within { IfSome result (λ shape. IsShape shape) }
 {
-    let k = numbered(pairs, "--k", "4", 2, 64)?;
-    let switches = numbered(pairs, "--switches", "24", 3, MOST_SWITCHES as u64)?;
-    let flows = numbered(pairs, "--flows", "24", 0, MOST_FLOWS as u64)?;
-    let seed = numbered(pairs, "--seed", "1", 0, LARGEST_SEED)?;
-    let events = numbered(pairs, "--events", "1000", 0, MOST_EVENTS)?;
+    let k = number_from(pairs, "--k", "4", 2, 64)?;
+    let switches = number_from(pairs, "--switches", "24", 3, MOST_SWITCHES as u64)?;
+    let flows = number_from(pairs, "--flows", "24", 0, MOST_FLOWS as u64)?;
+    let seed = number_from(pairs, "--seed", "1", 0, LARGEST_SEED)?;
+    let events = number_from(pairs, "--events", "1000", 0, MOST_EVENTS)?;
     Some(Shape {
         k: k as u32,
         switches: switches as u32,

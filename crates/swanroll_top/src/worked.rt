@@ -42,7 +42,7 @@ pub fn command_lines()
         ≡ Some (a_report 7) }
 {}
 
-/// The word `--live` stands behind that of a report, and before its pairs.
+/// The word `--live` stands after that of a report, and before its pairs.
 pub fn lines_of_a_live_report()
     ensures default { live_in (codes "report" ∷ codes "--live" ∷ [])
         ≡ Some (record { migration = 0; seconds = 0 }) }

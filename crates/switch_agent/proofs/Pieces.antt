@@ -9,8 +9,8 @@ use Rattle.wan_edge.proofs.Chains.{Appends-nothing, TakesFrom-nothing}
 use Rattle.wire_frames.specs.declared.fault.FrameFault.{FrameFault}
 use Rattle.switch_agent.specs.Items.{Items, holding}
 use Rattle.switch_agent.specs.Serving.{CarriesOut, Ends, HearsBytes, HearsGuest, IsOwnFault, answered, heard_by, heard_on}
-use Rattle.switch_agent.specs.Talks.{Talking}
-use Rattle.switch_agent.specs.declared.heard.Heard.{Heard}
+use Rattle.switch_agent.specs.ReadStates.{ReadSoFar}
+use Rattle.switch_agent.specs.declared.guest_read.GuestRead.{GuestRead}
 use Rattle.switch_agent.specs.declared.serve_fault.ServeFault.{ServeFault}
 use Rattle.switch_agent.specs.declared.serve_fault.ServeFault.TheVariants.{Frame, Long, Memory, Read, Write}
 use Rattle.switch_agent.specs.declared.serve_fault.Served.{Served}
@@ -33,7 +33,7 @@ no_bytes : (xs : List ℕ) → length xs ≡ 0 → xs ≡ []
 no_bytes [] none = refl
 no_bytes (x ∷ xs) none = absurd (omega (arith, none))
 
--- the end before a read of nothing is the end behind it
+-- the end before a read of nothing is the end after it
 ended : (before now : Option (List ℕ)) → TakesFrom before [] now → IsAtEnd before → IsAtEnd now
 ended before None takes at_end = tt
 ended before (Some rest) takes at_end = subst IsAtEnd takes at_end
@@ -45,7 +45,7 @@ read_end n buffer a b reads inside none =
 
 -- ---- what came of it
 
--- a serving with another end, where what stands behind its commands allows it
+-- a serving with another end, where what stands after its commands allows it
 recast : (a b : Items) (bytes : List ℕ) (commands : ℕ) (fault fault_now : Option ServeFault) (P Q : List ℕ → Type 0) (w w' : Option (List ℕ))
     → ((rest xs : List ℕ) → Ends fault P b rest w xs w' → Ends fault_now Q b rest w xs w') → CarriesOut a b bytes (record { commands = commands; fault = fault }) P w w'
     → CarriesOut a b bytes (record { commands = commands; fault = fault_now }) Q w w'
@@ -63,7 +63,7 @@ some_left : (n : ℕ) → (n == 0) ≡ false → 0 < n
 some_left zero isnt = absurd (true≢false isnt)
 some_left (suc n) isnt = omega arith
 
-abbrev pub talk_of : List ℕ → ℕ → Talking
+abbrev pub talk_of : List ℕ → ℕ → ReadSoFar
 talk_of kept room = record { kept = kept; room = room }
 
 module _ (a b : Items) (kept piece kept_now : List ℕ) (room : ℕ) (left w w' : Option (List ℕ)) where
@@ -110,11 +110,11 @@ module _ (a b : Items) (kept piece kept_now : List ℕ) (room : ℕ) (left w w' 
   bytes_heard served carried own cut few some = by_fault served.commands served.fault carried own cut few some
 
 -- the end came
-pub end_heard : (items : Items) (kept piece : List ℕ) (room : ℕ) (left w : Option (List ℕ)) (heard : Heard) → heard ≡ record { served = record { commands = 0; fault = None }; talk = None } → IsCutCommand kept → length piece ≡ 0
+pub end_heard : (items : Items) (kept piece : List ℕ) (room : ℕ) (left w : Option (List ℕ)) (heard : GuestRead) → heard ≡ record { served = record { commands = 0; fault = None }; talk = None } → IsCutCommand kept → length piece ≡ 0
     → (length piece ≡ 0 → IsAtEnd left) → HearsBytes items items (talk_of kept room) piece heard left w w
 end_heard items kept piece room left w heard is cut none at_end =
     let all : kept ++ piece ≡ kept = ap (λ (xs : List ℕ). kept ++ xs) (no_bytes piece none) ∙ append-nil kept in
-    subst (λ (h : Heard). HearsBytes items items (talk_of kept room) piece h left w w) (sym is) (record {
+    subst (λ (h : GuestRead). HearsBytes items items (talk_of kept room) piece h left w w) (sym is) (record {
       carried = subst (λ (bytes : List ℕ). CarriesOut items items bytes (record { commands = 0; fault = None }) IsCutCommand w w) (sym all)
           (nothing_carried items kept None IsCutCommand w (cut, appends_nothing w));
       few = omega arith;
@@ -168,26 +168,26 @@ read_no_write fault read write = write_read (sym write ∙ read)
 -- ---- one read of a guest
 
 -- bytes came, or its end
-pub guest_heard : (a b : Items) (talk : Talking) (kept : List ℕ) (room n : ℕ) (buffer : List ℕ) (source mid now : SourceTrace) (heard : Heard) (sink mid_sink : SinkTrace) (w' : Option (List ℕ))
+pub guest_heard : (a b : Items) (talk : ReadSoFar) (kept : List ℕ) (room n : ℕ) (buffer : List ℕ) (source mid now : SourceTrace) (heard : GuestRead) (sink mid_sink : SinkTrace) (w' : Option (List ℕ))
     → kept ≡ talk.kept → room ≡ talk.room → now ≡ mid → mid_sink ≡ sink → Reads n buffer source mid → n ≤ room → n ≤ length buffer
     → HearsBytes a b (talk_of kept room) (take n buffer) heard mid.left mid_sink.written w' → HearsGuest a b talk source now heard sink.written w'
 guest_heard a b talk kept room n buffer source mid now heard sink mid_sink w' kept_is room_is unread unwritten reads few inside hears = record {
   bytes = take n buffer;
   takes = subst (λ (s : SourceTrace). Takes (take n buffer) source s) (sym unread) reads.takes;
   within = omega (arith, length-take-le n buffer inside, few, room_is);
-  hears = subst (λ (t : Talking). HearsBytes a b t (take n buffer) heard now.left sink.written w') (ap₂ talk_of kept_is room_is)
+  hears = subst (λ (t : ReadSoFar). HearsBytes a b t (take n buffer) heard now.left sink.written w') (ap₂ talk_of kept_is room_is)
       (subst (λ (s : SourceTrace). HearsBytes a b (talk_of kept room) (take n buffer) heard s.left sink.written w') (sym unread)
       (subst (λ (s : SinkTrace). HearsBytes a b (talk_of kept room) (take n buffer) heard mid.left s.written w') unwritten hears));
 }
 
 -- the read failed
-pub guest_failed : (items : Items) (talk : Talking) (kept : List ℕ) (source now : SourceTrace) (heard : Heard) (sink sink_now : SinkTrace)
+pub guest_failed : (items : Items) (talk : ReadSoFar) (kept : List ℕ) (source now : SourceTrace) (heard : GuestRead) (sink sink_now : SinkTrace)
     → kept ≡ talk.kept → IsCutCommand kept → sink_now ≡ sink → FailsToRead source now → heard ≡ record { served = record { commands = 0; fault = Some Read }; talk = None }
     → HearsGuest items items talk source now heard sink.written sink_now.written
 guest_failed items talk kept source now heard sink sink_now kept_is cut unwritten failed is =
     let cut_talk : IsCutCommand (talk.kept ++ []) = subst IsCutCommand (kept_is ∙ sym (append-nil talk.kept)) cut in
     subst (λ (s : SinkTrace). HearsGuest items items talk source now heard sink.written s.written) (sym unwritten)
-    (subst (λ (h : Heard). HearsGuest items items talk source now h sink.written sink.written) (sym is) (record {
+    (subst (λ (h : GuestRead). HearsGuest items items talk source now h sink.written sink.written) (sym is) (record {
       bytes = [];
       takes = record {
         left = subst (λ (left : Option (List ℕ)). TakesFrom source.left [] left) (sym failed.left) (TakesFrom-nothing source.left);

@@ -35,7 +35,7 @@ pub fault_carried : (items : Items) (kept piece : List ℕ) (fault : FrameFault)
 fault_carried items kept piece fault P written at_byte =
     nothing_carried items (kept ++ take (length piece) piece) (Some (Frame fault)) P written (subst (λ (xs : List ℕ). IsCommandFault (kept ++ xs) fault) (sym (take_all (length piece) piece (omega arith))) at_byte, appends_nothing written)
 
--- a command that wasn't carried out, for want of memory
+-- a command that wasn't carried out, for lack of memory
 pub no_room : (a b : Items) (c : CommandFrame) (written : Option (List ℕ)) → IsCommand c → b ≡ a → seen a c.1.item ≡ false
     → CarriesOut a b (command_bytes c) (record { commands = 0; fault = Some Memory }) (λ rest. rest ≡ []) written written
 no_room a b c written fits same unseen = record {

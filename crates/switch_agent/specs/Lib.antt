@@ -1,3 +1,3 @@
 pub mod Items
 pub mod Serving
-pub mod Talks
+pub mod ReadStates

@@ -6,8 +6,8 @@ use Rattle.wan_edge.specs.Streams.{Appends, AppendsPart, IsAtEnd, SourceTrace, T
 use Rattle.wan_edge.specs.Switches.{Holdings, after_commands, answers_to}
 use Rattle.wire_frames.specs.Reading.{IsCommandFault}
 use Rattle.switch_agent.specs.Items.{Items, holding, seen}
-use Rattle.switch_agent.specs.Talks.{Talking}
-use Rattle.switch_agent.specs.declared.heard.Heard.{Heard}
+use Rattle.switch_agent.specs.ReadStates.{ReadSoFar}
+use Rattle.switch_agent.specs.declared.guest_read.GuestRead.{GuestRead}
 use Rattle.switch_agent.specs.declared.serve_fault.ServeFault.{ServeFault}
 use Rattle.switch_agent.specs.declared.serve_fault.ServeFault.TheVariants.{Frame, Long, Memory, Read, Write}
 use Rattle.switch_agent.specs.declared.serve_fault.Served.{Served}
@@ -24,7 +24,7 @@ pub record WantsRoom (items : Items) (rest : List ℕ) : Type 0 where
   pub behind : List ℕ
   pub parts : rest ≡ command_bytes command ++ behind
 
--- What stands behind the commands that were carried out, and what was written of the bytes of their answers: without a fault of its own
+-- What stands after the commands that were carried out, and what was written of the bytes of their answers: without a fault of its own
 -- the rest goes on as it may.
 abbrev pub Ends : Option ServeFault → (List ℕ → Type 0) → Items → List ℕ → Option (List ℕ) → List ℕ → Option (List ℕ) → Type 0
 Ends None GoesOn items rest before answers now = GoesOn rest × Appends before answers now
@@ -58,21 +58,21 @@ IsOwnFault Write = Unit {0}
 IsOwnFault Long = ⊥
 IsOwnFault Memory = Unit {0}
 
--- what is left of a guest behind a read without a fault: it is read further where more may be read of it
-abbrev pub heard_on : ℕ → List ℕ → ℕ → Bool → Heard
+-- what is left of a guest after a read without a fault: it is read further where more may be read of it
+abbrev pub heard_on : ℕ → List ℕ → ℕ → Bool → GuestRead
 heard_on commands kept room full =
     if full
     then record { served = record { commands = commands; fault = Some Long }; talk = None }
     else record { served = record { commands = commands; fault = None }; talk = Some (record { kept = kept; room = room }) }
 
 -- what comes of a read by which so many commands were carried out, by the fault that ended them: this is kept of the guest, and so many bytes may still be read
-abbrev pub heard_by : ℕ → Option ServeFault → List ℕ → ℕ → Heard
+abbrev pub heard_by : ℕ → Option ServeFault → List ℕ → ℕ → GuestRead
 heard_by commands (Some fault) kept room = record { served = record { commands = commands; fault = Some fault }; talk = None }
 heard_by commands None kept room = heard_on commands kept room (room == 0)
 
--- Whether a guest is read further behind a read, by its fault: it said something and may say more, and what stands behind its commands is kept; it came to
+-- Whether a guest is read further after a read, by its fault: it said something and may say more, and what stands after its commands is kept; it came to
 -- its end; or it isn't for the fault's sake.
-abbrev pub GoesFurther : Option ServeFault → Option Talking → List ℕ → List ℕ → ℕ → Option (List ℕ) → Type 0
+abbrev pub GoesFurther : Option ServeFault → Option ReadSoFar → List ℕ → List ℕ → ℕ → Option (List ℕ) → Type 0
 GoesFurther None (Some talk) bytes rest room left = (0 < length bytes) × (0 < room) × (talk ≡ record { kept = rest; room = room })
 GoesFurther None None bytes rest room left = (length bytes ≡ 0) × IsAtEnd left
 GoesFurther (Some (Frame fault)) talk bytes rest room left = talk ≡ None
@@ -81,15 +81,15 @@ GoesFurther (Some Write) talk bytes rest room left = talk ≡ None
 GoesFurther (Some Long) talk bytes rest room left = (talk ≡ None) × (room ≡ 0)
 GoesFurther (Some Memory) talk bytes rest room left = talk ≡ None
 
--- What these bytes of a guest brought about, behind what was kept of it: the whole commands at their front were carried out in order and answered, each by
--- what was held before it, and what stands behind them is no whole command. Each command ends in one of these bytes.
-pub record HearsBytes (before now : Items) (talk : Talking) (bytes : List ℕ) (heard : Heard) (left : Option (List ℕ)) (written written_now : Option (List ℕ)) : Type 0 where
+-- What these bytes of a guest brought about, after what was kept of it: the whole commands at their front were carried out in order and answered, each by
+-- what was held before it, and what stands after them is no whole command. Each command ends in one of these bytes.
+pub record HearsBytes (before now : Items) (talk : ReadSoFar) (bytes : List ℕ) (heard : GuestRead) (left : Option (List ℕ)) (written written_now : Option (List ℕ)) : Type 0 where
   pub carried : CarriesOut before now (talk.kept ++ bytes) heard.served IsCutCommand written written_now
   pub few : heard.served.commands ≤ length bytes
   pub further : GoesFurther heard.served.fault heard.talk bytes carried.rest (talk.room - length bytes) left
 
 -- One read of a guest: these bytes came, no more than may be read of it, and this is what they brought about.
-pub record HearsGuest (before now : Items) (talk : Talking) (source source_now : SourceTrace) (heard : Heard) (written written_now : Option (List ℕ)) : Type 0 where
+pub record HearsGuest (before now : Items) (talk : ReadSoFar) (source source_now : SourceTrace) (heard : GuestRead) (written written_now : Option (List ℕ)) : Type 0 where
   pub bytes : List ℕ
   pub takes : Takes bytes source source_now
   pub within : length bytes ≤ talk.room

@@ -1,13 +1,13 @@
 //! One read of a guest.
 ghost use Rattle.std.specs.Prelude.{◌≡◌, ◌≢◌, ◌<◌, ◌≤◌, length, Some, IfOk, IsTrue, OnErr};
 ghost use Rattle.switch_agent.specs.Serving.{HearsBytes, HearsGuest};
-ghost use Rattle.switch_agent.specs.Talks.{most};
+ghost use Rattle.switch_agent.specs.ReadStates.{most};
 ghost use Rattle.switch_agent.specs.declared.serve_fault.ServeFault.TheVariants as fault;
 ghost use Rattle.wan_edge.specs.Frames.{IsCutCommand};
 ghost use Rattle.wan_edge.specs.Streams.{FailsToRead, IsAtEnd, Reads, Rose};
 
 use crate::serve::serve_piece;
-use crate::{Agent, Heard, ServeFault, Talk};
+use crate::{Agent, GuestRead, ReadState, ServeFault};
 use wan_edge::{Failed, Guest};
 use wire_frames::CommandReader;
 
@@ -16,7 +16,7 @@ const BUFFER: usize = 4_096;
 
 /// Reads the guest once, and carries out and answers each command that ends in what came, in order. A
 /// command that is cut off where the guest has ended is dropped.
-pub fn serve_read<G: Guest>(agent: &mut Agent, guest: &mut G, talk: Talk) -> Heard
+pub fn serve_read<G: Guest>(agent: &mut Agent, guest: &mut G, talk: ReadState) -> GuestRead
     ensures heard { HearsGuest agent.old agent.new talk (G.Source.told guest.old)
         (G.Source.told guest.new) result (G.Sink.told guest.old).written
         (G.Sink.told guest.new).written }
@@ -31,7 +31,12 @@ pub fn serve_read<G: Guest>(agent: &mut Agent, guest: &mut G, talk: Talk) -> Hea
 }
 
 // The same, by what comes into a buffer.
-fn serve_into<G: Guest>(agent: &mut Agent, guest: &mut G, talk: Talk, buffer: &mut [u8]) -> Heard
+fn serve_into<G: Guest>(
+    agent: &mut Agent,
+    guest: &mut G,
+    talk: ReadState,
+    buffer: &mut [u8],
+) -> GuestRead
     requires place { 0 < length buffer.old }
     ensures heard { HearsGuest agent.old agent.new talk (G.Source.told guest.old)
         (G.Source.told guest.new) result (G.Sink.told guest.old).written
@@ -45,7 +50,7 @@ fn serve_into<G: Guest>(agent: &mut Agent, guest: &mut G, talk: Talk, buffer: &m
     let (reader, room) = talk.into_parts();
     match read_some(guest, room, buffer) {
         Ok(n) => serve_some(agent, guest, reader, room, &buffer[..n]),
-        Err(_) => Heard::last(Some(ServeFault::Read)),
+        Err(_) => GuestRead::last(Some(ServeFault::Read)),
     }
 }
 
@@ -72,7 +77,7 @@ fn serve_some<G: Guest>(
     reader: CommandReader,
     room: usize,
     piece: &[u8],
-) -> Heard
+) -> GuestRead
     requires live { IsTrue reader.live }
     requires cut { IsCutCommand reader.kept }
     requires within { length piece.now ≤ room }
@@ -88,8 +93,8 @@ fn serve_some<G: Guest>(
 {
     let mut reader = reader;
     if piece.is_empty() {
-        return Heard::last(None);
+        return GuestRead::last(None);
     }
     let served = serve_piece(agent, guest, &mut reader, piece);
-    Heard::behind(served, reader, room - piece.len())
+    GuestRead::behind(served, reader, room - piece.len())
 }

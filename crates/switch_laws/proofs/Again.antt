@@ -1,4 +1,4 @@
--- A port behind whole rounds starts the next run as found.
+-- A port after whole rounds starts the next run as found.
 use Rattle.std.proofs.Math.Seq.{take-length}
 use Rattle.std.proofs.Common.{◌≡◌, ◌⊎◌, ℕ, ◌^◌, ◌<◌, ◌≤◌, ◌==◌, true, List, [], ◌∷◌, ◌++◌, length, take, Option, Some, None, is_some, IfSome, inl, inr, refl, sym, ap, ap₂, ◌∙◌, subst, append_assoc, append-nil, arith}
 use Rattle.std.proofs.lemmas.Bool.{OnTrue_at, cond_both}
@@ -19,9 +19,9 @@ use Rattle.wan_edge.specs.Ports.{IsHonestStep, MovesByRule, PortTrace}
 use Rattle.wan_edge.specs.Streams.{Appends}
 use Rattle.wan_edge.specs.Switches.{Holdings, after_command, after_commands, pair_asked}
 use Rattle.port_session.specs.Offers.{frames_of}
-use Rattle.worker_ports.specs.Lots.{home_at, is_switch, own}
-use Rattle.worker_ports.specs.Stories.{LastStory, Story}
-use Rattle.worker_ports.specs.Views.{PortView}
+use Rattle.switch_ports.specs.Outboxes.{home_at, is_switch, own}
+use Rattle.switch_ports.specs.Stories.{LastStory, Story}
+use Rattle.switch_ports.specs.Views.{SessionTrace}
 use Rattle.switch_laws.specs.Holdings.{AreHeldAt}
 use Rattle.switch_laws.specs.Runs.{AreAnswers, AreCommands, IsBegunCommand, MayCome, RunsAt, StartsAsFound}
 use Rattle.switch_laws.proofs.Offered.{all_framed, frames-framed, framed}
@@ -40,7 +40,7 @@ none_falls (c ∷ cs) holdings n =
     (λ _. at_most-refl (holdings n).held) in
     at_most-trans (holdings n).held (after_command holdings c n).held (after_commands holdings (c ∷ cs) n).held here (none_falls cs (after_command holdings c) n)
 
--- whole answers, and whole answers behind them
+-- whole answers, and whole answers after them
 answers_on : (earlier bytes : List ℕ) (were : AreAnswers earlier) → AreAnswers bytes → AreAnswers (earlier ++ bytes)
 answers_on earlier bytes were more = record {
   answers = were.answers ++ more.answers;
@@ -51,7 +51,7 @@ answers_on earlier bytes were more = record {
   };
 }
 
-module _ (r : Rollout) (migration : ℕ) (homes : List (Option ℕ)) (found : History) (added : List Entry) (sent : List Command) (first now : PortView) (net : IsNetwork r.problem) (valid : is_valid_plan r.problem r.plan ≡ true) (legal : is_legal r.problem r.plan (with_entries found added) ≡ true) (small : migration < 2 ^ 32) (run : RunsAt r migration homes found added sent first now) (story : Story migration homes sent first now) where
+module _ (r : Rollout) (migration : ℕ) (homes : List (Option ℕ)) (found : History) (added : List Entry) (sent : List Command) (first now : SessionTrace) (net : IsNetwork r.problem) (valid : is_valid_plan r.problem r.plan ≡ true) (legal : is_legal r.problem r.plan (with_entries found added) ≡ true) (small : migration < 2 ^ 32) (run : RunsAt r migration homes found added sent first now) (story : Story migration homes sent first now) where
   abbrev mine : List Command
   mine = own homes first.switch sent
 
@@ -79,11 +79,12 @@ module _ (r : Rollout) (migration : ℕ) (homes : List (Option ℕ)) (found : Hi
 
     may_again : (c : CommandFrame) → MayCome r migration found before c → MayCome r migration (with_entries found added) after c
     may_again c (inl own) = inl (own.0, begun_stays r found added c.1 own.1)
-    may_again c (inr late) =
-        inr (record {
+    may_again c (inr (inl late)) =
+        inr (inl (record {
           earlier = late.earlier;
           late = at_most-trans (pair_asked c) (before c.1.item).held (after c.1.item).held late.late (rises_by (OnTrue_at run.starts.honest run.story.goes_on.by_rule) c.1.item);
-        })
+        }))
+    may_again c (inr (inr none)) = inr (inr none)
 
     -- what was offered is whole commands still, each of which may come
     offered_again : AreCommands r migration (with_entries found added) after offered
@@ -132,7 +133,7 @@ module _ (r : Rollout) (migration : ℕ) (homes : List (Option ℕ)) (found : Hi
       }
 
 -- whole rounds, as a story that ends there
-pub last_of_whole : (migration : ℕ) (homes : List (Option ℕ)) (commands : List Command) (first now : PortView) → Story migration homes commands first now → LastStory migration homes commands first now
+pub last_of_whole : (migration : ℕ) (homes : List (Option ℕ)) (commands : List Command) (first now : SessionTrace) → Story migration homes commands first now → LastStory migration homes commands first now
 last_of_whole migration homes commands first now story =
     let bytes = frames_of migration (own homes first.switch commands) in
     record {

@@ -11,8 +11,8 @@ use Rattle.wan_edge.specs.Ports.{AnswersHeld, IsHonestStep, PortTrace}
 use Rattle.wan_edge.specs.Streams.{Appends}
 use Rattle.wan_edge.specs.Switches.{Holdings, pair_given}
 use Rattle.port_session.specs.Reading.{answers_of}
-use Rattle.worker_ports.specs.Stories.{Tells}
-use Rattle.worker_ports.specs.Views.{PortView}
+use Rattle.switch_ports.specs.Stories.{Tells}
+use Rattle.switch_ports.specs.Views.{SessionTrace}
 use Rattle.switch_laws.specs.Runs.{AreAnswers}
 
 -- what holds of each answer holds of those of a migration
@@ -69,7 +69,7 @@ pub some_at : {A : Type 0} (P : A → Type 0) (o : Option A) (a : A) → o ≡ S
 some_at {A = A} P o a is holds = subst (λ (x : Option A). IfSome x P) is holds
 
 -- what was told of a migration, where the port goes on by its rule
-pub told_is_held : (migration : ℕ) (first moment now : PortView) (told : List Answer) (later all : List ℕ) (holdings : Holdings) → first.stream.kept ≡ [] → IfSome first.port.heard AreAnswers → Tells migration first told moment → Appends moment.port.heard later now.port.heard
+pub told_is_held : (migration : ℕ) (first moment now : SessionTrace) (told : List Answer) (later all : List ℕ) (holdings : Holdings) → first.stream.kept ≡ [] → IfSome first.port.heard AreAnswers → Tells migration first told moment → Appends moment.port.heard later now.port.heard
     → now.port.heard ≡ Some all → now.port.held ≡ Some holdings → (now.port ≡ first.port) ⊎ IsHonestStep now.port.offered now.port.heard first.port.held now.port.held → All (λ a. IsHeld holdings (migration, a)) told
 told_is_held migration first moment now told later all holdings none_kept were tells since heard held rule =
     let between = told_before moment.port.heard now.port.heard later all since heard in

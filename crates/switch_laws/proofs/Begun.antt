@@ -18,7 +18,7 @@ pub record IsWithin (h : History) (op : Op) : Type 0 where
   pub within : op.number ≤ begun h op.item
 
 module _ (p : Problem) (plan : Plan) where
-  -- where it stands behind these entries, and others behind it
+  -- where it stands after these entries, and others after it
   begun_between : (before : History) (op : Op) (rest : List Entry) → is_legal p plan (with_entries before (Begin op ∷ rest)) ≡ true → IsWithin (with_entries before (Begin op ∷ rest)) op
   begun_between before op rest legal =
       let follows = rest_follows p plan before (Begin op ∷ rest) legal in

@@ -7,3 +7,4 @@ pub mod Moves
 pub mod Offered
 pub mod SmallRuns
 pub mod Stands
+pub mod Unmoved

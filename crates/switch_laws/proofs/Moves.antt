@@ -1,4 +1,4 @@
--- What is held of an item behind commands that may come.
+-- What is held of an item after commands that may come.
 use Rattle.std.proofs.Common.{◌≡◌, ◌⊎◌, ℕ, ◌<◌, ◌≤◌, ◌==◌, true, List, [], ◌∷◌, slice_index, refl, sym, ap, ◌∙◌, subst, inl, inr, arith, eqb-true}
 use Rattle.std.proofs.lemmas.Bool.{cond_both}
 use Rattle.std.proofs.lemmas.List.Elements.{All-head, All-tail}
@@ -20,6 +20,7 @@ use Rattle.rollout_book.specs.Commands.{command_of}
 use Rattle.switch_laws.specs.Holdings.{IsHeldAt, IsMovedWithin}
 use Rattle.switch_laws.specs.Runs.{MayCome}
 use Rattle.switch_laws.proofs.Begun.{begun_within}
+use Rattle.switch_laws.proofs.Unmoved.{kept-by-question}
 
 -- It is no lower than at first. Its pair is of the migration, with its content, or it is as at first.
 pub record HasCome (r : Rollout) (migration low high n : ℕ) (before now : Holding) : Type 0 where
@@ -75,9 +76,10 @@ module _ (r : Rollout) (migration : ℕ) (found : History) (added : List Entry) 
       let is : (migration, command_of r op) ≡ c = λ k. (sym own.0 k, sym own.1.is k) in
       let item : op.item ≡ n = ap (λ (d : Command). d.item) (sym own.1.is) ∙ sym mine in
       subst (λ (d : CommandFrame). Come (held_after holding (pair_asked d) d.1.content)) is (come_begun op own.1.there item holding come)
-  come_one c (inr late) mine holding come =
+  come_one c (inr (inl late)) mine holding come =
       let at_first : is_at_most (pair_asked c) (before n).held ≡ true = subst (λ (i : ℕ). is_at_most (pair_asked c) (before i).held ≡ true) (sym mine) late.late in
       subst Come (sym (after-late holding (pair_asked c) c.1.content (at_most-trans (pair_asked c) (before n).held holding.held at_first come.no_lower))) come
+  come_one c (inr (inr none)) mine holding come = subst Come (sym (kept-by-question holding c none)) come
 
   come_after : (c : CommandFrame) → MayCome r migration (with_entries found added) before c → (holdings : Holdings) → Come (holdings n) → Come (after_command holdings c n)
   come_after c may holdings come =
@@ -85,7 +87,7 @@ module _ (r : Rollout) (migration : ℕ) (found : History) (added : List Entry) 
       (λ same. come_one c may (eqb-true n c.1.item same) (holdings n) come)
       (λ _. come)
 
-  -- behind commands that may come
+  -- after commands that may come
   pub come_behind : (cs : List CommandFrame) → All (MayCome r migration (with_entries found added) before) cs → (holdings : Holdings) → Come (holdings n) → Come (after_commands holdings cs n)
   come_behind [] each holdings come = come
   come_behind (c ∷ cs) each holdings come =

@@ -30,7 +30,7 @@ none_there : (earlier : List CommandFrame) (c : CommandFrame) (behind : List ℕ
 none_there earlier c behind e =
     absurd (omega (arith, ap length e, length-append (flat_map command_bytes earlier) (command_bytes c ++ behind), length-append (command_bytes c) behind, some_bytes c))
 
--- a command that stands behind others in a row of whole commands is one of these
+-- a command that stands after others in a row of whole commands is one of these
 one_of_row : (xs earlier : List CommandFrame) (c : CommandFrame) (behind : List ℕ) → All IsCommand xs → All IsCommand earlier → IsCommand c → flat_map command_bytes xs ≡ flat_map command_bytes earlier ++ (command_bytes c ++ behind) → Contains xs c
 one_of_row [] earlier c behind xs_fit earlier_fit fits e = absurd (none_there earlier c behind e)
 one_of_row (x ∷ xs) [] c behind xs_fit earlier_fit fits e =

@@ -15,7 +15,7 @@ use Rattle.wan_edge.specs.Switches.{after_command, holding_nothing}
 use Rattle.wire_frames.proofs.OneSpelling.{one_answer}
 use Rattle.port_session.specs.Offers.{frames_of}
 use Rattle.port_session.specs.Reading.{answers_of}
-use Rattle.worker_ports.specs.Stories.{Tells}
+use Rattle.switch_ports.specs.Stories.{Tells}
 use Rattle.switch_laws.specs.Runs.{IsAnswered, IsBegunCommand, MayCome, RunsAt, StartsAsFound}
 use Rattle.switch_laws.specs.Worked.{answering, begun_and_done, both_at_first, first_answer, first_command, silent, two_flows, unused}
 use Rattle.switch_laws.proofs.Answered.{IsHeld, all_told, none_in_nothing, told_before}

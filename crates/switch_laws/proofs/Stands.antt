@@ -1,4 +1,4 @@
--- What a switch holds behind a run, and behind a finished one.
+-- What a switch holds after a run, and after a finished one.
 use Rattle.std.proofs.Common.{◌≡◌, ◌⊎◌, ℕ, ◌+◌, ◌^◌, ◌<◌, ◌≤◌, ◌==◌, true, false, List, ◌++◌, take, slice_index, Option, Some, None, is_some, IfSome, inl, inr, ⊎_elim, refl, sym, ap, ap₂, ◌∙◌, subst, append-nil, arith, eqb-true, le_of_eq}
 use Rattle.std.proofs.lemmas.Bool.{OnTrue_at, false≢true}
 use Rattle.std.proofs.lemmas.List.Elements.{All-append, All-contains, All-filter, All-weaker}
@@ -26,8 +26,8 @@ use Rattle.wan_edge.specs.Ports.{IsHonestStep, IsOffered, MovesByRule, PortTrace
 use Rattle.wan_edge.specs.Streams.{KeepsTelling}
 use Rattle.wan_edge.specs.Switches.{Holdings}
 use Rattle.port_session.specs.Offers.{frames_of}
-use Rattle.worker_ports.specs.Lots.{home_at, is_switch, own}
-use Rattle.worker_ports.specs.Views.{PortView}
+use Rattle.switch_ports.specs.Outboxes.{home_at, is_switch, own}
+use Rattle.switch_ports.specs.Views.{SessionTrace}
 use Rattle.switch_laws.specs.Holdings.{AreHeldAt, AreHeldAtEnd, HasGoneOn, HaveGoneOn, IsHeldAt, IsHeldAtEnd, IsMovedWithin, operations_of}
 use Rattle.switch_laws.specs.Runs.{AreCommands, IsBegunCommand, MayCome, RunsAt}
 use Rattle.switch_laws.proofs.Offered.{all_framed, frames-framed, framed, one_offered}
@@ -47,7 +47,7 @@ pub was_told : {A : Type 0} (before now : Option A) (a : A) → KeepsTelling bef
 was_told None now a keeps is = absurd (false≢true (sym keeps ∙ ap is_some is))
 was_told (Some x) now a keeps is = (x, refl)
 
-module _ (r : Rollout) (migration : ℕ) (homes : List (Option ℕ)) (found : History) (added : List Entry) (sent : List Command) (first now : PortView) (legal : is_legal r.problem r.plan (with_entries found added) ≡ true) (fit : All (λ c. IsCommand (migration, c)) sent) (run : RunsAt r migration homes found added sent first now) where
+module _ (r : Rollout) (migration : ℕ) (homes : List (Option ℕ)) (found : History) (added : List Entry) (sent : List Command) (first now : SessionTrace) (legal : is_legal r.problem r.plan (with_entries found added) ≡ true) (fit : All (λ c. IsCommand (migration, c)) sent) (run : RunsAt r migration homes found added sent first now) where
   rule : (now.port ≡ first.port) ⊎ IsHonestStep now.port.offered now.port.heard first.port.held now.port.held
   rule = OnTrue_at run.starts.honest run.story.goes_on.by_rule
 
@@ -176,7 +176,7 @@ module _ (r : Rollout) (migration : ℕ) (homes : List (Option ℕ)) (found : Hi
       (λ before before_is. if_some now.port.held (HaveGoneOn r migration homes first.switch before)
       (λ after after_is n inside home. gone_on offered before after offered_is before_is after_is n inside home)))
 
--- behind a finished history what stands is at its end
+-- after a finished history what stands is at its end
 module _ (r : Rollout) (migration : ℕ) (h : History) (net : IsNetwork r.problem) (valid : is_valid_plan r.problem r.plan ≡ true) (legal : is_legal r.problem r.plan h ≡ true) (finished : is_finished r.problem r.plan h ≡ true) (n : ℕ) (inside : n < item_count r.problem) (holding : Holding) where
   all_settled : settled h n ≡ operations_of r n
   all_settled = eqb-true (settled h n) (operations_of r n) (all_below-at (item_count r.problem) (λ m. settled h m == operations_of r m) finished n inside)
@@ -203,7 +203,7 @@ if_told (Some a) None q P Q f holds = tt
 if_told (Some a) (Some b) None P Q f holds = tt
 if_told (Some a) (Some b) (Some c) P Q f holds = f c holds
 
-module _ (r : Rollout) (migration : ℕ) (homes : List (Option ℕ)) (found : History) (added : List Entry) (sent : List Command) (first now : PortView) (net : IsNetwork r.problem) (valid : is_valid_plan r.problem r.plan ≡ true) (legal : is_legal r.problem r.plan (with_entries found added) ≡ true) (small : migration < 2 ^ 32) where
+module _ (r : Rollout) (migration : ℕ) (homes : List (Option ℕ)) (found : History) (added : List Entry) (sent : List Command) (first now : SessionTrace) (net : IsNetwork r.problem) (valid : is_valid_plan r.problem r.plan ≡ true) (legal : is_legal r.problem r.plan (with_entries found added) ≡ true) (small : migration < 2 ^ 32) where
   fit : RunsAt r migration homes found added sent first now → All (λ c. IsCommand (migration, c)) sent
   fit run = All-weaker (IsBegunCommand r (with_entries found added)) (λ c. IsCommand (migration, c)) (has_frame r migration (with_entries found added) net valid legal small) sent run.begun
 

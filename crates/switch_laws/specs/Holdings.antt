@@ -1,4 +1,4 @@
--- What a switch holds of an item, behind a history of a rollout and in its migration.
+-- What a switch holds of an item, after a history of a rollout and in its migration.
 use Rattle.std.specs.Prelude.{◌≡◌, ◌⊎◌, ℕ, ◌<◌, ◌≤◌, true, List, Option, Some, slice_index}
 use Rattle.rollout_rules.specs.Wan.{Rollout}
 use Rattle.rollout_rules.specs.Items.{item_at, item_count}
@@ -7,7 +7,7 @@ use Rattle.rollout_rules.specs.History.{History, begun, settled}
 use Rattle.rollout_rules.specs.Agent.{Holding, is_at_most, pair_of}
 use Rattle.rollout_laws.specs.Target.{target}
 use Rattle.wan_edge.specs.Switches.{Holdings}
-use Rattle.worker_ports.specs.Lots.{home_at}
+use Rattle.switch_ports.specs.Outboxes.{home_at}
 
 -- It holds a pair of the migration, whose number is within these two, and the content that the operation of this number brought.
 pub record IsMovedWithin (r : Rollout) (migration low high n : ℕ) (holding : Holding) : Type 0 where
@@ -47,7 +47,7 @@ pub record IsMovedToTarget (r : Rollout) (migration n : ℕ) (holding : Holding)
   pub pair : holding.held ≡ pair_of migration (operations_of r n)
   pub content : 0 < operations_of r n → holding.content ≡ target r.problem r.plan (item_at r.problem n)
 
--- It holds what an earlier migration left, and the item has no operation behind the start.
+-- It holds what an earlier migration left, and the item has no operation after the start.
 pub record IsLeftAtTarget (r : Rollout) (migration : ℕ) (start : List ℕ) (n : ℕ) (holding : Holding) : Type 0 where
   pub earlier : holding.held.migration < migration
   pub none_left : operations_of r n ≡ slice_index start n

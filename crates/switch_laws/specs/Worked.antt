@@ -11,7 +11,7 @@ use Rattle.wan_edge.specs.Switches.{Holdings, after_command, holding_nothing}
 use Rattle.port_session.specs.Offers.{frames_of}
 use Rattle.port_session.specs.Reading.{fresh_stream}
 use Rattle.rollout_book.specs.Commands.{command_of}
-use Rattle.worker_ports.specs.Views.{PortView}
+use Rattle.switch_ports.specs.Views.{SessionTrace}
 
 -- a flow with three operations, and a second one with one
 abbrev pub two_flows : Rollout
@@ -33,7 +33,7 @@ abbrev pub both_at_first : List (Option ℕ)
 both_at_first = Some 0 ∷ Some 0 ∷ []
 
 -- An honest port to switch 0: what was offered and heard there, what the switch holds, and what was read up to the last byte.
-abbrev pub port_of : List ℕ → List ℕ → Holdings → PortView
+abbrev pub port_of : List ℕ → List ℕ → Holdings → SessionTrace
 port_of offered heard holdings = record {
   switch = 0;
   port = record { offered = Some offered; heard = Some heard; held = Some holdings; quiet = Some 0; waits = Some 0; faults = 0; honest = true; prompt = false; start = holding_nothing };
@@ -41,7 +41,7 @@ port_of offered heard holdings = record {
 }
 
 -- one that was never used
-abbrev pub unused : PortView
+abbrev pub unused : SessionTrace
 unused = port_of [] [] holding_nothing
 
 -- The first operation of the first flow: its command, and the answer to it.
@@ -52,14 +52,14 @@ abbrev pub first_answer : Answer
 first_answer = record { item = 0; held = 1 }
 
 -- once it was offered and applied, and these bytes were heard
-abbrev pub applied : List ℕ → PortView
+abbrev pub applied : List ℕ → SessionTrace
 applied heard = port_of (frames_of 4 (first_command ∷ [])) heard (after_command holding_nothing (4, first_command))
 
 -- a switch that answers, and one that doesn't
-abbrev pub answering : PortView
+abbrev pub answering : SessionTrace
 answering = applied (answer_bytes (4, first_answer))
 
-abbrev pub silent : PortView
+abbrev pub silent : SessionTrace
 silent = applied []
 
 -- that it was begun and done

@@ -8,8 +8,8 @@ ghost use Rattle.rollout_rules.specs.World.{in_flight};
 ghost use Rattle.rollout_rules.specs.declared.op.Entry.{Entry};
 ghost use Rattle.wan_edge.specs.Frames.{Command, IsCommand};
 ghost use Rattle.rollout_book.specs.Commands.{asked};
-ghost use Rattle.worker_ports.specs.Stories.{LastStory, Story};
-ghost use Rattle.worker_ports.specs.Views.{PortView};
+ghost use Rattle.switch_ports.specs.Stories.{LastStory, Story};
+ghost use Rattle.switch_ports.specs.Views.{SessionTrace};
 ghost use Rattle.switch_laws.specs.Holdings.{AreHeldAt, AreHeldAtEnd, HaveGoneOn};
 ghost use Rattle.switch_laws.specs.Runs.{IsBegunCommand, RunsAt, StartsAsFound};
 
@@ -37,17 +37,17 @@ pub fn listed_commands_are_begun()
 /// Whole rounds are a story that may end there.
 pub fn whole_rounds_may_be_the_last()
     ensures { (migration : ℕ) (homes : List (Option ℕ)) (commands : List Command)
-        (first now : PortView)
+        (first now : SessionTrace)
         → Story migration homes commands first now
         → LastStory migration homes commands first now }
 {}
 
-/// Behind a run of a legal history each item of a port's switch is held between what is settled and what
+/// After a run of a legal history each item of a port's switch is held between what is settled and what
 /// is begun, with the content of its number, or as an earlier migration left it. No switch goes back, and
 /// what still has a pair of an earlier migration is as it was found.
 pub fn switches_hold_what_stands()
     ensures held { (r : Rollout) (migration : ℕ) (homes : List (Option ℕ)) (found : History)
-        (added : List Entry) (sent : List Command) (first now : PortView)
+        (added : List Entry) (sent : List Command) (first now : SessionTrace)
         → IsNetwork r.problem
         → IsTrue (is_valid_plan r.problem r.plan)
         → IsTrue (is_legal r.problem r.plan (with_entries found added))
@@ -58,7 +58,7 @@ pub fn switches_hold_what_stands()
         (λ _. IfSome now.port.held
         (AreHeldAt r migration homes first.switch (with_entries found added)))) }
     ensures since { (r : Rollout) (migration : ℕ) (homes : List (Option ℕ)) (found : History)
-        (added : List Entry) (sent : List Command) (first now : PortView)
+        (added : List Entry) (sent : List Command) (first now : SessionTrace)
         → IsNetwork r.problem
         → IsTrue (is_valid_plan r.problem r.plan)
         → IsTrue (is_legal r.problem r.plan (with_entries found added))
@@ -73,7 +73,7 @@ pub fn switches_hold_what_stands()
 /// the port as it is to be found.
 pub fn the_next_run_starts_as_found()
     ensures { (r : Rollout) (migration : ℕ) (homes : List (Option ℕ)) (found : History)
-        (added : List Entry) (sent : List Command) (first now : PortView)
+        (added : List Entry) (sent : List Command) (first now : SessionTrace)
         → IsNetwork r.problem
         → IsTrue (is_valid_plan r.problem r.plan)
         → IsTrue (is_legal r.problem r.plan (with_entries found added))
@@ -89,7 +89,7 @@ pub fn the_next_run_starts_as_found()
 /// Once every operation is settled, each item of a port's switch is held at its target.
 pub fn finished_switches_hold_the_target()
     ensures { (r : Rollout) (migration : ℕ) (homes : List (Option ℕ)) (found : History)
-        (added : List Entry) (sent : List Command) (first now : PortView)
+        (added : List Entry) (sent : List Command) (first now : SessionTrace)
         → IsNetwork r.problem
         → IsTrue (is_valid_plan r.problem r.plan)
         → IsTrue (is_legal r.problem r.plan (with_entries found added))

@@ -1,4 +1,4 @@
-//! What a switch holds behind a rollout, from what its port told: laws over the agent rule, the history
+//! What a switch holds after a rollout, from what its port told: laws over the agent rule, the history
 //! that a run found and the entries that it added, with no code of their own.
 //!
 //! [`switches_hold_what_stands`] says that of each item the switch of its home holds a pair between what

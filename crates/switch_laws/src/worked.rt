@@ -22,7 +22,7 @@ pub fn a_switch_holds_nothing_above_what_is_begun()
     ensures { IsHeldAt two_flows 4 under_way 0 (holding_with 4 3 (0 ∷ 0 ∷ 2 ∷ [])) → ⊥ }
 {}
 
-/// With number 0, behind which one operation is settled.
+/// With number 0, after which one operation is settled.
 pub fn a_switch_holds_nothing_below_what_is_settled()
     ensures { IsHeldAt two_flows 4 under_way 0 (holding_with 4 0 (2 ∷ 0 ∷ 0 ∷ [])) → ⊥ }
 {}
@@ -39,7 +39,7 @@ pub fn a_switch_holds_what_an_earlier_migration_left()
     ensures later { IsHeldAt two_flows 4 under_way 0 (holding_with 5 1 (0 ∷ 0 ∷ 2 ∷ [])) → ⊥ }
 {}
 
-/// With the last of three operations, or with none to come behind the start.
+/// With the last of three operations, or with none to come after the start.
 pub fn a_switch_ends_at_the_target()
     ensures moved { IsHeldAtEnd two_flows 4 [] 0 (holding_with 4 3 (0 ∷ 0 ∷ 2 ∷ [])) }
     ensures under_way { IsHeldAtEnd two_flows 4 [] 0 (holding_with 4 2 (0 ∷ 2 ∷ 0 ∷ [])) → ⊥ }
@@ -48,7 +48,7 @@ pub fn a_switch_ends_at_the_target()
     ensures not_moved { IsHeldAtEnd two_flows 4 [] 0 (holding_with 3 7 (5 ∷ [])) → ⊥ }
 {}
 
-/// What was begun, and what is late: at most the pair held, of an earlier migration.
+/// What was begun, what is late: at most the pair held, of an earlier migration; and a question.
 pub fn begun_and_late_commands_may_come()
     ensures begun { MayCome two_flows 4 under_way left_by_third
         (4, command_of two_flows (op_of 0 2)) }
@@ -60,6 +60,8 @@ pub fn begun_and_late_commands_may_come()
     ensures above { MayCome two_flows 4 under_way left_by_third
         (3, command_of two_flows (op_of 0 8))
         → ⊥ }
+    ensures asked { MayCome two_flows 4 under_way left_by_third
+        (4, record { item = 0; number = 0; scale = 1; content = 0 ∷ [] }) }
 {}
 
 /// Of a switch that holds nothing, before the first entry; a byte of a command that was cut off doesn't do.

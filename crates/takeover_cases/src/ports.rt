@@ -1,4 +1,4 @@
-//! A port for one term, over one that gives answers behind two floors, and a fleet of such ports.
+//! A port for one term, over one that gives answers after two floors, and a fleet of such ports.
 
 ghost use Rattle.std.specs.Prelude.{◌≡◌, ◌<◌, true};
 
@@ -15,7 +15,7 @@ fn answer(held: u32) -> Answer {
     Answer { item: 0, held }
 }
 
-// An answer behind floor 1, and one behind floor 2.
+// An answer after floor 1, and one after floor 2.
 fn noise(alloc: Global) -> Result<Nums8, Memory> {
     let mut bytes = Nums8::new(alloc);
     bytes.extend_from_slice(&write_floored(1, &answer(0), 0))?;
@@ -24,7 +24,7 @@ fn noise(alloc: Global) -> Result<Nums8, Memory> {
 }
 
 // How many of fifteen hears gave something, and how many nothing, where none fails.
-fn heard<P: Port>(port: &mut P) -> Option<[u32; 2]> {
+fn count_heard<P: Port>(port: &mut P) -> Option<[u32; 2]> {
     let mut into = [0; 4];
     let mut some: u32 = 0;
     let mut none: u32 = 0;
@@ -43,7 +43,7 @@ fn heard_by(alloc: Global, term: u32) -> Result<Option<[u32; 2]>, Memory>
     requires { 0 < term }
 {
     let mut port = FencedPort::new(alloc, NoisePort::new(noise(alloc)?), term);
-    let told = heard(&mut port);
+    let told = count_heard(&mut port);
     drop(port);
     Ok(told)
 }
@@ -52,10 +52,8 @@ fn heard_by(alloc: Global, term: u32) -> Result<Option<[u32; 2]>, Memory>
 // the first one, and then a floor above it.
 #[test]
 fn an_answer_is_heard_by_the_controller_of_its_floor(rt: HostRuntime) -> Result<(), Fail> {
-    let second = heard_by(rt.alloc(), 2)?;
-    assert_eq!(rt; second, Some([13, 2]));
-    let first = heard_by(rt.alloc(), 1)?;
-    assert_eq!(rt; first, None);
+    assert!(rt; heard_by(rt.alloc(), 2)? == Some([13, 2]));
+    assert!(rt; heard_by(rt.alloc(), 1)? == None);
     Ok(())
 }
 
@@ -70,19 +68,33 @@ fn heard_at<F: Fleet>(fleet: &mut F) -> Option<[u32; 2]> {
 fn heard_over<F: Fleet>(fleet: &mut F, mut port: F::Port) -> Option<[u32; 2]>
     requires { F.lent fleet.old 0 ≡ true }
 {
-    let told = heard(&mut port);
+    let told = count_heard(&mut port);
     fleet.keep(0, port);
     told
 }
 
 fn heard_in_fleet(alloc: Global) -> Result<Option<[u32; 2]>, Memory> {
     let mut fleet = MemoryFleet::new(alloc);
+    match put_noise(alloc, &mut fleet) {
+        Ok(()) => Ok(heard_over_two(alloc, fleet)),
+        Err(error) => {
+            drop(fleet);
+            Err(error)
+        }
+    }
+}
+
+fn put_noise(alloc: Global, fleet: &mut MemoryFleet<NoisePort>) -> Result<(), Memory> {
     fleet.call(0, Text::from(String::from_str(alloc, "A")?))?;
-    fleet.put(0, NoisePort::new(noise(alloc)?))?;
+    fleet.put(0, NoisePort::new(noise(alloc)?))
+}
+
+// The same over a fleet, by a controller of term 2.
+fn heard_over_two(alloc: Global, fleet: MemoryFleet<NoisePort>) -> Option<[u32; 2]> {
     let mut fenced = FencedFleet::new(alloc, fleet, 2);
     let told = heard_at(&mut fenced);
     drop(fenced);
-    Ok(told)
+    told
 }
 
 fn term_of<F: OneTerm>(fleet: &F) -> u32 {
@@ -100,7 +112,7 @@ fn term_of_fleet(alloc: Global) -> u32 {
 // A fleet for term 2 gives such a port.
 #[test]
 fn a_fleet_gives_ports_for_its_term(rt: HostRuntime) -> Result<(), Fail> {
-    assert_eq!(rt; heard_in_fleet(rt.alloc())?, Some([13, 2]));
-    assert_eq!(rt; term_of_fleet(rt.alloc()), 2);
+    assert!(rt; heard_in_fleet(rt.alloc())? == Some([13, 2]));
+    assert!(rt; term_of_fleet(rt.alloc()) == 2);
     Ok(())
 }

@@ -18,7 +18,7 @@ fn two() -> &'static str {
 }
 
 // The plan of a document. Fails where the document or its plan is refused.
-fn planned(alloc: Global, text: &str) -> Result<CheckedPlan, Fail> {
+fn plan_of_document(alloc: Global, text: &str) -> Result<CheckedPlan, Fail> {
     let document = read_document(alloc, text.as_bytes())?;
     match check_plan(alloc, &document.problem, &document.plan) {
         Ok(()) => Ok(CheckedPlan::seal(document.problem, document.plan)),
@@ -72,16 +72,22 @@ fn add_newer(alloc: Global, events: &mut TwoEventList) -> Result<(), Memory> {
     events.push(TwoEvent::New(Event::EndWrite))
 }
 
-fn taken_over(alloc: Global, plan: &CheckedPlan) -> Result<TwoWorlds<'_>, Memory> {
+fn add_all(alloc: Global, events: &mut TwoEventList) -> Result<(), Memory> {
+    add_older(alloc, events)?;
+    add_fences(events)?;
+    add_newer(alloc, events)
+}
+
+fn taken_over<'p>(
+    alloc: Global,
+    plan: &'p CheckedPlan,
+    events: &TwoEventList,
+) -> Result<TwoWorlds<'p>, Memory> {
     checked_plan_is_valid(plan);
-    let mut events = TwoEventList::new(alloc);
-    add_older(alloc, &mut events)?;
-    add_fences(&mut events)?;
-    add_newer(alloc, &mut events)?;
     let items = item_count(plan.problem()) as usize;
     let start = vec![in alloc; 0u32; items]?;
     let first = vec![in alloc; NOTHING; items]?;
-    any_takeover(alloc, plan, &start, 0, &first, &events)
+    any_takeover(alloc, plan, &start, 0, &first, events)
 }
 
 // Whether the older controller was answered with what was held before, and has begun no more.
@@ -96,18 +102,46 @@ fn is_the_end(newer: &World) -> bool {
     durable == [BEGIN, DONE].as_slice() && newer.items() > 0 && newer.held(0).number == 1
 }
 
-fn leads_to_the_end(alloc: Global, plan: &CheckedPlan) -> Result<[bool; 2], Memory> {
-    let worlds = taken_over(alloc, plan)?;
+// Of both worlds.
+fn are_the_end(worlds: &TwoWorlds) -> bool {
     let ended = match worlds.new_world() {
         Some(newer) => is_the_end(newer),
         None => false,
     };
-    Ok([is_behind(worlds.old()), ended])
+    is_behind(worlds.old()) && ended
+}
+
+fn ends_there(alloc: Global, plan: &CheckedPlan, events: &TwoEventList) -> Result<bool, Memory> {
+    match taken_over(alloc, plan, events) {
+        Ok(worlds) => {
+            let ends_there = are_the_end(&worlds);
+            drop(worlds);
+            Ok(ends_there)
+        }
+        Err(error) => Err(error),
+    }
+}
+
+fn leads_to_the_end(alloc: Global, plan: &CheckedPlan) -> Result<bool, Memory> {
+    let mut events = TwoEventList::new(alloc);
+    let led = match add_all(alloc, &mut events) {
+        Ok(()) => ends_there(alloc, plan, &events),
+        Err(error) => Err(error),
+    };
+    drop(events);
+    led
+}
+
+// Of the rollout of two flows.
+fn two_lead_to_the_end(alloc: Global) -> Result<bool, Fail> {
+    let plan = plan_of_document(alloc, two())?;
+    let led = leads_to_the_end(alloc, &plan);
+    drop(plan);
+    Ok(led?)
 }
 
 #[test]
 fn a_takeover_leads_to_the_end(rt: HostRuntime) -> Result<(), Fail> {
-    let plan = planned(rt.alloc(), two())?;
-    assert_eq!(rt; leads_to_the_end(rt.alloc(), &plan)?, [true, true]);
+    assert!(rt; two_lead_to_the_end(rt.alloc())?);
     Ok(())
 }

@@ -1,4 +1,4 @@
--- A mark behind the last one changes nothing.
+-- A mark after the last one changes nothing.
 use Rattle.std.proofs.Common.{◌≡◌, ℕ, ◌≤◌, Bool, true, List, length, slice_set, sym}
 use Rattle.std.proofs.lemmas.List.{set_past}
 

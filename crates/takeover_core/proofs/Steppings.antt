@@ -30,7 +30,7 @@ late_inside p plan w n m j allowed =
     let parts = and_parts (nat_lt n (item_count p) && nat_lt m w.migration) (is_at_most (pair_of m j) (pair_at w.first n)) allowed in
     ltb-true n (item_count p) (and_parts (nat_lt n (item_count p)) (nat_lt m w.migration) parts.0).0
 
--- a command behind a fence, and any other event
+-- a command after a fence, and any other event
 some_clash : (n : ℕ) → None ≡ Some n → ⊥
 some_clash n e = false≢true (ap (λ (o : Option ℕ). is_some o) e)
 

@@ -11,7 +11,7 @@ use std::alloc::Global;
 use wan_model::CheckedPlan;
 
 /// Makes an event of the older controller happen, where it is allowed: a command that comes to a fenced
-/// switch is answered with what is held, and changes nothing. Want of memory changes nothing either.
+/// switch is answered with what is held, and changes nothing. Lack of memory changes nothing either.
 #[tactic(auto, using(crate::proofs::Steppings::older_passes, crate::proofs::Steppings::older_answers, crate::proofs::Steppings::older_happens))]
 pub(crate) fn step_older(
     alloc: Global,
@@ -79,7 +79,7 @@ fn comes_to(world: &World<'_>, event: &Event) -> Option<u32>
     }
 }
 
-/// Makes an event of the newer controller happen, where its world has begun and allows it. Want of memory
+/// Makes an event of the newer controller happen, where its world has begun and allows it. Lack of memory
 /// changes nothing.
 pub(crate) fn step_newer(
     alloc: Global,

@@ -78,7 +78,7 @@ impl<'p> TwoWorlds<'p> {
         }
     }
 
-    /// Makes an event happen, where it is allowed. Want of memory changes nothing.
+    /// Makes an event happen, where it is allowed. Lack of memory changes nothing.
     pub fn step(&mut self, event: &TwoEvent) -> Result<(), Memory>
         ensures ok { OnOk result
             (self.new

@@ -1,4 +1,4 @@
--- The older world: what each of its events keeps, before the last fence and behind it.
+-- The older world: what each of its events keeps, before the last fence and after it.
 use Rattle.std.proofs.Common.{◌≡◌, ℕ, ◌+◌, Bool, true, ◌&&◌, nat_lt, List, [], ◌∷◌, ◌++◌, length, take, Option, Some, None, slice_index_or, slice_set, refl, sym, ap, ◌∙◌, subst, ⊎_elim, arith, eqb-true, ltb-true, get_or-set_other}
 use Rattle.std.proofs.lemmas.Bool.{and_parts, cond_both, cond-true, cases_eq}
 use Rattle.std.proofs.lemmas.List.{set-get_or}
@@ -176,7 +176,7 @@ module _ (p : Problem) (plan : Plan) where
     pub older-kept : (e : Event) → IsKept p plan (after_older p plan fenced w e)
     older-kept e = cond_both (allows p plan w e) (behind_fence p fenced w (comes_to w e) (happens p plan w e)) w (IsKept p plan) (kept-behind e) (λ _. kept)
 
-  -- Behind the last fence nothing that is held changes: what was sent is of an item with an operation, so its switch is
+  -- After the last fence nothing that is held changes: what was sent is of an item with an operation, so its switch is
   -- fenced, and a late command is at most what was held at first.
   module _ (fenced : List Bool) (w : World) (all : is_all_fenced p plan fenced ≡ true) (listed : IsListed p plan w) (most : HoldsTheFirst p w) where
     held-behind : (e : Event) → allows p plan w e ≡ true → (behind_fence p fenced w (comes_to w e) (happens p plan w e)).held ≡ w.held

@@ -1,4 +1,4 @@
--- What every takeover that a schedule leads to stands on: the older world is kept until the last fence; behind it its history
+-- What every takeover that a schedule leads to stands on: the older world is kept until the last fence; after it its history
 -- stays legal, and the newer world is one of a rollout over the same switches.
 use Rattle.std.proofs.Common.{◌≡◌, ℕ, ◌<◌, Bool, true, List, [], ◌∷◌, ◌++◌, Option, Some, None, slice_index, slice_index_or, slice_set, refl, sym, ap, ◌∙◌, subst}
 use Rattle.std.proofs.lemmas.Bool.{cond_both}
@@ -78,7 +78,7 @@ module _ (p : Problem) (plan : Plan) where
       starts = was.starts;
     }
 
-    -- an event of the older controller behind the last fence leaves the newer world as it is
+    -- an event of the older controller after the last fence leaves the newer world as it is
     module _ (fenced : List Bool) (older w : World) (was : IsTaken p plan migration fenced older w) (e : Event) where
       abbrev then_older : World
       then_older = after_older p plan fenced older e

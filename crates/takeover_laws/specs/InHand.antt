@@ -10,7 +10,7 @@ use Rattle.rollout_laws.specs.Kept.{IsBegun, IsKept}
 use Rattle.takeover_rules.specs.Takeovers.{Takeover, is_all_fenced}
 use Rattle.takeover_laws.specs.SafeTakeovers.{IsRollout}
 
--- What stays true of the older world behind the last fence, where it may hear of more than it began: its history is legal, and
+-- What stays true of the older world after the last fence, where it may hear of more than it began: its history is legal, and
 -- so with what is being written, and what it sent is begun there.
 pub record IsListed (p : Problem) (plan : Plan) (w : World) : Type 0 where
   pub legal : is_legal p plan w.durable ≡ true

@@ -4,7 +4,7 @@
 //! Of terms: a switch carries the commands of one term out by the agent rule, all or none, and a probe
 //! changes nothing that it holds. Of the two worlds: over every schedule the network is safe, by the
 //! older world until the last fence and by the newer one from then on; a fenced switch waits for the
-//! newer world, which begins with what it holds; behind the last fence the older controller changes
+//! newer world, which begins with what it holds; after the last fence the older controller changes
 //! nothing that is held; no switch goes back; and a rollout that was taken over ends at the new split.
 #![tactic(auto)]
 

@@ -4,9 +4,9 @@ use Rattle.rollout_rules.specs.Items.{item_count}
 use Rattle.rollout_rules.specs.Wan.{Rollout}
 use Rattle.wan_edge.specs.Ports.{PortTrace}
 use Rattle.disk_model.specs.Traces.{DiskTrace}
-use Rattle.rollout_ports.specs.Berths.{FleetPorts}
-use Rattle.takeover_service.specs.Beginnings.{Begins}
-use Rattle.takeover_service.proofs.Starts.{taken-long}
+use Rattle.switch_ports.specs.Berths.{FleetPorts}
+use Rattle.fence_takeover.specs.Beginnings.{Begins}
+use Rattle.fence_takeover.proofs.Starts.{taken-long}
 
 pub taken-count : {P D : Type 0} (tell : P → PortTrace) (trace : D → DiskTrace) (r : Rollout) (migration limit room : ℕ) (before now : FleetPorts P) (old new : D) (taken : Rollout × List ℕ) → Begins (Ok taken) tell trace r migration limit room before now old new
     → length taken.1 ≡ item_count taken.0.problem

@@ -12,21 +12,21 @@ use Rattle.fence_takeover.specs.declared.end.FenceEnd.{FenceEnd}
 use Rattle.fence_takeover.specs.declared.end.FenceEnd.TheVariants as fence
 use Rattle.intent_journal.specs.declared.fault.JournalFault.{JournalFault}
 use Rattle.intent_journal.specs.declared.fault.JournalFault.TheVariants as journal
-use Rattle.rollout_run.specs.declared.running.Limits.{Limits}
-use Rattle.rollout_service.specs.declared.answer.RunAnswer.{RunAnswer}
-use Rattle.rollout_service.specs.declared.answer.RunAnswer.TheVariants as outcome
-use Rattle.takeover_service.specs.Beginnings.{Begins, OpensAndPlaces, OpensAt}
-use Rattle.takeover_service.specs.declared.begun.NotBegun.{NotBegun}
-use Rattle.takeover_service.specs.declared.begun.NotBegun.TheVariants as why
+use Rattle.controller_run.specs.declared.running.Limits.{Limits}
+use Rattle.controller_run.specs.declared.rollout_end.RolloutEnd.{RolloutEnd}
+use Rattle.controller_run.specs.declared.rollout_end.RolloutEnd.TheVariants as outcome
+use Rattle.fence_takeover.specs.Beginnings.{Begins, OpensAndPlaces, OpensAt}
+use Rattle.fence_takeover.specs.declared.begun.NotBegun.{NotBegun}
+use Rattle.fence_takeover.specs.declared.begun.NotBegun.TheVariants as why
 use Rattle.text_commands.specs.Answers.{rollout_in}
-use Rattle.text_commands.specs.Endings.{ending_of_journal, status_of}
+use Rattle.text_commands.specs.CommandEnds.{ending_of_journal, status_of}
 use Rattle.text_commands.specs.Reading.{IsCut, ReadsInput}
 use Rattle.text_commands.specs.Runs.{EndsWith, Follows, Gives, IsTold}
-use Rattle.text_commands.specs.declared.ending.Ending.{Ending}
-use Rattle.text_commands.specs.declared.ending.Ending.TheVariants.{Done, Usage, AboveLimit, Input, NotValid, NoPlan, Unshown, ReadFault, WriteFault, DiskFault, GuestFault, Refused, NotFinished, OutOfMemory}
+use Rattle.text_commands.specs.declared.command_end.CommandEnd.{CommandEnd}
+use Rattle.text_commands.specs.declared.command_end.CommandEnd.TheVariants.{Done, Usage, AboveLimit, Input, NotValid, NoPlan, Unshown, ReadFault, WriteFault, DiskFault, GuestFault, Refused, NotFinished, OutOfMemory}
 use Rattle.text_commands.proofs.Answering.{is_answer, rollout-answers}
 use Rattle.text_commands.proofs.Statuses.{is-disk-fault, is-read-fault, is-write-fault}
-use Rattle.swanroll_top.specs.JournalRoom.{journal_room}
+use Rattle.retarget_service.specs.JournalRoom.{journal_room}
 use Rattle.swanroll_top.specs.Rollouts.{FleetSeen, may_end}
 use Rattle.swanroll_top.proofs.Outcomes.{journal-disk, journal-may, rose-later, stop-may}
 use Rattle.takeover_top.specs.Endings.{Told, ending_of_fence, ending_of_not_begun, ending_of_start, taken_or_ending}
@@ -51,7 +51,7 @@ told-own (Later item migration) status before now (inr memory) n no11 no12 no13 
 told-own (Unsound r f) status before now (inl line) n no11 no12 no13 is = absurd (no13 (sym is ∙ line.0))
 told-own (Unsound r f) status before now (inr memory) n no11 no12 no13 is = absurd (no12 (sym is ∙ memory-status before now status memory))
 
--- ---- how it may end behind a rollout that was asked about
+-- ---- how it may end after a rollout that was asked about
 
 abbrev may : TakeoverEnding → Bool
 may (Ended e) = may_end e
@@ -115,7 +115,7 @@ begun-write (why.Journal cause) = journal-write cause
 true-not : (b : Bool) → b ≡ true → b ≡ false → ⊥
 true-not b holds isnt = let both : true ≡ false = sym holds ∙ isnt in cc
 
-ends-may : (total : ℕ) (a : RunAnswer) (e : Ending) (out now : Option (List ℕ)) → may_end e ≡ false → EndsWith (taken_or_ending total a) e out now → ⊥
+ends-may : (total : ℕ) (a : RolloutEnd) (e : CommandEnd) (out now : Option (List ℕ)) → may_end e ≡ false → EndsWith (taken_or_ending total a) e out now → ⊥
 ends-may total (outcome.Finished operations found) e out now isnt (inl done) = true-not (may_end e) (ap may_end done.0) isnt
 ends-may total (outcome.Finished operations found) e out now isnt (inr cut) = true-not (may_end e) (ap may_end cut.0) isnt
 ends-may total (outcome.Held left) e out now isnt ends = true-not (may_end e) (ap may_end ends.0) isnt
@@ -124,8 +124,8 @@ ends-may total (outcome.NoPort r switch) e out now isnt ends = true-not (may_end
 ends-may total outcome.Memory e out now isnt ends = true-not (may_end e) (ap may_end ends.0) isnt
 ends-may total (outcome.Unopened cause) e out now isnt ends = true-not (may_end e) (ap may_end ends.0 ∙ journal-may cause) isnt
 
-not-read : (total : ℕ) (a : RunAnswer) (e : Ending) (out now : Option (List ℕ)) → e ≡ ReadFault → Follows (taken_or_ending total a) e out now → ⊥
-not-read total a e out now is follows = ends-may total a ReadFault out now refl (subst (λ (x : Ending). Follows (taken_or_ending total a) x out now) is follows)
+not-read : (total : ℕ) (a : RolloutEnd) (e : CommandEnd) (out now : Option (List ℕ)) → e ≡ ReadFault → Follows (taken_or_ending total a) e out now → ⊥
+not-read total a e out now is follows = ends-may total a ReadFault out now refl (subst (λ (x : CommandEnd). Follows (taken_or_ending total a) x out now) is follows)
 
 -- ---- step by step
 
@@ -191,13 +191,13 @@ module _ {D P : Type 0} (trace : D → DiskTrace) (tell : P → PortTrace)
 
 -- ---- an ending that came before any switch was asked
 
-cut-kind : (source source_now : SourceTrace) (e : Ending) → IsCut source e source_now → (e ≡ WriteFault) ⊎ (e ≡ DiskFault) → ⊥
-cut-kind source source_now e cut (inl is) = subst (λ (x : Ending). IsCut source x source_now) is cut
-cut-kind source source_now e cut (inr is) = subst (λ (x : Ending). IsCut source x source_now) is cut
+cut-kind : (source source_now : SourceTrace) (e : CommandEnd) → IsCut source e source_now → (e ≡ WriteFault) ⊎ (e ≡ DiskFault) → ⊥
+cut-kind source source_now e cut (inl is) = subst (λ (x : CommandEnd). IsCut source x source_now) is cut
+cut-kind source source_now e cut (inr is) = subst (λ (x : CommandEnd). IsCut source x source_now) is cut
 
-refused-kind : (input : List ℕ) (e x : Ending) → e ≡ x → is_answer x ≡ false → (Gives {A = Rollout} (Err x) (rollout_in input) → rollout_in input ≡ Err x) → Gives {A = Rollout} (Err e) (rollout_in input) → ⊥
+refused-kind : (input : List ℕ) (e x : CommandEnd) → e ≡ x → is_answer x ≡ false → (Gives {A = Rollout} (Err x) (rollout_in input) → rollout_in input ≡ Err x) → Gives {A = Rollout} (Err e) (rollout_in input) → ⊥
 refused-kind input e x is isnt reads gives =
-    true-not (is_answer x) (rollout-answers input x (reads (subst (λ (y : Ending). Gives {A = Rollout} (Err y) (rollout_in input)) is gives))) isnt
+    true-not (is_answer x) (rollout-answers input x (reads (subst (λ (y : CommandEnd). Gives {A = Rollout} (Err y) (rollout_in input)) is gives))) isnt
 
 module _ {D P : Type 0} (trace : D → DiskTrace) (tell : P → PortTrace)
     (source source_now : SourceTrace) (limits : Limits) (policy : OpView → ℕ) (disk disk_now : D) (before now : FleetSeen P) (ending : TakeoverEnding) (sink sink_now : SinkTrace)
@@ -205,30 +205,30 @@ module _ {D P : Type 0} (trace : D → DiskTrace) (tell : P → PortTrace)
   pub takes-read : ending ≡ Ended ReadFault → Rose source.faults source_now.faults
   takes-read is_e = by takes.input takes.cause takes.ends
     where
-      by-rollout : (input : List ℕ) (rollout : Result Rollout Ending) → Gives rollout (rollout_in input) → ByRollout trace tell limits policy rollout disk disk_now before now ending sink sink_now → Rose source.faults source_now.faults
+      by-rollout : (input : List ℕ) (rollout : Result Rollout CommandEnd) → Gives rollout (rollout_in input) → ByRollout trace tell limits policy rollout disk disk_now before now ending sink sink_now → Rose source.faults source_now.faults
       by-rollout input (Ok r) gives ends = absurd (never-read trace tell limits policy r disk disk_now before now ending sink sink_now ends is_e)
       by-rollout input (Err e) gives ends = absurd (refused-kind input e ReadFault (own-ending e ReadFault (sym ends.0 ∙ is_e)) refl (λ h. h) gives)
 
-      by : (read : Result (List ℕ) Ending) → (IsErrOf read ReadFault → Rose source.faults source_now.faults) → ByInput trace tell limits policy read disk disk_now before now ending sink sink_now → Rose source.faults source_now.faults
+      by : (read : Result (List ℕ) CommandEnd) → (IsErrOf read ReadFault → Rose source.faults source_now.faults) → ByInput trace tell limits policy read disk disk_now before now ending sink sink_now → Rose source.faults source_now.faults
       by (Ok input) cause ends = by-rollout input ends.rollout ends.gives ends.ends
-      by (Err e) cause ends = cause (ap (λ (x : Ending). Err x) (own-ending e ReadFault (sym ends.0 ∙ is_e)))
+      by (Err e) cause ends = cause (ap (λ (x : CommandEnd). Err x) (own-ending e ReadFault (sym ends.0 ∙ is_e)))
 
   -- a fault of the sink or of the disk, by what a rollout that was asked about says of it
-  late : (x : Ending) (Goal : Type 0) → (x ≡ WriteFault) ⊎ (x ≡ DiskFault) → is_answer x ≡ false → ((input : List ℕ) → Gives {A = Rollout} (Err x) (rollout_in input) → rollout_in input ≡ Err x) → ending ≡ Ended x
+  late : (x : CommandEnd) (Goal : Type 0) → (x ≡ WriteFault) ⊎ (x ≡ DiskFault) → is_answer x ≡ false → ((input : List ℕ) → Gives {A = Rollout} (Err x) (rollout_in input) → rollout_in input ≡ Err x) → ending ≡ Ended x
       → ((r : Rollout) → TakesRollout trace tell r limits policy disk disk_now before now ending sink sink_now → Goal) → Goal
   late x Goal kind isnt reads is_e of = by takes.input takes.reads takes.ends
     where
-      by-rollout : (input : List ℕ) (rollout : Result Rollout Ending) → Gives rollout (rollout_in input) → ByRollout trace tell limits policy rollout disk disk_now before now ending sink sink_now → Goal
+      by-rollout : (input : List ℕ) (rollout : Result Rollout CommandEnd) → Gives rollout (rollout_in input) → ByRollout trace tell limits policy rollout disk disk_now before now ending sink sink_now → Goal
       by-rollout input (Ok r) gives ends = of r ends
       by-rollout input (Err e) gives ends = absurd (refused-kind input e x (own-ending e x (sym ends.0 ∙ is_e)) isnt (reads input) gives)
 
-      same : (e : Ending) → e ≡ x → (e ≡ WriteFault) ⊎ (e ≡ DiskFault)
+      same : (e : CommandEnd) → e ≡ x → (e ≡ WriteFault) ⊎ (e ≡ DiskFault)
       same e is = elim kind [
         | inl write ↦ inl (is ∙ write)
         | inr device ↦ inr (is ∙ device)
       ]
 
-      by : (read : Result (List ℕ) Ending) → ReadsInput source read source_now → ByInput trace tell limits policy read disk disk_now before now ending sink sink_now → Goal
+      by : (read : Result (List ℕ) CommandEnd) → ReadsInput source read source_now → ByInput trace tell limits policy read disk disk_now before now ending sink sink_now → Goal
       by (Ok input) short ends = by-rollout input ends.rollout ends.gives ends.ends
       by (Err e) cut ends = absurd (cut-kind source source_now e cut (same e (own-ending e x (sym ends.0 ∙ is_e))))
 

@@ -5,21 +5,20 @@ use Rattle.rollout_rules.specs.Wan.{Rollout}
 use Rattle.dependency_graph.specs.Graph.{op_total}
 use Rattle.intent_journal.specs.declared.fault.JournalFault.{JournalFault}
 use Rattle.intent_journal.specs.declared.fault.JournalFault.TheVariants as fault
-use Rattle.shared_history.specs.declared.note.Cause.{Cause}
-use Rattle.shared_history.specs.declared.note.Cause.TheVariants as cause
-use Rattle.rollout_run.specs.declared.end.RunEnd.{RunEnd}
-use Rattle.rollout_run.specs.declared.end.RunEnd.TheVariants as run
-use Rattle.rollout_service.specs.Outcomes.{answer_for}
-use Rattle.rollout_service.specs.declared.answer.RunAnswer.{RunAnswer}
-use Rattle.rollout_service.specs.declared.answer.RunAnswer.TheVariants as outcome
+use Rattle.shared_book.specs.declared.note.Cause.{Cause}
+use Rattle.shared_book.specs.declared.note.Cause.TheVariants as cause
+use Rattle.controller_run.specs.declared.end.RunEnd.{RunEnd}
+use Rattle.controller_run.specs.declared.end.RunEnd.TheVariants as run
+use Rattle.controller_run.specs.RolloutEnds.{answer_for}
+use Rattle.controller_run.specs.declared.rollout_end.RolloutEnd.{RolloutEnd}
+use Rattle.controller_run.specs.declared.rollout_end.RolloutEnd.TheVariants as outcome
 use Rattle.wan_edge.specs.Streams.{Appends}
-use Rattle.text_commands.specs.Endings.{ending_of_journal, status_of}
+use Rattle.text_commands.specs.CommandEnds.{ending_of_journal, status_of}
 use Rattle.text_commands.specs.Runs.{EndsWith, Follows, Gives}
-use Rattle.text_commands.specs.declared.ending.Ending.{Ending}
-use Rattle.text_commands.specs.declared.ending.Ending.TheVariants.{Done, Usage, AboveLimit, Input, NotValid, NoPlan, Unshown, ReadFault, WriteFault, DiskFault, GuestFault, Refused, NotFinished, OutOfMemory}
-use Rattle.text_commands.specs.declared.unfinished.Unfinished.TheVariants.{PortFault, Held}
+use Rattle.text_commands.specs.declared.command_end.CommandEnd.{CommandEnd}
+use Rattle.text_commands.specs.declared.command_end.CommandEnd.TheVariants.{Done}
 use Rattle.text_commands.proofs.Programs.{follows-ends}
-use Rattle.swanroll_top.specs.Rollouts.{ending_of_stop, finished_line, line_or_ending}
+use Rattle.swanroll_top.specs.Rollouts.{ending_of_rollout, ending_of_stop, finished_line, line_or_ending}
 use Rattle.swanroll_top.specs.Targets.{IsOfBegun}
 use Rattle.swanroll_top.proofs.Outcomes.{given-or-memory}
 use Rattle.takeover_top.specs.Endings.{taken_or_ending}
@@ -29,10 +28,10 @@ use Rattle.takeover_top.specs.TakenTargets.{IsOfTaken}
 -- ---- an ending in place of a text
 
 -- it is a run's as well
-pub err-same : (total : ℕ) (a : RunAnswer) (e : Ending) → Gives {A = List ℕ} (Err e) (taken_or_ending total a) → Gives {A = List ℕ} (Err e) (line_or_ending a)
+pub err-same : (total : ℕ) (a : RolloutEnd) (e : CommandEnd) → Gives {A = List ℕ} (Err e) (taken_or_ending total a) → Gives {A = List ℕ} (Err e) (line_or_ending a)
 err-same total (outcome.Finished operations found) e h = elim (given-or-memory (taken_or_ending total (outcome.Finished operations found)) e h) [
   | inl is ↦ absurd (cc is)
-  | inr memory ↦ subst (λ (x : Ending). Gives {A = List ℕ} (Err x) (line_or_ending (outcome.Finished operations found))) (sym memory) tt
+  | inr memory ↦ subst (λ (x : CommandEnd). Gives {A = List ℕ} (Err x) (line_or_ending (outcome.Finished operations found))) (sym memory) tt
 ]
 err-same total (outcome.Held left) e h = h
 err-same total (outcome.Stopped r halt) e h = h
@@ -40,17 +39,9 @@ err-same total (outcome.NoPort r switch) e h = h
 err-same total outcome.Memory e h = h
 err-same total (outcome.Unopened why) e h = h
 
--- ---- the ending of a run with this answer
+-- ---- the text of a run with this answer
 
-abbrev pub ended_as : RunAnswer → Ending
-ended_as (outcome.Finished operations found) = Done
-ended_as (outcome.Held left) = NotFinished (Held left)
-ended_as (outcome.Stopped r halt) = ending_of_stop r halt.cause
-ended_as (outcome.NoPort r switch) = NotFinished (PortFault r switch)
-ended_as outcome.Memory = OutOfMemory
-ended_as (outcome.Unopened why) = ending_of_journal why
-
-abbrev pub text_as : RunAnswer → List ℕ
+abbrev pub text_as : RolloutEnd → List ℕ
 text_as (outcome.Finished operations found) = finished_line operations found
 text_as (outcome.Held left) = []
 text_as (outcome.Stopped r halt) = []
@@ -75,7 +66,7 @@ journal-follows fault.BadStart out = (refl, refl)
 journal-follows fault.Disk out = (refl, refl)
 journal-follows fault.Memory out = refl
 
-pub follows-as : (a : RunAnswer) → Follows (line_or_ending a) (ended_as a) (Some []) (Some (text_as a))
+pub follows-as : (a : RolloutEnd) → Follows (line_or_ending a) (ending_of_rollout a) (Some []) (Some (text_as a))
 follows-as (outcome.Finished operations found) = inl (refl, refl)
 follows-as (outcome.Held left) = (refl, refl)
 follows-as (outcome.Stopped r halt) = stop-follows r halt.cause (Some [])
@@ -85,7 +76,7 @@ follows-as (outcome.Unopened why) = journal-follows why (Some [])
 
 -- ---- by the status of the takeover
 
-taken-memory : (e : Ending) → IsOfTaken (status_of e) → status_of e ≡ 12 → ⊥
+taken-memory : (e : CommandEnd) → IsOfTaken (status_of e) → status_of e ≡ 12 → ⊥
 taken-memory e of twelve = let no : IsOfTaken 12 = subst IsOfTaken twelve of in cc
 
 not-stop : (r : Rollout) (why : Cause) → IsOfTaken (status_of (ending_of_stop r why)) → ⊥
@@ -105,21 +96,21 @@ not-journal fault.BadStart of = cc
 not-journal fault.Disk of = cc
 not-journal fault.Memory of = cc
 
-module _ (total : ℕ) (e : Ending) (out now : Option (List ℕ)) where
-  by-answer : (a : RunAnswer) → IsOfTaken (status_of e) → EndsWith (taken_or_ending total a) e out now → IsOfBegun (status_of (ended_as a))
+module _ (total : ℕ) (e : CommandEnd) (out now : Option (List ℕ)) where
+  by-answer : (a : RolloutEnd) → IsOfTaken (status_of e) → EndsWith (taken_or_ending total a) e out now → IsOfBegun (status_of (ending_of_rollout a))
   by-answer (outcome.Finished operations found) of ends = refl
   by-answer (outcome.Held left) of ends = refl
-  by-answer (outcome.Stopped r halt) of ends = absurd (not-stop r halt.cause (subst (λ (x : Ending). IsOfTaken (status_of x)) ends.0 of))
-  by-answer (outcome.NoPort r switch) of ends = absurd (let no : IsOfTaken 9 = subst (λ (x : Ending). IsOfTaken (status_of x)) ends.0 of in cc)
-  by-answer outcome.Memory of ends = absurd (let no : IsOfTaken 12 = subst (λ (x : Ending). IsOfTaken (status_of x)) ends.0 of in cc)
-  by-answer (outcome.Unopened why) of ends = absurd (not-journal why (subst (λ (x : Ending). IsOfTaken (status_of x)) ends.0 of))
+  by-answer (outcome.Stopped r halt) of ends = absurd (not-stop r halt.cause (subst (λ (x : CommandEnd). IsOfTaken (status_of x)) ends.0 of))
+  by-answer (outcome.NoPort r switch) of ends = absurd (let no : IsOfTaken 9 = subst (λ (x : CommandEnd). IsOfTaken (status_of x)) ends.0 of in cc)
+  by-answer outcome.Memory of ends = absurd (let no : IsOfTaken 12 = subst (λ (x : CommandEnd). IsOfTaken (status_of x)) ends.0 of in cc)
+  by-answer (outcome.Unopened why) of ends = absurd (not-journal why (subst (λ (x : CommandEnd). IsOfTaken (status_of x)) ends.0 of))
 
   -- a takeover that is finished or held back, or whose line was cut, is one that was begun
-  pub begun-as : (a : RunAnswer) → IsOfTaken (status_of e) → Follows (taken_or_ending total a) e out now → IsOfBegun (status_of (ended_as a))
+  pub begun-as : (a : RolloutEnd) → IsOfTaken (status_of e) → Follows (taken_or_ending total a) e out now → IsOfBegun (status_of (ending_of_rollout a))
   begun-as a of follows = by-answer a of (follows-ends (taken_or_ending total a) e out now follows (taken-memory e of))
 
 -- and one whose line was written is finished
-pub record IsFinishedAs (total : ℕ) (a : RunAnswer) (out now : Option (List ℕ)) : Type 0 where
+pub record IsFinishedAs (total : ℕ) (a : RolloutEnd) (out now : Option (List ℕ)) : Type 0 where
   pub operations : ℕ
   pub found : ℕ
   pub is : a ≡ outcome.Finished operations found
@@ -142,7 +133,7 @@ journal-done fault.BadStart h = cc
 journal-done fault.Disk h = cc
 journal-done fault.Memory h = cc
 
-pub done-as : (total : ℕ) (a : RunAnswer) (out now : Option (List ℕ)) → Follows (taken_or_ending total a) Done out now → IsFinishedAs total a out now
+pub done-as : (total : ℕ) (a : RolloutEnd) (out now : Option (List ℕ)) → Follows (taken_or_ending total a) Done out now → IsFinishedAs total a out now
 done-as total (outcome.Finished operations found) out now (inl done) = record { operations = operations; found = found; is = refl; line = done.1 }
 done-as total (outcome.Finished operations found) out now (inr cut) = absurd (cc cut.0)
 done-as total (outcome.Held left) out now h = absurd (cc h.0)

@@ -6,3 +6,16 @@ pub mod Faulting
 pub mod Counted
 pub mod Starting
 mod Worded
+pub mod TermPlaces
+pub mod TermOnce
+pub mod PromptReplies
+pub mod PromptNotes
+pub mod PromptRounds
+pub mod PromptTalks
+pub mod PromptHomes
+pub mod PromptVisits
+pub mod PromptFences
+pub mod PlacedStands
+pub mod CertainRun
+pub mod CertainTake
+pub mod ReadyExamples

@@ -108,7 +108,7 @@ module _ (r : Rollout) (digest : Digest) where
   no-count : (slot : Slot) (part : List ℕ) → is_second slot ≡ false → starts_in slot part ≡ []
   no-count slot part first = ap (λ (b : Bool). numbers (if b then number_4 (drop 36 part) else 0) (drop 40 part)) first
 
-  of-part : (start : List ℕ) (slot : Slot) (part s : List ℕ) → length start ≡ item_count r.problem → starts_in slot part ≡ start → s ≡ start_of r.problem slot part → s ≡ start
+  pub of-part : (start : List ℕ) (slot : Slot) (part s : List ℕ) → length start ≡ item_count r.problem → starts_in slot part ≡ start → s ≡ start_of r.problem slot part → s ≡ start
   of-part start slot part s long kept is = ⊎_elim
       (λ yes. is ∙ ap (λ (b : Bool). if b then starts_in slot part else no_start r.problem) yes ∙ kept)
       (λ no.
@@ -133,7 +133,7 @@ module _ (r : Rollout) (digest : Digest) where
       (λ not. not)
       (cases_Bool (is_blank image))
 
-  judged : (image : List ℕ) (kept : Kept) → journal_in image ≡ Some kept → verdict r digest image ≡ judged_journal r digest image
+  pub judged : (image : List ℕ) (kept : Kept) → journal_in image ≡ Some kept → verdict r digest image ≡ judged_journal r digest image
   judged image kept is = ap (λ (b : Bool). if b then Fresh else judged_journal r digest image) (unblank image kept is)
 
   module _ (start image : List ℕ) (is : journal_in image ≡ Some (kept_of digest start [])) (long : length start ≡ item_count r.problem) where

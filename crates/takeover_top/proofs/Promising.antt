@@ -10,24 +10,24 @@ use Rattle.dependency_graph.specs.declared.start_fault.StartFault.{StartFault}
 use Rattle.dependency_graph.specs.declared.start_fault.StartFault.TheVariants as fault
 use Rattle.dependency_graph.specs.FirstFault.{TellsSound}
 use Rattle.rollout_rules.specs.Legal.{is_sound}
-use Rattle.rollout_ports.specs.Berths.{FleetPorts}
-use Rattle.rollout_run.specs.declared.running.Limits.{Limits}
+use Rattle.switch_ports.specs.Berths.{FleetPorts}
+use Rattle.controller_run.specs.declared.running.Limits.{Limits}
 use Rattle.fence_takeover.specs.Fences.{Fences, IsFencedOff}
 use Rattle.fence_takeover.specs.declared.end.FenceEnd.{FenceEnd}
 use Rattle.fence_takeover.specs.declared.end.FenceEnd.TheVariants as fence
-use Rattle.takeover_service.specs.Beginnings.{Begins, HasBegun, IsRefused}
-use Rattle.takeover_service.specs.declared.begun.NotBegun.{NotBegun}
-use Rattle.takeover_service.specs.declared.begun.NotBegun.TheVariants as why
+use Rattle.fence_takeover.specs.Beginnings.{Begins, HasBegun, IsRefused}
+use Rattle.fence_takeover.specs.declared.begun.NotBegun.{NotBegun}
+use Rattle.fence_takeover.specs.declared.begun.NotBegun.TheVariants as why
 use Rattle.text_commands.specs.Answers.{rollout_in, rollout_to}
-use Rattle.text_commands.specs.Endings.{ending_of_journal, status_of}
+use Rattle.text_commands.specs.CommandEnds.{ending_of_journal, status_of}
 use Rattle.text_commands.specs.Lines.{IsToldAs}
 use Rattle.text_commands.specs.Reading.{IsCut, IsShortInput, ReadsInput}
 use Rattle.text_commands.specs.Runs.{Gives, IsInput, IsTold}
-use Rattle.text_commands.specs.declared.ending.Ending.{Ending}
-use Rattle.text_commands.specs.declared.ending.Ending.TheVariants.{Done, Usage, AboveLimit, Input, NotValid, NoPlan, Unshown, ReadFault, WriteFault, DiskFault, GuestFault, Refused, NotFinished, OutOfMemory}
+use Rattle.text_commands.specs.declared.command_end.CommandEnd.{CommandEnd}
+use Rattle.text_commands.specs.declared.command_end.CommandEnd.TheVariants.{Done, Usage, AboveLimit, Input, NotValid, NoPlan, Unshown, ReadFault, WriteFault, DiskFault, GuestFault, Refused, NotFinished, OutOfMemory}
 use Rattle.text_commands.proofs.Answering.{is_answer, rollout-answers}
 use Rattle.text_commands.proofs.Statuses.{is-done, not-status}
-use Rattle.swanroll_top.specs.JournalRoom.{journal_room}
+use Rattle.retarget_service.specs.JournalRoom.{journal_room}
 use Rattle.swanroll_top.specs.Rollouts.{FleetSeen}
 use Rattle.swanroll_top.specs.Targets.{BeginsNothing, StaysSafe}
 use Rattle.swanroll_top.proofs.Reporting.{short-rollout}
@@ -42,7 +42,7 @@ use Rattle.takeover_top.proofs.Taken.{run-done, run-ends, run-next, run-safe, ta
 
 -- ---- by the status
 
-never-13 : (e : Ending) → status_of e ≡ 13 → ⊥
+never-13 : (e : CommandEnd) → status_of e ≡ 13 → ⊥
 never-13 Done h = omega (arith, h)
 never-13 Usage h = omega (arith, h)
 never-13 AboveLimit h = omega (arith, h)
@@ -72,7 +72,7 @@ told-13 (Unsound r f) status before now told is = record { there = r; broken = f
 
 -- an ending that a run may have, with this status
 pub record IsEndedSo (ending : TakeoverEnding) (status : ℕ) : Type 0 where
-  pub own : Ending
+  pub own : CommandEnd
   pub is : ending ≡ Ended own
   pub status_is : status_of own ≡ status
 
@@ -101,33 +101,33 @@ told-taken (Unsound r f) status before now (inr memory) of = absurd (of-memory s
 
 -- ---- which endings there are
 
-pub own-ending : (e x : Ending) → Ended e ≡ Ended x → e ≡ x
+pub own-ending : (e x : CommandEnd) → Ended e ≡ Ended x → e ≡ x
 own-ending e x is = cc is
 
-not-unsound : (e : Ending) (r : Rollout) (f : StartFault) → Ended e ≡ Unsound r f → ⊥
+not-unsound : (e : CommandEnd) (r : Rollout) (f : StartFault) → Ended e ≡ Unsound r f → ⊥
 not-unsound e r f is = cc is
 
 -- a takeover that wasn't begun ends with none of the statuses of one that was
-fence-taken : (r : Rollout) (end : FenceEnd) (e : Ending) → ending_of_fence r end ≡ Ended e → IsOfTaken (status_of e) → ⊥
-fence-taken r (fence.NoPort w) e is of = let no : IsOfTaken 9 = subst (λ (x : Ending). IsOfTaken (status_of x)) (sym (own-ending _ e is)) of in cc
-fence-taken r (fence.Port w) e is of = let no : IsOfTaken 9 = subst (λ (x : Ending). IsOfTaken (status_of x)) (sym (own-ending _ e is)) of in cc
-fence-taken r (fence.Above item held count) e is of = let no : IsOfTaken 11 = subst (λ (x : Ending). IsOfTaken (status_of x)) (sym (own-ending _ e is)) of in cc
+fence-taken : (r : Rollout) (end : FenceEnd) (e : CommandEnd) → ending_of_fence r end ≡ Ended e → IsOfTaken (status_of e) → ⊥
+fence-taken r (fence.NoPort w) e is of = let no : IsOfTaken 9 = subst (λ (x : CommandEnd). IsOfTaken (status_of x)) (sym (own-ending _ e is)) of in cc
+fence-taken r (fence.Port w) e is of = let no : IsOfTaken 9 = subst (λ (x : CommandEnd). IsOfTaken (status_of x)) (sym (own-ending _ e is)) of in cc
+fence-taken r (fence.Above item held count) e is of = let no : IsOfTaken 11 = subst (λ (x : CommandEnd). IsOfTaken (status_of x)) (sym (own-ending _ e is)) of in cc
 fence-taken r (fence.Later item migration) e is of = cc is
-fence-taken r (fence.NotMine w item) e is of = let no : IsOfTaken 11 = subst (λ (x : Ending). IsOfTaken (status_of x)) (sym (own-ending _ e is)) of in cc
-fence-taken r (fence.NoAnswer w byte) e is of = let no : IsOfTaken 11 = subst (λ (x : Ending). IsOfTaken (status_of x)) (sym (own-ending _ e is)) of in cc
-fence-taken r (fence.Spent rounds item) e is of = let no : IsOfTaken 5 = subst (λ (x : Ending). IsOfTaken (status_of x)) (sym (own-ending _ e is)) of in cc
-fence-taken r fence.Memory e is of = let no : IsOfTaken 12 = subst (λ (x : Ending). IsOfTaken (status_of x)) (sym (own-ending _ e is)) of in cc
+fence-taken r (fence.NotMine w item) e is of = let no : IsOfTaken 11 = subst (λ (x : CommandEnd). IsOfTaken (status_of x)) (sym (own-ending _ e is)) of in cc
+fence-taken r (fence.NoAnswer w byte) e is of = let no : IsOfTaken 11 = subst (λ (x : CommandEnd). IsOfTaken (status_of x)) (sym (own-ending _ e is)) of in cc
+fence-taken r (fence.Spent rounds item) e is of = let no : IsOfTaken 5 = subst (λ (x : CommandEnd). IsOfTaken (status_of x)) (sym (own-ending _ e is)) of in cc
+fence-taken r fence.Memory e is of = let no : IsOfTaken 12 = subst (λ (x : CommandEnd). IsOfTaken (status_of x)) (sym (own-ending _ e is)) of in cc
 
-start-taken : (r : Rollout) (f : StartFault) (e : Ending) → ending_of_start r f ≡ Ended e → IsOfTaken (status_of e) → ⊥
+start-taken : (r : Rollout) (f : StartFault) (e : CommandEnd) → ending_of_start r f ≡ Ended e → IsOfTaken (status_of e) → ⊥
 start-taken r (fault.Above item held count) e is of = cc is
 start-taken r (fault.Need item number) e is of = cc is
 start-taken r (fault.Room stage spot found wanted) e is of = cc is
-start-taken r fault.Memory e is of = let no : IsOfTaken 12 = subst (λ (x : Ending). IsOfTaken (status_of x)) (sym (own-ending _ e is)) of in cc
+start-taken r fault.Memory e is of = let no : IsOfTaken 12 = subst (λ (x : CommandEnd). IsOfTaken (status_of x)) (sym (own-ending _ e is)) of in cc
 
-journal-taken : (why : JournalFault) (e : Ending) → Ended (ending_of_journal why) ≡ Ended e → IsOfTaken (status_of e) → ⊥
-journal-taken why e is of = not-journal why (subst (λ (x : Ending). IsOfTaken (status_of x)) (sym (own-ending _ e is)) of)
+journal-taken : (why : JournalFault) (e : CommandEnd) → Ended (ending_of_journal why) ≡ Ended e → IsOfTaken (status_of e) → ⊥
+journal-taken why e is of = not-journal why (subst (λ (x : CommandEnd). IsOfTaken (status_of x)) (sym (own-ending _ e is)) of)
 
-begun-taken : (cause : NotBegun) (e : Ending) → ending_of_not_begun cause ≡ Ended e → IsOfTaken (status_of e) → ⊥
+begun-taken : (cause : NotBegun) (e : CommandEnd) → ending_of_not_begun cause ≡ Ended e → IsOfTaken (status_of e) → ⊥
 begun-taken (why.Fence r end) e is of = fence-taken r end e is of
 begun-taken (why.Start r f) e is of = start-taken r f e is of
 begun-taken (why.Journal cause) e is of = journal-taken cause e is of
@@ -208,10 +208,10 @@ module _ {D P : Type 0} (trace : D → DiskTrace) (tell : P → PortTrace)
       | inr stays ↦ inr (inr (from-stays stays))
     ]
 
-    begun-safe : (e : Ending) → ending ≡ Ended e → IsOfTaken (status_of e) → Safely
+    begun-safe : (e : CommandEnd) → ending ≡ Ended e → IsOfTaken (status_of e) → Safely
     begun-safe e is_e of =
         let same : runs-own.ended ≡ e = own-ending runs-own.ended e (sym runs-own.is ∙ is_e) in
-        from-stays (run-safe trace tell limits policy input r is begins.start begun disk_now mid now ending sink sink_now runs-own told (subst (λ (x : Ending). IsOfTaken (status_of x)) (sym same) of))
+        from-stays (run-safe trace tell limits policy input r is begins.start begun disk_now mid now ending sink sink_now runs-own told (subst (λ (x : CommandEnd). IsOfTaken (status_of x)) (sym same) of))
 
     begun-target : ending ≡ Ended Done → TakesToTarget trace tell limits Given disk disk_now before.ports now.ports sink.written sink_now.written
     begun-target is_e =
@@ -229,7 +229,7 @@ module _ {D P : Type 0} (trace : D → DiskTrace) (tell : P → PortTrace)
       by (Ok taken) begins runs = begun-ends taken takes.mid takes.begun begins runs
       by (Err cause) begins ends = not-begun-ends cause takes.mid takes.begun begins ends.2
 
-  pub rollout-safe : (e : Ending) → ending ≡ Ended e → IsOfTaken (status_of e) → TakesRollout trace tell r limits policy disk disk_now before now ending sink sink_now → Safely
+  pub rollout-safe : (e : CommandEnd) → ending ≡ Ended e → IsOfTaken (status_of e) → TakesRollout trace tell r limits policy disk disk_now before now ending sink sink_now → Safely
   rollout-safe e is_e of takes = by takes.answer takes.begins takes.ends
     where
       by : (a : Result (Rollout × List ℕ) NotBegun) → Begins a tell trace r limits.migration limits.rounds (journal_room r) before.ports takes.mid.ports disk takes.begun
@@ -273,7 +273,7 @@ module _ {D P : Type 0} (trace : D → DiskTrace) (tell : P → PortTrace)
 
 -- ---- an ending that came before any switch was asked
 
-cut-early : (source source_now : SourceTrace) (e : Ending) → IsCut source e source_now → IsOfTaken (status_of e) → ⊥
+cut-early : (source source_now : SourceTrace) (e : CommandEnd) → IsCut source e source_now → IsOfTaken (status_of e) → ⊥
 cut-early source source_now Done cut of = cut
 cut-early source source_now Usage cut of = cut
 cut-early source source_now AboveLimit cut of = cc
@@ -289,7 +289,7 @@ cut-early source source_now (Refused f) cut of = cut
 cut-early source source_now (NotFinished u) cut of = cut
 cut-early source source_now OutOfMemory cut of = cc
 
-refused-early : (input : List ℕ) (e : Ending) → Gives {A = Rollout} (Err e) (rollout_in input) → IsOfTaken (status_of e) → ⊥
+refused-early : (input : List ℕ) (e : CommandEnd) → Gives {A = Rollout} (Err e) (rollout_in input) → IsOfTaken (status_of e) → ⊥
 refused-early input Done h of = let no : is_answer Done ≡ true = rollout-answers input Done h in cc
 refused-early input Usage h of = cc
 refused-early input AboveLimit h of = cc
@@ -317,15 +317,15 @@ module _ {D P : Type 0} (trace : D → DiskTrace) (tell : P → PortTrace)
   ForRollout Goal = (input : List ℕ) → Own input → (r : Rollout) → rollout_to input ≡ Ok r → TakesRollout trace tell r limits policy disk disk_now before now ending sink sink_now → Goal
 
   -- what holds where an ending came before any switch was asked, and where one was
-  by-input : (Goal : Type 0) → ((e : Ending) → ending ≡ Ended e → now ≡ before → (IsOfTaken (status_of e) → ⊥) → Goal) → ForRollout Goal → Goal
+  by-input : (Goal : Type 0) → ((e : CommandEnd) → ending ≡ Ended e → now ≡ before → (IsOfTaken (status_of e) → ⊥) → Goal) → ForRollout Goal → Goal
   by-input Goal early late = by takes.input takes.reads takes.ends
     where
-      by-rollout : (input : List ℕ) (short : IsShortInput source source_now input) (rollout : Result Rollout Ending) → Gives rollout (rollout_in input)
+      by-rollout : (input : List ℕ) (short : IsShortInput source source_now input) (rollout : Result Rollout CommandEnd) → Gives rollout (rollout_in input)
           → ByRollout trace tell limits policy rollout disk disk_now before now ending sink sink_now → Goal
       by-rollout input short (Ok r) gives ends = late input short.input r (short-rollout input short.within ∙ gives) ends
       by-rollout input short (Err e) gives ends = early e ends.0 ends.2 (refused-early input e gives)
 
-      by : (read : Result (List ℕ) Ending) → ReadsInput source read source_now → ByInput trace tell limits policy read disk disk_now before now ending sink sink_now → Goal
+      by : (read : Result (List ℕ) CommandEnd) → ReadsInput source read source_now → ByInput trace tell limits policy read disk disk_now before now ending sink sink_now → Goal
       by (Ok input) short ends = by-rollout input short ends.rollout ends.gives ends.ends
       by (Err e) cut ends = early e ends.0 ends.2 (cut-early source source_now e cut)
 
@@ -337,14 +337,14 @@ module _ {D P : Type 0} (trace : D → DiskTrace) (tell : P → PortTrace)
   takes-refused there f is_e = by-input (RefusesStart tell limits Own disk disk_now before.ports now.ports) (λ e is same never. absurd (not-unsound e there f (sym is ∙ is_e)))
       (λ input given r is rollout. rollout-refused trace tell limits policy Own input given r is disk disk_now before now ending sink sink_now there f is_e rollout)
 
-  pub takes-safe : (e : Ending) → ending ≡ Ended e → IsOfTaken (status_of e) → TakesSafely trace tell limits Own disk disk_now before.ports now.ports
+  pub takes-safe : (e : CommandEnd) → ending ≡ Ended e → IsOfTaken (status_of e) → TakesSafely trace tell limits Own disk disk_now before.ports now.ports
   takes-safe e is_e of = by-input (TakesSafely trace tell limits Own disk disk_now before.ports now.ports)
-      (λ x is same never. absurd (never (subst (λ (y : Ending). IsOfTaken (status_of y)) (own-ending e x (sym is_e ∙ is)) of)))
+      (λ x is same never. absurd (never (subst (λ (y : CommandEnd). IsOfTaken (status_of y)) (own-ending e x (sym is_e ∙ is)) of)))
       (λ input given r is rollout. rollout-safe trace tell limits policy Own input given r is disk disk_now before now ending sink sink_now e is_e of rollout)
 
   pub takes-target : ending ≡ Ended Done → TakesToTarget trace tell limits Own disk disk_now before.ports now.ports sink.written sink_now.written
   takes-target is_e = by-input (TakesToTarget trace tell limits Own disk disk_now before.ports now.ports sink.written sink_now.written)
-      (λ x is same never. absurd (never (subst (λ (y : Ending). IsOfTaken (status_of y)) (own-ending Done x (sym is_e ∙ is)) refl)))
+      (λ x is same never. absurd (never (subst (λ (y : CommandEnd). IsOfTaken (status_of y)) (own-ending Done x (sym is_e ∙ is)) refl)))
       (λ input given r is rollout. rollout-target trace tell limits policy Own input given r is disk disk_now before now ending sink sink_now is_e rollout)
 
   -- ---- by the status

@@ -2,10 +2,10 @@
 use Rattle.std.proofs.Common.{◌≡◌, ℕ, List, drop, String, Result, Ok, Err, Some, IfOk, refl, sym, ap, subst}
 use Rattle.std.specs.declared.alloc.Global.{Global}
 use Rattle.rollout_rules.specs.declared.op.OpView.{OpView}
-use Rattle.text_commands.specs.Endings.{ending_of_unread}
+use Rattle.text_commands.specs.CommandEnds.{ending_of_unread}
 use Rattle.text_commands.specs.Runs.{IsTold}
 use Rattle.text_commands.specs.declared.arguments.Unread.{Unread}
-use Rattle.text_commands.specs.declared.ending.Ending.{Ending}
+use Rattle.text_commands.specs.declared.command_end.CommandEnd.{CommandEnd}
 use Rattle.swanroll_top.specs.Promise.{Promise, StartPromise}
 use Rattle.swanroll_top.specs.Views.{Outside, Views, outside}
 use Rattle.swanroll_top.specs.Words.{asked_by}
@@ -25,7 +25,7 @@ module _ {A S K D F P G : Type 0} (views : Views S K D F P G) (of_term : F → �
   read-taken all words before after status is words_are promise =
       subst (λ r. StartsTakeover views of_term policies r list before status after) (sym is) (record { read = subst (λ w. ByWords views of_term (taking_by policies w) before status after) words_are promise; unread = tt })
 
-  pub unread-taken : (why : Unread) (e : Ending) (source : S) (sink : K) (notes notes_now : K) (disk : D) (fleet : F) (status : ℕ) → arguments ≡ Err why → e ≡ ending_of_unread why
+  pub unread-taken : (why : Unread) (e : CommandEnd) (source : S) (sink : K) (notes notes_now : K) (disk : D) (fleet : F) (status : ℕ) → arguments ≡ Err why → e ≡ ending_of_unread why
       → IsTold e status (views.sink notes).written (views.sink notes_now).written (views.sink notes).faults (views.sink notes_now).faults
       → StartsTakeover views of_term policies arguments list (outside source sink notes disk fleet) status (outside source sink notes_now disk fleet)
   unread-taken why e source sink notes notes_now disk fleet status is end told =

@@ -6,17 +6,17 @@ use Rattle.dependency_graph.specs.declared.start_fault.StartFault.{StartFault}
 use Rattle.dependency_graph.specs.declared.start_fault.StartFault.TheVariants as fault
 use Rattle.fence_takeover.specs.declared.end.FenceEnd.{FenceEnd}
 use Rattle.fence_takeover.specs.declared.end.FenceEnd.TheVariants as fence
-use Rattle.rollout_service.specs.declared.answer.RunAnswer.{RunAnswer}
-use Rattle.rollout_service.specs.declared.answer.RunAnswer.TheVariants as outcome
-use Rattle.takeover_service.specs.declared.begun.NotBegun.{NotBegun}
-use Rattle.takeover_service.specs.declared.begun.NotBegun.TheVariants as why
-use Rattle.text_commands.specs.Endings.{ending_of_journal, status_of}
+use Rattle.controller_run.specs.declared.rollout_end.RolloutEnd.{RolloutEnd}
+use Rattle.controller_run.specs.declared.rollout_end.RolloutEnd.TheVariants as outcome
+use Rattle.fence_takeover.specs.declared.begun.NotBegun.{NotBegun}
+use Rattle.fence_takeover.specs.declared.begun.NotBegun.TheVariants as why
+use Rattle.text_commands.specs.CommandEnds.{ending_of_journal, status_of}
 use Rattle.text_commands.specs.Runs.{IsTold}
-use Rattle.text_commands.specs.declared.ending.Ending.{Ending}
-use Rattle.text_commands.specs.declared.ending.Ending.TheVariants.{NotFinished, OutOfMemory}
-use Rattle.text_commands.specs.declared.unfinished.Unfinished.TheVariants.{RoundsSpent, PortFault, Above, NotMine, NoAnswer, Held}
+use Rattle.text_commands.specs.declared.command_end.CommandEnd.{CommandEnd}
+use Rattle.text_commands.specs.declared.command_end.CommandEnd.TheVariants.{NotFinished, OutOfMemory}
+use Rattle.text_commands.specs.declared.unfinished.Unfinished.TheVariants.{RoundsSpent, PortFault, Above, NotMine, NoAnswer}
 use Rattle.swanroll_top.specs.Live.{NotesText}
-use Rattle.swanroll_top.specs.Rollouts.{ending_of_stop}
+use Rattle.swanroll_top.specs.Rollouts.{ending_of_rollout}
 use Rattle.takeover_top.specs.Lines.{later_line, start_line, taken_line}
 use Rattle.takeover_top.specs.declared.ending.TakeoverEnding.{TakeoverEnding}
 use Rattle.takeover_top.specs.declared.ending.TakeoverEnding.TheVariants.{Ended, Later, Unsound}
@@ -49,13 +49,9 @@ ending_of_not_begun (why.Journal cause) = Ended (ending_of_journal cause)
 -- ---- one that was
 
 -- the line of a takeover from a start with so many operations settled, or how the rollout from there ends without one
-abbrev pub taken_or_ending : ℕ → RunAnswer → Result (List ℕ) Ending
+abbrev pub taken_or_ending : ℕ → RolloutEnd → Result (List ℕ) CommandEnd
 taken_or_ending total (outcome.Finished operations found) = Ok (taken_line operations total)
-taken_or_ending total (outcome.Held left) = Err (NotFinished (Held left))
-taken_or_ending total (outcome.Stopped r halt) = Err (ending_of_stop r halt.cause)
-taken_or_ending total (outcome.NoPort r switch) = Err (NotFinished (PortFault r switch))
-taken_or_ending total outcome.Memory = Err OutOfMemory
-taken_or_ending total (outcome.Unopened cause) = Err (ending_of_journal cause)
+taken_or_ending total end = Err (ending_of_rollout end)
 
 -- ---- status and line
 
@@ -64,7 +60,7 @@ takeover_status (Ended e) = status_of e
 takeover_status (Later item migration) = 11
 takeover_status (Unsound r f) = 13
 
--- the notes have this line and the status is this one, or want of memory is told in its place
+-- the notes have this line and the status is this one, or lack of memory is told in its place
 abbrev pub LineTold : List ℕ → ℕ → ℕ → SinkTrace → SinkTrace → Type 0
 LineTold line own status before now = ((status ≡ own) × NotesText line before now) ⊎ IsTold OutOfMemory status before.written now.written before.faults now.faults
 

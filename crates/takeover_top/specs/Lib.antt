@@ -4,5 +4,7 @@ pub mod TakingWords
 pub mod TermWords
 pub mod Takings
 pub mod TakenTargets
+pub mod ReadyToTake
+pub mod WorkedTakeovers
 pub mod TakeoverPromise
 pub mod TermPromise

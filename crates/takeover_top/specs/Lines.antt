@@ -39,7 +39,7 @@ amounts_piece found wanted = codes ": " ++ decimal found ++ codes " against " ++
 abbrev pub room_line : Problem → ℕ → Spot → ℕ → ℕ → List ℕ
 room_line p stage spot found wanted = stage_piece stage ++ spot_text p spot ++ amounts_piece found wanted
 
--- want of memory has no line of its own
+-- lack of memory has no line of its own
 abbrev pub start_line : Problem → StartFault → List ℕ
 start_line p (fault.Above item held count) = above_line item held count
 start_line p (fault.Need item number) = need_line item number

@@ -1,4 +1,4 @@
--- What stands behind a takeover: nothing but questions went out, or the network is safe as behind any rollout that began at what the switches told.
+-- What stands after a takeover: nothing but questions went out, or the network is safe as after any rollout that began at what the switches told.
 use Rattle.std.specs.Prelude.{◌≡◌, ◌⊎◌, ◌==◌, ℕ, true, false, List, [], ◌∷◌, Option, Some, Result, Ok, Err, IsTrue}
 use Rattle.std.specs.List.{AllByRecursion, list_any}
 use Rattle.rollout_rules.specs.History.{started, with_entries}
@@ -11,12 +11,12 @@ use Rattle.disk_model.specs.Traces.{DiskTrace}
 use Rattle.disk_mirror.specs.Openings.{Opens}
 use Rattle.dependency_graph.specs.Graph.{op_total}
 use Rattle.dependency_graph.specs.declared.start_fault.StartFault.{StartFault}
-use Rattle.rollout_ports.specs.Berths.{FleetPorts}
-use Rattle.rollout_run.specs.declared.running.Limits.{Limits}
+use Rattle.switch_ports.specs.Berths.{FleetPorts}
+use Rattle.controller_run.specs.declared.running.Limits.{Limits}
 use Rattle.rollback_service.specs.Placings.{HasPlaced, MayPlace}
 use Rattle.fence_takeover.specs.Fences.{Fences, IsFencedOff}
 use Rattle.fence_takeover.specs.declared.end.FenceEnd.{FenceEnd}
-use Rattle.takeover_service.specs.Beginnings.{IsRefused, MayBegin, taken_kept}
+use Rattle.fence_takeover.specs.Beginnings.{IsRefused, MayBegin, taken_kept}
 use Rattle.text_commands.specs.Answers.{rollout_to}
 use Rattle.swanroll_top.specs.NextStarts.{NextStart}
 use Rattle.swanroll_top.specs.Targets.{BeginsNothing, EndsAtTarget, StaysSafe}
@@ -35,7 +35,7 @@ pub record AsksOnly {P : Type 0} (tell : P → PortTrace) (limits : Limits) (Giv
 
 -- The input is a rollout, and it was begun. Each home of an operation told what it holds, one may begin there, and a journal that begins there was placed on the
 -- disk as it was opened. From it the rollout was run, over the ports as the last answer left them, with the list empty and what was told as the start: the
--- network is safe, as behind a run (stays), and a run from the same journal isn't refused for what a crash leaves (next).
+-- network is safe, as after a run (stays), and a run from the same journal isn't refused for what a crash leaves (next).
 pub record TakesSafely {D P : Type 0} (trace : D → DiskTrace) (tell : P → PortTrace) (limits : Limits) (Given : List ℕ → Type 0) (disk disk_now : D) (before now : FleetPorts P) : Type 0 where
   pub input : List ℕ
   pub given : Given input
@@ -73,7 +73,7 @@ pub record RefusesStart {D P : Type 0} (tell : P → PortTrace) (limits : Limits
   pub fault : StartFault
   pub refused : IsRefused r start r fault disk disk_now
 
--- the statuses that come only behind a rollout that was begun, whatever its cause
+-- the statuses that come only after a rollout that was begun, whatever its cause
 abbrev pub IsOfTaken : ℕ → Type 0
 IsOfTaken status = IsTrue (list_any (λ s. s == status) (0 ∷ 7 ∷ 14 ∷ []))
 

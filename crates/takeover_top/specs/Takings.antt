@@ -9,21 +9,21 @@ use Rattle.wan_edge.specs.Streams.{Rose, SinkTrace, SourceTrace}
 use Rattle.disk_model.specs.Traces.{DiskTrace}
 use Rattle.intent_journal.specs.Openings.{IsLeft}
 use Rattle.rollout_report.specs.Journals.{digest_for}
-use Rattle.rollout_run.specs.declared.running.Limits.{Limits}
-use Rattle.rollout_service.specs.Outcomes.{HasRolled, IfRolled, OnUnopened}
-use Rattle.rollout_service.specs.declared.answer.RunAnswer.{RunAnswer}
-use Rattle.rollout_service.specs.declared.answer.RunAnswer.TheVariants as outcome
+use Rattle.controller_run.specs.declared.running.Limits.{Limits}
+use Rattle.controller_run.specs.RolloutEnds.{HasRolled, IfRolled, OnUnopened}
+use Rattle.controller_run.specs.declared.rollout_end.RolloutEnd.{RolloutEnd}
+use Rattle.controller_run.specs.declared.rollout_end.RolloutEnd.TheVariants as outcome
 use Rattle.fence_takeover.specs.declared.end.FenceEnd.TheVariants as fence
-use Rattle.takeover_service.specs.Beginnings.{Begins}
-use Rattle.takeover_service.specs.declared.begun.NotBegun.{NotBegun}
-use Rattle.takeover_service.specs.declared.begun.NotBegun.TheVariants as why
+use Rattle.fence_takeover.specs.Beginnings.{Begins}
+use Rattle.fence_takeover.specs.declared.begun.NotBegun.{NotBegun}
+use Rattle.fence_takeover.specs.declared.begun.NotBegun.TheVariants as why
 use Rattle.text_commands.specs.Answers.{rollout_in}
 use Rattle.text_commands.specs.Reading.{ReadsInput}
 use Rattle.text_commands.specs.Runs.{Follows, Gives}
 use Rattle.text_commands.specs.Safety.{IsValid}
-use Rattle.text_commands.specs.declared.ending.Ending.{Ending}
-use Rattle.text_commands.specs.declared.ending.Ending.TheVariants.{DiskFault, ReadFault, WriteFault}
-use Rattle.swanroll_top.specs.JournalRoom.{journal_room}
+use Rattle.text_commands.specs.declared.command_end.CommandEnd.{CommandEnd}
+use Rattle.text_commands.specs.declared.command_end.CommandEnd.TheVariants.{DiskFault, ReadFault, WriteFault}
+use Rattle.retarget_service.specs.JournalRoom.{journal_room}
 use Rattle.swanroll_top.specs.Rollouts.{FleetSeen}
 use Rattle.takeover_top.specs.Endings.{ending_of_not_begun, taken_or_ending}
 use Rattle.takeover_top.specs.Lines.{start_total}
@@ -39,12 +39,12 @@ pub record RunsOn {D P : Type 0} (trace : D → DiskTrace) (tell : P → PortTra
   pub network : IsNetwork r.problem
   pub valid : IsValid r.problem r.plan
   pub small : limits.migration < 2 ^ 32
-  pub answer : RunAnswer
+  pub answer : RolloutEnd
   pub rolled : IfRolled answer (HasRolled trace tell r (digest_for r limits.migration) policy limits.rounds placed mid.ports now.ports disk_now answer)
   pub unopened : OnUnopened answer (λ cause. IsLeft trace r (digest_for r limits.migration) placed cause disk_now × (now ≡ mid))
   pub no_port : (other : Rollout) (switch : ℕ) → answer ≡ outcome.NoPort other switch → Rose mid.faults now.faults
   -- the line is that of the answer, with the sum of the start
-  pub ended : Ending
+  pub ended : CommandEnd
   pub is : ending ≡ Ended ended
   pub follows : Follows (taken_or_ending (start_total (item_count r.problem) start) answer) ended sink.written sink_now.written
   -- a fault comes only where its object counted one
@@ -74,30 +74,30 @@ pub record TakesRollout {D P : Type 0} (trace : D → DiskTrace) (tell : P → P
 -- ---- by the input
 
 -- nothing was asked, stored or written, and the takeover ends so
-abbrev pub EndsBefore : {D P : Type 0} → Ending → D → D → FleetSeen P → FleetSeen P → TakeoverEnding → SinkTrace → SinkTrace → Type 0
+abbrev pub EndsBefore : {D P : Type 0} → CommandEnd → D → D → FleetSeen P → FleetSeen P → TakeoverEnding → SinkTrace → SinkTrace → Type 0
 EndsBefore e disk disk_now before now ending sink sink_now = (ending ≡ Ended e) × (disk_now ≡ disk) × (now ≡ before) × (sink_now ≡ sink)
 
 -- the rollout of the input decides, or that it is refused
-abbrev pub ByRollout : {D P : Type 0} → (D → DiskTrace) → (P → PortTrace) → Limits → (OpView → ℕ) → Result Rollout Ending → D → D → FleetSeen P → FleetSeen P
+abbrev pub ByRollout : {D P : Type 0} → (D → DiskTrace) → (P → PortTrace) → Limits → (OpView → ℕ) → Result Rollout CommandEnd → D → D → FleetSeen P → FleetSeen P
     → TakeoverEnding → SinkTrace → SinkTrace → Type 0
 ByRollout trace tell limits policy (Ok r) disk disk_now before now ending sink sink_now = TakesRollout trace tell r limits policy disk disk_now before now ending sink sink_now
 ByRollout trace tell limits policy (Err e) disk disk_now before now ending sink sink_now = EndsBefore e disk disk_now before now ending sink sink_now
 
 pub record TakesInput {D P : Type 0} (trace : D → DiskTrace) (tell : P → PortTrace)
     (input : List ℕ) (limits : Limits) (policy : OpView → ℕ) (disk disk_now : D) (before now : FleetSeen P) (ending : TakeoverEnding) (sink sink_now : SinkTrace) : Type 0 where
-  pub rollout : Result Rollout Ending
+  pub rollout : Result Rollout CommandEnd
   pub gives : Gives rollout (rollout_in input)
   pub ends : ByRollout trace tell limits policy rollout disk disk_now before now ending sink sink_now
 
 -- the input decides, or that it wasn't read
-abbrev pub ByInput : {D P : Type 0} → (D → DiskTrace) → (P → PortTrace) → Limits → (OpView → ℕ) → Result (List ℕ) Ending → D → D → FleetSeen P → FleetSeen P
+abbrev pub ByInput : {D P : Type 0} → (D → DiskTrace) → (P → PortTrace) → Limits → (OpView → ℕ) → Result (List ℕ) CommandEnd → D → D → FleetSeen P → FleetSeen P
     → TakeoverEnding → SinkTrace → SinkTrace → Type 0
 ByInput trace tell limits policy (Ok input) disk disk_now before now ending sink sink_now = TakesInput trace tell input limits policy disk disk_now before now ending sink sink_now
 ByInput trace tell limits policy (Err e) disk disk_now before now ending sink sink_now = EndsBefore e disk disk_now before now ending sink sink_now
 
 pub record Takes {D P : Type 0} (trace : D → DiskTrace) (tell : P → PortTrace)
     (source source_now : SourceTrace) (limits : Limits) (policy : OpView → ℕ) (disk disk_now : D) (before now : FleetSeen P) (ending : TakeoverEnding) (sink sink_now : SinkTrace) : Type 0 where
-  pub input : Result (List ℕ) Ending
+  pub input : Result (List ℕ) CommandEnd
   pub reads : ReadsInput source input source_now
   pub cause : IsErrOf input ReadFault → Rose source.faults source_now.faults
   pub ends : ByInput trace tell limits policy input disk disk_now before now ending sink sink_now

@@ -3,16 +3,15 @@ ghost use Rattle.std.specs.Prelude.{◌≡◌};
 ghost use Rattle.takeover_top.specs.Endings.{ending_of_fence, ending_of_not_begun, ending_of_start};
 
 use dependency_graph::StartFault;
-use fence_takeover::FenceEnd;
-use takeover_service::NotBegun;
-use text_commands::{Ending, Unfinished};
+use fence_takeover::{FenceEnd, NotBegun};
+use text_commands::{CommandEnd, Unfinished};
 use wan_model::CheckedPlan;
 
 /// How a takeover ends: as any command, or for a cause that only a takeover has.
 #[derive(Debug, Drop)]
 pub enum TakeoverEnding {
     /// As a command of the program may end.
-    Ended(Ending),
+    Ended(CommandEnd),
     /// The home of this item holds a pair of this migration, which is a later one.
     Later { item: u32, migration: u32 },
     /// What the switches hold is no start of this rollout: this is what it breaks first.
@@ -26,7 +25,7 @@ pub(crate) fn ending_of_not_begun(why: NotBegun) -> TakeoverEnding
     match why {
         NotBegun::Fence(plan, end) => ending_of_fence(plan, end),
         NotBegun::Start(plan, fault) => ending_of_start(plan, fault),
-        NotBegun::Journal(cause) => TakeoverEnding::Ended(Ending::from(cause)),
+        NotBegun::Journal(cause) => TakeoverEnding::Ended(CommandEnd::from(cause)),
     }
 }
 
@@ -57,7 +56,7 @@ fn ending_of_fence(plan: CheckedPlan, end: FenceEnd) -> TakeoverEnding
         FenceEnd::Spent { rounds, item } => unfinished(question_spent(plan, rounds, item)),
         FenceEnd::Memory => {
             drop(plan);
-            TakeoverEnding::Ended(Ending::OutOfMemory)
+            TakeoverEnding::Ended(CommandEnd::OutOfMemory)
         }
     }
 }
@@ -74,9 +73,9 @@ fn question_spent(plan: CheckedPlan, rounds: u32, item: u32) -> Unfinished
 }
 
 fn unfinished(why: Unfinished) -> TakeoverEnding
-    ensures { result ≡ TakeoverEnding.Ended (Ending.NotFinished why) }
+    ensures { result ≡ TakeoverEnding.Ended (CommandEnd.NotFinished why) }
 {
-    TakeoverEnding::Ended(Ending::NotFinished(why))
+    TakeoverEnding::Ended(CommandEnd::NotFinished(why))
 }
 
 // Where no rollout may begin at what they hold.
@@ -86,7 +85,7 @@ fn ending_of_start(plan: CheckedPlan, fault: StartFault) -> TakeoverEnding
     match fault {
         StartFault::Memory => {
             drop(plan);
-            TakeoverEnding::Ended(Ending::OutOfMemory)
+            TakeoverEnding::Ended(CommandEnd::OutOfMemory)
         }
         _ => TakeoverEnding::Unsound(plan, fault),
     }

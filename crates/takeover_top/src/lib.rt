@@ -8,7 +8,6 @@
 #![tactic(auto)]
 
 mod ending;
-mod journal_room;
 mod lines;
 mod plain;
 mod resuming;
@@ -18,6 +17,7 @@ mod taking_words;
 mod telling;
 mod term_words;
 mod top;
+pub mod worked;
 
 pub use ending::TakeoverEnding;
 pub use plain::start_plain;

@@ -4,27 +4,26 @@ ghost use Rattle.rollout_rules.specs.Items.{item_count};
 ghost use Rattle.order_policy.specs.Answers.{rank_by};
 ghost use Rattle.wan_edge.specs.Streams.{Rose};
 ghost use Rattle.text_commands.specs.Runs.{Follows, Gives};
-ghost use Rattle.swanroll_top.specs.Rollouts.{IsDiskFault, ending_of_stop, fleet_of};
+ghost use Rattle.swanroll_top.specs.Rollouts.{IsDiskFault, fleet_of};
 ghost use Rattle.takeover_top.specs.Endings.{taken_or_ending};
 ghost use Rattle.takeover_top.specs.Takings.{RunsOn, Takes, TakesInput, TakesRollout};
 
 use crate::ending::{TakeoverEnding, ending_of_not_begun};
-use crate::journal_room::journal_room;
 use crate::lines::taken_line;
 use crate::start_total::start_total;
+use controller_run::{Limits, RolloutEnd, RolloutResult, run_rollout};
 use dependency_graph::checked_plan_is_valid;
 use disk_mirror::Openable;
+use fence_takeover::{Begun, begin_takeover};
 use fenced_ports::OneTerm;
 use lists::{Ids, Text};
 use order_policy::Policy;
-use rollout_run::Limits;
-use rollout_service::{Outcome, RunAnswer, run_rollout};
-use shared_history::Cause;
+use retarget_service::journal_room;
 use std::alloc::Global;
 use std::sync::Wait;
 use std::thread::Threads;
-use takeover_service::{Begun, begin_takeover};
-use text_commands::{Ending, Unfinished, read_input, rollout_of, write_text};
+use swanroll_top::ending_of_rollout;
+use text_commands::{CommandEnd, read_input, rollout_of, write_text};
 use wan_edge::{Fleet, Nums8, Sink, Source};
 use wan_model::{CheckedPlan, item_count};
 
@@ -168,7 +167,7 @@ where
     checked_plan_is_valid(&plan);
     let total = start_total(start.as_slice(), item_count(plan.problem()));
     drop(start);
-    let Outcome { disk, answer } = run_rollout(rt, alloc, plan, policy, limits, disk, fleet);
+    let RolloutResult { disk, answer } = run_rollout(rt, alloc, plan, policy, limits, disk, fleet);
     Taken {
         ending: TakeoverEnding::Ended(write_outcome(alloc, total, answer, sink)),
         disk,
@@ -176,11 +175,11 @@ where
 }
 
 // Writes the line of a takeover that is finished, or says how it ends without one.
-fn write_outcome<K: Sink>(alloc: Global, total: u64, answer: RunAnswer, sink: &mut K) -> Ending
+fn write_outcome<K: Sink>(alloc: Global, total: u64, answer: RolloutEnd, sink: &mut K) -> CommandEnd
     ensures follows { Follows (taken_or_ending total answer) result (K.told sink.old).written
         (K.told sink.new).written }
-    ensures disk { result ≡ Ending.DiskFault → IsDiskFault answer }
-    ensures write_fault { result ≡ Ending.WriteFault
+    ensures disk { result ≡ CommandEnd.DiskFault → IsDiskFault answer }
+    ensures write_fault { result ≡ CommandEnd.WriteFault
         → Rose (K.told sink.old).faults (K.told sink.new).faults }
 {
     match line_of(alloc, total, answer) {
@@ -189,53 +188,11 @@ fn write_outcome<K: Sink>(alloc: Global, total: u64, answer: RunAnswer, sink: &m
     }
 }
 
-fn line_of(alloc: Global, total: u64, answer: RunAnswer) -> Result<Text, Ending>
+fn line_of(alloc: Global, total: u64, answer: RolloutEnd) -> Result<Text, CommandEnd>
     ensures { Gives result (taken_or_ending total answer) }
 {
     match answer {
-        RunAnswer::Finished { operations, .. } => Ok(taken_line(alloc, operations, total)?),
-        RunAnswer::Held { left } => Err(Ending::NotFinished(Unfinished::Held(left))),
-        RunAnswer::Stopped(plan, halt) => Err(ending_of_stop(plan, halt.cause)),
-        RunAnswer::NoPort(plan, switch) => {
-            Err(Ending::NotFinished(Unfinished::PortFault(plan, switch)))
-        }
-        RunAnswer::Memory => Err(Ending::OutOfMemory),
-        RunAnswer::Unopened(cause) => Err(Ending::from(cause)),
-    }
-}
-
-// How it ends where the rollout was stopped for this cause.
-fn ending_of_stop(plan: CheckedPlan, cause: Cause) -> Ending
-    ensures { result ≡ ending_of_stop plan cause }
-{
-    match cause {
-        Cause::Spent {
-            rounds,
-            item,
-            number,
-        } => {
-            drop(plan);
-            Ending::NotFinished(Unfinished::RoundsSpent {
-                rounds,
-                item,
-                number,
-            })
-        }
-        Cause::Port(switch) => Ending::NotFinished(Unfinished::PortFault(plan, switch)),
-        Cause::Above { item, held, begun } => {
-            drop(plan);
-            Ending::NotFinished(Unfinished::Above { item, held, begun })
-        }
-        Cause::NotMine { switch, item } => {
-            Ending::NotFinished(Unfinished::NotMine(plan, switch, item))
-        }
-        Cause::NoAnswer { switch, byte } => {
-            Ending::NotFinished(Unfinished::NoAnswer(plan, switch, byte))
-        }
-        Cause::Disk => Ending::DiskFault,
-        Cause::Memory => {
-            drop(plan);
-            Ending::OutOfMemory
-        }
+        RolloutEnd::Finished { operations, .. } => Ok(taken_line(alloc, operations, total)?),
+        end => Err(ending_of_rollout(end)),
     }
 }

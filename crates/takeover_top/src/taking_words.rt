@@ -7,9 +7,9 @@ ghost use Rattle.swanroll_top.specs.Words.{limits_in, migration_in};
 ghost use Rattle.text_commands.specs.Words.{are_pairs, policy_in};
 ghost use Rattle.takeover_top.specs.TakingWords.{taking, taking_after, taking_at, taking_by, taking_in, taking_names, term_in, term_of, with_names};
 
+use controller_run::Limits;
 use order_policy::{Policies, Policy};
-use rollout_run::Limits;
-use text_commands::{Unread, begins_with_dash, number_in, numbered, value_or, words_of};
+use text_commands::{Unread, begins_with_dash, number_from, number_in, value_or, words_of};
 
 /// The largest term.
 const MOST_TERM: u64 = 4_294_967_295;
@@ -108,7 +108,7 @@ fn term_in(pairs: &[String]) -> Option<u32>
     ensures asked { result ≡ term_in (map string_bytes pairs.now) }
     ensures some { IfSome result (λ term. 0 < term) }
 {
-    let term = numbered(pairs, "--term", "0", 1, MOST_TERM)?;
+    let term = number_from(pairs, "--term", "0", 1, MOST_TERM)?;
     Some(term as u32)
 }
 
@@ -116,8 +116,8 @@ fn term_in(pairs: &[String]) -> Option<u32>
 fn limits_of(pairs: &[String]) -> Option<Limits>
     ensures { result ≡ limits_in (map string_bytes pairs.now) }
 {
-    let workers = numbered(pairs, "--workers", "2", 1, MOST_WORKERS)?;
-    let rounds = numbered(pairs, "--rounds", "1000", 1, MOST_ROUNDS)?;
+    let workers = number_from(pairs, "--workers", "2", 1, MOST_WORKERS)?;
+    let rounds = number_from(pairs, "--rounds", "1000", 1, MOST_ROUNDS)?;
     let migration = migration_of(pairs)?;
     Some(Limits {
         workers: workers as u32,

@@ -8,7 +8,7 @@ use crate::lines::{later_line, start_line};
 use dependency_graph::StartFault;
 use lists::{Memory, Text};
 use std::alloc::Global;
-use text_commands::{Ending, note};
+use text_commands::{CommandEnd, note};
 use wan_edge::{Sink, write_all};
 use wan_model::CheckedPlan;
 
@@ -32,7 +32,7 @@ fn tell_later<K: Sink>(alloc: Global, notes: &mut K, item: u32, migration: u32) 
             write_line(notes, line.as_str());
             11
         }
-        Err(_) => note(alloc, notes, Ending::OutOfMemory),
+        Err(_) => note(alloc, notes, CommandEnd::OutOfMemory),
     }
 }
 
@@ -48,7 +48,7 @@ fn tell_unsound<K: Sink>(alloc: Global, notes: &mut K, plan: CheckedPlan, fault:
         }
         Err(_) => {
             drop(plan);
-            note(alloc, notes, Ending::OutOfMemory)
+            note(alloc, notes, CommandEnd::OutOfMemory)
         }
     }
 }

@@ -1,6 +1,6 @@
 //! The words of a `run` that names a term, and the same words without it.
-ghost use Rattle.std.specs.Prelude.{◌≡◌, bytes_eq, codes, drop, map, string_bytes, IfOk, IfSome};
-ghost use Rattle.takeover_top.specs.TermWords.{IsTermPlace, WithoutTerm, named_term, run_term_at, run_term_by};
+ghost use Rattle.std.specs.Prelude.{◌≡◌, ◌+◌, ◌<◌, ◌++◌, bytes_eq, codes, drop, length, map, string_bytes, take, IfOk};
+ghost use Rattle.takeover_top.specs.TermWords.{IsTermPlace, named_term, run_term_at, run_term_by, without_term};
 
 use text_commands::{Unread, number_in, value_or, words_of};
 
@@ -42,9 +42,9 @@ fn named_term(pairs: &[String]) -> Option<u32>
     number_in(value_or(pairs, "--term", "")?)
 }
 
-/// The arguments without the pair that names a term, where there is one.
+/// The arguments without the pair that names a term first, where there is one.
 pub(crate) fn without_term(arguments: Vec<String>) -> Vec<String>
-    ensures { WithoutTerm arguments.items result.items }
+    ensures { result.items ≡ without_term arguments.items }
 {
     match term_place(arguments.as_slice()) {
         Some(place) => without_pair(arguments, place),
@@ -52,9 +52,10 @@ pub(crate) fn without_term(arguments: Vec<String>) -> Vec<String>
     }
 }
 
+// Without the two words from this place on.
 fn without_pair(arguments: Vec<String>, place: usize) -> Vec<String>
-    requires { IsTermPlace arguments.items place }
-    ensures { WithoutTerm arguments.items result.items }
+    requires { place + 1 < length arguments.items }
+    ensures { result.items ≡ take place arguments.items ++ drop (place + 2) arguments.items }
 {
     let mut arguments = arguments;
     let name = arguments.remove(place);
@@ -64,9 +65,9 @@ fn without_pair(arguments: Vec<String>, place: usize) -> Vec<String>
     arguments
 }
 
-// Where the name of a term stands, in front of its value: pairs begin at the third argument.
+// Where the name of a term stands first, in front of its value: pairs begin at the third argument.
 fn term_place(arguments: &[String]) -> Option<usize>
-    ensures { IfSome result (λ place. IsTermPlace arguments.now place) }
+    ensures { IsTermPlace arguments.now result }
 {
     let mut place = 2;
     while place < arguments.len() && place + 1 < arguments.len() {

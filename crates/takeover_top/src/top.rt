@@ -2,8 +2,7 @@
 ghost use Rattle.std.specs.Prelude.{◌≡◌, Some, drop, option_map, IfOk, IfSome};
 ghost use Rattle.order_policy.specs.Named.{answers_in};
 ghost use Rattle.rollout_log.specs.Logs.{IsLog};
-ghost use Rattle.rollout_ports.specs.Berths.{ports_of};
-ghost use Rattle.swanroll_top.specs.Views.{outside};
+ghost use Rattle.swanroll_top.specs.Views.{fleet_told, guest_told, outside, views_of};
 ghost use Rattle.takeover_top.specs.TakeoverPromise.{ByWords, StartsTakeover};
 ghost use Rattle.takeover_top.specs.TakingWords.{taking_by, term_of};
 
@@ -19,7 +18,7 @@ use std::sync::Wait;
 use std::thread::Threads;
 use std::time::Clock;
 use swanroll_top::Ended;
-use text_commands::{Ending, Unread, note, words_of};
+use text_commands::{CommandEnd, Unread, note, words_of};
 use wan_edge::{Fleet, Sink, Source};
 
 /// Takes the rollout of the document over that stands in the source, for a controller of the term that the
@@ -75,22 +74,10 @@ where
     requires { IfOk arguments
         (λ all. option_map term_of (taking_by (answers_in policies.now) (drop 1 all.items))
         ≡ Some (F.of_term fleet.old)) }
-    ensures takes { StartsTakeover (record {
-      source = S.told;
-      sink = K.told;
-      disk = λ logged. D.told logged.disk;
-      fleet = λ fleet. record {
-        ports = ports_of F.waiting F.kept F.lent F.named fleet;
-        guests = record {
-          coming = F.coming fleet;
-          served = F.served fleet;
-          visiting = F.visiting fleet;
-        };
-        faults = F.faults fleet;
-      };
-      port = F.Port.told;
-      guest = record { source = F.Guest.Source.told; sink = F.Guest.Sink.told };
-    }) F.of_term (answers_in policies.now) arguments (λ all. all.items)
+    ensures takes { StartsTakeover (views_of S.told K.told (λ logged. D.told logged.disk)
+        (fleet_told F.waiting F.kept F.lent F.named F.coming F.served F.visiting F.faults)
+        F.Port.told (guest_told F.Guest.Source.told F.Guest.Sink.told))
+        F.of_term (answers_in policies.now) arguments (λ all. all.items)
         (outside source.old sink.old notes.old disk fleet.old) result.status
         (outside source.new sink.new notes.new result.disk fleet.new) }
     ensures logs { IfSome (L.told result.disk.log).written (IsLog D.told) }
@@ -124,22 +111,10 @@ where
     requires { IfOk arguments
         (λ all. option_map term_of (taking_by (answers_in policies.now) (drop 1 all.items))
         ≡ Some (F.of_term fleet.old)) }
-    ensures { StartsTakeover (record {
-      source = S.told;
-      sink = K.told;
-      disk = D.told;
-      fleet = λ fleet. record {
-        ports = ports_of F.waiting F.kept F.lent F.named fleet;
-        guests = record {
-          coming = F.coming fleet;
-          served = F.served fleet;
-          visiting = F.visiting fleet;
-        };
-        faults = F.faults fleet;
-      };
-      port = F.Port.told;
-      guest = record { source = F.Guest.Source.told; sink = F.Guest.Sink.told };
-    }) F.of_term (answers_in policies.now) arguments (λ all. all.items)
+    ensures { StartsTakeover (views_of S.told K.told D.told
+        (fleet_told F.waiting F.kept F.lent F.named F.coming F.served F.visiting F.faults)
+        F.Port.told (guest_told F.Guest.Source.told F.Guest.Sink.told))
+        F.of_term (answers_in policies.now) arguments (λ all. all.items)
         (outside source.old sink.old notes.old disk fleet.old) result.status
         (outside source.new sink.new notes.new result.disk fleet.new) }
 {
@@ -149,7 +124,7 @@ where
             take_over_by(rt, alloc, words, source, sink, notes, disk, fleet, policies)
         }
         Err(why) => Ended {
-            status: note(alloc, notes, Ending::from(why)),
+            status: note(alloc, notes, CommandEnd::from(why)),
             disk,
         },
     }
@@ -177,22 +152,10 @@ where
     F::Port: Drop + Send,
     requires term { option_map term_of (taking_by (answers_in policies.now) words.now)
         ≡ Some (F.of_term fleet.old) }
-    ensures { ByWords (record {
-      source = S.told;
-      sink = K.told;
-      disk = D.told;
-      fleet = λ fleet. record {
-        ports = ports_of F.waiting F.kept F.lent F.named fleet;
-        guests = record {
-          coming = F.coming fleet;
-          served = F.served fleet;
-          visiting = F.visiting fleet;
-        };
-        faults = F.faults fleet;
-      };
-      port = F.Port.told;
-      guest = record { source = F.Guest.Source.told; sink = F.Guest.Sink.told };
-    }) F.of_term (taking_by (answers_in policies.now) words.now)
+    ensures { ByWords (views_of S.told K.told D.told
+        (fleet_told F.waiting F.kept F.lent F.named F.coming F.served F.visiting F.faults)
+        F.Port.told (guest_told F.Guest.Source.told F.Guest.Sink.told))
+        F.of_term (taking_by (answers_in policies.now) words.now)
         (outside source.old sink.old notes.old disk fleet.old) result.status
         (outside source.new sink.new notes.new result.disk fleet.new) }
 {
@@ -212,7 +175,7 @@ where
             Ended { status, disk }
         }
         None => Ended {
-            status: note(alloc, notes, Ending::Usage),
+            status: note(alloc, notes, CommandEnd::Usage),
             disk,
         },
     }

@@ -67,7 +67,7 @@ rate_at place d = if is_some (as_null d) then Ok None else (number_in place LARG
 
 -- ---- rates
 
--- the rate of the flow's tunnel of this number, behind those before it
+-- the rate of the flow's tunnel of this number, after those before it
 unfoldable pub with_one_rate : ℕ → ℕ → Data → List (Option ℕ) → Result (List (Option ℕ)) TargetFault
 with_one_rate flow j d rates = do
   rate ← rate_at (place_in part.Rate flow j) d

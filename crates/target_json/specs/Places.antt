@@ -16,7 +16,7 @@ place_at what m = record { part = what; a = m; b = 0 }
 abbrev pub place_in : TargetPart → ℕ → ℕ → TargetPlace
 place_in what m n = record { part = what; a = m; b = n }
 
--- a flow and a link, with what stands behind them
+-- a flow and a link, with what stands after them
 abbrev pub flow_text : ℕ → List ℕ → List ℕ
 flow_text m behind = codes "target.flows[" ++ decimal m ++ codes "]" ++ behind
 

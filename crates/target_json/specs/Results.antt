@@ -20,7 +20,7 @@ abbrev pub add_from : {A : Type 0} → (ℕ → Data → A → Result A TargetFa
 add_from f n no_items a = Ok a
 add_from f n (item d ds) a = f n d a >>= λ b. add_from f (n + 1) ds b
 
--- the fault that a reader answers is the grammar's; want of memory says nothing
+-- the fault that a reader answers is the grammar's; lack of memory says nothing
 abbrev pub Refuses : {A : Type 0} → TargetFault → Result A TargetFault → Type 0
 Refuses NotJson grammar = grammar ≡ Err NotJson
 Refuses (At place wrong) grammar = grammar ≡ Err (At place wrong)

@@ -5,17 +5,17 @@ use Rattle.text_commands.specs.Answered.{told}
 use Rattle.text_commands.specs.Answers.{documented}
 use Rattle.text_commands.specs.Runs.{Gives}
 use Rattle.text_commands.specs.declared.answer.Answer.{Answer}
-use Rattle.text_commands.specs.declared.ending.Ending.{Ending}
+use Rattle.text_commands.specs.declared.command_end.CommandEnd.{CommandEnd}
 
-pub told-gives : (r : Result Answer Ending) (made wanted asked : Result (List ℕ) Ending) → told r ≡ made → wanted ≡ asked → Gives made wanted → Gives (told r) asked
+pub told-gives : (r : Result Answer CommandEnd) (made wanted asked : Result (List ℕ) CommandEnd) → told r ≡ made → wanted ≡ asked → Gives made wanted → Gives (told r) asked
 told-gives r made wanted asked is same gives = subst (λ t. Gives t asked) (sym is) (subst (λ w. Gives made w) same gives)
 
-pub told-safe : (r : Result Answer Ending) (made : Result (List ℕ) Ending) (Safe Wanted : Type 0) → told r ≡ made → (Safe → Wanted) → IfOk made (λ text. Safe) → IfOk r (λ answer. Wanted)
+pub told-safe : (r : Result Answer CommandEnd) (made : Result (List ℕ) CommandEnd) (Safe Wanted : Type 0) → told r ≡ made → (Safe → Wanted) → IfOk made (λ text. Safe) → IfOk r (λ answer. Wanted)
 told-safe (Ok answer) (Ok text) Safe Wanted is so safe = so safe
 told-safe (Ok answer) (Err e) Safe Wanted is so safe = cc
 told-safe (Err e) made Safe Wanted is so safe = tt
 
-pub documented-safe : (r : Result Answer Ending) (made : Result Rollout Ending) (Safe Wanted : Type 0) → told r ≡ documented made → (Safe → Wanted) → IfOk made (λ rollout. Safe) → IfOk r (λ answer. Wanted)
+pub documented-safe : (r : Result Answer CommandEnd) (made : Result Rollout CommandEnd) (Safe Wanted : Type 0) → told r ≡ documented made → (Safe → Wanted) → IfOk made (λ rollout. Safe) → IfOk r (λ answer. Wanted)
 documented-safe (Ok answer) (Ok rollout) Safe Wanted is so safe = so safe
 documented-safe (Ok answer) (Err e) Safe Wanted is so safe = cc
 documented-safe (Err e) made Safe Wanted is so safe = tt

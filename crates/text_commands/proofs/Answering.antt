@@ -23,10 +23,10 @@ use Rattle.lp_proof.specs.declared.least.Least.TheVariants as least
 use Rattle.sim_run.specs.Script.{script_text}
 use Rattle.sim_run.specs.declared.script_shape.ScriptShape.{ScriptShape}
 use Rattle.text_commands.specs.Answers.{◌>>=◌, or_ending, with_choice, where_few, with_least, with_proof, planned, proved, least_planned, checked, claimed_line, is_shown, judged, where_shown, loaded, turned_back, rehearsed, drawn_up, rehearsal_text, answer_in, chosen_by, explained, rollout_in}
-use Rattle.text_commands.specs.Endings.{ending_of}
+use Rattle.text_commands.specs.CommandEnds.{ending_of}
 use Rattle.text_commands.specs.Runs.{EndsWith, Follows, Gives}
-use Rattle.text_commands.specs.declared.ending.Ending.{Ending}
-use Rattle.text_commands.specs.declared.ending.Ending.TheVariants.{Done, Usage, AboveLimit, Input, NotValid, NoPlan, Unshown, ReadFault, WriteFault, DiskFault, GuestFault, Refused, NotFinished, OutOfMemory}
+use Rattle.text_commands.specs.declared.command_end.CommandEnd.{CommandEnd}
+use Rattle.text_commands.specs.declared.command_end.CommandEnd.TheVariants.{Done, Usage, AboveLimit, Input, NotValid, NoPlan, Unshown, ReadFault, WriteFault, DiskFault, GuestFault, Refused, NotFinished, OutOfMemory}
 use Rattle.text_commands.proofs.Documents.{as_rollout, back_text, checked-by}
 use Rattle.text_commands.specs.Words.{TextAsked, a_plan, a_check, the_loads, the_way_back, a_rehearsal, a_script, the_explanation, the_least}
 use Rattle.text_commands.specs.declared.words.Planner.{Planner}
@@ -35,7 +35,7 @@ use Rattle.text_commands.proofs.Steps.{fault-ends}
 use Rattle.text_commands.specs.declared.unfinished.Unfinished.{Unfinished}
 
 -- whether an ending can be the answer to an input
-abbrev pub is_answer : Ending → Bool
+abbrev pub is_answer : CommandEnd → Bool
 is_answer Done = false
 is_answer Usage = false
 is_answer ReadFault = false
@@ -46,14 +46,14 @@ is_answer (Refused e) = false
 is_answer (NotFinished u) = false
 is_answer ending = true
 
-abbrev pub HasAnswer : Result (List ℕ) Ending → Type 0
+abbrev pub HasAnswer : Result (List ℕ) CommandEnd → Type 0
 HasAnswer (Ok text) = Unit {0}
 HasAnswer (Err e) = is_answer e ≡ true
 
 fault-answers : (e : InputFault) → is_answer (ending_of e) ≡ true
 fault-answers e = elim (fault-ends e) [ inl is ↦ ap is_answer is | inr is ↦ ap is_answer is ]
 
-step-answers : {A : Type 0} (read : Result A InputFault) (next : A → Result (List ℕ) Ending) → ((a : A) → HasAnswer (next a)) → HasAnswer (or_ending read >>= next)
+step-answers : {A : Type 0} (read : Result A InputFault) (next : A → Result (List ℕ) CommandEnd) → ((a : A) → HasAnswer (next a)) → HasAnswer (or_ending read >>= next)
 step-answers (Ok a) next h = h a
 step-answers (Err e) next h = fault-answers e
 
@@ -70,7 +70,7 @@ planned-answers : (planner : Planner) (p : Problem) → HasAnswer (planned plann
 unfolding planned
 planned-answers planner p = with-choice-answers p (chosen_by planner p)
 
-checked-step-by : (d : DocumentRead) (next : Rollout → Result (List ℕ) Ending) (broken : Option Broken) → first_broken d.problem d.plan ≡ broken → ((o : Rollout) → HasAnswer (next o)) → HasAnswer (checked d >>= next)
+checked-step-by : (d : DocumentRead) (next : Rollout → Result (List ℕ) CommandEnd) (broken : Option Broken) → first_broken d.problem d.plan ≡ broken → ((o : Rollout) → HasAnswer (next o)) → HasAnswer (checked d >>= next)
 checked-step-by d next None e h = rw (checked-by d None e) (h (as_rollout d))
 checked-step-by d next (Some b) e h = rw (checked-by d (Some b) e) refl
 
@@ -83,7 +83,7 @@ proof-answers p c (least.Overflow made) = refl
 proof-answers p c (least.Spent made) = refl
 proof-answers p c least.Memory = refl
 
-few-answers : (b : Bool) (found : Result (List ℕ) Ending) → HasAnswer found → HasAnswer (where_few b found)
+few-answers : (b : Bool) (found : Result (List ℕ) CommandEnd) → HasAnswer found → HasAnswer (where_few b found)
 few-answers true found h = h
 few-answers false found h = refl
 
@@ -147,7 +147,7 @@ command-answers the_least input = step-answers (problem_in input) least_planned 
 command-answers (a_rehearsal policy) input = step-answers (scripted_in input) (rehearsed policy) (rehearsed-answers policy)
 command-answers (a_script shape policy) input = step-answers (document_in input) (drawn_up shape policy) (drawn-answers shape policy)
 
-ends-only : (answer : Result (List ℕ) Ending) (e : Ending) (out now : Option (List ℕ)) → HasAnswer answer → EndsWith answer e out now → (e ≡ Done) ⊎ ((e ≡ WriteFault) ⊎ (is_answer e ≡ true))
+ends-only : (answer : Result (List ℕ) CommandEnd) (e : CommandEnd) (out now : Option (List ℕ)) → HasAnswer answer → EndsWith answer e out now → (e ≡ Done) ⊎ ((e ≡ WriteFault) ⊎ (is_answer e ≡ true))
 ends-only (Ok text) e out now h (inl done) = inl done.0
 ends-only (Ok text) e out now h (inr cut) = inr (inl cut.0)
 ends-only (Err d) e out now h w = inr (inr (ap is_answer w.0 ∙ h))
@@ -169,25 +169,25 @@ no-rollout c input u out now h = elim (ends-only _ (NotFinished u) out now (comm
 
 -- ---- a document alone
 
-broken-answers : (d : DocumentRead) (e : Ending) (broken : Option Broken) → first_broken d.problem d.plan ≡ broken → checked d ≡ Err e → is_answer e ≡ true
+broken-answers : (d : DocumentRead) (e : CommandEnd) (broken : Option Broken) → first_broken d.problem d.plan ≡ broken → checked d ≡ Err e → is_answer e ≡ true
 broken-answers d e None is h = absurd (let no : Ok (as_rollout d) ≡ Err e = sym (checked-by d None is) ∙ h in cc)
 broken-answers d e (Some b) is h =
     let both : Err (NotValid d.problem b) ≡ Err e = sym (checked-by d (Some b) is) ∙ h in
     let same : NotValid d.problem b ≡ e = cc both in
     ap is_answer (sym same)
 
-read-answers : (read : Result DocumentRead InputFault) (e : Ending) → or_ending read >>= checked ≡ Err e → is_answer e ≡ true
+read-answers : (read : Result DocumentRead InputFault) (e : CommandEnd) → or_ending read >>= checked ≡ Err e → is_answer e ≡ true
 read-answers (Ok d) e h = broken-answers d e (first_broken d.problem d.plan) refl h
 read-answers (Err f) e h =
     let same : ending_of f ≡ e = cc h in
     ap is_answer (sym same) ∙ fault-answers f
 
 -- no document comes to an ending of a device
-pub rollout-answers : (input : List ℕ) (e : Ending) → rollout_in input ≡ Err e → is_answer e ≡ true
+pub rollout-answers : (input : List ℕ) (e : CommandEnd) → rollout_in input ≡ Err e → is_answer e ≡ true
 unfolding rollout_in
 rollout-answers input e h = read-answers (document_in input) e h
 
-pub rollout-gives : (input : List ℕ) (e : Ending) → Gives {A = Rollout} (Err e) (rollout_in input) → is_answer e ≡ true
+pub rollout-gives : (input : List ℕ) (e : CommandEnd) → Gives {A = Rollout} (Err e) (rollout_in input) → is_answer e ≡ true
 rollout-gives input Done g = rollout-answers input Done g
 rollout-gives input Usage g = rollout-answers input Usage g
 rollout-gives input AboveLimit g = refl

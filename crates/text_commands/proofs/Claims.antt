@@ -15,18 +15,18 @@ use Rattle.problem_json.specs.declared.place.Part.TheVariants as part
 use Rattle.text_commands.specs.Answers.{◌>>=◌, checked, claimed_line, is_shown, judged, valid_line, valid_text, where_shown}
 use Rattle.text_commands.specs.Runs.{Gives}
 use Rattle.text_commands.specs.Safety.{HasLeast, IsClaimed, IsSealed}
-use Rattle.text_commands.specs.declared.ending.Ending.{Ending}
-use Rattle.text_commands.specs.declared.ending.Ending.TheVariants.{Input}
+use Rattle.text_commands.specs.declared.command_end.CommandEnd.{CommandEnd}
+use Rattle.text_commands.specs.declared.command_end.CommandEnd.TheVariants.{Input}
 use Rattle.text_commands.proofs.Steps.{step-gives}
 
 -- what is so is so of an answer
-pub ok-anyway : {A : Type 0} (r : Result A Ending) (P : Type 0) → P → IfOk r (λ a. P)
+pub ok-anyway : {A : Type 0} (r : Result A CommandEnd) (P : Type 0) → P → IfOk r (λ a. P)
 ok-anyway (Ok a) P p = p
 ok-anyway (Err e) P p = tt
 
 -- ---- the line
 
-pub line-is : (plan : Plan) (steps scale : ℕ) (behind text : List ℕ) → steps ≡ last_stage plan → scale ≡ plan.scale → text ≡ valid_text steps scale behind → ◌≡◌ {A = Result (List ℕ) Ending} (Ok (valid_line plan behind)) (Ok text)
+pub line-is : (plan : Plan) (steps scale : ℕ) (behind text : List ℕ) → steps ≡ last_stage plan → scale ≡ plan.scale → text ≡ valid_text steps scale behind → ◌≡◌ {A = Result (List ℕ) CommandEnd} (Ok (valid_line plan behind)) (Ok text)
 line-is plan steps scale behind text last size is =
     ap Ok (sym (is ∙ ap (λ n. valid_text n scale behind) last ∙ ap (λ n. valid_text (last_stage plan) n behind) size))
 
@@ -66,16 +66,16 @@ unshown-steps o claim q fits count is so =
 
 -- ---- a document
 
-pub checked-claimed : (c : Claimed) (o : Rollout) (r : Result (List ℕ) Ending) → checked c.document ≡ Ok o → Gives r (claimed_line o c.claim) → Gives r (judged c)
+pub checked-claimed : (c : Claimed) (o : Rollout) (r : Result (List ℕ) CommandEnd) → checked c.document ≡ Ok o → Gives r (claimed_line o c.claim) → Gives r (judged c)
 unfolding judged
 checked-claimed c o r e h = subst (λ x. Gives r x) (sym (ap (λ x. x >>= λ y. claimed_line y c.claim) e)) h
 
-pub refused-judged : (c : Claimed) (e : Ending) → Gives {A = Rollout} (Err e) (checked c.document) → Gives {A = List ℕ} (Err e) (judged c)
+pub refused-judged : (c : Claimed) (e : CommandEnd) → Gives {A = Rollout} (Err e) (checked c.document) → Gives {A = List ℕ} (Err e) (judged c)
 unfolding judged
 refused-judged c e h = step-gives e (checked c.document) (λ o. claimed_line o c.claim) h
 
 -- of the rollout that was sealed it is known of the document's
-pub sealed-claimed : {A : Type 0} (c : Claimed) (o : Rollout) (r : Result A Ending) → IsSealed c.document o → IfOk r (λ text. IfSome c.claim (λ said. HasLeast o.problem o.plan)) → IfOk r (λ text. IsClaimed c)
+pub sealed-claimed : {A : Type 0} (c : Claimed) (o : Rollout) (r : Result A CommandEnd) → IsSealed c.document o → IfOk r (λ text. IfSome c.claim (λ said. HasLeast o.problem o.plan)) → IfOk r (λ text. IsClaimed c)
 sealed-claimed c o (Ok text) sealed h = record {
   valid = sealed.valid;
   least = subst (λ (x : Rollout). IfSome c.claim (λ said. HasLeast x.problem x.plan)) sealed.same h;

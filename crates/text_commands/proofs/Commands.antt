@@ -1,4 +1,4 @@
--- The answer of each command, from what it read, and what is known of the input behind it.
+-- The answer of each command, from what it read, and what is known of the input after it.
 use Rattle.std.proofs.Common.{◌≡◌, ℕ, List, Result, Ok, Err, IfOk}
 use Rattle.rollout_rules.specs.Wan.{Problem, Rollout}
 use Rattle.rollout_rules.specs.declared.op.OpView.{OpView}
@@ -12,10 +12,10 @@ use Rattle.problem_json.specs.WithinLimits.{IsPlanWithin}
 use Rattle.sim_run.specs.Rehearsed.{IsSafeRehearsal}
 use Rattle.sim_run.specs.declared.script_shape.ScriptShape.{ScriptShape}
 use Rattle.text_commands.specs.Answers.{planned, least_planned, judged, loaded, turned_back, rehearsed, drawn_up, checked, answer_in, explained, rollout_in}
-use Rattle.text_commands.specs.Endings.{ending_of}
+use Rattle.text_commands.specs.CommandEnds.{ending_of}
 use Rattle.text_commands.specs.Runs.{Gives}
 use Rattle.text_commands.specs.Safety.{IsPlanned, PlansSafely, ChecksValid, LoadsSafely, TurnsSafely, RehearsesSafely, RehearsesTruly, IsDrawnUp, IsLoaded, IsTurned, IsClaimed, ExplainsTruly, IsExplained, IsLeast, PlansLeast}
-use Rattle.text_commands.specs.declared.ending.Ending.{Ending}
+use Rattle.text_commands.specs.declared.command_end.CommandEnd.{CommandEnd}
 use Rattle.text_commands.specs.Words.{a_plan, a_check, the_loads, the_way_back, a_rehearsal, a_script, the_explanation, the_least}
 use Rattle.text_commands.specs.declared.words.Planner.{Planner}
 use Rattle.text_commands.proofs.Steps.{fault-gives, next-is}
@@ -86,36 +86,36 @@ rehearse-answers shape policy input d h = next-is (document_in input) d (drawn_u
 
 -- ---- what is known of the input where a text was made
 
-pub read-plans-safely : {A : Type 0} (planner : Planner) (input : List ℕ) (p : Problem) (answer : Result A Ending) → problem_in input ≡ Ok p → IfOk answer (λ text. IsPlanned planner p) → IfOk answer (λ text. PlansSafely planner input)
+pub read-plans-safely : {A : Type 0} (planner : Planner) (input : List ℕ) (p : Problem) (answer : Result A CommandEnd) → problem_in input ≡ Ok p → IfOk answer (λ text. IsPlanned planner p) → IfOk answer (λ text. PlansSafely planner input)
 read-plans-safely planner input p (Ok text) read planned = record { problem = p; read = read; planned = planned }
 read-plans-safely planner input p (Err e) read planned = tt
 
-pub read-checks-valid : {A : Type 0} (input : List ℕ) (c : Claimed) (answer : Result A Ending) → claimed_in input ≡ Ok c → IfOk answer (λ text. IsClaimed c) → IfOk answer (λ text. ChecksValid input)
+pub read-checks-valid : {A : Type 0} (input : List ℕ) (c : Claimed) (answer : Result A CommandEnd) → claimed_in input ≡ Ok c → IfOk answer (λ text. IsClaimed c) → IfOk answer (λ text. ChecksValid input)
 read-checks-valid input c (Ok text) read is = record { claimed = c; read = read; is = is }
 read-checks-valid input c (Err e) read is = tt
 
-pub read-plans-least : {A : Type 0} (input : List ℕ) (p : Problem) (answer : Result A Ending) → problem_in input ≡ Ok p → IfOk answer (λ text. IsLeast p) → IfOk answer (λ text. PlansLeast input)
+pub read-plans-least : {A : Type 0} (input : List ℕ) (p : Problem) (answer : Result A CommandEnd) → problem_in input ≡ Ok p → IfOk answer (λ text. IsLeast p) → IfOk answer (λ text. PlansLeast input)
 read-plans-least input p (Ok text) read is = record { problem = p; read = read; is = is }
 read-plans-least input p (Err e) read is = tt
 
-pub read-loads-safely : {A : Type 0} (input : List ℕ) (d : DocumentRead) (answer : Result A Ending) → document_in input ≡ Ok d → IfOk answer (λ text. IsLoaded d.problem d.plan) → IfOk answer (λ text. LoadsSafely input)
+pub read-loads-safely : {A : Type 0} (input : List ℕ) (d : DocumentRead) (answer : Result A CommandEnd) → document_in input ≡ Ok d → IfOk answer (λ text. IsLoaded d.problem d.plan) → IfOk answer (λ text. LoadsSafely input)
 read-loads-safely input d (Ok text) read is = record { document = d; read = read; loaded = is }
 read-loads-safely input d (Err e) read is = tt
 
-pub read-turns-safely : {A : Type 0} (input : List ℕ) (d : DocumentRead) (answer : Result A Ending) → document_in input ≡ Ok d → IfOk answer (λ text. IsTurned d.problem d.plan) → IfOk answer (λ text. TurnsSafely input)
+pub read-turns-safely : {A : Type 0} (input : List ℕ) (d : DocumentRead) (answer : Result A CommandEnd) → document_in input ≡ Ok d → IfOk answer (λ text. IsTurned d.problem d.plan) → IfOk answer (λ text. TurnsSafely input)
 read-turns-safely input d (Ok text) read is = record { document = d; read = read; turned = is }
 read-turns-safely input d (Err e) read is = tt
 
-pub read-explains-truly : {A : Type 0} (input : List ℕ) (d : DocumentRead) (answer : Result A Ending) → document_in input ≡ Ok d → IfOk answer (λ text. IsExplained d.problem d.plan) → IfOk answer (λ text. ExplainsTruly input)
+pub read-explains-truly : {A : Type 0} (input : List ℕ) (d : DocumentRead) (answer : Result A CommandEnd) → document_in input ≡ Ok d → IfOk answer (λ text. IsExplained d.problem d.plan) → IfOk answer (λ text. ExplainsTruly input)
 read-explains-truly input d (Ok text) read is = record { document = d; read = read; explained = is }
 read-explains-truly input d (Err e) read is = tt
 
-pub read-rehearses-safely : {A : Type 0} (policy : OpView → ℕ) (input : List ℕ) (s : ScriptedRead) (answer : Result A Ending) → scripted_in input ≡ Ok s
+pub read-rehearses-safely : {A : Type 0} (policy : OpView → ℕ) (input : List ℕ) (s : ScriptedRead) (answer : Result A CommandEnd) → scripted_in input ≡ Ok s
     → IfOk answer (λ text. IsSafeRehearsal s.document.problem s.document.plan policy s.script) → IfOk answer (λ text. RehearsesSafely policy input)
 read-rehearses-safely policy input s (Ok text) read safe = record { scripted = s; read = read; safe = safe }
 read-rehearses-safely policy input s (Err e) read safe = tt
 
-pub read-rehearses-truly : {A : Type 0} (shape : ScriptShape) (policy : OpView → ℕ) (input : List ℕ) (d : DocumentRead) (answer : Result A Ending) → document_in input ≡ Ok d → IsPlanWithin d.plan
+pub read-rehearses-truly : {A : Type 0} (shape : ScriptShape) (policy : OpView → ℕ) (input : List ℕ) (d : DocumentRead) (answer : Result A CommandEnd) → document_in input ≡ Ok d → IsPlanWithin d.plan
     → IfOk answer (λ text. IsPlanWithin d.plan → IsDrawnUp shape policy d) → IfOk answer (λ text. RehearsesTruly shape policy input)
 read-rehearses-truly shape policy input d (Ok text) read within drawn = record { document = d; read = read; drawn = drawn within }
 read-rehearses-truly shape policy input d (Err e) read within drawn = tt

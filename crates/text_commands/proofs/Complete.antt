@@ -21,18 +21,18 @@ use Rattle.plan_texts.specs.Explain.{explain_text}
 use Rattle.plan_texts.specs.Loads.{loads_text}
 use Rattle.sim_run.specs.declared.script_shape.ScriptShape.{ScriptShape}
 use Rattle.text_commands.specs.Answers.{◌>>=◌, with_choice, planned, checked, claimed_line, judged, loaded, turned_back, rehearsed, drawn_up, rehearsal_text, answer_to, or_ending, chosen_by, answer_in, explained}
-use Rattle.text_commands.specs.Endings.{status_of}
+use Rattle.text_commands.specs.CommandEnds.{status_of}
 use Rattle.text_commands.specs.Program.{Streams}
 use Rattle.text_commands.specs.TextPromise.{RunsAndNotes, TextPromise}
 use Rattle.text_commands.specs.Runs.{EndsWith, TellsInput}
 use Rattle.text_commands.specs.Safety.{IsValid}
 use Rattle.text_commands.specs.Taken.{IsShownDocument, IsValidDocument, IsValidScript, is_as_said}
-use Rattle.text_commands.specs.declared.ending.Ending.{Ending}
+use Rattle.text_commands.specs.declared.command_end.CommandEnd.{CommandEnd}
 use Rattle.text_commands.proofs.Commands.{plan-answers, check-answers, loads-answers, back-answers, sim-answers, explain-answers, rehearse-answers}
 use Rattle.text_commands.proofs.Claims.{claim-shown}
 use Rattle.text_commands.proofs.Documents.{as_rollout, checked-by, back_text}
 use Rattle.text_commands.specs.Words.{TextAsked, a_plan, a_check, the_loads, the_way_back, a_rehearsal, a_script, the_explanation}
-use Rattle.text_commands.specs.declared.ending.Ending.TheVariants.{AboveLimit, NoPlan}
+use Rattle.text_commands.specs.declared.command_end.CommandEnd.TheVariants.{AboveLimit, NoPlan}
 use Rattle.text_commands.specs.declared.words.Planner.{Planner}
 use Rattle.text_commands.specs.declared.words.Planner.TheVariants.{Slack}
 use Rattle.text_commands.proofs.Inputs.{answered-within, short-answered, told-within}
@@ -62,7 +62,7 @@ read-planned : (planner : Planner) (read : Result Problem InputFault) → IsOk (
 read-planned planner (Ok p) ok = slack-planned planner p ok
 read-planned planner (Err e) ok = absurd cc
 
-unless-long : (long : Bool) (e : Ending) (one other : Result (List ℕ) Ending) → (IsOk one → IsOk other) → IsOk (if long then Err e else one) → IsOk (if long then Err e else other)
+unless-long : (long : Bool) (e : CommandEnd) (one other : Result (List ℕ) CommandEnd) → (IsOk one → IsOk other) → IsOk (if long then Err e else one) → IsOk (if long then Err e else other)
 unless-long true e one other h ok = ok
 unless-long false e one other h ok = h ok
 
@@ -138,7 +138,7 @@ valid-document-rehearses shape policy input t =
 -- ---- a run with an answer
 
 -- where the answer is a text, and the sink took it
-pub ends-well : (answer : Result (List ℕ) Ending) (e : Ending) (out now : Option (List ℕ)) → IsOk answer → EndsWith answer e out now → (status_of e ≡ 7 → ⊥) → status_of e ≡ 0
+pub ends-well : (answer : Result (List ℕ) CommandEnd) (e : CommandEnd) (out now : Option (List ℕ)) → IsOk answer → EndsWith answer e out now → (status_of e ≡ 7 → ⊥) → status_of e ≡ 0
 ends-well (Ok text) e out now ok (inl done) cut = ap status_of done.0
 ends-well (Ok text) e out now ok (inr part) cut = absurd (cut (ap status_of part.0))
 ends-well (Err x) e out now ok h cut = absurd cc

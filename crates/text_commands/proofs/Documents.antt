@@ -21,8 +21,8 @@ use Rattle.sim_run.specs.declared.script_shape.ScriptShape.{ScriptShape}
 use Rattle.text_commands.specs.Answers.{◌>>=◌, unless_broken, checked, loaded, turned_back, rehearsed, drawn_up, rehearsal_text, script_for, explained}
 use Rattle.text_commands.specs.Runs.{Gives}
 use Rattle.text_commands.specs.Safety.{HoldsItsLoads, MayBeginBack, IsLoaded, IsSealed, IsSafePlan, IsTurned, IsValid, IsExplained, TellsEachNext, IsDrawn, IsDrawnUp, IsRehearsed}
-use Rattle.text_commands.specs.declared.ending.Ending.{Ending}
-use Rattle.text_commands.specs.declared.ending.Ending.TheVariants.{NotValid}
+use Rattle.text_commands.specs.declared.command_end.CommandEnd.{CommandEnd}
+use Rattle.text_commands.specs.declared.command_end.CommandEnd.TheVariants.{NotValid}
 use Rattle.text_commands.proofs.Steps.{step-gives}
 
 -- a document's parts as they were sealed
@@ -54,7 +54,7 @@ pub checked-loaded : (d : DocumentRead) (o : Rollout) (text : List ℕ) → chec
 unfolding loaded
 checked-loaded d o text e is = ap (λ r. r >>= λ o. Ok (loads_text o.problem o.plan)) e ∙ sym (ap Ok is)
 
-pub refused-loaded : (d : DocumentRead) (e : Ending) → Gives {A = Rollout} (Err e) (checked d) → Gives {A = List ℕ} (Err e) (loaded d)
+pub refused-loaded : (d : DocumentRead) (e : CommandEnd) → Gives {A = Rollout} (Err e) (checked d) → Gives {A = List ℕ} (Err e) (loaded d)
 unfolding loaded
 refused-loaded d e h = step-gives e (checked d) (λ o. Ok (loads_text o.problem o.plan)) h
 
@@ -71,7 +71,7 @@ pub checked-turned : (d : DocumentRead) (o : Rollout) (text : List ℕ) → chec
 unfolding turned_back
 checked-turned d o text e is = ap (λ r. r >>= λ o. Ok (back_text o)) e ∙ sym (ap Ok is)
 
-pub refused-turned : (d : DocumentRead) (e : Ending) → Gives {A = Rollout} (Err e) (checked d) → Gives {A = List ℕ} (Err e) (turned_back d)
+pub refused-turned : (d : DocumentRead) (e : CommandEnd) → Gives {A = Rollout} (Err e) (checked d) → Gives {A = List ℕ} (Err e) (turned_back d)
 unfolding turned_back
 refused-turned d e h = step-gives e (checked d) (λ o. Ok (back_text o)) h
 
@@ -97,7 +97,7 @@ pub checked-explained : (d : DocumentRead) (o : Rollout) (text : List ℕ) → c
 unfolding explained
 checked-explained d o text e is = ap (λ r. r >>= λ o. Ok (explain_text o.problem o.plan)) e ∙ sym (ap Ok is)
 
-pub refused-explained : (d : DocumentRead) (e : Ending) → Gives {A = Rollout} (Err e) (checked d) → Gives {A = List ℕ} (Err e) (explained d)
+pub refused-explained : (d : DocumentRead) (e : CommandEnd) → Gives {A = Rollout} (Err e) (checked d) → Gives {A = List ℕ} (Err e) (explained d)
 unfolding explained
 refused-explained d e h = step-gives e (checked d) (λ o. Ok (explain_text o.problem o.plan)) h
 
@@ -110,7 +110,7 @@ pub checked-rehearsed : (policy : OpView → ℕ) (s : ScriptedRead) (o : Rollou
 unfolding rehearsed
 checked-rehearsed policy s o text e is = ap (λ r. r >>= λ o. Ok (script_text o.problem o.plan policy s.script)) e ∙ sym (ap Ok is)
 
-pub refused-rehearsed : (policy : OpView → ℕ) (s : ScriptedRead) (e : Ending) → Gives {A = Rollout} (Err e) (checked s.document) → Gives {A = List ℕ} (Err e) (rehearsed policy s)
+pub refused-rehearsed : (policy : OpView → ℕ) (s : ScriptedRead) (e : CommandEnd) → Gives {A = Rollout} (Err e) (checked s.document) → Gives {A = List ℕ} (Err e) (rehearsed policy s)
 unfolding rehearsed
 refused-rehearsed policy s e h = step-gives e (checked s.document) (λ o. Ok (script_text o.problem o.plan policy s.script)) h
 
@@ -133,7 +133,7 @@ pub checked-drawn : (shape : ScriptShape) (policy : OpView → ℕ) (d : Documen
 unfolding drawn_up
 checked-drawn shape policy d o text e is = ap (λ r. r >>= λ o. Ok (rehearsal_text shape policy o)) e ∙ sym (ap Ok is.is)
 
-pub refused-drawn : (shape : ScriptShape) (policy : OpView → ℕ) (d : DocumentRead) (e : Ending) → Gives {A = Rollout} (Err e) (checked d) → Gives {A = List ℕ} (Err e) (drawn_up shape policy d)
+pub refused-drawn : (shape : ScriptShape) (policy : OpView → ℕ) (d : DocumentRead) (e : CommandEnd) → Gives {A = Rollout} (Err e) (checked d) → Gives {A = List ℕ} (Err e) (drawn_up shape policy d)
 unfolding drawn_up
 refused-drawn shape policy d e h = step-gives e (checked d) (λ o. Ok (rehearsal_text shape policy o)) h
 

@@ -8,14 +8,14 @@ use Rattle.wan_edge.specs.ReadAll.{ReadsToEnd, GoesBeyond}
 use Rattle.wan_edge.specs.Streams.{Appends, SourceTrace, TakesFrom}
 use Rattle.wan_edge.specs.declared.reading.ReadFault.{ReadFault}
 use Rattle.wan_edge.specs.declared.reading.ReadFault.TheVariants as reading
-use Rattle.text_commands.specs.Endings.{ending_of_reading}
+use Rattle.text_commands.specs.CommandEnds.{ending_of_reading}
 use Rattle.rollout_rules.specs.declared.limits.TheConstants.{MOST_INPUT}
 use Rattle.text_commands.specs.Answers.{answer_in, answer_to}
 use Rattle.text_commands.specs.Runs.{FollowsInput, IsInput, TellsInput, TellsTaken}
 use Rattle.text_commands.specs.Taken.{IsTaken}
 use Rattle.text_commands.specs.Reading.{IsShortInput, IsCut}
-use Rattle.text_commands.specs.declared.ending.Ending.{Ending}
-use Rattle.text_commands.specs.declared.ending.Ending.TheVariants.{AboveLimit}
+use Rattle.text_commands.specs.declared.command_end.CommandEnd.{CommandEnd}
+use Rattle.text_commands.specs.declared.command_end.CommandEnd.TheVariants.{AboveLimit}
 use Rattle.text_commands.specs.Words.{TextAsked, a_plan, a_check, the_loads, the_way_back, a_rehearsal, a_script, the_explanation, the_least}
 
 pub long-refused : (c : TextAsked) (input : List ℕ) → MOST_INPUT < length input → answer_to c input ≡ Err AboveLimit
@@ -118,7 +118,7 @@ module _ (before now : SourceTrace) (input told : List ℕ) (is : IsInput before
   pub told-short : length input ≤ MOST_INPUT → TellsInput before now told → told ≡ input
   told-short within tells = elim (told-input tells) [ inl same ↦ same | inr long ↦ absurd (omega (arith, within, long.1)) ]
 
-err-not-ok : (r : Result (List ℕ) Ending) (e : Ending) → r ≡ Err e → IsOk r → ⊥
+err-not-ok : (r : Result (List ℕ) CommandEnd) (e : CommandEnd) → r ≡ Err e → IsOk r → ⊥
 err-not-ok (Ok text) e is ok = cc
 err-not-ok (Err x) e is ok = cc
 

@@ -3,7 +3,7 @@ use Rattle.std.proofs.Common.{◌≡◌, ℕ, List, drop, String, false, Option,
 use Rattle.std.specs.declared.alloc.Global.{Global}
 use Rattle.rollout_rules.specs.declared.op.OpView.{OpView}
 use Rattle.wan_edge.specs.Streams.{Rose, SinkTrace, SourceTrace}
-use Rattle.text_commands.specs.Endings.{ending_of_unread, tells_place}
+use Rattle.text_commands.specs.CommandEnds.{ending_of_unread, tells_place}
 use Rattle.text_commands.specs.Program.{Streams}
 use Rattle.text_commands.specs.Runs.{IsTold, Runs}
 use Rattle.text_commands.specs.TextCall.{EndsTextUnread, Lent, TextsPromise, TextsStart, lent, streams_of}
@@ -12,13 +12,13 @@ use Rattle.text_commands.specs.Uses.{uses_input, uses_nothing}
 use Rattle.text_commands.specs.Words.{TextAsked, text_asked_by}
 use Rattle.text_commands.specs.declared.arguments.Unread.{Unread}
 use Rattle.text_commands.specs.declared.arguments.Unread.TheVariants as unread
-use Rattle.text_commands.specs.declared.ending.Ending.{Ending}
-use Rattle.text_commands.specs.declared.ending.Ending.TheVariants.{Usage, ReadFault, WriteFault, DiskFault, GuestFault, NotFinished}
+use Rattle.text_commands.specs.declared.command_end.CommandEnd.{CommandEnd}
+use Rattle.text_commands.specs.declared.command_end.CommandEnd.TheVariants.{Usage, ReadFault, WriteFault, DiskFault, GuestFault, NotFinished}
 use Rattle.text_commands.specs.declared.unfinished.Unfinished.{Unfinished}
 use Rattle.text_commands.proofs.Programs.{command-run, ended, follows-of, not-usage, text-unwritten, told-brings, usage-run}
 
 -- what each command keeps, by how it ended and what was noted
-pub text-keeps : (what : TextAsked) (before after : Streams) (e : Ending) (status : ℕ) → Runs what before.source after.source e before.sink.written after.sink.written → IsTold e status before.notes.written after.notes.written before.notes.faults after.notes.faults
+pub text-keeps : (what : TextAsked) (before after : Streams) (e : CommandEnd) (status : ℕ) → Runs what before.source after.source e before.sink.written after.sink.written → IsTold e status before.notes.written after.notes.written before.notes.faults after.notes.faults
     → TextPromise what before after status
 text-keeps what before after e status runs told =
     let told_runs = told-brings (λ x. Runs what before.source after.source x before.sink.written after.sink.written) before.sink.written after.sink.written e told.told told.is runs
@@ -39,7 +39,7 @@ unread-known unread.Memory = refl
 
 module _ {S K : Type 0} (told : S → SourceTrace) (written : K → SinkTrace) where
   -- a text was asked for
-  pub text-promised : (what : TextAsked) (source source_now : S) (sink sink_now notes notes_now : K) (e : Ending) (status : ℕ)
+  pub text-promised : (what : TextAsked) (source source_now : S) (sink sink_now notes notes_now : K) (e : CommandEnd) (status : ℕ)
       → Runs what (told source) (told source_now) e (written sink).written (written sink_now).written
       → (e ≡ ReadFault → Rose (told source).faults (told source_now).faults) → (e ≡ WriteFault → Rose (written sink).faults (written sink_now).faults)
       → (e ≡ DiskFault → ⊥) → (e ≡ GuestFault → ⊥) → ((u : Unfinished) → e ≡ NotFinished u → ⊥) → (e ≡ Usage → ⊥)
@@ -78,7 +78,7 @@ module _ {S K : Type 0} (told : S → SourceTrace) (written : K → SinkTrace) w
   text-started policies arguments list all words before after status is words_are promise =
       subst (λ r. TextsStart told written policies r list before status after) (sym is) (record { read = subst (λ w. TextsPromise told written (text_asked_by policies w) before status after) words_are promise; unread = tt })
 
-  pub text-unread : {A : Type 0} (policies : List (List ℕ × (OpView → ℕ))) (arguments : Result A Unread) (list : A → List (String Global)) (why : Unread) (e : Ending)
+  pub text-unread : {A : Type 0} (policies : List (List ℕ × (OpView → ℕ))) (arguments : Result A Unread) (list : A → List (String Global)) (why : Unread) (e : CommandEnd)
       (source : S) (sink notes notes_now : K) (status : ℕ) → arguments ≡ Err why → e ≡ ending_of_unread why
       → IsTold e status (written notes).written (written notes_now).written (written notes).faults (written notes_now).faults
       → TextsStart told written policies arguments list (lent source sink notes) status (lent source sink notes_now)

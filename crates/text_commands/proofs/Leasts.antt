@@ -12,7 +12,7 @@ use Rattle.plan_choose.proofs.Counted.{chosen-free, chosen-still}
 use Rattle.fewest_plan.specs.declared.cause.Cause.{Cause}
 use Rattle.fewest_plan.specs.declared.cause.Cause.TheVariants.{Unchosen, Unfound, Stuck}
 use Rattle.fewest_plan.specs.Found.{Refuses}
-use Rattle.step_proof.specs.declared.proof.Proof.{Proof}
+use Rattle.fraction_lp.specs.declared.proof.Proof.{Proof}
 use Rattle.lp_proof.specs.RateSteps.{rate_steps, TakesAtLeast}
 use Rattle.lp_proof.specs.Shown.{shows_least}
 use Rattle.lp_proof.specs.Least.{least_of}
@@ -21,11 +21,11 @@ use Rattle.lp_proof.proofs.Built.{accepted-shows}
 use Rattle.lp_proof.proofs.NoFewer.{takes_at_least}
 use Rattle.problem_json.specs.WritingLeast.{claimed_text}
 use Rattle.text_commands.specs.Answers.{chosen_by, least_planned, or_unchosen, proved, shown_text, where_few, with_least, with_proof}
-use Rattle.text_commands.specs.Endings.{ending_without}
+use Rattle.text_commands.specs.CommandEnds.{ending_without}
 use Rattle.text_commands.specs.Runs.{Gives}
 use Rattle.text_commands.specs.Safety.{HasLeast, IsLeast, IsSafePlan, IsValid}
-use Rattle.text_commands.specs.declared.ending.Ending.{Ending}
-use Rattle.text_commands.specs.declared.ending.Ending.TheVariants.{NoPlan, Unshown}
+use Rattle.text_commands.specs.declared.command_end.CommandEnd.{CommandEnd}
+use Rattle.text_commands.specs.declared.command_end.CommandEnd.TheVariants.{NoPlan, Unshown}
 use Rattle.text_commands.specs.declared.unshown.Unshown.TheVariants as why
 use Rattle.text_commands.specs.declared.words.Planner.TheVariants.{Slack}
 
@@ -56,7 +56,7 @@ module _ (p other : Problem) (plan : Plan) (q : ℕ) (same : other ≡ p) where
   accepted-least proof net e = takes_at_least p q proof net (accepted-shows p q proof (subst (λ x. shows_least x q proof ≡ true) same e))
 
 pub shown-is : (p : Problem) (plan : Plan) (q steps : ℕ) (proof : Proof) (text : List ℕ) → steps ≡ q - 1 → text ≡ claimed_text p plan (record { steps = steps; proof = proof }) ++ 10 ∷ []
-    → ◌≡◌ {A = Result (List ℕ) Ending} (Ok (shown_text p plan q proof)) (Ok text)
+    → ◌≡◌ {A = Result (List ℕ) CommandEnd} (Ok (shown_text p plan q proof)) (Ok text)
 shown-is p plan q steps proof text e is = ap Ok (sym (is ∙ ap (λ n. claimed_text p plan (record { steps = n; proof = proof }) ++ 10 ∷ []) e))
 
 -- ---- no more rate steps than were chosen
@@ -81,7 +81,7 @@ module _ (p : Problem) (plan : Plan) (q : ℕ) where
   few-least : rate_steps p plan ≤ q → TakesAtLeast p q → HasLeast p plan
   few-least few least = λ other valid rest. chained (rate_steps p plan) q (rate_steps p other) few (least other valid rest)
 
-  pub few-answer : {A : Type 0} (steps : ℕ) (r : Result A Ending) → steps ≡ rate_steps p plan → steps ≤ q → IfOk r (λ text. TakesAtLeast p q) → IfOk r (λ text. HasLeast p plan)
+  pub few-answer : {A : Type 0} (steps : ℕ) (r : Result A CommandEnd) → steps ≡ rate_steps p plan → steps ≤ q → IfOk r (λ text. TakesAtLeast p q) → IfOk r (λ text. HasLeast p plan)
   few-answer steps (Ok text) count few least = few-least (subst (λ n. n ≤ q) count few) least
   few-answer steps (Err e) count few least = tt
 
@@ -91,11 +91,11 @@ module _ (p : Problem) (o : Rollout) (q : ℕ) (same : o.problem ≡ p) (is_chos
   pub least-chosen : chosen_by Slack o.problem ≡ Ok (record { plan = o.plan; rate_steps = q })
   least-chosen = ap (chosen_by Slack) same ∙ is_chosen
 
-  pub least-gives : (r : Result (List ℕ) Ending) → Gives r (proved o.problem o.plan q) → Gives r (least_planned p)
+  pub least-gives : (r : Result (List ℕ) CommandEnd) → Gives r (proved o.problem o.plan q) → Gives r (least_planned p)
   unfolding least_planned
   least-gives r h = subst (λ x. Gives r x) (ap (λ x. proved x o.plan q) same ∙ sym (ap (with_least p) is_chosen)) h
 
-  pub least-safe : {A : Type 0} (r : Result A Ending) → IfOk r (λ text. HasLeast o.problem o.plan) → IsValid o.problem o.plan → IsSafePlan o.problem o.plan → IfOk r (λ text. IsLeast p)
+  pub least-safe : {A : Type 0} (r : Result A CommandEnd) → IfOk r (λ text. HasLeast o.problem o.plan) → IsValid o.problem o.plan → IsSafePlan o.problem o.plan → IfOk r (λ text. IsLeast p)
   least-safe (Ok text) least valid safe = record {
     choice = record { plan = o.plan; rate_steps = q };
     is_chosen = slack-ok p (record { plan = o.plan; rate_steps = q }) is_chosen;

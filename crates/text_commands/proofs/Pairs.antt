@@ -20,7 +20,7 @@ module _ {A : Type 0} (bytes : A → List ℕ) where
   last-pairs names (x ∷ []) h = refl
   last-pairs names (x ∷ y ∷ more) h = absurd (omega (arith, h))
 
-  -- behind what was found there is no value any more
+  -- after what was found there is no value any more
   pub value-found : {B : Type 0} (now : B → List ℕ) (name : List ℕ) (default : B) (found : Option B) (rest : List A) → length rest < 2
       → one_or (now default) (option_to_list (option_map now found) ++ values_of name (map bytes rest)) ≡ Some (now (unwrap_or found default))
   value-found now name default None [] h = refl

@@ -5,7 +5,7 @@ use Rattle.sink_pieces.specs.Passing.{Stops}
 use Rattle.sink_pieces.proofs.Whole.{IsWritten}
 use Rattle.wan_edge.specs.declared.stream.Failed.{Failed}
 use Rattle.text_commands.specs.Runs.{EndsWith}
-use Rattle.text_commands.specs.declared.ending.Ending.TheVariants.{Done, WriteFault}
+use Rattle.text_commands.specs.declared.command_end.CommandEnd.TheVariants.{Done, WriteFault}
 
 module _ {K : Type 0} (told : K → SinkTrace) (text : List ℕ) (result : Result Unit Failed) (before : SinkTrace) (last sink : K) (same : sink ≡ last) (written : IsWritten text result before (told last)) where
   pub ends-done : (done : Unit {0}) → result ≡ Ok done → EndsWith (Ok text) Done before.written (told sink).written

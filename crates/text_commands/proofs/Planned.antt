@@ -19,11 +19,11 @@ use Rattle.scratch_plan.specs.Refusals as scratch
 use Rattle.scratch_plan.specs.declared.no_plan.NoPlan.{NoPlan as Unplannable}
 use Rattle.scratch_plan.specs.declared.no_plan.NoPlan.TheVariants.{OverCapacity, TableFull, NoSlack, Memory}
 use Rattle.text_commands.specs.Answers.{or_unchosen, chosen_by, IsChosenBy, with_choice, planned}
-use Rattle.text_commands.specs.Endings.{ending_without}
+use Rattle.text_commands.specs.CommandEnds.{ending_without}
 use Rattle.text_commands.specs.Runs.{Gives}
 use Rattle.text_commands.specs.Safety.{IsPlanned, IsSafePlan, IsValid}
-use Rattle.text_commands.specs.declared.ending.Ending.{Ending}
-use Rattle.text_commands.specs.declared.ending.Ending.TheVariants.{NoPlan}
+use Rattle.text_commands.specs.declared.command_end.CommandEnd.{CommandEnd}
+use Rattle.text_commands.specs.declared.command_end.CommandEnd.TheVariants.{NoPlan}
 use Rattle.text_commands.specs.declared.words.Planner.{Planner}
 use Rattle.text_commands.specs.declared.words.Planner.TheVariants.{Slack, Fewest}
 
@@ -113,7 +113,7 @@ ending-stuck p (Unchosen Memory) link e = cc
 ending-stuck p (Unfound why) link e = cause-same p (Unfound why) (Stuck link) e
 ending-stuck p (Stuck l) link e = cause-same p (Stuck l) (Stuck link) e
 
-err-same : (a b : Ending) → ◌≡◌ {A = Result (List ℕ) Ending} (Err a) (Err b) → a ≡ b
+err-same : (a b : CommandEnd) → ◌≡◌ {A = Result (List ℕ) CommandEnd} (Err a) (Err b) → a ≡ b
 err-same a b e = cc
 
 pub said-stuck : (p : Problem) (r : Result Choice Cause) (link : ℕ) → with_choice p r ≡ Err (NoPlan (record { problem = p; cause = Stuck link })) → r ≡ Err (Stuck link)

@@ -28,12 +28,12 @@ use Rattle.lp_proof.specs.declared.least.Least.TheVariants as least
 use Rattle.sim_run.specs.Script.{script_text}
 use Rattle.sim_run.specs.declared.script_shape.ScriptShape.{ScriptShape}
 use Rattle.text_commands.specs.Answers.{◌>>=◌, or_ending, with_choice, where_few, with_least, with_proof, planned, proved, least_planned, checked, claimed_line, judged, loaded, turned_back, rehearsed, drawn_up, rehearsal_text, answer_in, chosen_by, explained}
-use Rattle.text_commands.specs.Endings.{ending_of, status_of}
+use Rattle.text_commands.specs.CommandEnds.{ending_of, status_of}
 use Rattle.text_commands.specs.Runs.{EndsWith}
 use Rattle.text_commands.specs.Safety.{IsValid}
 use Rattle.text_commands.specs.Taken.{IsShownDocument, IsTaken, IsValidDocument, IsValidScript, is_as_said}
-use Rattle.text_commands.specs.declared.ending.Ending.{Ending}
-use Rattle.text_commands.specs.declared.ending.Ending.TheVariants.{OutOfMemory}
+use Rattle.text_commands.specs.declared.command_end.CommandEnd.{CommandEnd}
+use Rattle.text_commands.specs.declared.command_end.CommandEnd.TheVariants.{OutOfMemory}
 use Rattle.text_commands.proofs.Claims.{claim-shown, claim-unshown}
 use Rattle.text_commands.proofs.Documents.{as_rollout, checked-by, back_text}
 use Rattle.text_commands.specs.Words.{TextAsked, a_plan, a_check, the_loads, the_way_back, a_rehearsal, a_script, the_explanation, the_least}
@@ -42,12 +42,12 @@ use Rattle.text_commands.specs.declared.words.Planner.TheVariants.{Slack}
 use Rattle.text_commands.proofs.Steps.{fault-ends}
 
 -- whether an answer refuses the input
-abbrev pub is_refusal : Result (List ℕ) Ending → Bool
+abbrev pub is_refusal : Result (List ℕ) CommandEnd → Bool
 is_refusal (Ok text) = false
 is_refusal (Err e) = status_of e == 3
 
 -- the command takes the input, or its answer refuses it; else memory ran out
-abbrev pub IsJudged : Type 0 → Result (List ℕ) Ending → Type 0
+abbrev pub IsJudged : Type 0 → Result (List ℕ) CommandEnd → Type 0
 IsJudged taken answer = (taken × (is_refusal answer ≡ false)) ⊎ (((taken → ⊥) × (is_refusal answer ≡ true)) ⊎ (answer ≡ Err OutOfMemory))
 
 fault-judged : (taken : Type 0) (e : InputFault) → (taken → ⊥) → IsJudged taken (Err (ending_of e))
@@ -86,7 +86,7 @@ proof-is-no-refusal p c (least.Overflow made) = refl
 proof-is-no-refusal p c (least.Spent made) = refl
 proof-is-no-refusal p c least.Memory = refl
 
-few-is-no-refusal : (b : Bool) (found : Result (List ℕ) Ending) → is_refusal found ≡ false → is_refusal (where_few b found) ≡ false
+few-is-no-refusal : (b : Bool) (found : Result (List ℕ) CommandEnd) → is_refusal found ≡ false → is_refusal (where_few b found) ≡ false
 few-is-no-refusal true found h = h
 few-is-no-refusal false found h = refl
 
@@ -229,19 +229,19 @@ answer-judged (a_script shape policy) input within = drawn-judged shape policy i
 -- ---- the status of a run
 
 -- the status of an ending that follows from an answer is 3 exactly where the answer refuses the input
-ending-refuses : (answer : Result (List ℕ) Ending) (e : Ending) (out now : Option (List ℕ)) → EndsWith answer e out now → (status_of e == 3) ≡ is_refusal answer
+ending-refuses : (answer : Result (List ℕ) CommandEnd) (e : CommandEnd) (out now : Option (List ℕ)) → EndsWith answer e out now → (status_of e == 3) ≡ is_refusal answer
 ending-refuses (Ok text) e out now (inl done) = ap (λ x. status_of x == 3) done.0
 ending-refuses (Ok text) e out now (inr cut) = ap (λ x. status_of x == 3) cut.0
 ending-refuses (Err d) e out now h = ap (λ x. status_of x == 3) h.0
 
-ends-for-memory : (answer : Result (List ℕ) Ending) (e : Ending) (out now : Option (List ℕ)) → EndsWith answer e out now → answer ≡ Err OutOfMemory → e ≡ OutOfMemory
+ends-for-memory : (answer : Result (List ℕ) CommandEnd) (e : CommandEnd) (out now : Option (List ℕ)) → EndsWith answer e out now → answer ≡ Err OutOfMemory → e ≡ OutOfMemory
 ends-for-memory (Ok text) e out now h is = cc
 ends-for-memory (Err d) e out now h is = cc (h.0, is)
 
 three-refuses : (n : ℕ) → (n == 3) ≡ false → n ≡ 3 → ⊥
 three-refuses n other three = let e : (3 == 3) ≡ false = subst (λ m. (m == 3) ≡ false) three other in cc
 
-pub refused-exactly : (taken : Type 0) (answer : Result (List ℕ) Ending) (e : Ending) (out now : Option (List ℕ)) → EndsWith answer e out now → (e ≡ OutOfMemory → ⊥) → IsJudged taken answer
+pub refused-exactly : (taken : Type 0) (answer : Result (List ℕ) CommandEnd) (e : CommandEnd) (out now : Option (List ℕ)) → EndsWith answer e out now → (e ≡ OutOfMemory → ⊥) → IsJudged taken answer
     → (status_of e ≡ 3 → taken → ⊥) × ((taken → ⊥) → status_of e ≡ 3)
 refused-exactly taken answer e out now ends some (inl (t, takes)) = (λ s _. three-refuses _ (ending-refuses answer e out now ends ∙ takes) s, λ n. absurd (n t))
 refused-exactly taken answer e out now ends some (inr (inl (n, is))) = (λ _. n, λ _. eqb-true _ _ (ending-refuses answer e out now ends ∙ is))

@@ -1,13 +1,13 @@
 -- The ending of a status.
 use Rattle.std.proofs.Common.{◌≡◌, ◌⊎◌, ◌==◌, ℕ, ◌∷◌, [], Bool, true, false, IsTrue, refl, sym, ◌∙◌, subst, inl, inr, arith}
 use Rattle.std.specs.List.{list_any}
-use Rattle.text_commands.specs.Endings.{status_of}
+use Rattle.text_commands.specs.CommandEnds.{status_of}
 use Rattle.text_commands.specs.Program.{IsStatus, IsUnfinished}
 use Rattle.text_commands.specs.Unfinished.{unfinished_status}
 use Rattle.text_commands.specs.declared.unfinished.Unfinished.{Unfinished}
 use Rattle.text_commands.specs.declared.unfinished.Unfinished.TheVariants.{RoundsSpent, PortFault, Above, NotMine, NoAnswer, Held}
-use Rattle.text_commands.specs.declared.ending.Ending.{Ending}
-use Rattle.text_commands.specs.declared.ending.Ending.TheVariants.{Done, Usage, AboveLimit, Input, NotValid, NoPlan, Unshown, ReadFault, WriteFault, DiskFault, GuestFault, Refused, NotFinished, OutOfMemory}
+use Rattle.text_commands.specs.declared.command_end.CommandEnd.{CommandEnd}
+use Rattle.text_commands.specs.declared.command_end.CommandEnd.TheVariants.{Done, Usage, AboveLimit, Input, NotValid, NoPlan, Unshown, ReadFault, WriteFault, DiskFault, GuestFault, Refused, NotFinished, OutOfMemory}
 
 -- ---- the statuses of rollouts that aren't finished
 
@@ -33,7 +33,7 @@ unfinished-status (NotMine r switch item) = refl
 unfinished-status (NoAnswer r switch byte) = refl
 unfinished-status (Held left) = refl
 
-pub is-unfinished : (t : Ending) → IsUnfinished (status_of t) → (u : Unfinished) × (t ≡ NotFinished u)
+pub is-unfinished : (t : CommandEnd) → IsUnfinished (status_of t) → (u : Unfinished) × (t ≡ NotFinished u)
 is-unfinished Done h = absurd cc
 is-unfinished Usage h = absurd cc
 is-unfinished AboveLimit h = absurd cc
@@ -51,7 +51,7 @@ is-unfinished OutOfMemory h = absurd cc
 
 -- ---- each status
 
-pub is-done : (t : Ending) → status_of t ≡ 0 → t ≡ Done
+pub is-done : (t : CommandEnd) → status_of t ≡ 0 → t ≡ Done
 is-done Done h = refl
 is-done Usage h = absurd (omega (arith, h))
 is-done AboveLimit h = absurd (omega (arith, h))
@@ -67,7 +67,7 @@ is-done (Refused e) h = absurd (omega (arith, h))
 is-done (NotFinished u) h = absurd (not-status 0 refl u h)
 is-done OutOfMemory h = absurd (omega (arith, h))
 
-pub is-usage : (t : Ending) → status_of t ≡ 2 → t ≡ Usage
+pub is-usage : (t : CommandEnd) → status_of t ≡ 2 → t ≡ Usage
 is-usage Done h = absurd (omega (arith, h))
 is-usage Usage h = refl
 is-usage AboveLimit h = absurd (omega (arith, h))
@@ -83,7 +83,7 @@ is-usage (Refused e) h = absurd (omega (arith, h))
 is-usage (NotFinished u) h = absurd (not-status 2 refl u h)
 is-usage OutOfMemory h = absurd (omega (arith, h))
 
-pub is-read-fault : (t : Ending) → status_of t ≡ 6 → t ≡ ReadFault
+pub is-read-fault : (t : CommandEnd) → status_of t ≡ 6 → t ≡ ReadFault
 is-read-fault Done h = absurd (omega (arith, h))
 is-read-fault Usage h = absurd (omega (arith, h))
 is-read-fault AboveLimit h = absurd (omega (arith, h))
@@ -99,7 +99,7 @@ is-read-fault (Refused e) h = absurd (omega (arith, h))
 is-read-fault (NotFinished u) h = absurd (not-status 6 refl u h)
 is-read-fault OutOfMemory h = absurd (omega (arith, h))
 
-pub is-write-fault : (t : Ending) → status_of t ≡ 7 → t ≡ WriteFault
+pub is-write-fault : (t : CommandEnd) → status_of t ≡ 7 → t ≡ WriteFault
 is-write-fault Done h = absurd (omega (arith, h))
 is-write-fault Usage h = absurd (omega (arith, h))
 is-write-fault AboveLimit h = absurd (omega (arith, h))
@@ -115,7 +115,7 @@ is-write-fault (Refused e) h = absurd (omega (arith, h))
 is-write-fault (NotFinished u) h = absurd (not-status 7 refl u h)
 is-write-fault OutOfMemory h = absurd (omega (arith, h))
 
-pub is-disk-fault : (t : Ending) → status_of t ≡ 8 → t ≡ DiskFault
+pub is-disk-fault : (t : CommandEnd) → status_of t ≡ 8 → t ≡ DiskFault
 is-disk-fault Done h = absurd (omega (arith, h))
 is-disk-fault Usage h = absurd (omega (arith, h))
 is-disk-fault AboveLimit h = absurd (omega (arith, h))
@@ -131,7 +131,7 @@ is-disk-fault (Refused e) h = absurd (omega (arith, h))
 is-disk-fault (NotFinished u) h = absurd (not-status 8 refl u h)
 is-disk-fault OutOfMemory h = absurd (omega (arith, h))
 
-pub is-fleet-fault : (t : Ending) → status_of t ≡ 9 → (t ≡ GuestFault) ⊎ ((u : Unfinished) × (t ≡ NotFinished u))
+pub is-fleet-fault : (t : CommandEnd) → status_of t ≡ 9 → (t ≡ GuestFault) ⊎ ((u : Unfinished) × (t ≡ NotFinished u))
 is-fleet-fault Done h = absurd (omega (arith, h))
 is-fleet-fault Usage h = absurd (omega (arith, h))
 is-fleet-fault AboveLimit h = absurd (omega (arith, h))
@@ -147,7 +147,7 @@ is-fleet-fault (Refused e) h = absurd (omega (arith, h))
 is-fleet-fault (NotFinished u) h = inr (u, refl)
 is-fleet-fault OutOfMemory h = absurd (omega (arith, h))
 
-pub is-status : (t : Ending) → IsStatus (status_of t)
+pub is-status : (t : CommandEnd) → IsStatus (status_of t)
 is-status Done = refl
 is-status Usage = refl
 is-status AboveLimit = refl

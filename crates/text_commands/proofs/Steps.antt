@@ -4,12 +4,12 @@ use Rattle.problem_json.specs.GrammarResults as grammar
 use Rattle.problem_json.specs.declared.fault.InputFault.{InputFault}
 use Rattle.problem_json.specs.declared.fault.InputFault.TheVariants as fault
 use Rattle.text_commands.specs.Answers.{◌>>=◌, or_ending}
-use Rattle.text_commands.specs.Endings.{ending_of}
+use Rattle.text_commands.specs.CommandEnds.{ending_of}
 use Rattle.text_commands.specs.Runs.{Gives}
-use Rattle.text_commands.specs.declared.ending.Ending.{Ending}
-use Rattle.text_commands.specs.declared.ending.Ending.TheVariants.{Done, Usage, AboveLimit, Input, NotValid, NoPlan, Unshown, ReadFault, WriteFault, DiskFault, GuestFault, Refused, NotFinished, OutOfMemory}
+use Rattle.text_commands.specs.declared.command_end.CommandEnd.{CommandEnd}
+use Rattle.text_commands.specs.declared.command_end.CommandEnd.TheVariants.{Done, Usage, AboveLimit, Input, NotValid, NoPlan, Unshown, ReadFault, WriteFault, DiskFault, GuestFault, Refused, NotFinished, OutOfMemory}
 
--- a fault of the grammar ends the run as it says, and want of memory for want of it
+-- a fault of the grammar ends the run as it says, and lack of memory for want of it
 pub fault-ends : (e : InputFault) → (ending_of e ≡ Input e) ⊎ (ending_of e ≡ OutOfMemory)
 fault-ends fault.NotJson = inl refl
 fault-ends (fault.Missing p k) = inl refl
@@ -31,7 +31,7 @@ fault-ends (fault.BadProof p) = inl refl
 fault-ends fault.Memory = inr refl
 
 -- a fault of the grammar is the answer's ending
-pub fault-gives : {A B : Type 0} (e : InputFault) (read : Result A InputFault) (next : A → Result B Ending) → grammar.Refuses e read → Gives {A = B} (Err (ending_of e)) (or_ending read >>= next)
+pub fault-gives : {A B : Type 0} (e : InputFault) (read : Result A InputFault) (next : A → Result B CommandEnd) → grammar.Refuses e read → Gives {A = B} (Err (ending_of e)) (or_ending read >>= next)
 fault-gives fault.NotJson read next h = ap (λ r. or_ending r >>= next) h
 fault-gives (fault.Missing p k) read next h = ap (λ r. or_ending r >>= next) h
 fault-gives (fault.WrongKind p) read next h = ap (λ r. or_ending r >>= next) h
@@ -52,11 +52,11 @@ fault-gives (fault.BadProof p) read next h = ap (λ r. or_ending r >>= next) h
 fault-gives fault.Memory read next h = tt
 
 -- what follows a value that was read
-pub next-is : {A B : Type 0} (read : Result A InputFault) (a : A) (next : A → Result B Ending) → read ≡ Ok a → or_ending read >>= next ≡ next a
+pub next-is : {A B : Type 0} (read : Result A InputFault) (a : A) (next : A → Result B CommandEnd) → read ≡ Ok a → or_ending read >>= next ≡ next a
 next-is read a next h = ap (λ r. or_ending r >>= next) h
 
 -- an ending of a step is that of what follows it
-pub step-gives : {A B : Type 0} (e : Ending) (step : Result A Ending) (next : A → Result B Ending) → Gives {A = A} (Err e) step → Gives {A = B} (Err e) (step >>= next)
+pub step-gives : {A B : Type 0} (e : CommandEnd) (step : Result A CommandEnd) (next : A → Result B CommandEnd) → Gives {A = A} (Err e) step → Gives {A = B} (Err e) (step >>= next)
 step-gives Done step next h = ap (λ r. r >>= next) h
 step-gives Usage step next h = ap (λ r. r >>= next) h
 step-gives AboveLimit step next h = ap (λ r. r >>= next) h

@@ -3,13 +3,13 @@ use Rattle.std.specs.Prelude.{ℕ, List, Result, Ok, Err}
 use Rattle.text_commands.specs.Answers.{rollout_text}
 use Rattle.text_commands.specs.declared.answer.Answer.{Answer}
 use Rattle.text_commands.specs.declared.answer.Answer.TheVariants.{Made, Document}
-use Rattle.text_commands.specs.declared.ending.Ending.{Ending}
+use Rattle.text_commands.specs.declared.command_end.CommandEnd.{CommandEnd}
 
 abbrev pub text_in : Answer → List ℕ
 text_in (Made text) = text
 text_in (Document rollout) = rollout_text rollout
 
 -- the text of an answer, or the ending without one
-abbrev pub told : Result Answer Ending → Result (List ℕ) Ending
+abbrev pub told : Result Answer CommandEnd → Result (List ℕ) CommandEnd
 told (Ok answer) = Ok (text_in answer)
 told (Err ending) = Err ending

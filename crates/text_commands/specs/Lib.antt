@@ -3,7 +3,7 @@ pub mod NoPlanLines
 pub mod Unshown
 pub mod JournalLines
 pub mod Unfinished
-pub mod Endings
+pub mod CommandEnds
 pub mod Lines
 pub mod Words
 pub mod Answers

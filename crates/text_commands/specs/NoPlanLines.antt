@@ -16,7 +16,7 @@ side_text New = codes "new"
 abbrev pub load_on : Side → ℕ → List ℕ
 load_on side load = codes " " ++ side_text side ++ codes " load " ++ decimal load
 
--- behind the start of a line, a link and what it carries in a split
+-- after the start of a line, a link and what it carries in a split
 abbrev pub link_load : List ℕ → Problem → ℕ → Side → ℕ → List ℕ
 link_load start p l side load = start ++ link_text p l ++ load_on side load
 

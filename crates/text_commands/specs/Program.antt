@@ -2,10 +2,10 @@
 use Rattle.std.specs.Prelude.{◌≡◌, ◌≢◌, ◌⊎◌, ◌↔◌, ◌==◌, ℕ, List, [], ◌∷◌, Option, None, IsTrue}
 use Rattle.std.specs.List.{list_any}
 use Rattle.wan_edge.specs.Streams.{Rose, SinkTrace, SourceTrace}
-use Rattle.text_commands.specs.Endings.{status_of}
+use Rattle.text_commands.specs.CommandEnds.{status_of}
 use Rattle.text_commands.specs.Runs.{Notes}
 use Rattle.text_commands.specs.Uses.{Uses}
-use Rattle.text_commands.specs.declared.ending.Ending.{Ending}
+use Rattle.text_commands.specs.declared.command_end.CommandEnd.{CommandEnd}
 
 -- what the streams, the disk and the fleet of a run tell at a moment: all that source, sink and notes tell, the bytes on the disk, and how often
 -- disk and fleet have failed
@@ -18,7 +18,7 @@ pub record Streams : Type 0 where
   pub fleet_faults : ℕ
 
 -- the notes have the line of an ending
-abbrev pub NotesLine : Ending → Streams → Streams → Type 0
+abbrev pub NotesLine : CommandEnd → Streams → Streams → Type 0
 NotesLine ending before after = Notes ending before.notes.written after.notes.written before.notes.faults after.notes.faults
 
 -- a status that the program may have
@@ -27,7 +27,7 @@ IsStatus status = IsTrue (list_any (λ s. s == status) (0 ∷ 2 ∷ 3 ∷ 4 ∷ 
 
 -- the notes have the line of an ending with this status
 pub record IsNoted (status : ℕ) (before after : Streams) : Type 0 where
-  pub ending : Ending
+  pub ending : CommandEnd
   pub is_status : status ≡ status_of ending
   pub line : NotesLine ending before after
 
@@ -53,7 +53,7 @@ pub record IsRun {A : Type 0} (uses : Uses) (asked : Option A) (before after : S
   pub noted : IsNoted status before after
 
 -- a run that ended before any word was read
-pub record IsEnded (ending : Ending) (before after : Streams) (status : ℕ) : Type 0 where
+pub record IsEnded (ending : CommandEnd) (before after : Streams) (status : ℕ) : Type 0 where
   pub is_status : status ≡ status_of ending
   pub line : NotesLine ending before after
   pub unread : after.source ≡ before.source

@@ -3,13 +3,13 @@ use Rattle.std.specs.Prelude.{◌≡◌, ◌⊎◌, ◌↔◌, ℕ, List, ◌++�
 use Rattle.rollout_rules.specs.declared.limits.TheConstants.{MOST_INPUT}
 use Rattle.wan_edge.specs.Streams.{Appends, AppendsPart, IsAtEnd, Rose, SourceTrace}
 use Rattle.wan_edge.specs.ReadAll.{GoesBeyond}
-use Rattle.text_commands.specs.Endings.{status_of, line_of}
+use Rattle.text_commands.specs.CommandEnds.{status_of, line_of}
 use Rattle.text_commands.specs.Lines.{IsToldAs}
 use Rattle.text_commands.specs.Answers.{answer_to}
 use Rattle.text_commands.specs.Safety.{DoesSafely}
 use Rattle.text_commands.specs.Taken.{IsTaken}
-use Rattle.text_commands.specs.declared.ending.Ending.{Ending}
-use Rattle.text_commands.specs.declared.ending.Ending.TheVariants.{Done, ReadFault, WriteFault, OutOfMemory}
+use Rattle.text_commands.specs.declared.command_end.CommandEnd.{CommandEnd}
+use Rattle.text_commands.specs.declared.command_end.CommandEnd.TheVariants.{Done, ReadFault, WriteFault, OutOfMemory}
 use Rattle.text_commands.specs.Words.{TextAsked}
 
 -- these bytes were read, and with them the source to its end
@@ -39,45 +39,45 @@ pub record TellsTaken (before now : SourceTrace) (bytes : List ℕ) : Type 0 whe
 abbrev pub TellsInput : SourceTrace → SourceTrace → List ℕ → Type 0
 TellsInput before now input = (before.left ≡ Some input) ⊎ TellsTaken before now input
 
--- What a call answers is what the definition says; want of memory says nothing.
-abbrev pub Gives : {A : Type 0} → Result A Ending → Result A Ending → Type 0
+-- What a call answers is what the definition says; lack of memory says nothing.
+abbrev pub Gives : {A : Type 0} → Result A CommandEnd → Result A CommandEnd → Type 0
 Gives (Ok a) answer = answer ≡ Ok a
 Gives (Err OutOfMemory) answer = Unit {0}
 Gives (Err e) answer = answer ≡ Err e
 
 -- The run ends as the answer to its input says: with the text written, or a part of it and a write fault, or with
 -- nothing written and the ending that the answer names.
-abbrev pub EndsWith : Result (List ℕ) Ending → Ending → Option (List ℕ) → Option (List ℕ) → Type 0
+abbrev pub EndsWith : Result (List ℕ) CommandEnd → CommandEnd → Option (List ℕ) → Option (List ℕ) → Type 0
 EndsWith (Ok text) ending before now = ((ending ≡ Done) × Appends before text now) ⊎ ((ending ≡ WriteFault) × AppendsPart before text now)
 EndsWith (Err e) ending before now = (ending ≡ e) × (now ≡ before)
 
 -- the same, where memory may have run out: then nothing was written
-abbrev pub Follows : Result (List ℕ) Ending → Ending → Option (List ℕ) → Option (List ℕ) → Type 0
+abbrev pub Follows : Result (List ℕ) CommandEnd → CommandEnd → Option (List ℕ) → Option (List ℕ) → Type 0
 Follows answer OutOfMemory before now = now ≡ before
 Follows answer ending before now = EndsWith answer ending before now
 
 -- The input of a run, and how the run follows from it. It is refused exactly where the command doesn't take it;
 -- where the text was written, its rollout is safe.
-pub record FollowsInput (asked : TextAsked) (source source_now : SourceTrace) (ending : Ending) (out out_now : Option (List ℕ)) : Type 0 where
+pub record FollowsInput (asked : TextAsked) (source source_now : SourceTrace) (ending : CommandEnd) (out out_now : Option (List ℕ)) : Type 0 where
   pub input : List ℕ
   pub read : IsInput source source_now input
   pub answer : EndsWith (answer_to asked input) ending out out_now
   pub refused : (status_of ending ≡ 3) ↔ (IsTaken asked input → ⊥)
   pub safe : ending ≡ Done → DoesSafely asked input
 
--- what an ending of a run says: after a fault of the source, and for want of memory, that nothing was written
-abbrev pub Runs : TextAsked → SourceTrace → SourceTrace → Ending → Option (List ℕ) → Option (List ℕ) → Type 0
+-- what an ending of a run says: after a fault of the source, and for lack of memory, that nothing was written
+abbrev pub Runs : TextAsked → SourceTrace → SourceTrace → CommandEnd → Option (List ℕ) → Option (List ℕ) → Type 0
 Runs asked source source_now ReadFault out out_now = out_now ≡ out
 Runs asked source source_now OutOfMemory out out_now = out_now ≡ out
 Runs asked source source_now ending out out_now = FollowsInput asked source source_now ending out out_now
 
 -- the line of an ending was written, or a part of it where the notes failed
-abbrev pub Notes : Ending → Option (List ℕ) → Option (List ℕ) → ℕ → ℕ → Type 0
+abbrev pub Notes : CommandEnd → Option (List ℕ) → Option (List ℕ) → ℕ → ℕ → Type 0
 Notes ending before now faults faults_now = Appends before (line_of ending) now ⊎ (AppendsPart before (line_of ending) now × Rose faults faults_now)
 
--- the status and the line are those of the ending, or of want of memory for its line
-pub record IsTold (ending : Ending) (status : ℕ) (before now : Option (List ℕ)) (faults faults_now : ℕ) : Type 0 where
-  pub told : Ending
+-- the status and the line are those of the ending, or of lack of memory for its line
+pub record IsTold (ending : CommandEnd) (status : ℕ) (before now : Option (List ℕ)) (faults faults_now : ℕ) : Type 0 where
+  pub told : CommandEnd
   pub is : IsToldAs ending told
   pub is_status : status ≡ status_of told
   pub line : Notes told before now faults faults_now

@@ -121,7 +121,7 @@ pub record TurnsSafely (input : List ℕ) : Type 0 where
   pub read : document_in input ≡ Ok document
   pub turned : IsTurned document.problem document.plan
 
--- behind each history the line with an item's number and that of its next operation tells that operation
+-- after each history the line with an item's number and that of its next operation tells that operation
 abbrev pub TellsEachNext : Problem → Plan → Type 0
 TellsEachNext p plan = (h : History) (n : ℕ) → n < item_count p → settled h n < operations p plan (item_at p n) → IsNextTold p plan h n
 

@@ -3,13 +3,13 @@ use Rattle.std.specs.Prelude.{◌≡◌, ℕ, List, drop, String, Option, None, 
 use Rattle.std.specs.declared.alloc.Global.{Global}
 use Rattle.rollout_rules.specs.declared.op.OpView.{OpView}
 use Rattle.wan_edge.specs.Streams.{SinkTrace, SourceTrace}
-use Rattle.text_commands.specs.Endings.{ending_of_unread}
+use Rattle.text_commands.specs.CommandEnds.{ending_of_unread}
 use Rattle.text_commands.specs.Program.{IsEnded, IsRun, Streams}
 use Rattle.text_commands.specs.TextPromise.{TextPromise}
 use Rattle.text_commands.specs.Uses.{text_uses}
 use Rattle.text_commands.specs.Words.{TextAsked, text_asked_by}
 use Rattle.text_commands.specs.declared.arguments.Unread.{Unread}
-use Rattle.text_commands.specs.declared.ending.Ending.{Ending}
+use Rattle.text_commands.specs.declared.command_end.CommandEnd.{CommandEnd}
 
 -- the streams that such a call is lent
 pub record Lent (S K : Type 0) : Type 0 where
@@ -45,7 +45,7 @@ pub record TextsPromise {S K : Type 0} (told : S → SourceTrace) (written : K �
 -- ---- from the arguments on
 
 -- The program ended before any word was read: all but the notes is as it was.
-pub record EndsTextUnread {S K : Type 0} (told : S → SourceTrace) (written : K → SinkTrace) (ending : Ending) (before : Lent S K) (status : ℕ) (after : Lent S K) : Type 0 where
+pub record EndsTextUnread {S K : Type 0} (told : S → SourceTrace) (written : K → SinkTrace) (ending : CommandEnd) (before : Lent S K) (status : ℕ) (after : Lent S K) : Type 0 where
   pub ended : IsEnded ending (streams_of told written before) (streams_of told written after) status
   pub unread : after.source ≡ before.source
   pub unwritten : after.sink ≡ before.sink

@@ -1,4 +1,4 @@
--- Which words are a command line that asks for a text of the input alone, and what they ask for. Behind the word of a command stand pairs of a name and a value.
+-- Which words are a command line that asks for a text of the input alone, and what they ask for. After the word of a command stand pairs of a name and a value.
 use Rattle.std.specs.Prelude.{ℕ, ◌^◌, Bool, true, false, not, ◌&&◌, ◌==◌, nat_le, nat_lt, length, List, [], ◌∷◌, map, String, string_bytes, codes, bytes_eq, Option, Some, None, option_map, option_and_then, if◌then◌else◌}
 use Rattle.std.specs.List.{list_any}
 use Rattle.std.specs.Str.Parse.{digits_value}
@@ -75,7 +75,7 @@ are_pairs names [] = true
 are_pairs names (word ∷ []) = false
 are_pairs names (word ∷ value ∷ words) = list_any (bytes_eq word) names && not (begins_with_dash value) && are_pairs names words
 
--- the values that stand behind a name
+-- the values that stand after a name
 abbrev pub values_of : List ℕ → List (List ℕ) → List (List ℕ)
 values_of name [] = []
 values_of name (word ∷ []) = []

@@ -1,8 +1,8 @@
-//! The arguments of a program: the first is its own name, and those behind it are its words.
+//! The arguments of a program: the first is its own name, and those after it are its words.
 ghost use Rattle.std.specs.Prelude.{◌≡◌, ◌≢◌, drop};
 ghost use Rattle.std.specs.IoError.{error_kind};
 
-use crate::ending::Ending;
+use crate::command_end::CommandEnd;
 use std::io::{Error, ErrorKind};
 
 /// Why the arguments of a program couldn't be read.
@@ -14,7 +14,7 @@ pub enum Unread {
     Memory,
 }
 
-/// Why the arguments couldn't be read: beside want of memory, one of them isn't UTF-8.
+/// Why the arguments couldn't be read: beside lack of memory, one of them isn't UTF-8.
 pub fn why_unread(error: &Error) -> Unread
     ensures memory { error_kind error.now ≡ ErrorKind.OutOfMemory → result ≡ Unread.Memory }
     ensures text { error_kind error.now ≢ ErrorKind.OutOfMemory → result ≡ Unread.NotText }
@@ -25,21 +25,21 @@ pub fn why_unread(error: &Error) -> Unread
     Unread::NotText
 }
 
-impl From<Unread> for Ending {
+impl From<Unread> for CommandEnd {
     ghost use Rattle.std.specs.Prelude.{◌≡◌};
-    ghost use Rattle.text_commands.specs.Endings.{ending_of_unread};
+    ghost use Rattle.text_commands.specs.CommandEnds.{ending_of_unread};
 
     ghost from_gives = { λ why ending. ending ≡ ending_of_unread why };
 
-    fn from(why: Unread) -> Ending {
+    fn from(why: Unread) -> CommandEnd {
         match why {
-            Unread::NotText => Ending::Usage,
-            Unread::Memory => Ending::OutOfMemory,
+            Unread::NotText => CommandEnd::Usage,
+            Unread::Memory => CommandEnd::OutOfMemory,
         }
     }
 }
 
-/// The words behind the program's own name.
+/// The words after the program's own name.
 pub fn words_of(arguments: &[String]) -> &[String]
     ensures { result.now ≡ drop 1 arguments.now }
 {

@@ -20,7 +20,7 @@ ghost use Rattle.text_commands.specs.Runs.{TellsInput};
 ghost use Rattle.text_commands.specs.Taken.{IsShownDocument, IsValidDocument, IsValidScript};
 ghost use Rattle.text_commands.specs.TextPromise.{TextPromise};
 ghost use Rattle.text_commands.specs.Words.{TextAsked, a_plan, a_check, the_loads, the_way_back, a_rehearsal, a_script, the_explanation};
-ghost use Rattle.text_commands.specs.declared.ending.Ending.TheVariants.{NoPlan};
+ghost use Rattle.text_commands.specs.declared.command_end.CommandEnd.TheVariants.{NoPlan};
 ghost use Rattle.text_commands.specs.declared.words.Planner.{Planner};
 ghost use Rattle.text_commands.specs.declared.words.Planner.TheVariants.{Slack};
 

@@ -11,7 +11,7 @@
 
 mod answer;
 mod arguments;
-mod ending;
+mod command_end;
 mod fault_lines;
 mod journal_line;
 pub mod laws;
@@ -31,7 +31,7 @@ mod writing;
 
 pub use answer::Answer;
 pub use arguments::{Unread, why_unread, words_of};
-pub use ending::Ending;
+pub use command_end::CommandEnd;
 pub use line::{Line, out_of_memory};
 pub use making::make_text;
 pub use notes::note;
@@ -42,7 +42,7 @@ pub use texts::{answer_of, by_slack, document_of, rollout_of};
 pub use unfinished::Unfinished;
 pub use unshown::Unshown;
 pub use words::{
-    LARGEST_SEED, MOST_EVENTS, Planner, TextCommand, TextKind, begins_with_dash, number_in,
-    numbered, planner_of, script_shape_of, text_command_of, text_kind_named, text_takes, value_or,
+    LARGEST_SEED, MOST_EVENTS, Planner, TextCommand, TextKind, begins_with_dash, number_from,
+    number_in, planner_of, script_shape_of, text_command_of, text_kind_named, text_takes, value_or,
 };
 pub use writing::{write_document, write_text};

@@ -1,7 +1,7 @@
 ghost use Rattle.std.specs.Prelude.{◌≡◌};
-ghost use Rattle.text_commands.specs.Endings.{line_of};
+ghost use Rattle.text_commands.specs.CommandEnds.{line_of};
 ghost use Rattle.text_commands.specs.Lines.{bytes_of};
-ghost use Rattle.text_commands.specs.declared.ending.Ending.TheVariants.{OutOfMemory};
+ghost use Rattle.text_commands.specs.declared.command_end.CommandEnd.TheVariants.{OutOfMemory};
 
 use lists::Text;
 

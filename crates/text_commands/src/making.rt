@@ -3,7 +3,7 @@ ghost use Rattle.order_policy.specs.Named.{answers_in};
 ghost use Rattle.text_commands.specs.TextCall.{TextsPromise, lent};
 ghost use Rattle.text_commands.specs.Words.{text_asked, text_asked_by};
 
-use crate::ending::Ending;
+use crate::command_end::CommandEnd;
 use crate::notes::note;
 use crate::text_run::run_text;
 use crate::words::{TextCommand, text_command_of};
@@ -39,7 +39,7 @@ pub fn make_text<S: Source, K: Sink>(
 {
     match text_command_of(words, policies) {
         Some(command) => make_asked(alloc, command, source, sink, notes),
-        None => note(alloc, notes, Ending::Usage),
+        None => note(alloc, notes, CommandEnd::Usage),
     }
 }
 

@@ -2,7 +2,7 @@ ghost use Rattle.order_policy.specs.Named.{answers_in};
 ghost use Rattle.text_commands.specs.TextCall.{TextsStart, lent};
 
 use crate::arguments::{Unread, words_of};
-use crate::ending::Ending;
+use crate::command_end::CommandEnd;
 use crate::making::make_text;
 use crate::notes::note;
 use order_policy::{Policies, Policy};
@@ -28,6 +28,6 @@ pub fn start_text<S: Source, K: Sink>(
             let words = words_of(arguments.as_slice());
             make_text(alloc, words, source, sink, notes, policies)
         }
-        Err(why) => note(alloc, notes, Ending::from(why)),
+        Err(why) => note(alloc, notes, CommandEnd::from(why)),
     }
 }

@@ -18,7 +18,7 @@ ghost use Rattle.text_commands.specs.Safety.{DoesSafely};
 ghost use Rattle.text_commands.specs.Words.{text_asked};
 
 use crate::answer::Answer;
-use crate::ending::Ending;
+use crate::command_end::CommandEnd;
 use crate::words::TextCommand;
 pub use checking::rollout_of;
 use lists::Text;
@@ -29,7 +29,11 @@ use wan_model::CheckedPlan;
 
 /// What a command answers to its input, or how the run ends without an answer. The bytes are given up as soon as they
 /// are read.
-pub fn answer_of(alloc: Global, command: TextCommand<'_>, input: Nums8) -> Result<Answer, Ending>
+pub fn answer_of(
+    alloc: Global,
+    command: TextCommand<'_>,
+    input: Nums8,
+) -> Result<Answer, CommandEnd>
     ensures gives { Gives (told result) (answer_in (text_asked command.entry) input) }
     ensures safe { IfOk result (λ answer. DoesSafely (text_asked command.entry) input) }
 {
@@ -47,7 +51,7 @@ pub fn answer_of(alloc: Global, command: TextCommand<'_>, input: Nums8) -> Resul
     }
 }
 
-fn made(text: Result<Text, Ending>) -> Result<Answer, Ending>
+fn made(text: Result<Text, CommandEnd>) -> Result<Answer, CommandEnd>
     ensures { told result ≡ text }
 {
     match text {
@@ -56,7 +60,7 @@ fn made(text: Result<Text, Ending>) -> Result<Answer, Ending>
     }
 }
 
-fn document(plan: Result<CheckedPlan, Ending>) -> Result<Answer, Ending>
+fn document(plan: Result<CheckedPlan, CommandEnd>) -> Result<Answer, CommandEnd>
     ensures { told result ≡ documented plan }
 {
     match plan {

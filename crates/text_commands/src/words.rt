@@ -57,7 +57,7 @@ pub enum TextKind {
 }
 
 /// What the words ask for, if they are a command line of a command that makes a text of its input alone: its
-/// word, and behind it pairs of a name and a value, each name at most once and in any order. A policy is
+/// word, and after it pairs of a name and a value, each name at most once and in any order. A policy is
 /// asked for by its name and has to be there. The program's own name isn't among the words.
 #[tactic(auto, unfolding(crate::specs::Words::text_asked_by))]
 pub fn text_command_of<'a>(
@@ -104,7 +104,7 @@ fn text_command_with<'a>(
     text_with_pairs(kind, pairs, policies)
 }
 
-/// What the words ask for behind the word of such a command, where they are pairs of names that it takes and
+/// What the words ask for after the word of such a command, where they are pairs of names that it takes and
 /// values.
 fn text_with_pairs<'a>(
     kind: TextKind,
@@ -192,8 +192,8 @@ fn policy_of<'a>(pairs: &[String], policies: &'a Policies<Policy>) -> Option<&'a
 pub fn script_shape_of(pairs: &[String]) -> Option<ScriptShape>
     ensures { result ≡ script_shape_in (map string_bytes pairs.now) }
 {
-    let seed = numbered(pairs, "--seed", "1", 0, LARGEST_SEED)?;
-    let events = numbered(pairs, "--events", "1000", 0, MOST_EVENTS)?;
+    let seed = number_from(pairs, "--seed", "1", 0, LARGEST_SEED)?;
+    let events = number_from(pairs, "--events", "1000", 0, MOST_EVENTS)?;
     Some(ScriptShape {
         seed,
         events: events as u32,
@@ -201,7 +201,7 @@ pub fn script_shape_of(pairs: &[String]) -> Option<ScriptShape>
 }
 
 /// The number that the pairs name, within its range; a default where they name none.
-pub fn numbered(pairs: &[String], name: &str, default: &str, low: u64, high: u64) -> Option<u64>
+pub fn number_from(pairs: &[String], name: &str, default: &str, low: u64, high: u64) -> Option<u64>
     ensures value { result ≡ numbered name.now default.now low high (map string_bytes pairs.now) }
     ensures least { IfSome result (λ number. low ≤ number) }
     ensures most { IfSome result (λ number. number ≤ high) }
@@ -267,7 +267,7 @@ fn policy_named<'a>(policies: &'a Policies<Policy>, name: &str) -> Option<&'a Po
     policies.find(name)
 }
 
-/// The value behind a name, or the default where it isn't among the pairs; None where it stands there
+/// The value after a name, or the default where it isn't among the pairs; None where it stands there
 /// twice.
 pub fn value_or<'a>(pairs: &'a [String], name: &str, default: &'a str) -> Option<&'a str>
     ensures { option_map (λ value. value.now) result

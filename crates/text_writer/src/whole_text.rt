@@ -22,7 +22,7 @@ impl Model for WholeText {
 }
 
 impl WholeText {
-    /// A text with room for so many bytes, so that it isn't moved until it has more. An Err is want of memory.
+    /// A text with room for so many bytes, so that it isn't moved until it has more. An Err is lack of memory.
     pub fn with_capacity(alloc: Global, bytes: usize) -> Result<Self, Memory>
         ensures { IfOk result (λ whole. whole ≡ Some []) }
     {

@@ -6,7 +6,7 @@ use crate::counted::Counted;
 use crate::held::Held;
 
 impl<V: Counted> Held<V> {
-    /// The value. When the borrow ends, it is what was left behind the reference.
+    /// The value. When the borrow ends, it is what was left after the reference.
     pub fn value(&mut self) -> &mut V
         ensures* lends { sem 𝓛
             (Lends (the_row V.row V.Entry.row V.Counted) V.row self.entry result

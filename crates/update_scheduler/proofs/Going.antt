@@ -22,7 +22,7 @@ with-none h = let same = append-nil h.entries in λ i. record { start = h.start;
 pub tried-none : (g : Followed) → tried g [] ≡ g
 tried-none g = let same = with-none g.history in λ i. record { rollout = g.rollout; history = same i }
 
--- The first item is tried, and then the others behind what it has begun.
+-- The first item is tried, and then the others after what it has begun.
 pub begun-cons : (g : Followed) (n : ℕ) (ns : List ℕ) → begun_by g (n ∷ ns) ≡ begun_by g (n ∷ []) ++ begun_by (tried g (n ∷ [])) ns
 begun-cons g n ns = elim (cases_Bool (may_begin g.rollout.problem g.rollout.plan g.history (next_op g.history n))) as (λ c. begun_by g (n ∷ ns) ≡ begun_by g (n ∷ []) ++ begun_by (tried g (n ∷ [])) ns) [
   | inl may ↦ rw may refl

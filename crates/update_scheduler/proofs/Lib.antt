@@ -1,3 +1,11 @@
+pub mod Rows
+pub mod Marking
+pub mod Ended
+pub mod Settling
+pub mod Placing
+pub mod Flying
+pub mod Batches
+pub mod Turning
 mod Offered
 mod Rising
 mod Ordered

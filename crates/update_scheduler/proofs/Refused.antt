@@ -1,4 +1,4 @@
--- What may not begin may not behind a Begin, so it may be left out.
+-- What may not begin may not after a Begin, so it may be left out.
 use Rattle.std.proofs.Common.{◌≡◌, ℕ, suc, ◌+◌, ◌<◌, ◌≤◌, Bool, true, false, not, ◌&&◌, ◌==◌, if◌then◌else◌, cond, List, [], ◌∷◌, filter, nat_lt, nat_le, inl, inr, refl, sym, ap, ap₂, ◌∙◌, subst, arith, le_of_eq, le_trans, eq-eqb, eqb-true, lt-ltb, le-leb}
 use Rattle.std.proofs.lemmas.Bool.{cases_Bool, cases_eq, and_from, both_ways, not_from_false, false_from_ne_true, eqb-false}
 use Rattle.rollout_rules.specs.Wan.{Problem, Plan, last_stage}
@@ -101,7 +101,7 @@ module _ (p : Problem) (plan : Plan) (net : IsNetwork p) where
         le_trans (room-later p plan (places_of p (with_next (with_next h n) m)) (places_of p (with_next h m)) between s u)
         (fits-room p plan (places_of p (with_next (with_next h n) m)) so.room s (le_trans low from) before u here))
 
-    -- what may begin behind a Begin might have begun before it
+    -- what may begin after a Begin might have begun before it
     pub begins-before : may_begin p plan h (next_op h m) ≡ true
     begins-before =
         let next = (begins p plan (with_next h n) (next_op (with_next h n) m) may).next in

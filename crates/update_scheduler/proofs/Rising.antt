@@ -21,7 +21,7 @@ before-compared a b = told (nat_lt a.rank b.rank) (a.rank == b.rank) (nat_lt a.i
     told false true false true = refl
     told false true false false = refl
 
--- a candidate that isn't behind another
+-- a candidate that isn't after another
 abbrev pub AtMost : Candidate → Candidate → Type 0
 AtMost a b = (a.rank < b.rank) ⊎ ((a.rank ≡ b.rank) × (a.item ≤ b.item))
 
@@ -70,7 +70,7 @@ behind-most a b e =
     at-or-below : b.rank ≤ a.rank → b.item ≤ a.item → AtMost b a
     at-or-below le low = elim (cases_lt b.rank a.rank) as (λ c. AtMost b a) [ inl lt ↦ inl lt | inr ge ↦ inr (omega (arith, le, ge), low) ]
 
--- Each candidate is at most all behind it.
+-- Each candidate is at most all after it.
 abbrev pub Rises : List Candidate → Type 0
 Rises [] = Unit {0}
 Rises (c ∷ cs) = AllByRecursion (AtMost c) cs × Rises cs

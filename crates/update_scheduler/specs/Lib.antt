@@ -1,3 +1,11 @@
+pub mod Rounds
+pub mod Counts
+pub mod PastAnswers
+pub mod Rows
+pub mod Endings
+pub mod InFlight
+pub mod Turns
+pub mod Worked
 pub mod Benches
 pub mod Candidates
 pub mod Tried

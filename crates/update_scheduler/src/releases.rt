@@ -14,7 +14,7 @@ use order_policy::Policy;
 use rollout_rules::Op;
 
 /// Begins what the release rule gives: of the items that wait and aren't held back, by rank and then by
-/// item, each one's next operation where it may begin behind those begun before it. It takes no memory.
+/// item, each one's next operation where it may begin after those begun before it. It takes no memory.
 ///
 /// It begins nothing exactly where the policy holds back each operation that may begin.
 pub fn release(graph: &mut Graph, policy: &Policy, bench: &mut Bench)

@@ -31,7 +31,7 @@ Takes-nothing source = record {
   taken = Appends-nothing source.taken;
 }
 
--- some bytes were read, and further ones behind them
+-- some bytes were read, and further ones after them
 pub Takes-chain : (a b c : SourceTrace) (xs ys : List ℕ) → Takes xs a b → Takes ys b c → Takes (xs ++ ys) a c
 Takes-chain a b c xs ys first second = record {
   left = TakesFrom-chain a.left b.left c.left xs ys first.left second.left;

@@ -51,7 +51,7 @@ answer_kind = 0x4E
 unfoldable pub command_head : CommandFrame → List ℕ
 command_head c = command_kind ∷ (to_be_bytes w32 c.0 ++ (to_be_bytes w32 c.1.item ++ (to_be_bytes w32 c.1.number ++ to_be_bytes w32 c.1.scale)))
 
--- all its bytes: behind the head the count of its rates, and each rate
+-- all its bytes: after the head the count of its rates, and each rate
 unfoldable pub command_bytes : CommandFrame → List ℕ
 command_bytes c = command_head c ++ (length c.1.content ∷ flat_map (to_be_bytes w64) c.1.content)
 
@@ -79,7 +79,7 @@ pub record HasOtherKind (kind : ℕ) (bytes : List ℕ) (byte : ℕ) : Type 0 wh
   pub behind : List ℕ
   pub parts : bytes ≡ byte ∷ behind
 
--- behind what begins a command, in the place of the count of its rates, stands 0 or a number above 16
+-- after what begins a command, in the place of the count of its rates, stands 0 or a number above 16
 pub record HasOtherCount (bytes : List ℕ) (byte : ℕ) : Type 0 where
   pub head : List ℕ
   pub begins : IsCutCommand head
@@ -88,7 +88,7 @@ pub record HasOtherCount (bytes : List ℕ) (byte : ℕ) : Type 0 where
   pub behind : List ℕ
   pub parts : bytes ≡ head ++ byte ∷ behind
 
--- whole frames at the front, and what stands behind them
+-- whole frames at the front, and what stands after them
 pub record Splits {X : Type 0} (bytes_of : X → List ℕ) (Fits : X → Type 0) (bytes : List ℕ) (frames : List X) (rest : List ℕ) : Type 0 where
   pub fit : All Fits frames
   pub parts : bytes ≡ flat_map bytes_of frames ++ rest

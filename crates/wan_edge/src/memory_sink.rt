@@ -48,7 +48,7 @@ impl MemorySink {
 impl Sink for MemorySink {
     ghost told = { λ s. record { written = Some s.written; faults = s.turns.failures } };
 
-    /// Takes all the bytes, or fails: where it is this call's turn, or for want of memory.
+    /// Takes all the bytes, or fails: where it is this call's turn, or for lack of memory.
     fn write(&mut self, from: &[u8]) -> Result<usize, Failed>
         ensures fails { IsTrue (fails_now self.old.turns) → IsErr result }
         ensures answer { IfOk result (λ n. n ≡ length from.now) }

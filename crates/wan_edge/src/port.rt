@@ -23,7 +23,7 @@ pub trait Port {
         ensures step { Steps (told self.old) (told self.new) };
 
     /// Takes some of the bytes that came back into the front of `into` and says how many; 0 is nothing
-    /// until the time limit had passed. What stands in `into` behind them is not said.
+    /// until the time limit had passed. What stands in `into` after them is not said.
     fn hear(&mut self, into: &mut [u8]) -> Result<usize, Failed>
         requires room { 0 < length into.old }
         ensures within { IfOk result (λ n. n ≤ length into.old) }

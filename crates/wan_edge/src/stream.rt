@@ -14,7 +14,7 @@ pub trait Source {
     ghost as_sink: { Self → SinkTrace } = { λ _. no_sink };
 
     /// Reads some of the next bytes into the front of `into` and says how many; 0 is the end. What
-    /// stands in `into` behind them is not said.
+    /// stands in `into` after them is not said.
     fn read(&mut self, into: &mut [u8]) -> Result<usize, Failed>
         requires room { 0 < length into.old }
         ensures within { IfOk result (λ n. n ≤ length into.old) }

@@ -32,7 +32,7 @@ module _ (p : Problem) (old new : List (Option ℕ)) (net : IsNetwork p) (are_ol
   is_network : IsNetwork q
   is_network = rated-is_network p old new net are_old are_new
 
-  -- before the first flow, and behind the last
+  -- before the first flow, and after the last
   pub first-flow : (copy : Problem) → copy ≡ linked p (length p.links) → copy ≡ flowed q 0
   first-flow copy is = is ∙ links_end q is_network
 

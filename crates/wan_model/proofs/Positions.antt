@@ -67,7 +67,7 @@ same_numbers-refl xs = same_numbers-bytes_eq xs xs ∙ nat_list_eq_equiv.refl xs
 pub same_name : (xs ys : List ℕ) → same_numbers xs ys ≡ true → xs ≡ ys
 same_name xs ys e = sym ((bytes_eq-Decides ys xs).0 (sym (same_numbers-bytes_eq xs ys) ∙ e))
 
--- what a set of keys holds after an insert of one that it hasn't: that one behind the others
+-- what a set of keys holds after an insert of one that it hasn't: that one after the others
 pub insert_key-absent : {K : Type 0} (eq : K → K → Bool) (keys : List K) (k : K) → position (eq k) keys ≡ None → insert_key eq keys k ≡ keys ++ k ∷ []
 insert_key-absent eq keys k none = cond-false _ _ _ (passes_nowhere (eq k) keys none)
 

@@ -58,7 +58,7 @@ module _ (p : Problem) where
         to = λ h inside. (joins h inside).ends;
       }
 
-  -- the links of what is left of a path: the one between its first two switches, and those behind
+  -- the links of what is left of a path: the one between its first two switches, and those after
   along_drop : (path : List ℕ) (h : ℕ) → h + 1 < length path → links_along p (drop h path) ≡ unwrap_or (find_link p (slice_index path h) (slice_index path (h + 1))) 0 ∷ links_along p (drop (h + 1) path)
   along_drop path h inside =
       let first = drop_more path h 0 (omega arith) in
@@ -85,7 +85,7 @@ module _ (p : Problem) where
   along_short (a ∷ []) short = refl
   along_short (a ∷ b ∷ path) short = absurd (omega arith)
 
-  -- no link is left behind the last switch
+  -- no link is left after the last switch
   pub along_end : (path along links : List ℕ) (h : ℕ) → 1 ≤ h → length path ≤ h → along ++ links_along p (drop (h - 1) path) ≡ links → along ≡ links
   along_end path along links h least past so_far =
       let short : length (drop (h - 1) path) ≤ 1 = omega (arith, length-drop (h - 1) path) in

@@ -36,7 +36,7 @@ valid-IsShaped p plan valid =
     let d = and_parts (has_shape p plan && begins_at_old p plan) (ends_at_new p plan) c.0 in
     shape-IsShaped p plan (and_parts (has_shape p plan) (begins_at_old p plan) d.0).0
 
--- what a plan that has its shape has at a stage, and at the one behind
+-- what a plan that has its shape has at a stage, and at the one after
 module _ (p : Problem) (plan : Plan) (shaped : IsShaped p plan) (s t : ℕ) (stage : s < length plan.stages) (tunnel : t < length p.tunnels) where
   pub shaped-rate : t < length (stage_at plan s).rates
   shaped-rate = omega (arith, shaped.rates s stage)

@@ -141,7 +141,7 @@ impl CheckedPlan {
         self.plan.last_stage()
     }
 
-    /// The stage behind stage `s`, or the last itself.
+    /// The stage after stage `s`, or the last itself.
     pub fn next_stage(&self, s: usize) -> usize
         requires { s ≤ wan.last_stage self.now.plan }
         ensures value { result ≡ wan.next_stage self.now.plan s }

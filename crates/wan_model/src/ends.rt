@@ -36,7 +36,7 @@ impl Ends {
         self.numbered.get_index_of(&(from, to))
     }
 
-    /// Gives a new link the next number. Want of memory changes nothing.
+    /// Gives a new link the next number. Lack of memory changes nothing.
     pub(crate) fn add(&mut self, from: u32, to: u32) -> Result<(), Memory>
         requires { find_ends self.old from to ≡ None }
         ensures ok { OnOk result (self.new ≡ self.old ++ (from, to) ∷ []) }

@@ -36,7 +36,7 @@ impl Names {
         self.numbered.get_index_of(name)
     }
 
-    /// Gives a new name the next number. Want of memory changes nothing.
+    /// Gives a new name the next number. Lack of memory changes nothing.
     pub(crate) fn add(&mut self, alloc: Global, name: &str) -> Result<(), Memory>
         requires { find_name self.old name.now ≡ None }
         ensures ok { OnOk result (self.new ≡ self.old ++ name.now ∷ []) }

@@ -35,7 +35,7 @@ impl Plan {
         }
     }
 
-    /// Adds a stage at the end. Want of memory changes nothing.
+    /// Adds a stage at the end. Lack of memory changes nothing.
     pub fn add_stage(&mut self, stage: Stage) -> Result<(), Memory>
         ensures ok { OnOk result
             (self.new ≡ record self.old { stages = self.old.stages ++ stage ∷ [] }) }
@@ -51,7 +51,7 @@ impl Plan {
         self.stages.as_slice().len().saturating_sub(1)
     }
 
-    /// The stage behind stage `s`, or the last itself.
+    /// The stage after stage `s`, or the last itself.
     pub fn next_stage(&self, s: usize) -> usize
         requires { s < length self.now.stages }
         ensures value { result ≡ wan.next_stage self.now s }

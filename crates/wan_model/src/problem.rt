@@ -16,7 +16,7 @@ use std::marker::Model;
 /// width 1; in format 2 each one has a width of its own.
 ///
 /// Rows are numbered in the order in which they were added. Names and links are looked up by hash, so
-/// that adding a row takes constant time, and a tunnel the length of its path. Want of memory leaves a
+/// that adding a row takes constant time, and a tunnel the length of its path. Lack of memory leaves a
 /// problem as it was.
 #[derive(Debug, Drop)]
 pub struct Problem {

@@ -7,7 +7,7 @@ use lists::{Memory, Text};
 use std::alloc::Global;
 use wan_model::Problem;
 
-/// Adds the peak line of a link, with its line feed. Want of memory changes nothing.
+/// Adds the peak line of a link, with its line feed. Lack of memory changes nothing.
 pub fn push_link_peak(
     alloc: Global,
     text: &mut Text,
@@ -23,7 +23,7 @@ pub fn push_link_peak(
     Ok(())
 }
 
-/// Adds the peak line of a switch's table, with its line feed. Want of memory changes nothing.
+/// Adds the peak line of a switch's table, with its line feed. Lack of memory changes nothing.
 pub fn push_table_peak(
     alloc: Global,
     text: &mut Text,

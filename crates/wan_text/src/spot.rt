@@ -7,7 +7,7 @@ use lists::{Memory, Text};
 use std::alloc::Global;
 use wan_model::{Problem, Spot};
 
-/// Adds the spot of a broken clause. Want of memory changes nothing.
+/// Adds the spot of a broken clause. Lack of memory changes nothing.
 pub fn push_spot(
     alloc: Global,
     text: &mut Text,

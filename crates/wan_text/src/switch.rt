@@ -8,7 +8,7 @@ use serde_json::Value;
 use std::alloc::Global;
 use wan_model::Problem;
 
-/// Adds a link: the names of its ends with `>` between them. Want of memory changes nothing.
+/// Adds a link: the names of its ends with `>` between them. Lack of memory changes nothing.
 pub fn push_link(
     alloc: Global,
     text: &mut Text,
@@ -27,8 +27,8 @@ pub(crate) fn link_piece(alloc: Global, problem: &Problem, link: usize) -> Resul
     ensures { IfOk result (λ s. string_bytes s ≡ link_text problem.now link) }
 {
     let (from, to) = ends_of(problem, link);
-    let from = quoted(alloc, name_of(problem, from))?;
-    let to = quoted(alloc, name_of(problem, to))?;
+    let from = quote(alloc, name_of(problem, from))?;
+    let to = quote(alloc, name_of(problem, to))?;
     let piece = format!(in alloc; "{from}>{to}")?;
     Ok(piece)
 }
@@ -45,7 +45,7 @@ fn ends_of(problem: &Problem, link: usize) -> (usize, usize)
     (0, 0)
 }
 
-/// Adds a switch: its name. Want of memory changes nothing.
+/// Adds a switch: its name. Lack of memory changes nothing.
 pub fn push_switch(
     alloc: Global,
     text: &mut Text,
@@ -66,7 +66,7 @@ pub(crate) fn switch_piece(
 ) -> Result<String, Memory>
     ensures { IfOk result (λ s. string_bytes s ≡ switch_text problem.now switch) }
 {
-    quoted(alloc, name_of(problem, switch))
+    quote(alloc, name_of(problem, switch))
 }
 
 fn name_of(problem: &Problem, switch: usize) -> &str
@@ -78,16 +78,16 @@ fn name_of(problem: &Problem, switch: usize) -> &str
     ""
 }
 
-/// Adds a name as its JSON text, with quotes. Want of memory changes nothing.
+/// Adds a name as its JSON text, with quotes. Lack of memory changes nothing.
 pub fn push_name(alloc: Global, text: &mut Text, name: &str) -> Result<(), Memory>
     ensures { Adds result text.old (name_text name.now) text.new }
 {
-    let quoted = quoted(alloc, name)?;
+    let quoted = quote(alloc, name)?;
     text.push_str(quoted.as_str())?;
     Ok(())
 }
 
-fn quoted(alloc: Global, name: &str) -> Result<String, Memory>
+fn quote(alloc: Global, name: &str) -> Result<String, Memory>
     ensures { IfOk result (λ s. string_bytes s ≡ name_text name.now) }
 {
     let value = Value::from(String::from_str(alloc, name)?);

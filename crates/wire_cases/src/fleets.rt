@@ -23,7 +23,7 @@ fn put(
 }
 
 // Whether each of two switches is reached, where the second fails.
-fn reached(alloc: Global) -> Result<[bool; 2], Memory> {
+fn reach_both(alloc: Global) -> Result<[bool; 2], Memory> {
     let mut fleet = two_switches(alloc)?;
     fleet.fail_at(2);
     let first = fleet.port(1, "A").is_ok();
@@ -41,7 +41,7 @@ fn reached_by(alloc: Global) -> Result<[bool; 2], Memory> {
 
 #[test]
 fn a_switch_that_fails_is_not_reached(rt: HostRuntime) -> Result<(), Fail> {
-    assert_eq!(rt; reached(rt.alloc())?, [true, false]);
+    assert_eq!(rt; reach_both(rt.alloc())?, [true, false]);
     Ok(())
 }
 
@@ -67,7 +67,7 @@ fn comes(fleet: &mut MemoryFleet<SilentPort>) -> Option<bool> {
     }
 }
 
-// Whether the one guest comes, another one behind it, and one whose fleet fails.
+// Whether the one guest comes, another one after it, and one whose fleet fails.
 fn coming(alloc: Global) -> Result<[Option<bool>; 3], Memory> {
     let mut fleet = MemoryFleet::new(alloc);
     fleet.put_guest(guest(alloc))?;
@@ -86,7 +86,7 @@ fn a_guest_comes_once_and_none_where_the_fleet_fails(rt: HostRuntime) -> Result<
 }
 
 // What a wait says with one guest to come and nobody seated, with nobody and one seated, and with neither.
-fn waited(alloc: Global) -> Result<[bool; 3], Memory> {
+fn wait_thrice(alloc: Global) -> Result<[bool; 3], Memory> {
     let mut fleet = MemoryFleet::new(alloc);
     fleet.put_guest(guest(alloc))?;
     let came = says(&mut fleet, &[], Waited::Came);
@@ -106,6 +106,6 @@ fn says(fleet: &mut MemoryFleet<SilentPort>, seated: &[MemoryGuest], woken: Wait
 
 #[test]
 fn a_wait_says_who_is_next(rt: HostRuntime) -> Result<(), Fail> {
-    assert_eq!(rt; waited(rt.alloc())?, [true, true, true]);
+    assert_eq!(rt; wait_thrice(rt.alloc())?, [true, true, true]);
     Ok(())
 }

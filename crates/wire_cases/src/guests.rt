@@ -2,7 +2,7 @@
 use lossy_link::MemoryGuest;
 use std::alloc::Global;
 use std::test::Fail;
-use switch_agent::{Agent, ServeFault, Served, Talk, serve_read};
+use switch_agent::{Agent, ReadState, ServeFault, Served, serve_read};
 use wan_edge::{MemorySink, MemorySource, Nums8, Turns};
 
 // Operations 1 and 2 of item 3 in migration 0. An answer has 13 bytes.
@@ -26,7 +26,7 @@ fn failing(alloc: Global, reads: &[u64], writes: &[u64]) -> Result<MemoryGuest, 
 
 // What comes of the first read of a guest, and of the second where there is one: all commands, and the fault.
 fn read_twice(agent: &mut Agent, guest: &mut MemoryGuest) -> Served {
-    let first = serve_read(agent, guest, Talk::new());
+    let first = serve_read(agent, guest, ReadState::new());
     let commands = first.served.commands;
     let fault = first.served.fault;
     match first.talk {
@@ -39,7 +39,7 @@ fn read_twice(agent: &mut Agent, guest: &mut MemoryGuest) -> Served {
 }
 
 // How serving the guest ends, and how many bytes it was answered.
-fn served(alloc: Global, guest: MemoryGuest) -> (Served, usize, bool) {
+fn serve_guest(alloc: Global, guest: MemoryGuest) -> (Served, usize, bool) {
     let mut agent = Agent::new(alloc);
     let mut guest = guest;
     let served = read_twice(&mut agent, &mut guest);
@@ -52,7 +52,7 @@ fn what_came_before_a_failing_read_was_answered(rt: HostRuntime) -> Result<(), F
     let guest = failing(rt.alloc(), &[1], &[])?;
     let fault = Some(ServeFault::Read);
     assert_eq!(rt;
-        served(rt.alloc(), guest),
+        serve_guest(rt.alloc(), guest),
         (Served { commands: 2, fault }, 26, true)
     );
     Ok(())
@@ -63,7 +63,7 @@ fn what_a_failing_write_was_to_answer_is_held(rt: HostRuntime) -> Result<(), Fai
     let guest = failing(rt.alloc(), &[], &[1])?;
     let fault = Some(ServeFault::Write);
     assert_eq!(rt;
-        served(rt.alloc(), guest),
+        serve_guest(rt.alloc(), guest),
         (Served { commands: 2, fault }, 13, true)
     );
     Ok(())

@@ -19,7 +19,7 @@ fn held_5() -> &'static [u8] {
     b"N\0\0\0\x07\0\0\0\x03\0\0\0\x05"
 }
 
-// Whether the port, which may go to another thread, takes the command and gives these bytes behind it.
+// Whether the port, which may go to another thread, takes the command and gives these bytes after it.
 fn gives(mut port: impl Port + Drop + Send, wanted: &[u8]) -> bool {
     let mut into = [0; 40];
     if port.offer(command()).is_err() {

@@ -110,7 +110,7 @@ cut_early x kept kind short each =
     })
     (IsBytes-append (x ∷ kept) (missing ++ one_rate) each (IsBytes-append missing one_rate (IsBytes-replicate (16 - length kept) 0 (omega arith)) (IsBytes-append (1 ∷ []) (replicate 8 0) (IsBytes-replicate 1 1 (omega arith)) (IsBytes-replicate 8 0 (omega arith)))))
 
--- behind the count
+-- after the count
 cut_late : (kept : List ℕ) → 17 < length kept → IsBegun kept → IsBytes kept → IsCutCommand kept
 cut_late kept late begun each =
     let count = slice_index kept 17 in

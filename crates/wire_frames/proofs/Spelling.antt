@@ -91,7 +91,7 @@ written out head rates count head_long rates_long =
     = ap (λ (xs : List ℕ). drop (18 + 8 * count - 18) xs) (drop_at head (drop 18 out) 18 head_long) ∙ ap (λ (n : ℕ). drop n (drop 18 out)) skipped ∙ drop-drop (8 * count) 18 out in
     ap₂ (λ (xs ys : List ℕ). xs ++ (rates ++ ys)) front behind ∙ sym (append_assoc head rates (drop (18 + 8 * count) out))
 
--- the bytes of a command behind its head and its count
+-- the bytes of a command after its head and its count
 pub command_is : (migration : ℕ) (command : Command) (count : ℕ) (places head rates : List ℕ) → command.content ≡ content_of count places
     → head ≡ command_head (migration, command) ++ (length command.content ∷ []) → rates ≡ flat_map (to_be_bytes w64) (content_of count places) → head ++ rates ≡ command_bytes (migration, command)
 unfolding command_bytes

@@ -3,7 +3,7 @@ use Rattle.std.specs.Prelude.{◌≡◌, ℕ, ◌-◌, ◌≤◌, List, ◌++◌
 use Rattle.std.proofs.Common.{ap, sym, ◌∙◌, arith}
 use Rattle.std.proofs.lemmas.List.{length-take-le, take-append-drop}
 
--- the rates at the front, and 0 in the places behind them
+-- the rates at the front, and 0 in the places after them
 pub record IsFilled (count : ℕ) (rates : List ℕ) : Type 0 where
   pub some : 1 ≤ count
   pub few : count ≤ 16

@@ -9,7 +9,7 @@ pub record Reader : Type 0 where
   pub kept : List ℕ
   pub live : Bool
 
--- before the first byte, and behind each whole frame
+-- before the first byte, and after each whole frame
 abbrev pub fresh : Reader
 fresh = record { kept = []; live = true }
 

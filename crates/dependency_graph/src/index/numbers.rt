@@ -11,7 +11,7 @@ use rollout_rules::Item;
 use std::alloc::Global;
 use wan_model::CheckedPlan;
 
-/// All items by number. An Err is want of memory.
+/// All items by number. An Err is lack of memory.
 pub fn items(alloc: Global, plan: &CheckedPlan) -> Result<Many<Item>, Memory>
     ensures list { IfOk result
         (λ row. AreItems plan.now.problem (item_count plan.now.problem) row) }

@@ -42,7 +42,7 @@ pub fn begun(progress: &Progress, ahead: &[Entry], item: u32) -> u64
     u64::from(progress.begun[item as usize]) + begins(ahead, item)
 }
 
-/// Whether an operation of an item flies once `op` has begun behind the entries ahead.
+/// Whether an operation of an item flies once `op` has begun after the entries ahead.
 pub(crate) fn flies_begun(progress: &Progress, ahead: &[Entry], op: Op, item: u32) -> bool
     requires { item < item_count progress.now.rollout.problem }
     ensures { result ≡ places.flies_begun progress.now ahead.now op item }

@@ -45,7 +45,7 @@ pub(crate) fn needs_met_at(progress: &Progress, plan: &CheckedPlan, item: Item, 
     }
 }
 
-/// Whether each tunnel of flow `f` that carries it at the stage behind `s` has its entries there.
+/// Whether each tunnel of flow `f` that carries it at the stage after `s` has its entries there.
 fn carriers_stand(
     progress: &Progress,
     plan: &CheckedPlan,

@@ -30,7 +30,7 @@ pub fn least_stage(progress: &Progress, plan: &CheckedPlan, ahead: &[Entry]) -> 
     least
 }
 
-/// What is taken of a resource at stage `s`, with nothing begun behind what is counted.
+/// What is taken of a resource at stage `s`, with nothing begun after what is counted.
 pub(crate) fn room(progress: &Progress, plan: &CheckedPlan, resource: usize, s: usize) -> u128
     requires own { plan.now ≡ progress.now.rollout }
     requires resource { resource < resource_count plan.now.problem }
@@ -51,7 +51,7 @@ pub(crate) fn room(progress: &Progress, plan: &CheckedPlan, resource: usize, s: 
     entries(progress, plan, &[], nobodys, s, resource - links)
 }
 
-/// What is taken of link `l` at stage `s` once `op` has begun behind the entries ahead, in units of 1/scale:
+/// What is taken of link `l` at stage `s` once `op` has begun after the entries ahead, in units of 1/scale:
 /// a sum over the tunnels that cross it.
 pub fn load(
     progress: &Progress,

@@ -44,7 +44,7 @@ impl GuestQueue {
         }
     }
 
-    /// Adds a guest to those that come. Want of memory changes nothing.
+    /// Adds a guest to those that come. Lack of memory changes nothing.
     pub(crate) fn put(&mut self, guest: MemoryGuest) -> Result<(), Memory>
         ensures ok { OnOk result
             (self.new ≡ record self.old { coming = self.old.coming ++ guest ∷ [] }) }

@@ -30,7 +30,7 @@ impl Names {
         }
     }
 
-    /// Calls a switch by this name, and by no other. Want of memory changes nothing.
+    /// Calls a switch by this name, and by no other. Lack of memory changes nothing.
     pub(crate) fn give_name(&mut self, switch: u32, name: Text) -> Result<(), Memory>
         ensures ok { OnOk result (name_at self.new ≡ with_one (name_at self.old) switch name) }
         ensures err { OnErr result (self.new ≡ self.old) }

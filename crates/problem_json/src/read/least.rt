@@ -12,10 +12,9 @@ use crate::place::{Part, Place};
 use crate::read::documents::document_of;
 use crate::read::values::{elements_of, number, number_of, text_of};
 use crate::spelling::fraction_of_text;
-use fraction_lp::{Fraction, FractionList};
+use fraction_lp::{Fraction, FractionList, Proof};
 use json_data::{Element, Elements, Scratch};
 use std::alloc::Global;
-use step_proof::Proof;
 
 /// How many multipliers a document may have.
 const MOST_MULTIPLIERS: usize = 10_000;
@@ -26,7 +25,7 @@ const MOST_MULTIPLIERS: usize = 10_000;
 ///
 /// # Errors
 ///
-/// Those of [`read_problem`](crate::read_problem), at the first refused place of the document or behind it at
+/// Those of [`read_problem`](crate::read_problem), at the first refused place of the document or after it at
 /// that key, and [`InputFault::BadProof`] where a text is no fraction.
 #[tactic(auto, using(crate::proofs::Steps::steps), unfolding(crate::specs::GrammarLeast::claimed_in))]
 pub fn read_claimed(alloc: Global, bytes: &[u8]) -> Result<Claimed, InputFault>

@@ -72,7 +72,7 @@ fn event_of_parts(event: Place, parts: Elements<'_, '_>) -> Result<Act, InputFau
     }
 }
 
-/// The act of a name with the parts behind it.
+/// The act of a name with the parts after it.
 #[tactic(auto, using(crate::proofs::Events::alone, crate::proofs::Events::with_parts))]
 fn event_named(
     event: Place,

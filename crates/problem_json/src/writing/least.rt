@@ -1,18 +1,17 @@
 ghost use Rattle.std.specs.Prelude.{◌≡◌, IfOk, OnOk, map, string_bytes};
 ghost use Rattle.serde_json.specs.Written.{compact_text};
-ghost use Rattle.step_proof.specs.declared.proof.Proof.TheVariants as said;
+ghost use Rattle.fraction_lp.specs.declared.proof.Proof.TheVariants as said;
 ghost use Rattle.problem_json.specs.Writing.{list_data};
 ghost use Rattle.problem_json.specs.WritingLeast.{sign_text, fraction_text, fraction_data, claim_data};
 
 use crate::names::quoted;
 use crate::writing::pieces::{push_comma, push_number};
-use fraction_lp::Fraction;
+use fraction_lp::{Fraction, Proof};
 use lists::Memory;
 use std::alloc::Global;
-use step_proof::Proof;
 use text_writer::Pieces;
 
-/// Adds that so many rate steps are impossible, and what shows it. An Err is want of memory for a fraction.
+/// Adds that so many rate steps are impossible, and what shows it. An Err is lack of memory for a fraction.
 pub fn push_claim<P: Pieces>(
     alloc: Global,
     text: &mut P,

@@ -22,7 +22,7 @@ pub fn push_number<P: Pieces>(text: &mut P, number: u64)
 }
 
 /// The text as it is: UTF-8, as any `&str`.
-pub fn finished(text: Text) -> Text
+pub fn utf8_text(text: Text) -> Text
     ensures same { result ≡ text }
     ensures utf8 { IsUtf8 text }
 {

@@ -6,8 +6,8 @@ ghost use Rattle.text_commands.specs.Runs.{Gives};
 ghost use Rattle.text_commands.specs.Safety.{IsTurned, IsValid, MayBeginBack, TurnsSafely};
 ghost use Rattle.text_commands.specs.Words.{the_way_back};
 
-use crate::ending::Ending;
-use crate::texts::checking::{checked, given};
+use crate::command_end::CommandEnd;
+use crate::texts::checking::{check_document, read_input};
 use crate::texts::plan::every_rollout_is_safe;
 use dependency_graph::checked_plan_is_valid;
 use lists::Memory;
@@ -19,20 +19,20 @@ use wan_model::CheckedPlan;
 
 /// The command `back`: the rollout back, to the old split of the valid document that the bytes are. What is written is
 /// its document, and a line feed.
-pub fn back(alloc: Global, input: Nums8) -> Result<CheckedPlan, Ending>
+pub fn back(alloc: Global, input: Nums8) -> Result<CheckedPlan, CommandEnd>
     ensures gives { Gives (documented result) (answer_in the_way_back input) }
     ensures safe { IfOk result (λ rollout. TurnsSafely input) }
 {
-    let document = given(alloc, input)?;
+    let document = read_input(alloc, input)?;
     turned_back(alloc, document)
 }
 
 #[tactic(auto, using(crate::proofs::Documents::turning))]
-fn turned_back(alloc: Global, document: Document) -> Result<CheckedPlan, Ending>
+fn turned_back(alloc: Global, document: Document) -> Result<CheckedPlan, CommandEnd>
     ensures gives { Gives (documented result) (turned_back document) }
     ensures safe { IfOk result (λ rollout. IsTurned document.problem document.plan) }
 {
-    let plan = checked(alloc, document)?;
+    let plan = check_document(alloc, document)?;
     match way_back(alloc, &plan) {
         Ok(there) => {
             drop(plan);
@@ -40,7 +40,7 @@ fn turned_back(alloc: Global, document: Document) -> Result<CheckedPlan, Ending>
         }
         Err(refused) => {
             drop(plan);
-            Err(Ending::from(refused))
+            Err(CommandEnd::from(refused))
         }
     }
 }

@@ -7,8 +7,8 @@ ghost use Rattle.text_commands.specs.Runs.{Gives};
 ghost use Rattle.text_commands.specs.Safety.{ChecksValid, HasLeast, IsClaimed};
 ghost use Rattle.text_commands.specs.Words.{a_check};
 
-use crate::ending::Ending;
-use crate::texts::checking::checked;
+use crate::command_end::CommandEnd;
+use crate::texts::checking::check_document;
 use dependency_graph::checked_plan_is_valid;
 use lists::{Memory, Text};
 use lp_proof::{Proof, check_proof, rate_steps};
@@ -18,37 +18,37 @@ use wan_edge::Nums8;
 use wan_model::{CheckedPlan, Plan};
 
 /// The command `check`: a line that says how many steps the valid plan of the document has, and its
-/// scale, and behind them `, least` where the document says that fewer rate steps are impossible and shows it.
-pub fn check(alloc: Global, input: Nums8) -> Result<Text, Ending>
+/// scale, and after them `, least` where the document says that fewer rate steps are impossible and shows it.
+pub fn check(alloc: Global, input: Nums8) -> Result<Text, CommandEnd>
     ensures gives { Gives result (answer_in a_check input) }
     ensures safe { IfOk result (λ text. ChecksValid input) }
 {
-    let claimed = given(alloc, input)?;
-    judged(alloc, claimed)
+    let claimed = read_input(alloc, input)?;
+    judge(alloc, claimed)
 }
 
 /// The document that the bytes are, with what it says of fewer rate steps. They are given up as soon as they
 /// are read.
-fn given(alloc: Global, input: Nums8) -> Result<Claimed, InputFault>
+fn read_input(alloc: Global, input: Nums8) -> Result<Claimed, InputFault>
     ensures { Reads result (claimed_in input) }
 {
     read_claimed(alloc, input.as_slice())
 }
 
 #[tactic(auto, using(crate::proofs::Claims::judging))]
-fn judged(alloc: Global, claimed: Claimed) -> Result<Text, Ending>
+fn judge(alloc: Global, claimed: Claimed) -> Result<Text, CommandEnd>
     ensures gives { Gives result (judged claimed) }
     ensures claimed { IfOk result (λ text. IsClaimed claimed) }
 {
     let Claimed { document, claim } = claimed;
-    let plan = checked(alloc, document)?;
+    let plan = check_document(alloc, document)?;
     let line = line_of(alloc, &plan, claim);
     drop(plan);
     line
 }
 
 /// The line of a valid plan, of which something may be said.
-fn line_of(alloc: Global, plan: &CheckedPlan, claim: Option<Claim>) -> Result<Text, Ending>
+fn line_of(alloc: Global, plan: &CheckedPlan, claim: Option<Claim>) -> Result<Text, CommandEnd>
     ensures gives { Gives result (claimed_line plan.now claim) }
     ensures least { IfOk result
         (λ text. IfSome claim (λ said. HasLeast plan.now.problem plan.now.plan)) }
@@ -59,7 +59,7 @@ fn line_of(alloc: Global, plan: &CheckedPlan, claim: Option<Claim>) -> Result<Te
     }
 }
 
-fn said_line(alloc: Global, plan: &CheckedPlan, claim: &Claim) -> Result<Text, Ending>
+fn said_line(alloc: Global, plan: &CheckedPlan, claim: &Claim) -> Result<Text, CommandEnd>
     ensures gives { Gives result (claimed_line plan.now (Some claim.now)) }
     ensures least { IfOk result (λ text. HasLeast plan.now.problem plan.now.plan) }
 {
@@ -68,7 +68,12 @@ fn said_line(alloc: Global, plan: &CheckedPlan, claim: &Claim) -> Result<Text, E
 }
 
 /// The line where what is said is shown; the document is refused where it isn't.
-fn line_where(alloc: Global, plan: &CheckedPlan, claim: &Claim, shown: bool) -> Result<Text, Ending>
+fn line_where(
+    alloc: Global,
+    plan: &CheckedPlan,
+    claim: &Claim,
+    shown: bool,
+) -> Result<Text, CommandEnd>
     requires { shown ≡ is_shown plan.now claim.now }
     ensures gives { Gives result (claimed_line plan.now (Some claim.now)) }
     ensures least { IfOk result (λ text. HasLeast plan.now.problem plan.now.plan) }
@@ -78,7 +83,7 @@ fn line_where(alloc: Global, plan: &CheckedPlan, claim: &Claim, shown: bool) -> 
         return line_with(alloc, plan, ", least");
     }
     let place = Place::of(Part::LeastTop);
-    Err(Ending::Input(InputFault::BadProof(place)))
+    Err(CommandEnd::Input(InputFault::BadProof(place)))
 }
 
 /// What is shown of a plan holds of every one for its problem.
@@ -122,8 +127,8 @@ pub fn one_less(q: u32) -> u32
     if q == 0 { 0 } else { q - 1 }
 }
 
-/// The line of a valid plan, with a piece behind its scale.
-fn line_with(alloc: Global, plan: &CheckedPlan, behind: &str) -> Result<Text, Ending>
+/// The line of a valid plan, with a piece after its scale.
+fn line_with(alloc: Global, plan: &CheckedPlan, behind: &str) -> Result<Text, CommandEnd>
     ensures { Gives result (Ok (valid_line plan.now.plan behind.now)) }
 {
     Ok(text_with(alloc, plan.steps(), scale_of(plan.plan()), behind)?)

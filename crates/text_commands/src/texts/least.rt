@@ -8,9 +8,9 @@ ghost use Rattle.text_commands.specs.Safety.{HasLeast, IsLeast, PlansLeast};
 ghost use Rattle.text_commands.specs.Words.{the_least};
 ghost use Rattle.text_commands.specs.declared.words.Planner.TheVariants.{Slack};
 
-use crate::ending::Ending;
+use crate::command_end::CommandEnd;
 use crate::texts::check::one_less;
-use crate::texts::plan::{by_slack, every_rollout_is_safe, given};
+use crate::texts::plan::{by_slack, every_rollout_is_safe, read_input};
 use crate::unshown::Unshown;
 use dependency_graph::checked_plan_is_valid;
 use lists::{Memory, Text};
@@ -22,28 +22,28 @@ use wan_model::{CheckedPlan, Problem};
 
 /// The command `least`: the document of the problem that the bytes are with the plan that is chosen for it
 /// and, at the key `least`, what shows that no plan has fewer rate steps, and a line feed.
-pub fn least(alloc: Global, input: Nums8) -> Result<Text, Ending>
+pub fn least(alloc: Global, input: Nums8) -> Result<Text, CommandEnd>
     ensures gives { Gives result (answer_in the_least input) }
     ensures safe { IfOk result (λ text. PlansLeast input) }
 {
-    let problem = given(alloc, input)?;
-    planned(alloc, problem)
+    let problem = read_input(alloc, input)?;
+    plan_and_prove(alloc, problem)
 }
 
-fn planned(alloc: Global, problem: Problem) -> Result<Text, Ending>
+fn plan_and_prove(alloc: Global, problem: Problem) -> Result<Text, CommandEnd>
     ensures gives { Gives result (least_planned problem) }
     ensures safe { IfOk result (λ text. IsLeast problem) }
 {
     let chosen = by_slack(alloc, problem)?;
     every_rollout_is_safe(&chosen.plan);
-    let text = proved(alloc, &chosen.plan, chosen.rate_steps);
+    let text = prove_steps(alloc, &chosen.plan, chosen.rate_steps);
     drop(chosen);
     text
 }
 
 /// The document of the plan that was chosen, where it has no more rate steps than were chosen, and it is shown
 /// that fewer are impossible.
-fn proved(alloc: Global, plan: &CheckedPlan, q: u32) -> Result<Text, Ending>
+fn prove_steps(alloc: Global, plan: &CheckedPlan, q: u32) -> Result<Text, CommandEnd>
     requires { chosen_by Slack plan.now.problem
         ≡ Ok (record { plan = plan.now.plan; rate_steps = q }) }
     ensures gives { Gives result (proved plan.now.problem plan.now.plan q) }
@@ -51,13 +51,13 @@ fn proved(alloc: Global, plan: &CheckedPlan, q: u32) -> Result<Text, Ending>
 {
     let steps = rate_steps(plan);
     if steps > q {
-        return Err(Ending::Unshown(Unshown::Fewer));
+        return Err(CommandEnd::Unshown(Unshown::Fewer));
     }
-    sought(alloc, plan, q)
+    seek_proof(alloc, plan, q)
 }
 
 /// The same, by what is found of the steps that were chosen.
-fn sought(alloc: Global, plan: &CheckedPlan, q: u32) -> Result<Text, Ending>
+fn seek_proof(alloc: Global, plan: &CheckedPlan, q: u32) -> Result<Text, CommandEnd>
     requires { chosen_by Slack plan.now.problem
         ≡ Ok (record { plan = plan.now.plan; rate_steps = q }) }
     ensures gives { Gives result
@@ -66,24 +66,24 @@ fn sought(alloc: Global, plan: &CheckedPlan, q: u32) -> Result<Text, Ending>
 {
     checked_plan_is_valid(plan);
     match prove_least(alloc, plan.problem(), q) {
-        Least::Shown(proof) => shown(alloc, plan, q, proof),
+        Least::Shown(proof) => show_proof(alloc, plan, q, proof),
         Least::Fewer(other) => {
             drop(other);
-            Err(Ending::Unshown(Unshown::Fewer))
+            Err(CommandEnd::Unshown(Unshown::Fewer))
         }
         Least::Point(point) => {
             drop(point);
-            Err(Ending::Unshown(Unshown::Fewer))
+            Err(CommandEnd::Unshown(Unshown::Fewer))
         }
-        Least::Wide => Err(Ending::Unshown(Unshown::Wide)),
-        Least::Overflow(_) => Err(Ending::Unshown(Unshown::Overflow)),
-        Least::Spent(_) => Err(Ending::Unshown(Unshown::Spent)),
-        Least::Memory => Err(Ending::OutOfMemory),
+        Least::Wide => Err(CommandEnd::Unshown(Unshown::Wide)),
+        Least::Overflow(_) => Err(CommandEnd::Unshown(Unshown::Overflow)),
+        Least::Spent(_) => Err(CommandEnd::Unshown(Unshown::Spent)),
+        Least::Memory => Err(CommandEnd::OutOfMemory),
     }
 }
 
 /// The document of a plan with a proof that one rate step less than so many is impossible, and a line feed.
-fn shown(alloc: Global, plan: &CheckedPlan, q: u32, proof: Proof) -> Result<Text, Ending>
+fn show_proof(alloc: Global, plan: &CheckedPlan, q: u32, proof: Proof) -> Result<Text, CommandEnd>
     ensures { Gives result (Ok (shown_text plan.now.problem plan.now.plan q proof)) }
 {
     let claim = Claim {

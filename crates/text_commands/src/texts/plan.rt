@@ -9,7 +9,7 @@ ghost use Rattle.text_commands.specs.Words.{a_plan};
 ghost use Rattle.text_commands.specs.declared.words.Planner.TheVariants.{Slack};
 ghost use Rattle.fewest_plan.specs.declared.cause.Cause.TheVariants.{Unchosen};
 
-use crate::ending::Ending;
+use crate::command_end::CommandEnd;
 use crate::words::Planner;
 use fewest_plan::{Cause, NotFound, fewest};
 use lists::{Memory, Text};
@@ -21,22 +21,22 @@ use wan_model::{CheckedPlan, Problem};
 
 /// The command `plan`: the plan that the planner chooses for the problem that the bytes are. What is written is its
 /// document, and a line feed.
-pub fn plan(alloc: Global, planner: Planner, input: Nums8) -> Result<CheckedPlan, Ending>
+pub fn plan(alloc: Global, planner: Planner, input: Nums8) -> Result<CheckedPlan, CommandEnd>
     ensures gives { Gives (documented result) (answer_in (a_plan planner) input) }
     ensures safe { IfOk result (λ rollout. PlansSafely planner input) }
 {
-    let problem = given(alloc, input)?;
-    planned(alloc, planner, problem)
+    let problem = read_input(alloc, input)?;
+    plan_text(alloc, planner, problem)
 }
 
 /// The problem that the bytes are. They are given up as soon as they are read.
-pub fn given(alloc: Global, input: Nums8) -> Result<Problem, InputFault>
+pub fn read_input(alloc: Global, input: Nums8) -> Result<Problem, InputFault>
     ensures { Reads result (problem_in input) }
 {
     read_problem(alloc, input.as_slice())
 }
 
-fn planned(alloc: Global, planner: Planner, problem: Problem) -> Result<CheckedPlan, Ending>
+fn plan_text(alloc: Global, planner: Planner, problem: Problem) -> Result<CheckedPlan, CommandEnd>
     ensures gives { Gives (documented result) (planned planner problem) }
     ensures safe { IfOk result (λ rollout. IsPlanned planner problem) }
 {
@@ -70,11 +70,11 @@ pub fn by_slack(alloc: Global, problem: Problem) -> Result<Chosen, NotFound>
 {
     match choose(alloc, problem) {
         Ok(chosen) => Ok(chosen),
-        Err(unplanned) => Err(unchosen(unplanned)),
+        Err(unplanned) => Err(cause_unchosen(unplanned)),
     }
 }
 
-fn unchosen(unplanned: Unplanned) -> NotFound
+fn cause_unchosen(unplanned: Unplanned) -> NotFound
     ensures problem { result.problem ≡ unplanned.problem }
     ensures cause { result.cause ≡ Unchosen unplanned.cause }
 {

@@ -6,8 +6,8 @@ ghost use Rattle.text_commands.specs.Runs.{Gives};
 ghost use Rattle.text_commands.specs.Safety.{IsDrawnUp, IsRehearsed, RehearsesTruly};
 ghost use Rattle.text_commands.specs.Words.{a_script};
 
-use crate::ending::Ending;
-use crate::texts::checking::{checked, given};
+use crate::command_end::CommandEnd;
+use crate::texts::checking::{check_document, read_input};
 use lists::{Memory, Text};
 use order_policy::Policy;
 use problem_json::{Document, a_plan_that_is_read_is_within};
@@ -23,13 +23,13 @@ pub fn rehearse(
     shape: &ScriptShape,
     policy: &Policy,
     input: Nums8,
-) -> Result<Text, Ending>
+) -> Result<Text, CommandEnd>
     ensures gives { Gives result
         (answer_in (a_script shape.now (rank_by policy.now.answers)) input) }
     ensures safe { IfOk result
         (λ text. RehearsesTruly shape.now (rank_by policy.now.answers) input) }
 {
-    let document = given(alloc, input)?;
+    let document = read_input(alloc, input)?;
     a_plan_that_is_read_is_within();
     drawn_up(alloc, document, shape, policy)
 }
@@ -40,12 +40,12 @@ fn drawn_up(
     document: Document,
     shape: &ScriptShape,
     policy: &Policy,
-) -> Result<Text, Ending>
+) -> Result<Text, CommandEnd>
     ensures gives { Gives result (drawn_up shape.now (rank_by policy.now.answers) document) }
     ensures safe { IfOk result (λ text. IsPlanWithin document.plan
         → IsDrawnUp shape.now (rank_by policy.now.answers) document) }
 {
-    let plan = checked(alloc, document)?;
+    let plan = check_document(alloc, document)?;
     let text = with_line_feed(alloc, plan, shape, policy)?;
     Ok(text)
 }

@@ -8,8 +8,8 @@ ghost use Rattle.text_commands.specs.Runs.{Gives};
 ghost use Rattle.text_commands.specs.Safety.{RehearsesSafely};
 ghost use Rattle.text_commands.specs.Words.{a_rehearsal};
 
-use crate::ending::Ending;
-use crate::texts::checking::checked;
+use crate::command_end::CommandEnd;
+use crate::texts::checking::check_document;
 use lists::Text;
 use order_policy::Policy;
 use problem_json::{Document, InputFault, Scripted, read_script};
@@ -20,28 +20,28 @@ use wan_edge::Nums8;
 
 /// The command `sim`: the text of the script that the bytes are, over the valid plan of its document,
 /// under a policy.
-pub fn sim(alloc: Global, policy: &Policy, input: Nums8) -> Result<Text, Ending>
+pub fn sim(alloc: Global, policy: &Policy, input: Nums8) -> Result<Text, CommandEnd>
     ensures gives { Gives result (answer_in (a_rehearsal (rank_by policy.now.answers)) input) }
     ensures safe { IfOk result (λ text. RehearsesSafely (rank_by policy.now.answers) input) }
 {
-    let Scripted { document, script } = given(alloc, input)?;
-    rehearsed(alloc, document, policy, &script)
+    let Scripted { document, script } = read_input(alloc, input)?;
+    rehearse(alloc, document, policy, &script)
 }
 
 /// The script that the bytes are, with its document. They are given up as soon as they are read.
-fn given(alloc: Global, input: Nums8) -> Result<Scripted, InputFault>
+fn read_input(alloc: Global, input: Nums8) -> Result<Scripted, InputFault>
     ensures { Reads result (scripted_in input) }
 {
     read_script(alloc, input.as_slice())
 }
 
 #[tactic(auto, using(crate::proofs::Documents::rehearsing))]
-fn rehearsed(
+fn rehearse(
     alloc: Global,
     document: Document,
     policy: &Policy,
     script: &Script,
-) -> Result<Text, Ending>
+) -> Result<Text, CommandEnd>
     ensures gives { Gives result
         (rehearsed (rank_by policy.now.answers)
         (record { document = document; script = script.now })) }
@@ -49,6 +49,6 @@ fn rehearsed(
         (λ text. IsSafeRehearsal document.problem document.plan (rank_by policy.now.answers)
         script.now) }
 {
-    let plan = checked(alloc, document)?;
+    let plan = check_document(alloc, document)?;
     Ok(run_script(alloc, plan, policy, script)?)
 }

@@ -1,6 +1,6 @@
 use Rattle.std.proofs.Common.{◌∙◌, [], ◌∷◌, ◌++◌, length, refl, ap, arith}
 use Rattle.std.proofs.lemmas.List.{length_push}
-use Rattle.switch_agent.specs.Talks.{Talking}
+use Rattle.switch_agent.specs.ReadStates.{ReadSoFar}
 use Rattle.agent_service.specs.Services.{table_of}
 use Rattle.agent_service.proofs.Rows.{seated_is}
 use Rattle.agent_service.proofs.seats.seat.Goals as goal
@@ -9,7 +9,7 @@ pub returns-clause-sits : goal.returns-clause-sits
 returns-clause-sits g c = λ items.
     let room = c.make_room-now in
     let between = table_of items room.new.seated.items room.new.talks.items (record { coming = g.F.Fleet.coming c.args.fleet.now; served = g.F.Fleet.served room.new.fleet }) room.result in
-    let talks = c.push_reserved-2.ensures.items ∙ ap (λ (t : Talking). room.new.talks.items ++ t ∷ []) c.new-talk.ensures in
+    let talks = c.push_reserved-2.ensures.items ∙ ap (λ (t : ReadSoFar). room.new.talks.items ++ t ∷ []) c.new-talk.ensures in
     record {
       between = between;
       room = room.ensures.room items;

@@ -1,4 +1,4 @@
-use Rattle.shared_history.specs.Histories.{history_of}
+use Rattle.shared_book.specs.Histories.{history_of}
 use Rattle.completion_laws.proofs.InFlight.{still-flies, turned-rests}
 use Rattle.completion_laws.proofs.work.a_round_leaves_what_is_held_back.Goals as goal
 

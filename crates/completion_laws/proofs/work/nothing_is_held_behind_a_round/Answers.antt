@@ -1,5 +1,5 @@
 use Rattle.completion_laws.proofs.InFlight.{still-flies, turned-leaves}
-use Rattle.shared_history.specs.Histories.{history_of}
+use Rattle.shared_book.specs.Histories.{history_of}
 use Rattle.completion_laws.proofs.work.nothing_is_held_behind_a_round.Goals as goal
 
 pub returns : goal.returns

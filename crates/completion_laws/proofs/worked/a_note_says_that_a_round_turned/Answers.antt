@@ -1,6 +1,6 @@
 use Rattle.std.proofs.Common.{[], ◌∷◌, refl}
-use Rattle.shared_history.specs.declared.note.What.TheVariants as what
-use Rattle.shared_history.specs.Worked.{says}
+use Rattle.shared_book.specs.declared.note.What.TheVariants as what
+use Rattle.shared_book.specs.Worked.{says}
 use Rattle.completion_laws.specs.Worked.{begins_first}
 use Rattle.completion_laws.proofs.Examples.{work-no-turn}
 use Rattle.completion_laws.proofs.worked.a_note_says_that_a_round_turned.Goals as goal

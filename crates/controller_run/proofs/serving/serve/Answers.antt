@@ -3,7 +3,7 @@ use Rattle.std.specs.Prelude.{All, IsTrue}
 use Rattle.turn_lock.specs.Passes.{seat_of_pass, seats_of, seen_of}
 use Rattle.shared_book.specs.Calls.{IsStopCall}
 use Rattle.controller_run.specs.Serving.{Moment}
-use Rattle.controller_run.specs.declared.outcome.Outcome.TheVariants as outcome
+use Rattle.controller_run.specs.declared.round_end.RoundEnd.TheVariants as outcome
 use Rattle.controller_run.proofs.Serves.{ends, of_seat, of_whole, one_more}
 use Rattle.controller_run.proofs.Works.{of-offered}
 use Rattle.controller_run.proofs.serving.serve.Goals as goal

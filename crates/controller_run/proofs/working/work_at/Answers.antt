@@ -1,8 +1,8 @@
 use Rattle.std.proofs.Common.{ℕ, Bool, List, ◌∷◌, inl, inr, length, nat_lt, map, refl, sym, subst, ap₂}
 use Rattle.turn_lock.specs.Passes.{seat_of_pass, seats_of, seen_of}
 use Rattle.wan_edge.specs.Frames.{Command}
-use Rattle.worker_ports.specs.Due.{AreApart, LeavesAlone, any_late, due_of}
-use Rattle.worker_ports.proofs.Lateness.{alone_none}
+use Rattle.switch_ports.specs.Due.{AreApart, LeavesAlone, any_late, due_of}
+use Rattle.switch_ports.proofs.Lateness.{alone_none}
 use Rattle.controller_run.specs.Finding.{Caller}
 use Rattle.controller_run.proofs.LeftAlone.{lists-alone}
 use Rattle.controller_run.proofs.Works.{caller, carried, ended, idle-offers, later, lists-none, lists-some, on-offered, spent, wants, work-found}

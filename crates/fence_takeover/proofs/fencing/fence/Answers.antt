@@ -1,6 +1,6 @@
 use Rattle.std.proofs.Common.{◌≡◌, List, Option, ap, sym, subst, refl}
 use Rattle.rollout_rules.specs.declared.held.Held.{Held}
-use Rattle.rollout_ports.specs.Berths.{ports_of}
+use Rattle.switch_ports.specs.Berths.{ports_of}
 use Rattle.held_service.specs.Visits.{TellsAll}
 use Rattle.held_service.specs.declared.not_told.NotTold.{NotTold}
 use Rattle.held_service.specs.declared.not_told.NotTold.TheVariants as cause
@@ -13,7 +13,7 @@ returns-in-Ok-clause-fences g c =
     let tell = g.F.Port.Port.told in
     let before = ports_of g.F.Fleet.waiting g.F.Fleet.kept g.F.Fleet.lent g.F.Fleet.named c.args.fleet.now in
     let now = ports_of g.F.Fleet.waiting g.F.Fleet.kept g.F.Fleet.lent g.F.Fleet.named c.held_pairs.new.fleet in
-    let tells = subst (λ (notes : List (Option Held)). TellsAll tell r.problem r.plan c.args.rounds before now notes) (sym c.as_slice.ensures.value) c.in-Ok.ensures.ok in
+    let tells = subst (λ (notes : List (Option Held)). TellsAll tell r.problem r.plan c.args.migration c.args.rounds before now notes) (sym c.as_slice.ensures.value) c.in-Ok.ensures.ok in
     fences-told tell r.problem r.plan c.args.migration c.args.rounds before now c.as_slice.result.now c.taken_start.result tells c.taken_start.ensures.ok c.taken_start.ensures.err
 
 pub returns-in-Ok-clause-cause : goal.returns-in-Ok-clause-cause

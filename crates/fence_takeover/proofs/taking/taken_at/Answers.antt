@@ -6,5 +6,5 @@ use Rattle.fence_takeover.proofs.taking.taken_at.Goals as goal
 
 pub returns : goal.returns
 returns c =
-    subst (λ (n : ℕ). TakesOne c.args.migration c.args.item n (noted_at c.args.notes.now c.args.item) c.taken.result) c.operation_count-count.ensures
-    (subst (λ (held : Option Held). TakesOne c.args.migration c.args.item c.operation_count-count.result held c.taken.result) c.noted_at-noted.ensures c.taken.ensures)
+    subst (λ (n : ℕ). TakesOne c.args.migration c.args.item n (noted_at c.args.notes.now c.args.item) c.count_taken.result) c.operation_count-count.ensures
+    (subst (λ (held : Option Held). TakesOne c.args.migration c.args.item c.operation_count-count.result held c.count_taken.result) c.noted_at-noted.ensures c.count_taken.ensures)

@@ -10,5 +10,5 @@ returns-in-Some c = ap (λ (o : Option Choice). or_why o c.args.cause (stuck_lin
 
 pub returns-in-None : goal.returns-in-None
 returns-in-None c =
-    subst (λ w. Answers c.unfound.result w)
-    (sym (ap (λ (o : Option Choice). or_why o c.args.cause (stuck_link c.args.problem.now)) (sym c.in_ok-found.ensures ∙ c.in-None.is))) c.unfound.ensures
+    subst (λ w. Answers c.cause_of_none.result w)
+    (sym (ap (λ (o : Option Choice). or_why o c.args.cause (stuck_link c.args.problem.now)) (sym c.in_ok-found.ensures ∙ c.in-None.is))) c.cause_of_none.ensures

@@ -16,7 +16,7 @@ have_arrived-requires c = ap length c.as_slice-after.ensures.value ∙ c.in_ok-n
 
 pub returns-then-have_arrived : goal.returns-then-have_arrived
 returns-then-have_arrived c =
-    IfOk-weaker c.framed.result _ _ (λ found e. e ∙ arrives-at c.args.problem.now c.args.scale c.args.order.now c.loop-i.i c.loop-i.shares.items c.loop-i.rows c.loop-i.invariant c.as_slice-before.result.now c.as_slice-before.ensures.value c.in_ok-next.next.items c.as_slice-after.result.now c.in_ok-next.ensures.value c.as_slice-after.ensures.value c.args.most c.loop-i-test.true (sym c.have_arrived.ensures ∙ c.if-have_arrived.true)) c.framed.ensures
+    IfOk-weaker c.accept_frame.result _ _ (λ found e. e ∙ arrives-at c.args.problem.now c.args.scale c.args.order.now c.loop-i.i c.loop-i.shares.items c.loop-i.rows c.loop-i.invariant c.as_slice-before.result.now c.as_slice-before.ensures.value c.in_ok-next.next.items c.as_slice-after.result.now c.in_ok-next.ensures.value c.as_slice-after.ensures.value c.args.most c.loop-i-test.true (sym c.have_arrived.ensures ∙ c.if-have_arrived.true)) c.accept_frame.ensures
 
 pub are_same-requires : goal.are_same-requires
 are_same-requires c =

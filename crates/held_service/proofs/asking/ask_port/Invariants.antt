@@ -11,7 +11,7 @@ invariant-loop-item g l = record {
   cut : IsCutAnswer l.reader.kept;
   rows : length l.notes ≡ length l.homes;
   within : l.round ≤ l.rounds;
-  talks : TalksFor l.homes l.switch l.items l.fn.notes l.round (g.T.Port.told l.fn.port) l.reader.kept l.notes (g.T.Port.told l.port);
+  talks : TalksFor l.migration l.homes l.switch l.items l.fn.notes l.round (g.T.Port.told l.fn.port) l.reader.kept l.notes (g.T.Port.told l.port);
 }
 
 abbrev pub decreases-loop-item : goal.decreases-loop-item

@@ -1,6 +1,6 @@
 use Rattle.std.proofs.Common.{refl, ◌∙◌, inl}
 use Rattle.port_session.proofs.Chaining.{if_err}
-use Rattle.rollout_ports.specs.Berths.{ports_of}
+use Rattle.switch_ports.specs.Berths.{ports_of}
 use Rattle.held_service.specs.Visits.{Fails}
 use Rattle.held_service.specs.declared.not_told.NotTold.{NotTold}
 use Rattle.held_service.specs.declared.not_told.NotTold.TheVariants as cause
@@ -10,7 +10,7 @@ use Rattle.held_service.proofs.collecting.held_pairs.Goals as goal
 pub returns-in_err-index-clause-err : goal.returns-in_err-index-clause-err
 returns-in_err-index-clause-err g c =
     let ports = ports_of g.F.Fleet.waiting g.F.Fleet.kept g.F.Fleet.lent g.F.Fleet.named c.args.fleet.now in
-    if_err c.from_residual.result cause.Memory (λ (why : NotTold). Fails g.F.Port.Port.told c.args.plan.now.problem c.args.plan.now.plan c.args.rounds why ports ports) c.from_residual.ensures.1
+    if_err c.from_residual.result cause.Memory (λ (why : NotTold). Fails g.F.Port.Port.told c.args.plan.now.problem c.args.plan.now.plan c.args.migration c.args.rounds why ports ports) c.from_residual.ensures.1
     (inl (record { why_is = refl; now_is = refl }))
 
 pub returns-in_err-index-clause-cause : goal.returns-in_err-index-clause-cause
@@ -19,7 +19,7 @@ returns-in_err-index-clause-cause g c = λ w is. absurd (wants-with-port w c.fro
 pub returns-in_err-homes-clause-err : goal.returns-in_err-homes-clause-err
 returns-in_err-homes-clause-err g c =
     let ports = ports_of g.F.Fleet.waiting g.F.Fleet.kept g.F.Fleet.lent g.F.Fleet.named c.args.fleet.now in
-    if_err c.from_residual-in_err-homes.result cause.Memory (λ (why : NotTold). Fails g.F.Port.Port.told c.args.plan.now.problem c.args.plan.now.plan c.args.rounds why ports ports) c.from_residual-in_err-homes.ensures.1
+    if_err c.from_residual-in_err-homes.result cause.Memory (λ (why : NotTold). Fails g.F.Port.Port.told c.args.plan.now.problem c.args.plan.now.plan c.args.migration c.args.rounds why ports ports) c.from_residual-in_err-homes.ensures.1
     (inl (record { why_is = refl; now_is = refl }))
 
 pub returns-in_err-homes-clause-cause : goal.returns-in_err-homes-clause-cause

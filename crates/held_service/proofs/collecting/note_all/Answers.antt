@@ -2,7 +2,7 @@ use Rattle.std.proofs.Common.{List, ℕ, Option, length, sym, ap, ◌∙◌}
 use Rattle.rollout_rules.specs.Items.{item_count}
 use Rattle.rollout_rules.specs.Wan.{Rollout}
 use Rattle.shared_book.proofs.HomeRows.{length-below}
-use Rattle.rollout_ports.specs.Berths.{ports_of}
+use Rattle.switch_ports.specs.Berths.{ports_of}
 use Rattle.held_service.specs.Noting.{no_notes}
 use Rattle.held_service.specs.Questions.{asked_home}
 use Rattle.held_service.proofs.Visited.{all-in, fails-also, stops-in, tells-long}
@@ -23,12 +23,12 @@ returns-in-Ok-clause-ok g c =
     let r = c.args.plan.now in
     let before = ports_of g.F.Fleet.waiting g.F.Fleet.kept g.F.Fleet.lent g.F.Fleet.named c.args.fleet.now in
     let now = ports_of g.F.Fleet.waiting g.F.Fleet.kept g.F.Fleet.lent g.F.Fleet.named c.ask_each.new.fleet in
-    all-in g.F.Port.Port.told c.problem.result.now r.problem r.plan c.args.homes.now c.args.rounds before now c.ask_each.new.notes c.problem.ensures c.requires.homes c.in-Ok.ensures.asks
+    all-in g.F.Port.Port.told c.problem.result.now r.problem r.plan c.args.homes.now c.args.migration c.args.rounds before now c.ask_each.new.notes c.problem.ensures c.requires.homes c.in-Ok.ensures.asks
 
 pub returns-in-Ok-clause-rows : goal.returns-in-Ok-clause-rows
 returns-in-Ok-clause-rows g c =
     let r = c.args.plan.now in
-    tells-long g.F.Port.Port.told c.problem.result.now c.args.homes.now c.args.rounds (length c.problem.result.now.switches) _ _ c.ask_each.new.notes c.in-Ok.ensures.asks
+    tells-long g.F.Port.Port.told c.problem.result.now c.args.homes.now c.args.migration c.args.rounds (length c.problem.result.now.switches) _ _ c.ask_each.new.notes c.in-Ok.ensures.asks
     ∙ ap (λ (hs : List (Option ℕ)). length hs) c.requires.homes ∙ length-below (item_count r.problem) (asked_home r.problem r.plan)
 
 pub returns-in-Err-clause-err : goal.returns-in-Err-clause-err
@@ -36,7 +36,7 @@ returns-in-Err-clause-err g c =
     let r = c.args.plan.now in
     let before = ports_of g.F.Fleet.waiting g.F.Fleet.kept g.F.Fleet.lent g.F.Fleet.named c.args.fleet.now in
     let now = ports_of g.F.Fleet.waiting g.F.Fleet.kept g.F.Fleet.lent g.F.Fleet.named c.ask_each.new.fleet in
-    stops-in g.F.Port.Port.told c.problem.result.now r.problem r.plan c.args.homes.now c.args.rounds c.in-Err.why before now c.problem.ensures c.requires.homes c.in-Err.ensures.asks
+    stops-in g.F.Port.Port.told c.problem.result.now r.problem r.plan c.args.homes.now c.args.migration c.args.rounds c.in-Err.why before now c.problem.ensures c.requires.homes c.in-Err.ensures.asks
 
 pub returns-in-Err-clause-cause : goal.returns-in-Err-clause-cause
 returns-in-Err-clause-cause g c = λ w is. c.in-Err.ensures.cause w (fails-also c.in-Err.why w is)

@@ -4,7 +4,7 @@ use Rattle.rollout_rules.specs.Items.{item_at, item_count}
 use Rattle.rollout_rules.specs.Operations.{operations}
 use Rattle.rollout_rules.specs.Wan.{Plan, Problem, Rollout}
 use Rattle.rollout_rules.specs.declared.held.Held.{Held}
-use Rattle.worker_ports.specs.Lots.{home_at}
+use Rattle.switch_ports.specs.Outboxes.{home_at}
 use Rattle.held_service.specs.HeldText.{line_at, line_if}
 use Rattle.held_service.specs.Noting.{Notes, noted_at}
 use Rattle.held_service.specs.Questions.{asked_homes}

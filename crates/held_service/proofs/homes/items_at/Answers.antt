@@ -1,5 +1,5 @@
 use Rattle.std.proofs.Common.{◌≡◌, List, ℕ, [], ◌∷◌, ◌++◌, length, if◌then◌else◌, ap, sym, ◌∙◌, arith}
-use Rattle.rollout_ports.specs.Homes.{passing_below}
+use Rattle.switch_ports.specs.Homes.{passing_below}
 use Rattle.held_service.specs.Questions.{is_asked}
 use Rattle.held_service.proofs.Asked.{passing-more}
 use Rattle.held_service.proofs.homes.items_at.Goals as goal

@@ -1,5 +1,5 @@
 use Rattle.std.proofs.Common.{◌≡◌}
-use Rattle.rollout_ports.specs.Homes.{passing_below}
+use Rattle.switch_ports.specs.Homes.{passing_below}
 use Rattle.held_service.specs.Questions.{is_asked}
 use Rattle.held_service.proofs.homes.items_at.Given as goal
 

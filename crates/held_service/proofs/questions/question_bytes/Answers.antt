@@ -10,11 +10,12 @@ pub loop-item-preserved : goal.loop-item-preserved
 loop-item-preserved c =
     let items = c.args.items.now in
     let at = c.loop-item.item-index in
-    c.in_ok-add_question.ensures ∙ ap (λ (bytes : List ℕ). bytes ++ command_bytes (question (get_or items at 0))) c.loop-item.invariant
-    ∙ sym (question-more (take at items) (get_or items at 0)) ∙ ap question_bytes (sym (take_more items at 0 c.loop-item-test.true))
+    let m = c.args.migration in
+    c.in_ok-add_question.ensures ∙ ap (λ (bytes : List ℕ). bytes ++ command_bytes (question m (get_or items at 0))) c.loop-item.invariant
+    ∙ sym (question-more m (take at items) (get_or items at 0)) ∙ ap (question_bytes m) (sym (take_more items at 0 c.loop-item-test.true))
 
 pub returns : goal.returns
 returns c =
     let items = c.args.items.now in
     let all : c.loop-item.item-index ≡ length items = omega (arith, c.loop-item-test.false, c.loop-item.auto.item-index-end) in
-    c.loop-item.invariant ∙ ap question_bytes (ap (λ (n : ℕ). take n items) all ∙ take-length items)
+    c.loop-item.invariant ∙ ap (question_bytes c.args.migration) (ap (λ (n : ℕ). take n items) all ∙ take-length items)

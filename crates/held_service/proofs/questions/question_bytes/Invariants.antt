@@ -3,4 +3,4 @@ use Rattle.held_service.specs.Questions.{question_bytes}
 use Rattle.held_service.proofs.questions.question_bytes.Given as goal
 
 abbrev pub invariant-loop-item : goal.invariant-loop-item
-invariant-loop-item l = l.bytes ≡ question_bytes (take l.item-index l.items)
+invariant-loop-item l = l.bytes ≡ question_bytes l.migration (take l.item-index l.items)

@@ -1,7 +1,7 @@
 use Rattle.std.proofs.Common.{refl, ap, ◌∙◌}
 use Rattle.rollout_rules.specs.Items.{item_count}
 use Rattle.rollout_rules.specs.Wan.{Rollout}
-use Rattle.rollout_ports.specs.Berths.{ports_of}
+use Rattle.switch_ports.specs.Berths.{ports_of}
 use Rattle.held_service.specs.Noting.{no_notes}
 use Rattle.held_service.proofs.Visited.{wants-all, wants-with-port}
 use Rattle.held_service.proofs.service.ask_and_tell.Goals as goal

@@ -2,7 +2,7 @@ use Rattle.std.proofs.Common.{List, ℕ, Option, length, sym, ap, ◌∙◌}
 use Rattle.rollout_rules.specs.Items.{item_count}
 use Rattle.rollout_rules.specs.Wan.{Rollout}
 use Rattle.shared_book.proofs.HomeRows.{length-below}
-use Rattle.rollout_ports.specs.Berths.{ports_of}
+use Rattle.switch_ports.specs.Berths.{ports_of}
 use Rattle.held_service.specs.Noting.{no_notes}
 use Rattle.held_service.specs.Questions.{asked_home}
 use Rattle.held_service.proofs.Visited.{all-in, fails-also, stops-in, tells-long, tells-text, text-with-port}
@@ -21,7 +21,7 @@ ask_each-requires-clause-none g c =
 pub told_text-requires-clause-rows : goal.told_text-requires-clause-rows
 told_text-requires-clause-rows g c =
     let r = c.args.plan.now in
-    tells-long g.F.Port.Port.told c.problem.result.now c.args.homes.now c.args.rounds (length c.problem.result.now.switches) _ _ c.ask_each.new.notes c.in-Ok.ensures.asks
+    tells-long g.F.Port.Port.told c.problem.result.now c.args.homes.now 0 c.args.rounds (length c.problem.result.now.switches) _ _ c.ask_each.new.notes c.in-Ok.ensures.asks
     ∙ ap (λ (hs : List (Option ℕ)). length hs) c.requires.homes ∙ length-below (item_count r.problem) (asked_home r.problem r.plan)
 
 pub returns-in-Ok-clause-asks : goal.returns-in-Ok-clause-asks
@@ -30,7 +30,7 @@ returns-in-Ok-clause-asks g c =
     let before = ports_of g.F.Fleet.waiting g.F.Fleet.kept g.F.Fleet.lent g.F.Fleet.named c.args.fleet.now in
     let now = ports_of g.F.Fleet.waiting g.F.Fleet.kept g.F.Fleet.lent g.F.Fleet.named c.ask_each.new.fleet in
     tells-text g.F.Port.Port.told r.problem r.plan c.args.rounds before now c.ask_each.new.notes c.told_text.result
-    (all-in g.F.Port.Port.told c.problem.result.now r.problem r.plan c.args.homes.now c.args.rounds before now c.ask_each.new.notes c.problem.ensures c.requires.homes c.in-Ok.ensures.asks) c.told_text.ensures.ok c.told_text.ensures.err
+    (all-in g.F.Port.Port.told c.problem.result.now r.problem r.plan c.args.homes.now 0 c.args.rounds before now c.ask_each.new.notes c.problem.ensures c.requires.homes c.in-Ok.ensures.asks) c.told_text.ensures.ok c.told_text.ensures.err
 
 pub returns-in-Ok-clause-cause : goal.returns-in-Ok-clause-cause
 returns-in-Ok-clause-cause g c = λ w is. absurd (text-with-port w c.told_text.result c.told_text.ensures.err is)
@@ -40,7 +40,7 @@ returns-in-Err-clause-asks g c =
     let r = c.args.plan.now in
     let before = ports_of g.F.Fleet.waiting g.F.Fleet.kept g.F.Fleet.lent g.F.Fleet.named c.args.fleet.now in
     let now = ports_of g.F.Fleet.waiting g.F.Fleet.kept g.F.Fleet.lent g.F.Fleet.named c.ask_each.new.fleet in
-    stops-in g.F.Port.Port.told c.problem.result.now r.problem r.plan c.args.homes.now c.args.rounds c.in-Err.why before now c.problem.ensures c.requires.homes c.in-Err.ensures.asks
+    stops-in g.F.Port.Port.told c.problem.result.now r.problem r.plan c.args.homes.now 0 c.args.rounds c.in-Err.why before now c.problem.ensures c.requires.homes c.in-Err.ensures.asks
 
 pub returns-in-Err-clause-cause : goal.returns-in-Err-clause-cause
 returns-in-Err-clause-cause g c = λ w is. c.in-Err.ensures.cause w (fails-also c.in-Err.why w is)

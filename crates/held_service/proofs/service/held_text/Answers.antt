@@ -1,5 +1,5 @@
 use Rattle.std.proofs.Common.{refl, ◌∙◌}
-use Rattle.rollout_ports.specs.Berths.{ports_of}
+use Rattle.switch_ports.specs.Berths.{ports_of}
 use Rattle.held_service.proofs.Visited.{wants-all, wants-with-port}
 use Rattle.held_service.proofs.service.held_text.Goals as goal
 

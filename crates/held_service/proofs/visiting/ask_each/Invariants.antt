@@ -1,5 +1,5 @@
 use Rattle.std.proofs.Common.{◌≡◌, ◌≤◌, length}
-use Rattle.rollout_ports.specs.Berths.{ports_of}
+use Rattle.switch_ports.specs.Berths.{ports_of}
 use Rattle.held_service.specs.Visits.{TellsBelow}
 use Rattle.held_service.proofs.visiting.ask_each.Given as goal
 
@@ -11,6 +11,7 @@ invariant-loop-switch g l = record {
       g.F.Port.Port.told
       l.problem
       l.homes
+      l.migration
       l.rounds
       l.switch
       (ports_of g.F.Fleet.waiting g.F.Fleet.kept g.F.Fleet.lent g.F.Fleet.named l.fn.fleet)

@@ -1,4 +1,4 @@
-use Rattle.rollout_ports.specs.Berths.{ports_of}
+use Rattle.switch_ports.specs.Berths.{ports_of}
 use Rattle.held_service.proofs.Visited.{keeps-back}
 use Rattle.held_service.proofs.visiting.talk.Goals as goal
 

@@ -7,10 +7,12 @@ use Rattle.json.proofs.Grammar.{value_is, value-begin_array, value-begin_object,
 use Rattle.serde_json.specs.Data.{null, boolean, number, string, array, object, no_members, put}
 use Rattle.serde_json.specs.Read.{of_json, of_items, converted}
 use Rattle.serde_json.specs.View.{number_view, items_of}
-use Rattle.json_data.specs.declared.node.Node.TheVariants.{Null, Bool, Number, Text}
+use Rattle.json_data.specs.declared.node.Node.TheVariants as a_node
+use Rattle.json_data.specs.Nodes.{Null, Truth, Number, Text, entry}
 use Rattle.json_data.specs.Growth.{items_before}
 use Rattle.json_data.proofs.Reading.{converted-array, converted-object, item_read, item_refused, items_over, member_read, member_refused, key_refused, members_over, items_before-no_items, one_more_item, none_before}
-use Rattle.json_data.proofs.Grown.{null_is, bool_is, number_is, text_is, no_elements, one_element_more, no_members_yet, one_member_more, closed_array, closed_object}
+use Rattle.json_data.proofs.Grown.{null_is, bool_is, number_is, text_is, no_elements, one_element_more, no_members_yet, one_member_more}
+use Rattle.json_data.proofs.Spots.{pushed, array_closed, object_closed}
 use Rattle.json_data.proofs.build.+read.Goals as goal
 
 pub read-returns-in_err-token-clause-err : goal.read-returns-in_err-token-clause-err
@@ -48,26 +50,26 @@ pub read-returns-in-String-clause-ok : goal.read-returns-in-String-clause-ok
 read-returns-in-String-clause-ok t c =
     let first : c.args.reader.now ≡ token_of c.in_ok-token.token ∷ c.next.new.self = grind arith in
     let is : c.args.reader.now ≡ Token.string c.in-String.text.now ∷ c.next.new.self = grind (arith, first) in
-    on_ok_weaker c.push.result (λ e. (string c.in-String.text.now, (Text c.in-String.text ∷ [], e, text_is c.in-String.text), ap (converted of_json) (ap (value c.args.depth) is ∙ value_is c.args.depth _))) c.push.ensures.ok
+    on_ok_weaker c.push.result (λ e. (string c.in-String.text.now, (Text c.in-String.text.now ∷ [], pushed entry _ _ _ e, text_is c.in-String.text.now), ap (converted of_json) (ap (value c.args.depth) is ∙ value_is c.args.depth _))) c.push.ensures.ok
 
 pub read-returns-in-Bool-clause-ok : goal.read-returns-in-Bool-clause-ok
 read-returns-in-Bool-clause-ok t c =
     let first : c.args.reader.now ≡ token_of c.in_ok-token.token ∷ c.next.new.self = grind arith in
     let is : c.args.reader.now ≡ Token.boolean c.in-Bool.b ∷ c.next.new.self = grind (arith, first) in
-    on_ok_weaker c.push-in-Bool.result (λ e. (boolean c.in-Bool.b, (Bool c.in-Bool.b ∷ [], e, bool_is c.in-Bool.b), ap (converted of_json) (ap (value c.args.depth) is ∙ value_is c.args.depth _))) c.push-in-Bool.ensures.ok
+    on_ok_weaker c.push-in-Bool.result (λ e. (boolean c.in-Bool.b, (Truth c.in-Bool.b ∷ [], pushed entry _ _ _ e, bool_is c.in-Bool.b), ap (converted of_json) (ap (value c.args.depth) is ∙ value_is c.args.depth _))) c.push-in-Bool.ensures.ok
 
 pub read-returns-in-Null-clause-ok : goal.read-returns-in-Null-clause-ok
 read-returns-in-Null-clause-ok t c =
     let first : c.args.reader.now ≡ token_of c.in_ok-token.token ∷ c.next.new.self = grind arith in
     let is : c.args.reader.now ≡ Token.null ∷ c.next.new.self = grind (arith, first) in
-    on_ok_weaker c.push-in-Null.result (λ e. (null, (Null ∷ [], e, null_is), ap (converted of_json) (ap (value c.args.depth) is ∙ value_is c.args.depth _))) c.push-in-Null.ensures.ok
+    on_ok_weaker c.push-in-Null.result (λ e. (null, (Null ∷ [], pushed entry _ _ _ e, null_is), ap (converted of_json) (ap (value c.args.depth) is ∙ value_is c.args.depth _))) c.push-in-Null.ensures.ok
 
 pub read-returns-in-Some-clause-ok : goal.read-returns-in-Some-clause-ok
 read-returns-in-Some-clause-ok t c =
     let first : c.args.reader.now ≡ token_of c.in_ok-token.token ∷ c.next.new.self = grind arith in
     let is : c.args.reader.now ≡ Token.number c.in-Number.text.now ∷ c.next.new.self = grind (arith, first) in
     let read = ap (converted of_json) (ap (value c.args.depth) is ∙ value_is c.args.depth _) ∙ rw (← c.in-Some.ensures) in
-    on_ok_weaker c.push-in-Some.result (λ e. (number (number_view c.in-Some.number), (Number c.in-Some.number ∷ [], e, number_is c.in-Some.number), read)) c.push-in-Some.ensures.ok
+    on_ok_weaker c.push-in-Some.result (λ e. (number (number_view c.in-Some.number), (Number (number_view c.in-Some.number) ∷ [], pushed entry _ _ _ e, number_is (number_view c.in-Some.number)), read)) c.push-in-Some.ensures.ok
 
 pub read-returns-in-None-clause-err : goal.read-returns-in-None-clause-err
 read-returns-in-None-clause-err t c refused =
@@ -96,7 +98,7 @@ read-returns-else-depth-eq0-2-clause-ok t c =
 pub read_items-items-init : goal.read_items-items-init
 read_items-items-init t c =
     let all = converted of_items (items (value c.args.depth) (length c.args.reader.now) c.args.reader.now) in
-    (length c.args.reader.now, [], omega arith, none_before all, ([], c.in_ok-push.ensures.ok ∙ sym (append-nil _), no_elements), omega arith)
+    (length c.args.reader.now, [], omega arith, none_before all, ([], pushed entry _ _ _ c.in_ok-push.ensures.ok ∙ sym (append-nil _), no_elements), omega arith)
 
 pub read_items-returns-in_err-read-clause-err : goal.read_items-returns-in_err-read-clause-err
 read_items-returns-in_err-read-clause-err t c refused =
@@ -138,12 +140,12 @@ read_items-returns-clause-ok t c =
     let grown = l.invariant.4 in
     let r = c.take_end_array.new.self in
     let read = l.invariant.3 ∙ ap (parse_map (items_before ds)) (items_over p n l.reader r l.invariant.2 (grind arith)) ∙ ap (λ es. Some (es, r)) (items_before-no_items ds) in
-    (ds, closed_array c.args.nodes.now.items l.nodes.items grown.0 ds l.count c.len-first.result c.len.result grown.1 grown.2 (grind arith) (grind arith), read)
+    (ds, array_closed entry c.args.nodes.now.items l.nodes.items (a_node.Array (c.len.result - c.len-first.result - 1) l.count) grown.0 ds l.count c.len-first.result c.len.result grown.1 grown.2 (grind arith) (grind arith) refl, read)
 
 pub read_members-members-init : goal.read_members-members-init
 read_members-members-init t c =
     let all = members (value c.args.depth) (length c.args.reader.now) c.args.reader.now in
-    (length c.args.reader.now, no_members, omega arith, refl, ([], c.in_ok-push.ensures.ok ∙ sym (append-nil _), no_members_yet), omega arith)
+    (length c.args.reader.now, no_members, omega arith, refl, ([], pushed entry _ _ _ c.in_ok-push.ensures.ok ∙ sym (append-nil _), no_members_yet), omega arith)
 
 pub read_members-returns-in_err-name-clause-err : goal.read_members-returns-in_err-name-clause-err
 read_members-returns-in_err-name-clause-err t c refused =
@@ -179,16 +181,16 @@ read_members-members-preserved t c =
     let r = c.read.new.reader in
     let less = read_key-shorter l.reader (Some k) s named in
     let lesser = done.shorter in
-    let pushed = c.in_ok-push-2.ensures.ok in
-    let text = Text key ∷ [] in (
+    let named_so = pushed entry _ _ _ c.in_ok-push-2.ensures.ok in
+    let text = Text k ∷ [] in (
       n - 1,
       put k d old,
       omega (arith, l.invariant.2),
       l.invariant.3 ∙ member_read p old n k l.reader s r d (omega (arith, l.invariant.2)) named done.ok.2,
       (
         (grown.0 ++ text) ++ more.0,
-        more.1 ∙ ap (λ ns. ns ++ more.0) (pushed ∙ ap (λ ns. ns ++ text) grown.1 ∙ append_assoc _ grown.0 text) ∙ append_assoc _ (grown.0 ++ text) more.0,
-        one_member_more old l.count grown.0 key d more.0 grown.2 more.2,
+        more.1 ∙ ap (λ ns. ns ++ more.0) (named_so ∙ ap (λ ns. ns ++ text) grown.1 ∙ append_assoc _ grown.0 text) ∙ append_assoc _ (grown.0 ++ text) more.0,
+        one_member_more old l.count grown.0 k d more.0 grown.2 more.2,
       ),
       omega (arith, l.invariant.5),
     )
@@ -200,4 +202,4 @@ read_members-returns-clause-ok t c =
     let n = l.invariant.0 in
     let old = l.invariant.1 in
     let grown = l.invariant.4 in
-    (old, closed_object c.args.nodes.now.items l.nodes.items grown.0 old l.count c.len-first.result c.len.result grown.1 grown.2 (grind arith) (grind arith), l.invariant.3 ∙ members_over p old n l.reader c.next_key.new.self l.invariant.2 (grind arith))
+    (old, object_closed entry c.args.nodes.now.items l.nodes.items (a_node.Object (c.len.result - c.len-first.result - 1) l.count) grown.0 old l.count c.len-first.result c.len.result grown.1 grown.2 (grind arith) (grind arith) refl, l.invariant.3 ∙ members_over p old n l.reader c.next_key.new.self l.invariant.2 (grind arith))

@@ -2,7 +2,7 @@ use Rattle.std.proofs.Common.{◌+◌, ◌-◌, ◌*◌, ◌≤◌, List, [], �
 use Rattle.serde_json.specs.Data.{Data, Members}
 use Rattle.json_data.specs.Growth.{GrowsByItems, GrowsByMembers}
 use Rattle.json_data.specs.Plain.{AreItemsAt, AreMembersAt}
-use Rattle.json_data.specs.declared.node.Node.TheVariants.{Null}
+use Rattle.json_data.specs.Nodes.{Null, spotted}
 use Rattle.json_data.proofs.plain_value.+plain.Given as goal
 
 abbrev pub decreases-plain_value : goal.decreases-plain_value
@@ -19,7 +19,7 @@ abbrev pub invariant-plain_items-items : goal.invariant-plain_items-items
 invariant-plain_items-items l =
     (l.from ≤ l.at) × (l.at ≤ length l.text)
     × (ds : List Data) × AreItemsAt l.text l.from l.depth ds l.at l.ended
-    × GrowsByItems ds l.count (l.fn.nodes.items ++ Null ∷ []) l.nodes.items
+    × GrowsByItems ds l.count (spotted l.text l.fn.nodes.items ++ Null ∷ []) (spotted l.text l.nodes.items)
     × (l.at ≤ length l.text)
 
 abbrev pub decreases-plain_items-items : goal.decreases-plain_items-items
@@ -30,7 +30,7 @@ abbrev pub invariant-plain_members-members : goal.invariant-plain_members-member
 invariant-plain_members-members l =
     (l.from ≤ l.at) × (l.at ≤ length l.text)
     × (found : Members) × AreMembersAt l.text l.from l.depth l.count found l.at l.ended
-    × GrowsByMembers found l.count (l.fn.nodes.items ++ Null ∷ []) l.nodes.items
+    × GrowsByMembers found l.count (spotted l.text l.fn.nodes.items ++ Null ∷ []) (spotted l.text l.nodes.items)
     × (l.at ≤ length l.text)
 
 abbrev pub decreases-plain_members-members : goal.decreases-plain_members-members

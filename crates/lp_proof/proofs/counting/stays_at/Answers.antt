@@ -2,7 +2,7 @@ use Rattle.std.proofs.Common.{◌≡◌, ℕ, ◌+◌, ap, ◌∙◌, arith}
 use Rattle.rollout_rules.specs.Wan.{rate_at, next_stage}
 use Rattle.lp_proof.proofs.counting.stays_at.Goals as goal
 
--- before the last stage the one behind is the next number
+-- before the last stage the one after is the next number
 pub returns : goal.returns
 returns c =
     let plan = c.args.plan.now.plan in

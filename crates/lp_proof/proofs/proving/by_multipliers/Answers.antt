@@ -4,7 +4,7 @@ use Rattle.fraction_lp.specs.Ratio.{Ratio}
 use Rattle.fraction_lp.specs.Dictionary.{Program}
 use Rattle.fraction_lp.specs.Excluding.{excludes}
 use Rattle.step_lp.specs.Program.{move_program}
-use Rattle.step_proof.specs.declared.proof.Proof.TheVariants.{Rows}
+use Rattle.fraction_lp.specs.declared.proof.Proof.TheVariants.{Rows}
 use Rattle.lp_proof.specs.Shown.{is_built}
 use Rattle.lp_proof.specs.Least.{where_accepted}
 use Rattle.lp_proof.specs.declared.least.Least.TheVariants.{Shown}

@@ -3,12 +3,12 @@ use denote.Param.{param}
 use denote.Param.Callables.{held_fn}
 use denote.Param.Object.{Vt, ghosts_of}
 use denote.Param.Send.{param_send, arg_send, shr_sync, sendable}
-use Rattle.shared_book.proofs.shared.Shared.TheSendSync as shared
-use Rattle.shared_history.specs.contracts.note.Written as written
-use Rattle.shared_book.specs.contracts.kept.KeptCounted.TheImpl as counted
-use Rattle.rollout_run.proofs.Sends.{kept_send, policy_sync}
+use Rattle.shared_book.proofs.locked_book.LockedBook.TheSendSync as shared
+use Rattle.shared_book.specs.contracts.note.Written as written
+use Rattle.shared_book.specs.contracts.noted_book.NotedBookCounted.TheImpl as counted
+use Rattle.controller_run.proofs.Sends.{kept_send, policy_sync}
 use Rattle.measure.specs.contracts.waiting.both_woken.dyn-1.{slots}
-use Rattle.measure.proofs.waiting.Duty.TheSendSync as duty
+use Rattle.measure.proofs.waiting.WaitJob.TheSendSync as duty
 use Rattle.measure.proofs.waiting.Woken.TheSendSync as woken
 use Rattle.measure.proofs.waiting.both_woken.Goals as goal
 

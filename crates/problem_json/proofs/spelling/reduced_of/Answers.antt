@@ -17,11 +17,11 @@ pub returns-then-divisor-eq1 : goal.returns-then-divisor-eq1
 returns-then-divisor-eq1 c =
     let t = c.as_signed.result in
     let b = c.as_signed-then-divisor-eq1.result in
-    let a = c.signed-above.result in
+    let a = c.with_sign-above.result in
     let t_fits : FitsSigned w128 t = search rules in
     let b_fits : FitsSigned w128 b = search rules in
     let a_fits : FitsSigned w128 a = search rules in
-    let above : a ≡ signed c.args.minus (pos c.args.top) = c.signed-above.ensures ∙ ap (signed c.args.minus) (to_z-of_z w128 t t_fits ∙ c.as_signed.ensures.value) in
+    let above : a ≡ signed c.args.minus (pos c.args.top) = c.with_sign-above.ensures ∙ ap (signed c.args.minus) (to_z-of_z w128 t t_fits ∙ c.as_signed.ensures.value) in
     c.new.ensures
     ∙ reduced_is c.args.minus c.args.top c.args.bottom _ _ (omega (arith, c.if-top-gt-LARGEST.false)) (omega (arith, c.if-bottom-gt-LARGEST.false))
     (omega (arith, c.greatest_common_divisor-divisor.ensures, c.if-divisor-eq1.true)) (to_z-of_z w128 a a_fits ∙ above) (to_z-of_z w128 b b_fits ∙ c.as_signed-then-divisor-eq1.ensures.value)

@@ -11,12 +11,12 @@ use Rattle.problem_json.proofs.writing.write_plan.Goals as goal
 
 pub returns-clause-text : goal.returns-clause-text
 unfolding plan_text
-returns-clause-text c = c.finished.ensures.same ∙ whole_text (plan_text c.args.plan.now) c.in_ok-finish.field-0 c.in_ok-text.text c.push_plan.new.text c.in_ok-text.ensures c.push_plan.ensures.text c.in_ok-finish.ensures
+returns-clause-text c = c.utf8_text.ensures.same ∙ whole_text (plan_text c.args.plan.now) c.in_ok-finish.field-0 c.in_ok-text.text c.push_plan.new.text c.in_ok-text.ensures c.push_plan.ensures.text c.in_ok-finish.ensures
 
 pub returns-clause-reads : goal.returns-clause-reads
 unfolding plan_text plan_in
 returns-clause-reads c =
-    let is = c.finished.ensures.same ∙ whole_text (plan_text c.args.plan.now) c.in_ok-finish.field-0 c.in_ok-text.text c.push_plan.new.text c.in_ok-text.ensures c.push_plan.ensures.text c.in_ok-finish.ensures in
-    let utf8 : IsUtf8 c.finished.result = subst IsUtf8 (sym c.finished.ensures.same) c.finished.ensures.utf8 in
+    let is = c.utf8_text.ensures.same ∙ whole_text (plan_text c.args.plan.now) c.in_ok-finish.field-0 c.in_ok-text.text c.push_plan.new.text c.in_ok-text.ensures c.push_plan.ensures.text c.in_ok-finish.ensures in
+    let utf8 : IsUtf8 c.utf8_text.result = subst IsUtf8 (sym c.utf8_text.ensures.same) c.utf8_text.ensures.utf8 in
     let plan = c.args.plan.now in
-    λ within. text_is_read plan_of plan (plan_data plan) c.finished.result utf8 (ap read is ∙ plan_text_reads plan c.push_plan.ensures.words) (plan_is_read plan within)
+    λ within. text_is_read plan_of plan (plan_data plan) c.utf8_text.result utf8 (ap read is ∙ plan_text_reads plan c.push_plan.ensures.words) (plan_is_read plan within)

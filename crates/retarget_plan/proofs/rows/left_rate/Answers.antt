@@ -19,5 +19,5 @@ returns c =
     let r = c.args.plan.now in
     let at : Places = places_of r.problem c.args.graph.now.history in
     let some : 0 < hops r.problem c.args.tunnel = omega (arith, (c.checked_plan_is_valid.ensures.network.tunnels c.args.tunnel c.requires.tunnel).path.least) in
-    c.told.ensures ∙ told c.is_there-there.result _ c.settled_rate-rate.result _ c.args.divisor _
+    c.rate_where_there.ensures ∙ told c.is_there-there.result _ c.settled_rate-rate.result _ c.args.divisor _
     (first-mark r.problem c.args.tunnel c.args.first c.requires.tunnel c.requires.first r.plan at c.is_there-there.result some c.is_there-there.ensures) c.settled_rate-rate.ensures c.requires.divisor

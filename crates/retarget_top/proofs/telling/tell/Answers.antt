@@ -1,5 +1,6 @@
 use Rattle.std.proofs.Common.{sym, subst}
-use Rattle.retarget_top.specs.Lines.{no_link_line, target_line, unleft_line}
+use Rattle.retarget_service.specs.UnleftLines.{unleft_line}
+use Rattle.retarget_top.specs.Lines.{no_link_line, target_line}
 use Rattle.retarget_top.specs.RetargetPromise.{RetargetTold}
 use Rattle.retarget_top.specs.declared.ending.RetargetEnding.{RetargetEnding}
 use Rattle.retarget_top.proofs.telling.tell.Goals as goal

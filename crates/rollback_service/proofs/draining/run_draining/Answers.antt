@@ -1,5 +1,5 @@
 use Rattle.std.proofs.Common.{◌≡◌}
-use Rattle.rollout_ports.specs.Berths.{ports_of}
+use Rattle.switch_ports.specs.Berths.{ports_of}
 use Rattle.rollout_report.specs.Journals.{digest_for}
 use Rattle.intent_journal.specs.Openings.{IsLeft}
 use Rattle.intent_journal.specs.declared.fault.JournalFault.{JournalFault}

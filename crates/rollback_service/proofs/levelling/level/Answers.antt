@@ -1,7 +1,7 @@
 use Rattle.std.proofs.Common.{◌≡◌, ◌∙◌, true, sym, subst, ap}
 use Rattle.dependency_graph.specs.Graph.{Followed}
 use Rattle.rollout_rules.specs.Legal.{is_legal}
-use Rattle.rollout_ports.specs.Berths.{ports_of}
+use Rattle.switch_ports.specs.Berths.{ports_of}
 use Rattle.rollback_service.specs.Levellings.{TurnsFrom, start_of}
 use Rattle.rollback_service.proofs.Levellings.{levelled-so, never-levelled, some-stage}
 use Rattle.rollback_service.proofs.levelling.level.Goals as goal

@@ -3,7 +3,7 @@ use Rattle.rollout_rules.specs.Release.{held_back}
 use Rattle.order_policy.specs.Answers.{rank_by}
 use Rattle.order_policy.proofs.Ranks.{answers_by}
 use Rattle.order_policy.proofs.Boxed.{boxed}
-use Rattle.rollout_ports.specs.Berths.{ports_of}
+use Rattle.switch_ports.specs.Berths.{ports_of}
 use Rattle.shared_book.proofs.Firsts.{is-opened}
 use Rattle.rollback_plan.specs.Levels.{levelling}
 use Rattle.rollback_service.specs.Levellings.{LevelsBy}

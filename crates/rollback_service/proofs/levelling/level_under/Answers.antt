@@ -2,9 +2,9 @@ use Rattle.std.proofs.Common.{length, refl, subst, sym, ◌∙◌}
 use Rattle.order_policy.specs.Answers.{rank_by}
 use Rattle.shared_book.specs.Images.{StaysOpened}
 use Rattle.shared_book.specs.Opened.{opening_of}
-use Rattle.rollout_ports.specs.Berths.{ports_of}
-use Rattle.rollout_ports.specs.Homes.{working_homes}
-use Rattle.rollout_service.specs.Outcomes.{answer_for}
+use Rattle.switch_ports.specs.Berths.{ports_of}
+use Rattle.switch_ports.specs.Homes.{working_homes}
+use Rattle.controller_run.specs.RolloutEnds.{answer_for}
 use Rattle.rollback_service.proofs.Levellings.{level-behind, level-no_port}
 use Rattle.rollback_service.proofs.levelling.level_under.Goals as goal
 

@@ -2,7 +2,7 @@ use Rattle.std.proofs.Common.{◌≡◌, true, sym, subst}
 use Rattle.rollout_rules.specs.Network.{IsNetwork}
 use Rattle.rollout_rules.specs.Valid.{is_valid_plan}
 use Rattle.rollout_rules.specs.Wan.{Rollout}
-use Rattle.rollout_ports.specs.Berths.{ports_of}
+use Rattle.switch_ports.specs.Berths.{ports_of}
 use Rattle.rollout_report.specs.Journals.{digest_for}
 use Rattle.rollback_service.proofs.Levellings.{known-migration, levelled-from, start-is}
 use Rattle.rollback_service.proofs.levelling.run_levelling.Goals as goal

@@ -7,18 +7,18 @@ use Rattle.rollback_plan.specs.Turning.{back}
 use Rattle.rollback_plan.proofs.Alike.{count-turned}
 use Rattle.rollback_service.proofs.placing.way_back.Goals as goal
 
-pub restarted-requires-clause-empty : goal.restarted-requires-clause-empty
-restarted-requires-clause-empty c = ap (λ (g : Followed). g.history.entries) c.in_ok-known.ensures.graph
+pub with_start-requires-clause-empty : goal.with_start-requires-clause-empty
+with_start-requires-clause-empty c = ap (λ (g : Followed). g.history.entries) c.in_ok-known.ensures.graph
 
-pub restarted-requires-clause-numbers : goal.restarted-requires-clause-numbers
-restarted-requires-clause-numbers c =
+pub with_start-requires-clause-numbers : goal.with_start-requires-clause-numbers
+with_start-requires-clause-numbers c =
     let is : c.in_ok-known.known.graph.rollout ≡ back c.args.plan.now = ap (λ (g : Followed). g.rollout) c.in_ok-known.ensures.graph ∙ c.in_ok-there.ensures in
     c.requires.start.numbers ∙ sym (count-turned c.args.plan.now.problem) ∙ sym (ap (λ (r : Rollout). item_count r.problem) is)
 
-pub restarted-requires-clause-sound : goal.restarted-requires-clause-sound
-restarted-requires-clause-sound c =
+pub with_start-requires-clause-sound : goal.with_start-requires-clause-sound
+with_start-requires-clause-sound c =
     let is : c.in_ok-known.known.graph.rollout ≡ back c.args.plan.now = ap (λ (g : Followed). g.rollout) c.in_ok-known.ensures.graph ∙ c.in_ok-there.ensures in
     ap (λ (r : Rollout). is_sound r.problem r.plan c.args.start.now) is ∙ c.requires.start.sound
 
 pub returns-clause-rollout : goal.returns-clause-rollout
-returns-clause-rollout c = c.restarted.ensures.rollout ∙ ap (λ (g : Followed). g.rollout) c.in_ok-known.ensures.graph ∙ c.in_ok-there.ensures
+returns-clause-rollout c = c.with_start.ensures.rollout ∙ ap (λ (g : Followed). g.rollout) c.in_ok-known.ensures.graph ∙ c.in_ok-there.ensures

@@ -4,8 +4,8 @@ use Rattle.rollout_rules.specs.Legal.{is_legal}
 use Rattle.rollout_rules.specs.declared.op.Entry.{Entry}
 use Rattle.disk_model.specs.Moments.{LeavesOnly}
 use Rattle.order_policy.specs.Answers.{rank_by}
-use Rattle.rollout_rounds.specs.Rounds.{Turning, batch_of}
-use Rattle.rollout_rounds.proofs.Turning.{no-entries}
+use Rattle.update_scheduler.specs.Rounds.{Turning, batch_of}
+use Rattle.update_scheduler.proofs.Turning.{no-entries}
 use Rattle.rollout_book.specs.Lists.{HasBeforeOrAfter, IsKeptList}
 use Rattle.intent_journal.specs.Entries.{entry_rows}
 use Rattle.rollout_book.proofs.Owners.{owner-appended, owner-still}

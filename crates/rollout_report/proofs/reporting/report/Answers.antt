@@ -1,6 +1,6 @@
 use Rattle.std.proofs.Common.{◌≡◌, ◌++◌, length, ap, ◌∙◌, arith}
 use Rattle.rollout_rules.specs.Wan.{last_stage}
-use Rattle.rollout_peaks.specs.Ends.{end_lines}
+use Rattle.rollout_report.specs.Ends.{end_lines}
 use Rattle.rollout_report.specs.Report.{report_text, sum_line, stage_lines}
 use Rattle.rollout_report.specs.Tallies.{lines_of}
 use Rattle.rollout_report.proofs.Tallying.{joined, lines-same}

@@ -2,7 +2,7 @@ use Rattle.std.proofs.Common.{ap, subst, ◌∙◌}
 use Rattle.std.proofs.lemmas.Result.{IfOk-weaker}
 use Rattle.rollout_rules.specs.Wan.{Problem, Rollout}
 use Rattle.rollout_rules.specs.History.{History}
-use Rattle.rollout_peaks.specs.Counts.{AreCountsOf}
+use Rattle.rollout_report.specs.Counts.{AreCountsOf}
 use Rattle.rollout_report.proofs.Journaling.{only_dones}
 use Rattle.rollout_report.proofs.starts.dones.Goals as goal
 

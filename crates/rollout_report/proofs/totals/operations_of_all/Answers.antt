@@ -1,6 +1,6 @@
 use Rattle.std.proofs.Common.{ap, arith}
 use Rattle.rollout_rules.specs.Items.{item_count}
-use Rattle.rollout_peaks.proofs.Looking.{row-there}
+use Rattle.rollout_report.proofs.Looking.{row-there}
 use Rattle.rollout_report.proofs.totals.operations_of_all.Goals as goal
 
 pub operations-requires : goal.operations-requires

@@ -1,6 +1,6 @@
 use Rattle.std.proofs.Common.{◌≡◌, ◌&&◌, ◌==◌, drop}
 use Rattle.std.specs.List.{list_any}
-use Rattle.shared_history.specs.Notes.{asks_to_stop}
+use Rattle.shared_book.specs.Notes.{asks_to_stop}
 use Rattle.shared_book.proofs.stopping.has_asked.Given as goal
 
 -- whether one of those that are left asks is whether one of all does

@@ -1,6 +1,6 @@
 use Rattle.std.proofs.Common.{◌≡◌, drop, slice_index_or, None}
 use Rattle.std.specs.List.{filter}
-use Rattle.shared_history.specs.Replies.{is_among}
+use Rattle.shared_book.specs.Replies.{is_among}
 use Rattle.shared_book.specs.Waking.{first_of}
 use Rattle.shared_book.proofs.waking.first_asked.Given as goal
 

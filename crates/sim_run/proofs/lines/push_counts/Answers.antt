@@ -3,7 +3,7 @@ use Rattle.std.specs.Prelude.{decimal}
 use Rattle.std.proofs.lemmas.Result.{on_ok_weaker}
 use Rattle.sim_run.proofs.lines.push_counts.Goals as goal
 
--- a name with its number, and another name with its number behind it
+-- a name with its number, and another name with its number after it
 behind : (before a b c d so_far : List ℕ) → so_far ≡ before ++ (a ++ b) → so_far ++ (c ++ d) ≡ before ++ (((a ++ b) ++ c) ++ d)
 behind before a b c d so_far is = ap (λ l. l ++ (c ++ d)) is ∙ append_assoc before (a ++ b) (c ++ d) ∙ ap (λ l. before ++ l) (sym (append_assoc (a ++ b) c d))
 

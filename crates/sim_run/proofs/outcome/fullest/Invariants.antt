@@ -1,7 +1,7 @@
 use Rattle.std.proofs.Common.{◌≡◌, ◌<◌, length, IfSome}
 use Rattle.rollout_rules.specs.Sums.{list_below}
 use Rattle.rollout_rules.specs.History.{History}
-use Rattle.rollout_peaks.specs.Peaks.{link_peak}
+use Rattle.rollout_report.specs.Peaks.{link_peak}
 use Rattle.sim_run.specs.TrialText.{fullest}
 use Rattle.sim_run.proofs.outcome.fullest.Given as goal
 

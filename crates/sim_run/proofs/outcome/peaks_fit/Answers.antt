@@ -1,7 +1,7 @@
 use Rattle.std.proofs.Common.{arith, lt-ltb}
 use Rattle.rollout_rules.specs.Items.{the_link}
 use Rattle.dependency_graph.proofs.RoomCells.{capacity-few}
-use Rattle.rollout_peaks.proofs.Fullness.{link-fits}
+use Rattle.rollout_report.proofs.Fullness.{link-fits}
 use Rattle.sim_run.proofs.outcome.peaks_fit.Goals as goal
 
 pub returns : goal.returns

@@ -1,6 +1,6 @@
 use Rattle.std.proofs.Common.{refl, inl}
 use Rattle.swanroll_top.specs.Rollouts.{fleet_of}
-use Rattle.text_commands.specs.declared.ending.Ending.TheVariants.{Usage, ReadFault, GuestFault}
+use Rattle.text_commands.specs.declared.command_end.CommandEnd.TheVariants.{Usage, ReadFault, GuestFault}
 use Rattle.swanroll_top.proofs.DrainEnds.{input-drains}
 use Rattle.swanroll_top.proofs.Rolling.{cut-rollouts, cut-unbegun, never, short-rollouts}
 use Rattle.swanroll_top.proofs.drain.drain_out.Goals as goal

@@ -1,5 +1,5 @@
 use Rattle.std.proofs.Common.{refl, inl, inr}
-use Rattle.text_commands.specs.declared.ending.Ending.TheVariants.{WriteFault, DiskFault}
+use Rattle.text_commands.specs.declared.command_end.CommandEnd.TheVariants.{WriteFault, DiskFault}
 use Rattle.swanroll_top.proofs.Rolling.{gives-refused, not-refused}
 use Rattle.swanroll_top.proofs.held.ask_input.Goals as goal
 

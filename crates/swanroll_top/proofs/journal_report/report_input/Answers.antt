@@ -1,6 +1,6 @@
 use Rattle.std.proofs.Common.{refl, subst, sym}
 use Rattle.swanroll_top.specs.ReportPromise.{ReportsIn}
-use Rattle.text_commands.specs.declared.ending.Ending.TheVariants.{DiskFault}
+use Rattle.text_commands.specs.declared.command_end.CommandEnd.TheVariants.{DiskFault}
 use Rattle.swanroll_top.proofs.Leaving.{unread-leaves}
 use Rattle.swanroll_top.proofs.Opening.{opens-nothing}
 use Rattle.swanroll_top.proofs.Reporting.{input-no-disk, input-no-write, input-refused}

@@ -1,6 +1,6 @@
 use Rattle.std.proofs.Common.{Err, Ok, refl}
-use Rattle.watch_laws.proofs.Watched.{there_once}
-use Rattle.swanroll_top.specs.JournalRoom.{journal_room}
+use Rattle.rollout_report.proofs.Watched.{there_once}
+use Rattle.retarget_service.specs.JournalRoom.{journal_room}
 use Rattle.swanroll_top.proofs.Seeing.{limit-is}
 use Rattle.swanroll_top.proofs.left.left_plan.Goals as goal
 

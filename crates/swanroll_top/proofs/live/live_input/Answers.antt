@@ -1,6 +1,6 @@
 use Rattle.std.proofs.Common.{None, refl, subst, sym}
 use Rattle.swanroll_top.specs.Live.{ReportsSeen}
-use Rattle.text_commands.specs.declared.ending.Ending.TheVariants.{DiskFault, WriteFault}
+use Rattle.text_commands.specs.declared.command_end.CommandEnd.TheVariants.{DiskFault, WriteFault}
 use Rattle.swanroll_top.proofs.Seeing.{ended-is}
 use Rattle.swanroll_top.proofs.Reporting.{input-no-disk, input-no-write, input-refused}
 use Rattle.swanroll_top.proofs.live.live_input.Goals as goal

@@ -1,6 +1,6 @@
 use Rattle.std.proofs.Common.{Some}
-use Rattle.swanroll_top.specs.JournalRoom.{journal_room}
-use Rattle.text_commands.specs.declared.ending.Ending.TheVariants.{DiskFault, WriteFault}
+use Rattle.retarget_service.specs.JournalRoom.{journal_room}
+use Rattle.text_commands.specs.declared.command_end.CommandEnd.TheVariants.{DiskFault, WriteFault}
 use Rattle.swanroll_top.proofs.Seeing.{ended-is, limit-is, unseen-no-write, unseen-reports}
 use Rattle.swanroll_top.proofs.live.live_plan.Goals as goal
 

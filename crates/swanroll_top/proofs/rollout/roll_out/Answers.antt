@@ -1,7 +1,7 @@
 use Rattle.std.proofs.Common.{refl, subst, inl}
 use Rattle.order_policy.specs.Answers.{rank_by}
 use Rattle.swanroll_top.specs.Rollouts.{fleet_of}
-use Rattle.text_commands.specs.declared.ending.Ending.TheVariants.{Usage, ReadFault, GuestFault}
+use Rattle.text_commands.specs.declared.command_end.CommandEnd.TheVariants.{Usage, ReadFault, GuestFault}
 use Rattle.swanroll_top.proofs.Rolling.{cut-rollouts, cut-unbegun, input-rolls, never, short-rollouts}
 use Rattle.swanroll_top.proofs.rollout.roll_out.Goals as goal
 

@@ -1,6 +1,6 @@
 use Rattle.std.proofs.Common.{◌≡◌, ap, arith}
 use Rattle.order_policy.specs.Answers.{rank_by}
-use Rattle.rollout_ports.specs.Berths.{ports_of}
+use Rattle.switch_ports.specs.Berths.{ports_of}
 use Rattle.rollout_report.specs.Journals.{digest_for}
 use Rattle.swanroll_top.specs.Rollouts.{fleet_of}
 use Rattle.swanroll_top.proofs.Outcomes.{disk-failed, unopened-ports}

@@ -1,5 +1,5 @@
 use Rattle.std.proofs.Common.{◌≡◌, true, false, refl, sym, ap, ◌∙◌, subst}
-use Rattle.text_commands.specs.Endings.{tells_place}
+use Rattle.text_commands.specs.CommandEnds.{tells_place}
 use Rattle.swanroll_top.specs.Tries.{IsAskedShape}
 use Rattle.swanroll_top.specs.Words.{asked}
 use Rattle.swanroll_top.proofs.Promises.{ran-as, same-guests, same-ports}

@@ -1,6 +1,6 @@
 use Rattle.std.proofs.Common.{◌≡◌, sym, ◌∙◌}
 use Rattle.order_policy.specs.Answers.{rank_by}
-use Rattle.text_commands.specs.declared.ending.Ending.TheVariants.{Usage, ReadFault, WriteFault, DiskFault, GuestFault, NotFinished, OutOfMemory}
+use Rattle.text_commands.specs.declared.command_end.CommandEnd.TheVariants.{Usage, ReadFault, WriteFault, DiskFault, GuestFault, NotFinished, OutOfMemory}
 use Rattle.swanroll_top.proofs.Agents.{own-not, text-own}
 use Rattle.swanroll_top.proofs.Tried.{only-memory, unwritten}
 use Rattle.swanroll_top.proofs.trial.trial.Goals as goal

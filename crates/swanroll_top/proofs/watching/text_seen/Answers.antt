@@ -1,4 +1,4 @@
-use Rattle.swanroll_top.specs.JournalRoom.{journal_room}
+use Rattle.retarget_service.specs.JournalRoom.{journal_room}
 use Rattle.swanroll_top.proofs.LookingOn.{seen-text, unseen-text}
 use Rattle.swanroll_top.proofs.Seeing.{limit-is}
 use Rattle.swanroll_top.proofs.watching.text_seen.Goals as goal

@@ -1,7 +1,7 @@
 use Rattle.std.proofs.Common.{List, ℕ, inl, inr, refl, subst}
 use Rattle.text_commands.specs.Answers.{rollout_in}
 use Rattle.swanroll_top.specs.Watches.{WatchesRollout}
-use Rattle.text_commands.specs.declared.ending.Ending.TheVariants.{ReadFault}
+use Rattle.text_commands.specs.declared.command_end.CommandEnd.TheVariants.{ReadFault}
 use Rattle.swanroll_top.proofs.Seeing.{err-same}
 use Rattle.swanroll_top.proofs.watching.watch_all.Goals as goal
 

@@ -1,6 +1,6 @@
 use Rattle.std.proofs.Common.{◌≤◌, length, ap, subst, arith}
 use Rattle.wan_edge.specs.Streams.{Rose, SinkTrace}
-use Rattle.switch_agent.specs.declared.heard.Heard.{Heard}
+use Rattle.switch_agent.specs.declared.guest_read.GuestRead.{GuestRead}
 use Rattle.switch_agent.proofs.Pieces.{guest_failed, guest_heard, read_end, read_no_write}
 use Rattle.switch_agent.proofs.hearing.serve_into.Goals as goal
 
@@ -39,4 +39,4 @@ pub returns-in-Err-clause-read_cause : goal.returns-in-Err-clause-read_cause
 returns-in-Err-clause-read_cause g c = λ is. c.in-Err.ensures.nothing.cause
 
 pub returns-in-Err-clause-write_cause : goal.returns-in-Err-clause-write_cause
-returns-in-Err-clause-write_cause g c = λ is. absurd (read_no_write c.last.result.served.fault (ap (λ (h : Heard). h.served.fault) c.last.ensures) is)
+returns-in-Err-clause-write_cause g c = λ is. absurd (read_no_write c.last.result.served.fault (ap (λ (h : GuestRead). h.served.fault) c.last.ensures) is)

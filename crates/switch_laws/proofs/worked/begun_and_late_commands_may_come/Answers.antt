@@ -25,11 +25,16 @@ returns-clause-begun c = inl (refl, record { op = op_of 0 2; there = (2, omega a
 
 pub returns-clause-unbegun : goal.returns-clause-unbegun
 returns-clause-unbegun c (inl own) = omega (arith, at_most_two own.1.op own.1.there, ap (λ (d : Command). d.number) own.1.is)
-returns-clause-unbegun c (inr late) = omega (arith, late.earlier)
+returns-clause-unbegun c (inr (inl late)) = omega (arith, late.earlier)
+returns-clause-unbegun c (inr (inr none)) = omega (arith, none)
 
 pub returns-clause-late : goal.returns-clause-late
-returns-clause-late c = inr (record { earlier = omega arith; late = refl })
+returns-clause-late c = inr (inl (record { earlier = omega arith; late = refl }))
 
 pub returns-clause-above : goal.returns-clause-above
 returns-clause-above c (inl own) = omega (arith, own.0)
-returns-clause-above c (inr late) = cc late.late
+returns-clause-above c (inr (inl late)) = cc late.late
+returns-clause-above c (inr (inr none)) = omega (arith, none)
+
+pub returns-clause-asked : goal.returns-clause-asked
+returns-clause-asked c = inr (inr refl)

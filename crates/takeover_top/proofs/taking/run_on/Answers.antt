@@ -1,7 +1,7 @@
 use Rattle.std.proofs.Common.{◌≡◌, ◌≤◌, ℕ, List, length, sym, ap, subst, ◌∙◌, refl, arith}
 use Rattle.rollout_rules.specs.Items.{item_count}
 use Rattle.order_policy.specs.Answers.{rank_by}
-use Rattle.rollout_ports.specs.Berths.{ports_of}
+use Rattle.switch_ports.specs.Berths.{ports_of}
 use Rattle.rollout_report.specs.Journals.{digest_for}
 use Rattle.text_commands.specs.Runs.{Follows}
 use Rattle.swanroll_top.specs.Rollouts.{fleet_of}

@@ -1,10 +1,10 @@
 use Rattle.std.proofs.Common.{ℕ, List, Ok, Err, Result, refl, sym, subst, ◌∙◌}
 use Rattle.rollout_rules.specs.Wan.{Rollout}
 use Rattle.order_policy.specs.Answers.{rank_by}
-use Rattle.rollout_ports.specs.Berths.{ports_of}
-use Rattle.takeover_service.specs.Beginnings.{Begins}
-use Rattle.takeover_service.specs.declared.begun.NotBegun.{NotBegun}
-use Rattle.swanroll_top.specs.JournalRoom.{journal_room}
+use Rattle.switch_ports.specs.Berths.{ports_of}
+use Rattle.fence_takeover.specs.Beginnings.{Begins}
+use Rattle.fence_takeover.specs.declared.begun.NotBegun.{NotBegun}
+use Rattle.retarget_service.specs.JournalRoom.{journal_room}
 use Rattle.swanroll_top.specs.Rollouts.{fleet_of}
 use Rattle.takeover_top.specs.Takings.{ByBeginning}
 use Rattle.takeover_top.proofs.Counted.{taken-count}

@@ -1,9 +1,10 @@
-use Rattle.std.proofs.Common.{◌≡◌, ◌+◌, ◌*◌, ◌-◌, ℕ, length}
+use Rattle.std.proofs.Common.{◌-◌, length}
+use Rattle.takeover_top.proofs.TermPlaces.{Passed}
 use Rattle.takeover_top.proofs.term_words.term_place.Given as goal
 
--- so many pairs were passed over
+-- the pairs so far name no term
 abbrev pub invariant-loop-place : goal.invariant-loop-place
-invariant-loop-place l = (earlier : ℕ) × (l.place ≡ 2 + 2 * earlier)
+invariant-loop-place l = Passed l.arguments l.place
 
 abbrev pub decreases-loop-place : goal.decreases-loop-place
 decreases-loop-place l = length l.arguments - l.place

@@ -5,6 +5,7 @@ use Rattle.order_policy.specs.Named.{answers_in}
 use Rattle.swanroll_top.specs.Rollouts.{fleet_of}
 use Rattle.swanroll_top.proofs.Promises.{same-guests}
 use Rattle.takeover_top.specs.TakingWords.{Taking, taking, taking_by, term_of}
+use Rattle.takeover_top.proofs.CertainTake.{status-well}
 use Rattle.takeover_top.proofs.Faulting.{status-disk, status-read, status-write}
 use Rattle.takeover_top.proofs.Promising.{status-refused, status-safe, status-target, takes-ends}
 use Rattle.takeover_top.proofs.Worded.{of-taking}
@@ -41,6 +42,8 @@ returns-in-Some g c =
       safe = status-safe g.D.Disk.told g.F.Port.Port.told source source_now t.limits policy c.args.disk c.take-ending.result.disk before now c.take-ending.result.ending sink sink_now takes c.tell-status.result notes notes_now c.tell-status.ensures;
       target = status-target g.D.Disk.told g.F.Port.Port.told source source_now t.limits policy c.args.disk c.take-ending.result.disk before now c.take-ending.result.ending sink sink_now takes c.tell-status.result notes notes_now c.tell-status.ensures;
       refused = status-refused g.D.Disk.told g.F.Port.Port.told source source_now t.limits policy c.args.disk c.take-ending.result.disk before now c.take-ending.result.ending sink sink_now takes c.tell-status.result notes notes_now c.tell-status.ensures;
+      completes = λ r start given ready faults. status-well g.D.Disk.told g.F.Port.Port.told source source_now t.limits policy r start c.args.disk c.take-ending.result.disk before now c.take-ending.result.ending sink sink_now given ready
+          faults.rest faults.source faults.sink notes notes_now c.tell-status.result takes c.tell-status.ensures;
     })
 
 pub returns-in-None : goal.returns-in-None

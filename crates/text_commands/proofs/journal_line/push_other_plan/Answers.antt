@@ -3,7 +3,7 @@ use Rattle.std.proofs.lemmas.Result.{on_ok_weaker}
 use Rattle.text_commands.specs.JournalLines.{digest_text}
 use Rattle.text_commands.proofs.journal_line.push_other_plan.Goals as goal
 
--- five texts, one behind the other
+-- five texts, one after the other
 behind : (text a b c d e : List ℕ) → ((((text ++ a) ++ b) ++ c) ++ d) ++ e ≡ text ++ ((((a ++ b) ++ c) ++ d) ++ e)
 behind text a b c d e = simp append_assoc
 

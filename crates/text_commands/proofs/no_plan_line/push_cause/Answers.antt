@@ -4,7 +4,7 @@ use Rattle.scratch_plan.specs.declared.no_plan.NoPlan.{NoPlan}
 use Rattle.text_commands.specs.NoPlanLines.{link_load, above, leaves_no_slack, no_plan_line}
 use Rattle.text_commands.proofs.no_plan_line.push_cause.Goals as goal
 
--- two texts, one behind the other, that are a line
+-- two texts, one after the other, that are a line
 both : (text one two x y line : List ℕ) → one ≡ text ++ x → two ≡ one ++ y → line ≡ x ++ y → two ≡ text ++ line
 both text one two x y line first second is = second ∙ ap (λ (l : List ℕ). l ++ y) first ∙ append_assoc text x y ∙ ap (λ (l : List ℕ). text ++ l) (sym is)
 

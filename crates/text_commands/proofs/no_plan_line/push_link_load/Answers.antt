@@ -4,7 +4,7 @@ use Rattle.wan_text.specs.Names.{link_text}
 use Rattle.text_commands.specs.NoPlanLines.{load_on}
 use Rattle.text_commands.proofs.no_plan_line.push_link_load.Goals as goal
 
--- three texts, one behind the other
+-- three texts, one after the other
 behind : (text x y z : List ℕ) → ((text ++ x) ++ y) ++ z ≡ text ++ ((x ++ y) ++ z)
 behind text x y z = simp append_assoc
 

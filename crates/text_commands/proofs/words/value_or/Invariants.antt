@@ -2,7 +2,7 @@ use Rattle.std.proofs.Common.{◌≡◌, ◌++◌, map, string_bytes, length, op
 use Rattle.text_commands.specs.Words.{values_of}
 use Rattle.text_commands.proofs.words.value_or.Given as goal
 
--- behind the value that was found come those of the pairs that are left
+-- after the value that was found come those of the pairs that are left
 abbrev pub invariant-loop-rest : goal.invariant-loop-rest
 invariant-loop-rest l = values_of l.name (map string_bytes l.fn.pairs) ≡ option_to_list (option_map (λ value. value.now) l.found) ++ values_of l.name (map string_bytes l.rest)
 

@@ -1,6 +1,6 @@
 use Rattle.std.proofs.Common.{ap, subst, sym, arith}
 use Rattle.fenced_wire.specs.Reading.{Termed, all_kept, fresh}
-use Rattle.switch_agent.specs.Talks.{Talking, most}
+use Rattle.switch_agent.specs.ReadStates.{ReadSoFar, most}
 use Rattle.agent_talks.specs.Serving.{IsCutTermed}
 use Rattle.agent_talks.proofs.Stops.{cut_nothing}
 use Rattle.agent_talks.proofs.talk.Talk.new.Goals as goal
@@ -14,4 +14,4 @@ invariant_of-result c = record {
 }
 
 pub returns : goal.returns
-returns c = ap (λ (r : Termed). let talk : Talking = record { kept = all_kept r; room = most } in talk) c.new-reader.ensures
+returns c = ap (λ (r : Termed). let talk : ReadSoFar = record { kept = all_kept r; room = most } in talk) c.new-reader.ensures

@@ -13,4 +13,4 @@ returns c =
     ap (λ n. n * c.whole-2.result) c.whole.ensures.value ∙ ap (λ n. c.args.self.bottom * n) c.whole-2.ensures.value in
     combined (◌-ℤ◌) (c.args.self.top *ℤ pos c.args.other.bottom) (c.args.other.top *ℤ pos c.args.self.bottom) _ _ _ _ _ _ _ _ _
     (to_z-of_z w128 _ left) (to_z-of_z w128 _ right) (to_z-of_z w128 _ top) bottom
-    (sym c.in_ok-left.was ∙ c.crossed.ensures) (sym c.in_ok-top.was ∙ c.formed_difference.ensures) c.over_both.ensures
+    (sym c.in_ok-left.was ∙ c.cross_products.ensures) (sym c.in_ok-top.was ∙ c.formed_difference.ensures) c.over_both.ensures

@@ -7,5 +7,5 @@ returns-clause-some g c = record {
   told = refl;
   crash = λ image _. (image, tt, Torn-none c.args.at (length c.args.from.now) image);
   time = record { later = omega arith; keeps = λ t image before left. left; nothing_else = λ t image before left. inl left };
-  count = c.counted.ensures.count;
+  count = c.count_failure.ensures.count;
 }

@@ -7,7 +7,7 @@ use Rattle.wan_edge.specs.Streams.{Appends, Rose}
 use Rattle.wan_edge.proofs.Chains.{Appends-nothing, stays}
 use Rattle.std.specs.List.{All}
 use Rattle.port_session.specs.Reading.{Stream}
-use Rattle.port_session.specs.Sessions.{HearsAnswers, IsHeard, Listening, Talk, listening}
+use Rattle.port_session.specs.Sessions.{HearsAnswers, IsHeard, Listening, SessionView, listening}
 use Rattle.port_session.specs.Standing.{EndsWith, StandsIn}
 use Rattle.port_session.specs.declared.fault.SessionFault.{SessionFault}
 use Rattle.port_session.specs.declared.fault.SessionFault.TheVariants as fault
@@ -16,7 +16,7 @@ use Rattle.port_session.proofs.Hearing.{heard_all, heard_late, heard_quiet, hear
 use Rattle.port_session.proofs.Standing.{ends-still, told-stand}
 use Rattle.port_session.proofs.session.Session.read_all.Goals as goal
 
--- what holds behind an error
+-- what holds after an error
 on_err : {X E : Type 0} (answer : Result X E) (given : E) (P : Type 0) → IsErrAnd answer (λ e. e ≡ given) → P → OnErr answer P
 on_err (Ok x) given P is holds = tt
 on_err (Err e) given P is holds = holds
@@ -25,7 +25,7 @@ on_err (Err e) given P is holds = holds
 as_ready : (ready : Bool) (before now : PortTrace) → ready ≡ true → LooksAt ready before now → now ≡ before
 as_ready ready before now is looked = subst (λ (b : Bool). LooksAt b before now) is looked
 
--- and what comes of a hear behind that comes of it from before the look on
+-- and what comes of a hear after that comes of it from before the look on
 gives_from : (n : ℕ) (into : List ℕ) (before mid now : PortTrace) → mid ≡ before → Hears n into mid now → Hears n into before now
 gives_from n into before mid now same given = subst (λ (t : PortTrace). Hears n into t now) same given
 
@@ -53,19 +53,19 @@ pub loop-buffer-init : goal.loop-buffer-init
 loop-buffer-init g c =
     let tell = g.T.Port.told in
     let now = c.args.self.now in
-    let port = ap (λ (t : Talk g.row.T.Denot). t.port) c.self.view_is in
-    let stream = ap (λ (t : Talk g.row.T.Denot). t.stream) c.self.view_is in
+    let port = ap (λ (t : SessionView g.row.T.Denot). t.port) c.self.view_is in
+    let stream = ap (λ (t : SessionView g.row.T.Denot). t.stream) c.self.view_is in
     let live = ap (λ (s : Stream). s.live) stream ∙ c.requires.live in
     record {
       live = live;
-      ends = subst (λ (t : Talk g.row.T.Denot). EndsWith t.stream.kept (tell t.port).heard) c.self.view_is (c.self.invariant.1 live);
+      ends = subst (λ (t : SessionView g.row.T.Denot). EndsWith t.stream.kept (tell t.port).heard) c.self.view_is (c.self.invariant.1 live);
       cut = c.self.invariant.0 live;
-      hears = subst (λ (t : Talk g.row.T.Denot). HearsAnswers c.args.migration (listening (tell now.port).heard now.stream c.args.answers.now) None (listening (tell t.port).heard t.stream c.args.answers.now)) (sym c.self.view_is)
+      hears = subst (λ (t : SessionView g.row.T.Denot). HearsAnswers c.args.migration (listening (tell now.port).heard now.stream c.args.answers.now) None (listening (tell t.port).heard t.stream c.args.answers.now)) (sym c.self.view_is)
           (hears_nothing c.args.migration (listening (tell now.port).heard now.stream c.args.answers.now));
       quiet = ap (λ p. (tell p).quiet) port;
       waits = ap (λ p. (tell p).waits) port;
       idle = λ none. (port, stream, refl);
-      switch = ap (λ (t : Talk g.row.T.Denot). t.switch) c.self.view_is;
+      switch = ap (λ (t : SessionView g.row.T.Denot). t.switch) c.self.view_is;
       port = subst (λ p. GoesOn (tell now.port) (tell p)) (sym port) (stays (tell now.port));
       unsent = ap (λ p. (tell p).offered) port;
     }
@@ -88,7 +88,7 @@ loop-buffer-preserved g c =
           (record { bytes = take n c.hear.new.into; appended = given.heard; reads = c.in_ok-read.ensures.ok });
       quiet = given.as_quiet (omega (arith, c.if-n-eq0.false)) ∙ i.quiet;
       waits = given.waits ∙ i.waits;
-      idle = λ none. absurd (omega (arith, c.loop-buffer-test.true, c.awaited.ensures, ap (λ (s : Stream). s.awaited) (i.idle none).1, none));
+      idle = λ none. absurd (omega (arith, c.loop-buffer-test.true, c.count_awaited.ensures, ap (λ (s : Stream). s.awaited) (i.idle none).1, none));
       switch = i.switch;
       port = hears_further (tell now.port) (tell inside.port) (tell c.hear.new.self) (take n c.hear.new.into) i.port i.unsent given.heard given.offered step;
       unsent = given.offered ∙ i.unsent;
@@ -101,7 +101,7 @@ loop-buffer-smaller g c =
     let into = c.hear.new.into in
     let long = length-take-le n into (omega (arith, c.in_ok-n.ensures.within, c.hear.auto.into)) in
     nearer c.args.migration inside.stream c.read.new.self c.loop-buffer.answers c.read.new.answers (take n into) c.in_ok-read.ensures.ok c.loop-buffer.invariant.cut c.in_ok-read.ensures.cut
-    (omega (arith, c.loop-buffer-test.true, c.awaited.ensures)) (omega (arith, long, c.if-n-eq0.false))
+    (omega (arith, c.loop-buffer-test.true, c.count_awaited.ensures)) (omega (arith, long, c.if-n-eq0.false))
 
 -- ---- the port wasn't ready
 pub returns-then-not-is_ready-clause-ok : goal.returns-then-not-is_ready-clause-ok
@@ -111,12 +111,12 @@ returns-then-not-is_ready-clause-ok g c =
     let i = c.loop-buffer.invariant in
     let unready = as_unready c.is_ready.result (tell inside.port) (tell c.is_ready.new.self) c.if-not-is_ready.true c.is_ready.ensures in
     heard_late c.args.migration (tell c.args.self.now.port) (tell inside.port) c.args.self.now.stream inside.stream c.args.answers.now c.loop-buffer.answers i.hears i.quiet i.live (tell c.is_ready.new.self) i.port i.waits
-    (omega (arith, c.loop-buffer-test.true, c.awaited.ensures)) unready
+    (omega (arith, c.loop-buffer-test.true, c.count_awaited.ensures)) unready
 
 pub returns-then-not-is_ready-clause-idle : goal.returns-then-not-is_ready-clause-idle
 returns-then-not-is_ready-clause-idle g c =
     let i = c.loop-buffer.invariant in
-    λ none. absurd (omega (arith, c.loop-buffer-test.true, c.awaited.ensures, ap (λ (s : Stream). s.awaited) (i.idle none).1, none))
+    λ none. absurd (omega (arith, c.loop-buffer-test.true, c.count_awaited.ensures, ap (λ (s : Stream). s.awaited) (i.idle none).1, none))
 
 pub returns-then-not-is_ready-clause-stands : goal.returns-then-not-is_ready-clause-stands
 returns-then-not-is_ready-clause-stands g c =
@@ -184,7 +184,7 @@ returns-in_err-n-clause-cause g c =
 pub returns-in_err-n-clause-idle : goal.returns-in_err-n-clause-idle
 returns-in_err-n-clause-idle g c =
     let i = c.loop-buffer.invariant in
-    λ none. absurd (omega (arith, c.loop-buffer-test.true, c.awaited.ensures, ap (λ (s : Stream). s.awaited) (i.idle none).1, none))
+    λ none. absurd (omega (arith, c.loop-buffer-test.true, c.count_awaited.ensures, ap (λ (s : Stream). s.awaited) (i.idle none).1, none))
 
 pub returns-in_err-n-clause-port : goal.returns-in_err-n-clause-port
 returns-in_err-n-clause-port g c =
@@ -242,7 +242,7 @@ returns-then-n-eq0-clause-cut g c = λ live. subst (λ (s : Stream). IsCutAnswer
 pub returns-then-n-eq0-clause-idle : goal.returns-then-n-eq0-clause-idle
 returns-then-n-eq0-clause-idle g c =
     let i = c.loop-buffer.invariant in
-    λ none. absurd (omega (arith, c.loop-buffer-test.true, c.awaited.ensures, ap (λ (s : Stream). s.awaited) (i.idle none).1, none))
+    λ none. absurd (omega (arith, c.loop-buffer-test.true, c.count_awaited.ensures, ap (λ (s : Stream). s.awaited) (i.idle none).1, none))
 
 pub returns-then-n-eq0-clause-port : goal.returns-then-n-eq0-clause-port
 returns-then-n-eq0-clause-port g c =
@@ -318,7 +318,7 @@ returns-in_err-read-clause-as_quiet g c =
 pub returns-in_err-read-clause-idle : goal.returns-in_err-read-clause-idle
 returns-in_err-read-clause-idle g c =
     let i = c.loop-buffer.invariant in
-    λ none. absurd (omega (arith, c.loop-buffer-test.true, c.awaited.ensures, ap (λ (s : Stream). s.awaited) (i.idle none).1, none))
+    λ none. absurd (omega (arith, c.loop-buffer-test.true, c.count_awaited.ensures, ap (λ (s : Stream). s.awaited) (i.idle none).1, none))
 
 pub returns-in_err-read-clause-err : goal.returns-in_err-read-clause-err
 returns-in_err-read-clause-err g c =
@@ -353,7 +353,7 @@ returns-clause-ok g c =
     let tell = g.T.Port.told in
     let inside = c.loop-buffer.self-inside in
     let i = c.loop-buffer.invariant in
-    heard_all c.args.migration (tell c.args.self.now.port) (tell inside.port) c.args.self.now.stream inside.stream c.args.answers.now c.loop-buffer.answers i.hears i.quiet i.live (omega (arith, c.loop-buffer-test.false, c.awaited.ensures))
+    heard_all c.args.migration (tell c.args.self.now.port) (tell inside.port) c.args.self.now.stream inside.stream c.args.answers.now c.loop-buffer.answers i.hears i.quiet i.live (omega (arith, c.loop-buffer-test.false, c.count_awaited.ensures))
 
 pub invariant_of-self : goal.invariant_of-self
 invariant_of-self g c =

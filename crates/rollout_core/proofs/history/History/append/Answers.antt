@@ -5,7 +5,7 @@ use Rattle.rollout_rules.specs.Legal.{may_follow, is_legal}
 use Rattle.rollout_rules.specs.declared.op.Entry.{Entry}
 use Rattle.rollout_laws.proofs.Histories.{is_legal-append}
 use Rattle.dependency_graph.specs.Progress.{AreCountsOf}
-use Rattle.rollout_core.specs.Flights.{passing}
+use Rattle.rollout_core.specs.InFlight.{passing}
 use Rattle.rollout_core.proofs.Flying.{flying-counts}
 use Rattle.rollout_core.proofs.history.History.append.Goals as goal
 

@@ -5,11 +5,11 @@ use Rattle.rollout_rules.specs.Legal.{is_legal}
 use Rattle.rollout_rules.specs.declared.op.Entry.{Entry}
 use Rattle.rollout_laws.proofs.Histories.{started_is_legal}
 use Rattle.dependency_graph.specs.Progress.{AreCountsOf}
-use Rattle.rollout_core.specs.Flights.{Noted, AreFlying}
+use Rattle.rollout_core.specs.InFlight.{FlyingItems, AreFlying}
 use Rattle.rollout_core.proofs.Flying.{flying-first}
 use Rattle.rollout_core.proofs.history.History.new.Goals as goal
 
-abbrev first : ℕ → Noted
+abbrev first : ℕ → FlyingItems
 first room = record { room = room; items = [] }
 
 abbrev past : List ℕ → List Entry → History

@@ -1,6 +1,6 @@
 use Rattle.std.proofs.Common.{◌≡◌, ap, subst, arith}
 use Rattle.rollout_rules.specs.Items.{item_count}
-use Rattle.rollout_peaks.proofs.Looking.{row-there}
+use Rattle.rollout_report.proofs.Looking.{row-there}
 use Rattle.rollout_report.specs.Tallies.{AreStageCounts}
 use Rattle.rollout_report.proofs.Tallying.{all-most, settled-most}
 use Rattle.rollout_report.proofs.stages.Stages.over.Goals as goal

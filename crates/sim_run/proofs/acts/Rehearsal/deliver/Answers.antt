@@ -7,7 +7,7 @@ use Rattle.sim_run.proofs.Worldly.{keeps-moved}
 use Rattle.sim_run.proofs.acts.Rehearsal.deliver.Goals as goal
 
 pub returns-clause-state : goal.returns-clause-state
-returns-clause-state c =
+returns-clause-state g c =
     let r = c.self.inside in
     let lt = subst (λ (s : Rehearsing). c.args.place < length s.state.world.sent) (sym c.self.view_is) c.requires in
     let inside = subst (λ n. n < length r.network.applied) (ap (λ o. o.item) c.in_ok-answer.ensures.answer) c.in_ok-answer.ensures.item in
@@ -15,7 +15,7 @@ returns-clause-state c =
     ∙ ap (λ s. moved s (event.Deliver c.args.place ∷ [])) c.self.view_is
 
 pub invariant_of-self-2 : goal.invariant_of-self-2
-invariant_of-self-2 c live =
+invariant_of-self-2 g c live =
     let r = c.self.inside in
     let lt = subst (λ (s : Rehearsing). c.args.place < length s.state.world.sent) (sym c.self.view_is) c.requires in
     let inside = subst (λ n. n < length r.network.applied) (ap (λ o. o.item) c.in_ok-answer.ensures.answer) c.in_ok-answer.ensures.item in

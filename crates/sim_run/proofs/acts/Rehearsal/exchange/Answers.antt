@@ -11,14 +11,14 @@ use Rattle.sim_run.proofs.Worldly.{items, keeps-either, keeps-moved}
 use Rattle.sim_run.proofs.acts.Rehearsal.exchange.Goals as goal
 
 pub send-requires : goal.send-requires
-send-requires c =
+send-requires g c =
     let r = c.self.inside in
     let op = c.flying-op.result in
     let live : r.controller.live ≡ true = ap (λ (s : Rehearsing). s.live) c.self.view_is ∙ c.requires.live in
     subst (λ n. op.item < n) (sym (items r.controller r.network (c.self.invariant live))) (subst (λ (s : Rehearsing). op.item < item_count s.rollout.problem) (sym c.self.view_is) c.flying-op.ensures.item)
 
 pub returns : goal.returns
-returns c =
+returns g c =
     let r = c.self.inside in
     let op = c.flying-op.result in
     let live : r.controller.live ≡ true = ap (λ (s : Rehearsing). s.live) c.self.view_is ∙ c.requires.live in
@@ -37,7 +37,7 @@ returns c =
 
 -- where the answer finds no room the command was sent
 pub invariant_of-self-in_err-answer : goal.invariant_of-self-in_err-answer
-invariant_of-self-in_err-answer c live =
+invariant_of-self-in_err-answer g c live =
     let r = c.self.inside in
     let op = c.flying-op.result in
     let up : r.controller.up ≡ true = ap (λ (s : Rehearsing). s.state.world.up) c.self.view_is ∙ c.requires.up in
@@ -49,7 +49,7 @@ invariant_of-self-in_err-answer c live =
 
 -- and where it isn't handed over, it was delivered
 pub invariant_of-self-2 : goal.invariant_of-self-2
-invariant_of-self-2 c lived =
+invariant_of-self-2 g c lived =
     let r = c.self.inside in
     let op = c.flying-op.result in
     let live : r.controller.live ≡ true = ap (λ (s : Rehearsing). s.live) c.self.view_is ∙ c.requires.live in

@@ -8,7 +8,7 @@ abbrev flying : Rehearsing → ℕ
 flying s = length (in_flight s.rollout.problem s.state.world.durable)
 
 pub exchange-requires : goal.exchange-requires
-exchange-requires c =
+exchange-requires g c =
     let idle : c.args.self.now.state.world.writing ≡ [] = ap (λ (s : Rehearsing). s.state.world.writing) (sym c.self.view_is) in
     let count : length c.flying-count.result.now ≡ flying c.args.self.now = ap length c.flying-count.ensures.value ∙ ap flying c.self.view_is in
     let lt : c.loop-place.place < flying c.args.self.now = omega (arith, count, c.loop-place-test.true) in
@@ -16,7 +16,7 @@ exchange-requires c =
     record { live = ap (λ (s : Rehearsing). s.live) c.loop-place.invariant ∙ c.requires.live; up = may.up; flying = may.flying }
 
 pub loop-place-preserved : goal.loop-place-preserved
-loop-place-preserved c =
+loop-place-preserved g c =
     let idle : c.args.self.now.state.world.writing ≡ [] = ap (λ (s : Rehearsing). s.state.world.writing) (sym c.self.view_is) in
     let count : length c.flying-count.result.now ≡ flying c.args.self.now = ap length c.flying-count.ensures.value ∙ ap flying c.self.view_is in
     let le : c.loop-place.place ≤ flying c.args.self.now = omega (arith, count, c.loop-place-test.true) in

@@ -5,4 +5,4 @@ use Rattle.sim_run.proofs.acts.Rehearsal.exchange_all.Given as goal
 
 -- the operations before this one were exchanged
 abbrev pub invariant-loop-place : goal.invariant-loop-place
-invariant-loop-place l = l.self ≡ moved l.fn.self (exchanges l.fn.self.state.world l.place)
+invariant-loop-place g l = l.self ≡ moved l.fn.self (exchanges l.fn.self.state.world l.place)

@@ -3,12 +3,12 @@ use Rattle.rollout_rules.specs.Network.{IsNetwork}
 use Rattle.rollout_rules.specs.Wan.{Rollout}
 use Rattle.dependency_graph.proofs.Growing.{item_count-few}
 use Rattle.dependency_graph.specs.Graph.{Followed}
-use Rattle.rollout_rounds.proofs.Batches.{flying-short}
+use Rattle.update_scheduler.proofs.Batches.{flying-short}
 use Rattle.sim_run.specs.Rehearsing.{Rehearsing}
 use Rattle.sim_run.proofs.acts.Rehearsal.flying_count.Goals as goal
 
 pub returns-clause-few : goal.returns-clause-few
-returns-clause-few c =
+returns-clause-few g c =
     let r = c.self.inside.controller in
     let seen = subst (λ (o : Rollout). IsNetwork o.problem) (c.plan.ensures ∙ ap (λ (g : Followed). g.rollout) c.graph.ensures.value) c.checked_plan_is_valid.ensures.network in
     let net = subst (λ (s : Rehearsing). IsNetwork s.rollout.problem) (sym c.self.view_is) seen in

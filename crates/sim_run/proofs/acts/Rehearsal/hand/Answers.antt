@@ -9,7 +9,7 @@ use Rattle.sim_run.proofs.Worldly.{keeps-moved}
 use Rattle.sim_run.proofs.acts.Rehearsal.hand.Goals as goal
 
 pub returns-clause-state : goal.returns-clause-state
-returns-clause-state c =
+returns-clause-state g c =
     let r = c.self.inside in
     let up : r.controller.up ≡ true = ap (λ (s : Rehearsing). s.state.world.up) c.self.view_is ∙ c.requires.up in
     let there = subst (λ (s : Rehearsing). c.args.place < length s.state.world.given) (sym c.self.view_is) c.requires.given in
@@ -18,7 +18,7 @@ returns-clause-state c =
     ∙ ap (λ s. moved s (event.Hand c.args.place ∷ [])) c.self.view_is
 
 pub invariant_of-self-2 : goal.invariant_of-self-2
-invariant_of-self-2 c live =
+invariant_of-self-2 g c live =
     let r = c.self.inside in
     let up : r.controller.up ≡ true = ap (λ (s : Rehearsing). s.state.world.up) c.self.view_is ∙ c.requires.up in
     let there = subst (λ (s : Rehearsing). c.args.place < length s.state.world.given) (sym c.self.view_is) c.requires.given in

@@ -1,7 +1,7 @@
 use Rattle.std.proofs.Common.{◌≡◌, true, sym, ap, ◌∙◌}
 use Rattle.rollout_rules.specs.declared.event.Act.TheVariants as act
 use Rattle.order_policy.specs.Answers.{rank_by}
-use Rattle.rollout_book.specs.Chronicles.{turn_of}
+use Rattle.rollout_book.specs.JournaledRounds.{turn_of}
 use Rattle.sim_run.specs.Acts.{round_batch, acted}
 use Rattle.sim_run.specs.Rehearsing.{Rehearsing, rehearsing_of}
 use Rattle.sim_run.proofs.Turns.{batch-is, turns}

@@ -6,18 +6,18 @@ use Rattle.sim_run.proofs.Worldly.{keeps-moved}
 use Rattle.sim_run.proofs.acts.Rehearsal.start.Goals as goal
 
 pub returns-clause-state : goal.returns-clause-state
-returns-clause-state c =
+returns-clause-state g c =
     let r = c.self.inside in
     let down : r.controller.up ≡ false = ap (λ (s : Rehearsing). s.state.world.up) c.self.view_is ∙ c.requires.down in
     starts r.controller r.network c.start.new.self down c.in_ok-entries.ensures.state
     ∙ ap (λ (s : Rehearsing). moved s (event.Restart ∷ [])) c.self.view_is
 
 pub returns-clause-entries : goal.returns-clause-entries
-returns-clause-entries c =
+returns-clause-entries g c =
     c.in_ok-entries.ensures.found ∙ ap (λ (s : Rehearsing). length s.state.world.durable.entries) c.self.view_is
 
 pub invariant_of-self-2 : goal.invariant_of-self-2
-invariant_of-self-2 c live =
+invariant_of-self-2 g c live =
     let r = c.self.inside in
     let down : r.controller.up ≡ false = ap (λ (s : Rehearsing). s.state.world.up) c.self.view_is ∙ c.requires.down in
     keeps-moved (rehearsing_of r.controller r.network) (rehearsing_of c.start.new.self r.network) (event.Restart ∷ [])

@@ -5,4 +5,4 @@ pub returns-in-Ok : goal.returns-in-Ok
 returns-in-Ok c = slack-found c.args.problem c.in-Ok.chosen c.in-Ok.ensures
 
 pub returns-in-Err : goal.returns-in-Err
-returns-in-Err c = slack-missed c.args.problem c.in-Err.unplanned c.unchosen.result c.in-Err.ensures c.unchosen.ensures.problem c.unchosen.ensures.cause
+returns-in-Err c = slack-missed c.args.problem c.in-Err.unplanned c.cause_unchosen.result c.in-Err.ensures c.cause_unchosen.ensures.problem c.cause_unchosen.ensures.cause

@@ -6,7 +6,7 @@ pub returns-in_err-problem-clause-gives : goal.returns-in_err-problem-clause-giv
 returns-in_err-problem-clause-gives c = let p = err_from_is_err_and c.from_residual.result c.from_residual.ensures.1 in rw (p.1, p.2) (plan-refuses _ _ _ c.in_err-problem.ensures)
 
 pub returns-clause-gives : goal.returns-clause-gives
-returns-clause-gives c = rw (plan-answers _ _ _ c.in_ok-problem.ensures) c.planned.ensures.gives
+returns-clause-gives c = rw (plan-answers _ _ _ c.in_ok-problem.ensures) c.plan_text.ensures.gives
 
 pub returns-clause-safe : goal.returns-clause-safe
-returns-clause-safe c = read-plans-safely _ _ _ c.planned.result c.in_ok-problem.ensures c.planned.ensures.safe
+returns-clause-safe c = read-plans-safely _ _ _ c.plan_text.result c.in_ok-problem.ensures c.plan_text.ensures.safe

@@ -7,7 +7,7 @@ pub returns-in_err-document-clause-gives : goal.returns-in_err-document-clause-g
 returns-in_err-document-clause-gives g c = let p = err_from_is_err_and c.from_residual.result c.from_residual.ensures.1 in rw (p.1, p.2) (sim-refuses _ _ _ c.in_err-document.ensures)
 
 pub returns-clause-gives : goal.returns-clause-gives
-returns-clause-gives g c = rw (sim-answers _ _ _ (c.in_ok-document.ensures ∙ ap Ok (sym c.document.view_is))) c.rehearsed.ensures.gives
+returns-clause-gives g c = rw (sim-answers _ _ _ (c.in_ok-document.ensures ∙ ap Ok (sym c.document.view_is))) c.rehearse.ensures.gives
 
 pub returns-clause-safe : goal.returns-clause-safe
-returns-clause-safe g c = read-rehearses-safely _ _ _ c.rehearsed.result (c.in_ok-document.ensures ∙ ap Ok (sym c.document.view_is)) c.rehearsed.ensures.safe
+returns-clause-safe g c = read-rehearses-safely _ _ _ c.rehearse.result (c.in_ok-document.ensures ∙ ap Ok (sym c.document.view_is)) c.rehearse.ensures.safe

@@ -11,7 +11,7 @@ copied_front bytes front rest at n fits copied =
     let long : length front ≡ n = ap length copy ∙ length-take-le n (drop at bytes) (omega (arith, length-drop at bytes)) in
     rw (take_at front rest n long) copy
 
--- what is left is what was copied over the front, and what stands behind it
+-- what is left is what was copied over the front, and what stands after it
 left_split : (bytes front rest : List ℕ) (at n : ℕ) → n ≤ length bytes - at → front ≡ take n (take (length bytes - at) (drop at bytes)) → drop at bytes ≡ take n (front ++ rest) ++ drop (at + n) bytes
 left_split bytes front rest at n fits copied =
     rw (copied_front bytes front rest at n fits copied, ← drop-drop n at bytes) (sym (take-append-drop n (drop at bytes)))

@@ -1,0 +1,22 @@
+use Rattle.std.proofs.Common.{◌≡◌, ◌∙◌, sym, ap}
+use Rattle.rollout_rules.specs.Items.{item_count}
+use Rattle.rollout_rules.specs.Legal.{is_sound}
+use Rattle.rollout_rules.specs.Wan.{Rollout}
+use Rattle.dependency_graph.specs.Graph.{Followed}
+use Rattle.fence_takeover.proofs.beginning.known_at.Goals as goal
+
+pub with_start-requires-clause-empty : goal.with_start-requires-clause-empty
+with_start-requires-clause-empty c = ap (λ (g : Followed). g.history.entries) c.in_ok-known.ensures.graph
+
+pub with_start-requires-clause-numbers : goal.with_start-requires-clause-numbers
+with_start-requires-clause-numbers c =
+    let is : c.in_ok-known.known.graph.rollout ≡ c.args.plan = ap (λ (g : Followed). g.rollout) c.in_ok-known.ensures.graph in
+    c.requires.numbers ∙ sym (ap (λ (r : Rollout). item_count r.problem) is)
+
+pub with_start-requires-clause-sound : goal.with_start-requires-clause-sound
+with_start-requires-clause-sound c =
+    let is : c.in_ok-known.known.graph.rollout ≡ c.args.plan = ap (λ (g : Followed). g.rollout) c.in_ok-known.ensures.graph in
+    ap (λ (r : Rollout). is_sound r.problem r.plan c.args.start.now) is ∙ c.requires.sound
+
+pub returns-clause-rollout : goal.returns-clause-rollout
+returns-clause-rollout c = c.with_start.ensures.rollout ∙ ap (λ (g : Followed). g.rollout) c.in_ok-known.ensures.graph

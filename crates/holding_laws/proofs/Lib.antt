@@ -1,4 +1,0 @@
-pub mod Imagined
-pub mod Each
-pub mod Next
-pub mod SmallHoldings

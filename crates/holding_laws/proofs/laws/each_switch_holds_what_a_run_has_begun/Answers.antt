@@ -1,5 +1,0 @@
-use Rattle.holding_laws.proofs.Each.{each_stands}
-use Rattle.holding_laws.proofs.laws.each_switch_holds_what_a_run_has_begun.Goals as goal
-
-pub returns : goal.returns
-returns c = each_stands

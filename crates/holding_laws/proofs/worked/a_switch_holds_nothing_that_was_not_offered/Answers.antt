@@ -1,5 +1,0 @@
-use Rattle.holding_laws.proofs.SmallHoldings.{not-moved}
-use Rattle.holding_laws.proofs.worked.a_switch_holds_nothing_that_was_not_offered.Goals as goal
-
-pub returns : goal.returns
-returns c = not-moved

@@ -1,8 +1,0 @@
-use Rattle.holding_laws.proofs.SmallHoldings.{has-come, not-lost}
-use Rattle.holding_laws.proofs.worked.a_switch_that_answered_holds_what_it_answered.Goals as goal
-
-pub returns-clause-came : goal.returns-clause-came
-returns-clause-came c = has-come
-
-pub returns-clause-lost : goal.returns-clause-lost
-returns-clause-lost c = not-lost

@@ -1,8 +1,0 @@
-use Rattle.holding_laws.proofs.SmallHoldings.{not-on-its-way, on-its-way}
-use Rattle.holding_laws.proofs.worked.begun_commands_may_be_on_their_way.Goals as goal
-
-pub returns-clause-begun : goal.returns-clause-begun
-returns-clause-begun c = on-its-way
-
-pub returns-clause-unbegun : goal.returns-clause-unbegun
-returns-clause-unbegun c = not-on-its-way

@@ -1,8 +1,0 @@
-use Rattle.std.proofs.Common.{◌≡◌, ◌++◌}
-use Rattle.rollout_rules.specs.History.{History}
-use Rattle.rollout_peaks.specs.Peaks.{peaks_of}
-use Rattle.rollout_peaks.specs.Ends.{link_lines}
-use Rattle.rollout_peaks.proofs.ends.push_link_lines.Given as goal
-
-abbrev pub invariant-loop-number : goal.invariant-loop-number
-invariant-loop-number l = (h : History) → l.peaks ≡ peaks_of l.plan.problem l.plan.plan h → l.text ≡ l.fn.text ++ link_lines l.plan.problem l.plan.plan h l.number

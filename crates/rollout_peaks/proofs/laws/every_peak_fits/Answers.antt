@@ -1,5 +1,0 @@
-use Rattle.rollout_peaks.proofs.Fullness.{link-fits, table-fits}
-use Rattle.rollout_peaks.proofs.laws.every_peak_fits.Goals as goal
-
-pub returns : goal.returns
-returns c = record { links = link-fits; tables = table-fits }

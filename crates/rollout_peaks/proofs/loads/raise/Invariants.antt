@@ -1,5 +1,0 @@
-use Rattle.rollout_peaks.specs.Loads.{AreRaised}
-use Rattle.rollout_peaks.proofs.loads.raise.Given as goal
-
-abbrev pub invariant-loop-place : goal.invariant-loop-place
-invariant-loop-place l = AreRaised l.plan.problem l.flow l.place l.sums l.initial.peaks l.peaks

@@ -1,5 +1,0 @@
-use Rattle.rollout_peaks.specs.Passing.{IsPast}
-use Rattle.rollout_peaks.proofs.pass.Pass.over.Given as goal
-
-abbrev pub invariant-loop-place : goal.invariant-loop-place
-invariant-loop-place l = IsPast l.plan l.history l.place l.pass

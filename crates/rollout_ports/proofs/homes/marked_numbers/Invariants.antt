@@ -1,6 +1,0 @@
-use Rattle.std.proofs.Common.{◌≡◌, false, get_or}
-use Rattle.rollout_ports.specs.Homes.{passing_below}
-use Rattle.rollout_ports.proofs.homes.marked_numbers.Given as goal
-
-abbrev pub invariant-loop-number : goal.invariant-loop-number
-invariant-loop-number l = l.numbers ≡ passing_below l.number (λ n. get_or l.marks n false)

@@ -1,4 +1,0 @@
-pub mod Homes
-pub mod Berths
-pub mod Opening
-pub mod Hands

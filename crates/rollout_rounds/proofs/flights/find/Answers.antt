@@ -1,8 +1,0 @@
-use Rattle.std.proofs.Common.{◌∙◌, arith, sym}
-use Rattle.rollout_rounds.proofs.Batches.{flying-left}
-use Rattle.rollout_rounds.proofs.flights.find.Goals as goal
-
-pub next_op-requires-clause-left : goal.next_op-requires-clause-left
-next_op-requires-clause-left c =
-    let g = c.args.graph.now in
-    flying-left g.rollout.problem g.rollout.plan g.history c.requires.legal c.loop-item.item (omega (arith, c.loop-item-test.true, c.requires.own)) (sym c.flying.ensures ∙ c.if-flying.true)

@@ -1,8 +1,0 @@
-use Rattle.std.proofs.Common.{◌≡◌, length}
-use Rattle.rollout_rounds.proofs.Marking.{AreLeft}
-use Rattle.rollout_rounds.proofs.noted.unmark.Given as goal
-
--- the items from this one on still have their marks
-abbrev pub invariant-loop-item : goal.invariant-loop-item
-invariant-loop-item l = AreLeft l.marks l.row l.item-index
-    × (length l.marks ≡ length l.initial.marks)

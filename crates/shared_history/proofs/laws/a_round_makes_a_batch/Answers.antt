@@ -1,5 +1,0 @@
-use Rattle.shared_history.proofs.Batched.{batch-is}
-use Rattle.shared_history.proofs.laws.a_round_makes_a_batch.Goals as goal
-
-pub returns : goal.returns
-returns c = λ o h answers. batch-is o.rollout.problem o.rollout.plan o.policy h answers

@@ -1,5 +1,0 @@
-use Rattle.shared_history.proofs.Stops.{nothing_added}
-use Rattle.shared_history.proofs.laws.nothing_is_added_behind_a_stop.Goals as goal
-
-pub returns : goal.returns
-returns c = nothing_added

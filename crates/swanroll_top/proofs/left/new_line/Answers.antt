@@ -1,5 +1,0 @@
-use Rattle.std.proofs.Common.{append_assoc, ◌∙◌}
-use Rattle.swanroll_top.proofs.left.new_line.Goals as goal
-
-pub returns : goal.returns
-returns c = c.from.ensures ∙ c.in_ok-line.ensures.ok ∙ simp append_assoc

@@ -1,0 +1,10 @@
+pub mod OutboxDealing
+pub mod Told
+pub mod Rowed
+pub mod Stories
+pub mod Lateness
+pub mod Places
+pub mod Given
+pub mod Numbers
+pub mod Turns
+pub mod Spread

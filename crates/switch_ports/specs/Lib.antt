@@ -1,0 +1,12 @@
+pub mod Views
+pub mod Causes
+pub mod Outboxes
+pub mod Due
+pub mod Offering
+pub mod Hearing
+pub mod Rows
+pub mod Stories
+pub mod Homes
+pub mod Berths
+pub mod Opening
+pub mod Hands

@@ -1,3 +1,0 @@
-pub mod Appended
-pub mod Judged
-pub mod Watched

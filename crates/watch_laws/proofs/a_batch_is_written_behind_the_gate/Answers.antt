@@ -1,5 +1,0 @@
-use Rattle.watch_laws.proofs.Appended.{batch-goes_on}
-use Rattle.watch_laws.proofs.a_batch_is_written_behind_the_gate.Goals as goal
-
-pub returns : goal.returns
-returns c = λ home now batch body image rest is_body torn. batch-goes_on home now rest batch body image is_body torn

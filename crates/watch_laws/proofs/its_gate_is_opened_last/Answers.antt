@@ -1,5 +1,0 @@
-use Rattle.watch_laws.proofs.Appended.{gate-goes_on}
-use Rattle.watch_laws.proofs.its_gate_is_opened_last.Goals as goal
-
-pub returns : goal.returns
-returns c = λ home now batch body image rest is_body torn. gate-goes_on home now rest batch body image is_body torn

@@ -1,7 +1,0 @@
-use Rattle.std.proofs.Common.{nat_eq, subst}
-use Rattle.std.specs.List.{IsDistinct}
-use Rattle.worker_ports.specs.Lots.{Dealing}
-use Rattle.worker_ports.proofs.lots.Lots.are_apart.Goals as goal
-
-pub returns : goal.returns
-returns c = subst (λ (d : Dealing). IsDistinct nat_eq d.switches) c.self.view_is c.self.invariant.1

@@ -1,9 +1,0 @@
-use Rattle.worker_ports.specs.Lots.{own}
-use Rattle.worker_ports.specs.Offering.{OffersAll}
-use Rattle.worker_ports.specs.Views.{view}
-use Rattle.worker_ports.proofs.Rowed.{SoFar}
-use Rattle.worker_ports.proofs.round.offer_each.Given as goal
-
-abbrev pub invariant-loop-place : goal.invariant-loop-place
-invariant-loop-place g l =
-    SoFar (λ before now. OffersAll l.fn.migration (own l.fn.homes before.switch l.fn.commands) (view g.T.Port.told before) (view g.T.Port.told now)) l.place l.initial.sessions l.sessions
