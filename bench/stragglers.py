@@ -25,6 +25,7 @@ import time
 from agent_streams import is_next
 from loopback import PROGRAM, moved
 from switches import answer, next_command
+from waiting import PATIENCE
 
 SWITCHES, FLOWS, STEPS = 40, 4, 20
 # Seconds: how long a switch takes to answer, how much longer a slow one takes, and when one that is full takes connections.
@@ -33,7 +34,6 @@ SILENT, SLOW, MANY, FULL_ONES = 2, 10, 1000, 100
 LIMIT = 1000
 LIMITS_WATCHED = 3
 WORKERS = (1, 2, 4, 8, 16)
-PATIENCE = 300
 AIMS = {"others": 1.5, "whole": 1.2, "opening": 2, "beside": 1.1}
 
 Run = collections.namedtuple("Run", "status said seconds others offers repeats used")

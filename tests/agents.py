@@ -15,11 +15,12 @@ import threading
 import time
 
 from switches import ANSWER_BYTES, answer, next_command
+from waiting import LONG_LIMIT, PATIENCE, watched
 
 sys.path.insert(0, os.path.join(os.path.dirname(os.path.abspath(__file__)), "..", "bench"))
 from agent_streams import command, commands, ending, ENDS, LONG, MOST_RATES  # noqa: E402
 
-PAUSE, PATIENCE, RUNS = 0.02, 120, 40
+PAUSE, RUNS = 0.02, 40
 # By item, the migrations and the numbers of commands in a row, and the pair that is held behind each.
 RULE = {
     1: [((0, 1), (0, 1)), ((0, 1), (0, 1)), ((0, 3), (0, 1)), ((0, 2), (0, 2)), ((0, 0), (0, 2))],
@@ -62,6 +63,7 @@ def connected(held, agent, room=None):
             guest.setsockopt(socket.SOL_SOCKET, socket.SO_RCVBUF, room)
         try:
             guest.connect(held.getsockname())
+            guest.settimeout(PATIENCE)
             return guest
         except ConnectionRefusedError:
             guest.close()
@@ -69,6 +71,14 @@ def connected(held, agent, room=None):
                 raise
             time.sleep(PAUSE)
     raise TimeoutError("the agent doesn't listen")
+
+
+def heard(guest, length):
+    """So many bytes; less of them where the connection has ended."""
+    data = b""
+    while len(data) < length and (more := guest.recv(length - len(data))):
+        data += more
+    return data
 
 
 def exchange(rng, guest, data):
@@ -95,7 +105,7 @@ def exchange(rng, guest, data):
 def started(program, words=()):
     """A place, and the agent that listens there."""
     with held_port() as held:
-        environment = dict(os.environ, SWANROLL_LISTEN="127.0.0.1:%d" % held.getsockname()[1])
+        environment = dict(os.environ, SWANROLL_LISTEN="127.0.0.1:%d" % held.getsockname()[1], SWANROLL_TIMEOUT=LONG_LIMIT)
         agent = subprocess.Popen([program, "agent", *words], env=environment, stdin=subprocess.DEVNULL, stdout=subprocess.PIPE, stderr=subprocess.PIPE)
         try:
             yield held, agent
@@ -148,12 +158,11 @@ def fenced(program):
     with started(program) as (held, agent):
         with connected(held, agent) as guest:
             guest.setsockopt(socket.IPPROTO_TCP, socket.TCP_NODELAY, 1)
-            guest.settimeout(PATIENCE)
             for number, (row, answered) in enumerate(FENCED):
                 for at in range(len(row)):
                     guest.sendall(row[at:at + 1])
                     time.sleep(0.001)
-                yield f"row {number} byte by byte", guest.recv(len(answered), socket.MSG_WAITALL) == answered
+                yield f"row {number} byte by byte", heard(guest, len(answered)) == answered
         yield "the line behind the bytes", ended(agent) == (0, "agent: guests 1, commands 4, refused 0\n", "")
 
 
@@ -171,14 +180,13 @@ def terms(program):
     with started(program) as (held, agent):
         with connected(held, agent) as guest:
             guest.setsockopt(socket.IPPROTO_TCP, socket.TCP_NODELAY, 1)
-            guest.settimeout(PATIENCE)
             length = len(with_term(0, command(1, 1, 1, 1, [6, 7])))
             for at in range(1, length):
                 said, told = with_term(at, command(1, at, 1, 1, [6, 7])), with_term(at, answer(1, at, 1))
                 guest.sendall(said[:at])
                 time.sleep(0.001)
                 guest.sendall(said[at:])
-                yield f"a term, cut at {at}", guest.recv(len(told), socket.MSG_WAITALL) == told
+                yield f"a term, cut at {at}", heard(guest, len(told)) == told
         yield "all that were cut", ended(agent) == (0, f"agent: guests 1, commands {length - 1}, refused 0\n", "")
     said = with_term(7, command(1, 1, 1, 1, [6, 7]))
     answers, end = served(program, [said[:length] for length in range(len(said))] + [command(0, 1, 1, 1, [6])], ("--guests", str(len(said) + 1)))
@@ -194,14 +202,13 @@ def cut(program):
     with started(program) as (held, agent):
         with connected(held, agent) as guest:
             guest.setsockopt(socket.IPPROTO_TCP, socket.TCP_NODELAY, 1)
-            guest.settimeout(PATIENCE)
             for count in (1, 2, MOST_RATES):
                 for at in range(1, len(command(1, count, 1, 1, [1] * count))):
                     said = command(at, count, 1, 65536, [2 ** 64 - 1 - rate for rate in range(count)])
                     guest.sendall(said[:at])
                     time.sleep(0.001)
                     guest.sendall(said[at:])
-                    yield f"{count} rates, cut at {at}", guest.recv(ANSWER_BYTES, socket.MSG_WAITALL) == answer(at, count, 1)
+                    yield f"{count} rates, cut at {at}", heard(guest, ANSWER_BYTES) == answer(at, count, 1)
         yield "all that were cut", ended(agent) == (0, f"agent: guests 1, commands {25 + 33 + 145}, refused 0\n", "")
 
 
@@ -231,14 +238,14 @@ def long(program):
     data = (whole * (LONG // len(whole) + 1))[:LONG]
     with started(program, ("--guests", "2")) as (held, agent):
         for said in (data[:-1], data):
-            heard = []
+            counts = []
             with connected(held, agent) as guest:
-                hearing = threading.Thread(target=lambda: heard.append(sum(iter(lambda: len(guest.recv(1 << 16)), 0))))
+                hearing = threading.Thread(target=lambda: counts.append(sum(iter(lambda: len(guest.recv(1 << 16)), 0))))
                 hearing.start()
                 guest.sendall(said)
                 guest.shutdown(socket.SHUT_WR)
                 hearing.join(PATIENCE)
-            yield f"{len(said)} bytes", heard == [LONG // len(whole) * ANSWER_BYTES]
+            yield f"{len(said)} bytes", counts == [LONG // len(whole) * ANSWER_BYTES]
         yield "the line behind them", ended(agent) == (0, f"agent: guests 2, commands {2 * 684931}, refused 1\n", "")
 
 
@@ -293,7 +300,7 @@ def drawn(program, reference):
 def main():
     program = sys.argv[1]
     kinds = [drawn(program, sys.argv[2])] if len(sys.argv) > 2 else [kind(program) for kind in (worked, ruled, fenced, terms, cut, dropped, frames, long, without_guests, words)]
-    cases = [case for kind in kinds for case in kind]
+    cases = [case for kind in kinds for case in watched(kind)]
     wrong = [name for name, right in cases if not right]
     print(f"agents: {len(cases)} cases, {len(wrong)} wrong")
     if wrong:

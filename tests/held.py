@@ -18,9 +18,10 @@ from named import EXCHANGE, FULL_TABLES, LATE, ONE, TWO, document
 from outcomes import report
 from rolling import finished, planned, rollout, same, stopped
 from switches import answer, plain, silent
+from waiting import LIMITS, by_first_that_fits
 
 USAGE = (2, "", "usage: swanroll COMMAND [--NAME VALUE]\n")
-LAST, DRAWN, QUICK = 2 ** 32 - 1, 20, {"SWANROLL_TIMEOUT": "100"}
+LAST, DRAWN = 2 ** 32 - 1, 20
 # Ten items, seven of which have an operation: four at A, two at B, one at C. The eighth of A has none, and the third has no home.
 MIXED = document("explain.json")
 MOVES_NOTHING = document("unmoved.json")
@@ -125,10 +126,10 @@ def slow(switch, guest, command):
     switch.tell(guest, switch.carry_out(command), pause=0.005)
 
 
-def ways(program):
+def ways(program, short):
+    """Of what is lost alone the limit is short: on a busy machine it passes between two bytes."""
     pairs = {0: (0, 1), 1: (0, 1), 5: (0, 1), 4: (3, 2)}
-    # Only what is lost is worth a short limit: on a busy machine it passes between two bytes.
-    for name, fate, limit, at_a in (("half is lost", half, QUICK, [0, 1, 3, 5, 1, 5]), ("all is told twice", twice, {}, None), ("byte by byte", slow, {}, [0, 1, 3, 5])):
+    for name, fate, limit, at_a in (("half is lost", half, {"SWANROLL_TIMEOUT": short}, [0, 1, 3, 5, 1, 5]), ("all is told twice", twice, {}, None), ("byte by byte", slow, {}, [0, 1, 3, 5])):
         with rollout(program, MIXED, None, fate) as one:
             one.hold({item: pair for item, pair in pairs.items() if item != 4})
             one.switches["B"].held[4] = pairs[4]
@@ -179,15 +180,19 @@ def fleet_of_first(one):
     return one.run("held")
 
 
-def untold(program):
-    """A switch that is silent, or tells what can't be: no further one is asked, and nothing is printed."""
+def silence(program, limit):
+    """A switch that is silent: no further one is asked, and nothing is printed."""
     with rollout(program, MIXED, None, {"B": silent}) as one:
         before = stands(one)
-        yield "silent", same(one.run("held --rounds 3", one.having(**QUICK)), stopped(5, "rounds spent: rounds 3, item 4 operation 0")) or moved(one, before)
+        yield "silent", same(one.run("held --rounds 3", one.having(SWANROLL_TIMEOUT=limit)), stopped(5, "rounds spent: rounds 3, item 4 operation 0")) or moved(one, before)
         yield "silent, its questions", same([command.item for command in one.switches["B"].commands], [4, 7] * 3)
         yield "silent, those behind it", same(one.guests(), {"A", "B"})
         one.switches["B"].fate = plain
         yield "silent, and then not", same(one.run("held"), told(MIXED, {}))
+
+
+def untold(program):
+    """A switch that tells what can't be: no further one is asked, and nothing is printed."""
     for name, said, line in (
         ("another one's item", answer(0, 4, 1), 'alien: item 4 not of "A"'), ("an item without an operation", answer(0, 8, 0), 'alien: item 8 not of "A"'),
         ("an item without a home", answer(0, 2, 0), 'alien: item 2 not of "A"'), ("no item", answer(0, 10, 0), 'alien: item 10 not of "A"'),
@@ -213,8 +218,10 @@ def unread(program):
 
 
 def outcomes(program):
-    for part in (held, none_asked, ways, several, words, refused, untold, unwritten, unread):
+    for part in (held, none_asked, several, words, refused, untold, unwritten, unread):
         yield from part(program)
+    for part in (ways, silence):
+        yield from by_first_that_fits(part, program, LIMITS)
 
 
 if __name__ == "__main__":

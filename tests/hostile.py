@@ -1,5 +1,5 @@
 """Files, journals, streams, words and guests that an operator meets at the rims: each row runs the built program on one, and holds its status, its
-line, its memory and its time.
+line, its memory and the time of a processor that it takes.
 
     python3 tests/hostile.py PROGRAM
 """
@@ -25,10 +25,11 @@ from agents import connected, held_port  # noqa: E402
 from journal_files import PARTS, SLOT, digest_of, part, slot  # noqa: E402
 from named import ONE  # noqa: E402
 from outcomes import report  # noqa: E402
+from waiting import LONG_LIMIT, PATIENCE, by_first_that_fits  # noqa: E402
 
 EXAMPLES = pathlib.Path(__file__).resolve().parent.parent / "examples"
-PATIENCE, GUESTS, MEBIBYTE, PAGE = 120, 1000, 1 << 20, 4096
-LATE, SLOWLY, MORE = 1.0, 0.02, 0.3  # seconds: until a stream is first served, between its pieces, and of a processor beyond the usual
+GUESTS, MEBIBYTE, PAGE = 1000, 1 << 20, 4096
+LATE, SLOWLY, MORE = 1.0, 0.02, (0.3, 0.3, 0.5)  # seconds: until a stream is first served, between its pieces, and of a processor beyond the usual, by tries
 USAGE = "usage: swanroll COMMAND [--NAME VALUE]\n"
 DISK, FLEET, SINK, SOURCE = "journal device fault\n", "port fault at \"A\"\n", "write fault\n", "read fault\n"
 # What a journal of a small plan may take, the largest part that its format can name, and how many items a document within the limits has at most.
@@ -48,30 +49,38 @@ def held_to(file_bytes=None, stack_bytes=None):
     return set_up
 
 
+def ended(child):
+    """What a child has used once it has ended; one that stands still is killed, which its status tells."""
+    killer = threading.Timer(PATIENCE, child.kill)
+    killer.start()
+    _, status, used = os.wait4(child.pid, 0)
+    killer.cancel()
+    child.returncode = os.waitstatus_to_exitcode(status)
+    return used
+
+
 class Ran:
-    """One run of the program: its status, what it wrote and noted, its greatest memory in bytes, and its seconds."""
+    """One run of the program: its status, what it wrote and noted, its greatest memory in bytes, and its seconds of a processor."""
 
     def __init__(self, program, words, given=b"", out=None, environment=(), before=None, stdin=None, notes=None):
-        began = time.monotonic()
         with tempfile.TemporaryFile() as source, tempfile.TemporaryFile() as written:
             source.write(given if isinstance(given, bytes) else given.encode())
             source.seek(0)
             child = subprocess.Popen([program, *words], stdin=stdin or source, stdout=out or written, stderr=notes or subprocess.PIPE, env=dict(os.environ, **dict(environment)), preexec_fn=before)
-            _, status, used = os.wait4(child.pid, 0)
-            child.returncode = self.status = os.waitstatus_to_exitcode(status)
+            used, self.status = ended(child), child.returncode
             written.seek(0)
             self.text, self.line = written.read().decode(errors="replace"), ""
             if child.stderr is not None:
                 with child.stderr as noted:
                     self.line = noted.read().decode(errors="replace")
-        self.memory, self.seconds, self.processor = used.ru_maxrss * 1024, time.monotonic() - began, used.ru_utime + used.ru_stime
+        self.memory, self.processor = used.ru_maxrss * 1024, used.ru_utime + used.ru_stime
 
     def wrong(self, status, line=None, memory=64 * MEBIBYTE, seconds=5.0):
         """What is not as it should be, or None."""
         if self.status != status or line is not None and self.line != line:
             return f"ended with {self.status} and {self.line!r}"
-        if self.memory > memory or self.seconds > seconds:
-            return f"took {self.memory // MEBIBYTE} MiB and {self.seconds:.1f} s"
+        if self.memory > memory or self.processor > seconds:
+            return f"took {self.memory // MEBIBYTE} MiB and {self.processor:.1f} s of a processor"
         return None
 
 
@@ -202,20 +211,19 @@ class Streamed:
         ]
         for thread in threads:
             thread.start()
-        _, status, used = os.wait4(child.pid, 0)
-        child.returncode = self.status = os.waitstatus_to_exitcode(status)
+        used, self.status = ended(child), child.returncode
         for thread in threads:
             thread.join()
         self.text, self.line = (b"".join(told[name]) for name in ("output", "notes"))
         self.processor = used.ru_utime + used.ru_stime
 
-    def wrong(self, usual):
-        """What is not as in a run over files, or None."""
+    def wrong(self, usual, more):
+        """What is not as in a run over files, but for so many seconds of a processor more, or None."""
         if self.status != usual.status or self.line != self.filled + usual.line.encode():
             return f"ended with {self.status} and {self.line[len(self.filled):]!r}"
         if self.text != usual.text.encode():
             return f"wrote {len(self.text)} bytes, and not the same"
-        if self.processor > usual.processor + MORE:
+        if self.processor > usual.processor + more:
             return f"took {self.processor:.2f} s of a processor, and {usual.processor:.2f} s over files"
         return None
 
@@ -266,8 +274,8 @@ def drained(end, pieces, late):
             time.sleep(SLOWLY if late else 0)
 
 
-def streams_that_do_not_block(program, folder):
-    """Where a standard stream doesn't block, what isn't there yet is waited for, and takes no processor meanwhile."""
+def streams_that_do_not_block(program, more):
+    """Where a standard stream doesn't block, what isn't there yet is waited for, and takes no processor meanwhile, or so many seconds of one."""
     plan = (("plan",), (EXAMPLES / "networks" / "hundred.json").read_bytes())
     refused = (("plan",), (EXAMPLES / "no-slack.json").read_bytes())
     for kind, pair in (("pipe", small_pipe), ("socket", small_sockets)):
@@ -276,27 +284,19 @@ def streams_that_do_not_block(program, folder):
             ("an output that is read late and slowly", "output", plan),
             ("notes that are full", "notes", refused),
         ):
-            yield f"{name}, on a {kind} that doesn't block", Streamed(program, words, given, late, pair).wrong(Ran(program, words, given))
+            yield f"{name}, on a {kind} that doesn't block", Streamed(program, words, given, late, pair).wrong(Ran(program, words, given), more)
 
 
 def answers_before_a_bad_frame(program, folder):
     """A guest that sends what is no command, and goes on sending, has the answers to the commands before it, each time."""
     good = b"".join(command(0, item, 1, 1, [item + 1]) for item in range(20))
-    with socket.socket() as held:
-        held.setsockopt(socket.SOL_SOCKET, socket.SO_REUSEADDR, 1)
-        held.bind(("127.0.0.1", 0))
-        environment = dict(os.environ, SWANROLL_LISTEN="127.0.0.1:%d" % held.getsockname()[1])
+    with held_port() as held:
+        environment = dict(os.environ, SWANROLL_LISTEN="127.0.0.1:%d" % held.getsockname()[1], SWANROLL_TIMEOUT=LONG_LIMIT)
         agent = subprocess.Popen([program, "agent", "--guests", str(GUESTS)], env=environment, stdin=subprocess.DEVNULL, stdout=subprocess.PIPE, stderr=subprocess.PIPE)
         short = 0
         for guest_number in range(GUESTS):
-            guest = None
-            while guest is None:
-                try:
-                    guest = socket.create_connection(held.getsockname(), PATIENCE)
-                except ConnectionRefusedError:
-                    time.sleep(0.02)
             answers = b""
-            with guest:
+            with connected(held, agent) as guest:
                 try:
                     guest.sendall(good + b"D" + b"x" * (1 + guest_number * 97 % 50_000))
                     guest.shutdown(socket.SHUT_WR)
@@ -349,7 +349,7 @@ def talked(program, folder, guests):
     """How many answers each guest had of an agent, how that ended, and its greatest memory in bytes."""
     with held_port() as held, tempfile.TemporaryFile() as written, tempfile.TemporaryFile() as noted:
         peak = folder / "peak"
-        environment = dict(os.environ, SWANROLL_LISTEN="127.0.0.1:%d" % held.getsockname()[1], SWANROLL_TIMEOUT="60000")
+        environment = dict(os.environ, SWANROLL_LISTEN="127.0.0.1:%d" % held.getsockname()[1], SWANROLL_TIMEOUT=LONG_LIMIT)
         words = [sys.executable, "-c", MEASURED, str(peak), program, "agent", "--guests", str(len(guests))]
         agent = subprocess.Popen(words, env=environment, stdin=subprocess.DEVNULL, stdout=written, stderr=noted)
         heard = []
@@ -378,8 +378,9 @@ def taken(guest):
 
 def cases(program):
     with tempfile.TemporaryDirectory() as folder:
-        for kind in (sized_files, odd_files, far_parts, odd_words, odd_streams, small_stacks, streams_that_do_not_block, answers_before_a_bad_frame, many_items):
+        for kind in (sized_files, odd_files, far_parts, odd_words, odd_streams, small_stacks, answers_before_a_bad_frame, many_items):
             yield from kind(program, pathlib.Path(folder))
+        yield from by_first_that_fits(streams_that_do_not_block, program, MORE)
 
 
 if __name__ == "__main__":

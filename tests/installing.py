@@ -13,6 +13,7 @@ import tempfile
 
 from names import commands, options, options_of, same, statuses, variables
 from outcomes import report
+from waiting import PATIENCE
 
 TOP = pathlib.Path(__file__).resolve().parent.parent
 PROGRAM = "#!/bin/sh\necho a stand-in\nexit 4\n"
@@ -72,7 +73,7 @@ def is_there(tool):
 
 def quiet(*words, of=""):
     """What a command tells, or with which status it ends; None where it ends well and is silent, or tells nothing with a word in it."""
-    done = subprocess.run([str(word) for word in words], capture_output=True, text=True, env=dict(os.environ, MANWIDTH="80", LC_ALL="C.UTF-8"), timeout=120)
+    done = subprocess.run([str(word) for word in words], capture_output=True, text=True, env=dict(os.environ, MANWIDTH="80", LC_ALL="C.UTF-8"), timeout=PATIENCE)
     told = [line for line in done.stderr.splitlines() if of in line]
     return None if done.returncode == 0 and not told else f"status {done.returncode}: {done.stdout[-300:]}{done.stderr}"
 
@@ -121,7 +122,7 @@ def completions(house):
     yield "the completion, run", quiet("bash", "-euc", f'source "{file}"; complete -p swanroll')
 
     def completed(*words):
-        done = subprocess.run(["bash", "-c", COMPLETE, "bash", str(file), "swanroll", *words], capture_output=True, text=True, timeout=60)
+        done = subprocess.run(["bash", "-c", COMPLETE, "bash", str(file), "swanroll", *words], capture_output=True, text=True, timeout=PATIENCE)
         return sorted(done.stdout.split()) if (done.returncode, done.stderr) == (0, "") else done.stderr
 
     yield "the commands", same(completed(""), sorted(commands()))

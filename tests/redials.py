@@ -12,12 +12,16 @@ import sys
 import threading
 import time
 
+from agents import held_port
+from journal_files import count_of
 from named import ONE, TWO
 from outcomes import report
 from rolling import finished, planned, rollout, same, stopped
-from switches import ANSWER_BYTES, PATIENCE, Switch, answer, plain, silent, write_fleet
+from switches import ANSWER_BYTES, Switch, plain, silent, write_fleet
+from waiting import LIMITS, PATIENCE, by_first_that_fits, until
 
-LIMIT, SLACK = 100, 20
+LIMIT, LATE_LIMITS = 100, ("300", "3000", "15000")
+LONG = "run --rounds 200000"  # what comes late on a slow machine comes in time
 COMMAND_BYTES = 18 + 8 * 2
 
 
@@ -109,28 +113,29 @@ def cut_commands(program):
             with rollout(program) as one:
                 in_place(one, "A", Cutting("A", [count], end))
                 yield f"{name} at byte {count} of a command", same(one.run(environment=quick(one)), finished(1, 0)) or one.misses()
+
+
+def closed_at_once(program, limit):
+    """A connection that is closed at once is followed by another one, once in each limit."""
     with rollout(program) as one:
         in_place(one, "A", Cutting("A", [0] * 8, shut))
         begun = time.monotonic()
-        yield "closed at once, eight times", same(one.run(environment=quick(one)), finished(1, 0)) or one.misses()
+        yield "closed at once, eight times", same(one.run(environment=quick(one, limit)), finished(1, 0)) or one.misses()
         took = time.monotonic() - begun
-        yield "closed at once, once in each limit", None if took > 7 * LIMIT / 1000 * 0.9 and one.switches["A"].begun == 9 else f"{took:.2f} s, {one.switches['A'].begun} connections"
+        is_right = took > 7 * int(limit) / 1000 * 0.9 and one.switches["A"].begun == 9
+        yield "closed at once, once in each limit", None if is_right else f"{took:.2f} s, {one.switches['A'].begun} connections"
 
 
 class Later:
     """A place at which nobody listens yet."""
 
     def __init__(self):
-        self.holder = socket.socket()
-        self.holder.setsockopt(socket.SOL_SOCKET, socket.SO_REUSEADDR, 1)
-        self.holder.bind(("127.0.0.1", 0))
-        self.place = self.holder.getsockname()
-        self.address = "127.0.0.1:%d" % self.place[1]
+        self.holder = held_port()
+        self.address = "127.0.0.1:%d" % self.holder.getsockname()[1]
         self.agent = None
 
     def start(self, program):
         """Starts an agent there."""
-        self.holder.close()
         self.agent = subprocess.Popen([program, "agent", "--guests", "100"], env=dict(os.environ, SWANROLL_LISTEN=self.address),
                                       stdin=subprocess.DEVNULL, stdout=subprocess.DEVNULL, stderr=subprocess.DEVNULL)
 
@@ -153,28 +158,28 @@ def away(program):
         begun = time.monotonic()
         yield "refused for ever", same(one.run("run --rounds 5", quick(one)), stopped(5, "rounds spent: rounds 5, item 0 operation 1"))
         took = time.monotonic() - begun
-        yield "refused for ever, the time", None if 0.4 < took < SLACK else f"{took:.2f} s"
+        yield "refused for ever, the time", None if 0.4 < took < PATIENCE / 2 else f"{took:.2f} s"
     with rollout(program) as one, contextlib.closing(Later()) as later:
         put(one, [f"A {later.address}"])
         waiting = threading.Timer(2, later.start, (program,))
         waiting.start()
         begun = time.monotonic()
-        yield "an agent that comes after two seconds", same(one.run(environment=quick(one)), finished(1, 0))
+        yield "an agent that comes after two seconds", same(one.run(LONG, quick(one)), finished(1, 0))
         took = time.monotonic() - begun
-        yield "an agent that comes, the time", None if 1.9 < took < SLACK else f"{took:.2f} s"
+        yield "an agent that comes, the time", None if 1.9 < took < PATIENCE / 2 else f"{took:.2f} s"
     with rollout(program) as one, contextlib.closing(Later()) as later:
         put(one, [f"A {later.address}"])
         move = threading.Timer(1, lambda: put(one, [f"A {one.switches['A'].address}"]))
         move.start()
-        yield "an agent on another address", same(one.run(environment=quick(one)), finished(1, 0)) or one.misses()
+        yield "an agent on another address", same(one.run(LONG, quick(one)), finished(1, 0)) or one.misses()
     with rollout(program) as one, contextlib.closing(Later()) as later:
         put(one, [f"A {later.address}"])
-        def spoilt():
-            os.remove(one.fleet)
-            time.sleep(0.5)
-            write_fleet(one.fleet, one.switches.values())
-        threading.Timer(0.5, spoilt).start()
-        yield "a fleet file that is away for a while", same(one.run(environment=quick(one)), finished(1, 0)) or one.misses()
+        started = one.fed(LONG, quick(one))
+        until(lambda: count_of(one.image()))  # it has read the file, and begun
+        os.remove(one.fleet)
+        time.sleep(0.5)
+        write_fleet(one.fleet, one.switches.values())
+        yield "a fleet file that is away for a while", same(one.ended(started), finished(1, 0)) or one.misses()
     with rollout(program, TWO) as one, contextlib.closing(Later()) as later:
         put(one, [f"A {later.address}", f"B {one.switches['B'].address}"])
         yield "one of two never comes", same(one.run("run --rounds 5 --workers 1", quick(one)), stopped(5, "rounds spent: rounds 5, item 0 operation 1"))
@@ -184,9 +189,9 @@ def away(program):
         yield "it comes in the next run", (None if end[0] == 0 else repr(end)) or one.misses()
 
 
-def together(program):
+def together(program, limit):
     """Silent switches, and such as take no connection, cost a round one limit, and not one each."""
-    count, limit = 12, 300
+    count, seconds = 12, int(limit) / 1000
     value = {"switches": [{"name": f"s{n}", "table": 9} for n in range(count)],
              "links": [{"from": f"s{n}", "to": f"s{(n + w) % count}", "capacity": 10} for n in range(count) for w in (1, 2)]
              + [{"from": f"s{(n + 2) % count}", "to": f"s{(n + 1) % count}", "capacity": 10} for n in range(count)],
@@ -197,7 +202,7 @@ def together(program):
         end = one.run("run --workers 1 --rounds 2", quick(one, limit))
         took = time.monotonic() - begun
         yield "silent switches", None if end[0] == 5 else repr(end)
-        yield "silent switches, the time", None if 2 * limit / 1000 <= took < 5 * limit / 1000 else f"{took:.2f} s"
+        yield "silent switches, the time", None if 2 * seconds <= took < 5 * seconds else f"{took:.2f} s"
     with rollout(program, planned(program, value)) as one, socket.socket() as full, contextlib.ExitStack() as waiting:
         full.bind(("127.0.0.1", 0))
         full.listen(0)
@@ -210,7 +215,7 @@ def together(program):
         end = one.run("run --workers 1 --rounds 2", quick(one, limit))
         took = time.monotonic() - begun
         yield "switches that take no connection", None if end[0] == 5 else repr(end)
-        yield "switches that take no connection, the time", None if took < 6 * limit / 1000 else f"{took:.2f} s"
+        yield "switches that take no connection, the time", None if took < 6 * seconds else f"{took:.2f} s"
 
 
 def fleets(program):
@@ -223,7 +228,7 @@ def fleets(program):
         for path in (folder, os.path.join(folder, "pipe"), "/dev/zero", "/dev/null"):
             begun = time.monotonic()
             yield f"a fleet that is {path}", same(one.run(environment=one.having(SWANROLL_FLEET=path)), fault)
-            yield f"a fleet that is {path}, the time", None if time.monotonic() - begun < SLACK / 4 else "too long"
+            yield f"a fleet that is {path}, the time", None if time.monotonic() - begun < PATIENCE / 2 else "too long"
         for name, text in (("too long", line + "B " + "x" * (1 << 20) + "\n"), ("port 0", "A 127.0.0.1:0\n"), ("a number that is none", "A 10.0.0.256:7000\n"), ("no host", "A :7000\n"), ("two colons", "A x:y:7000\n")):
             put(one, [text[:-1]])
             yield f"a fleet that is {name}", same(one.run(environment=quick(one)), fault)
@@ -235,8 +240,10 @@ def fleets(program):
 
 
 def outcomes(program):
-    for kind in (cut_answers, cut_commands, away, together, fleets):
+    for kind in (cut_answers, cut_commands, away, fleets):
         yield from kind(program)
+    yield from by_first_that_fits(closed_at_once, program, LIMITS)
+    yield from by_first_that_fits(together, program, LATE_LIMITS)
 
 
 if __name__ == "__main__":

@@ -16,6 +16,7 @@ from named import EXCHANGE, FULL_TABLES, LATE, ONE, TWO, document
 from outcomes import report
 from rolling import finished, planned, rollout, same, stopped
 from switches import plain, silent
+from waiting import LIMITS, by_first_that_fits
 
 USAGE = (2, "", "usage: swanroll COMMAND [--NAME VALUE]\n")
 LAST = 2 ** 32 - 1
@@ -161,11 +162,11 @@ def refused(program):
         yield "taken back twice", same(one.run("rollback"), stopped(10, f"journal: other plan {back}/1 {own}/0")) or same(one.image(), image)
 
 
-def not_level(program):
+def not_level(program, limit):
     """One of two switches is silent, and an operation of it was begun: nothing is placed until it has answered."""
     begun = journal(TWO, [(BEGIN, 0, 1), (BEGIN, 1, 1)])
     with rollout(program, TWO, begun, {"B": silent}) as one:
-        quick = one.having(SWANROLL_TIMEOUT="100")
+        quick = one.having(SWANROLL_TIMEOUT=limit)
         yield "one in flight", same(one.run("rollback --rounds 2 --workers 1", quick), stopped(5, "rounds spent: rounds 2, item 1 operation 1"))
         yield "one in flight, the journal", same(kept_in(one.image())[:2], (digest_of(TWO), 0))
         one.switches["B"].fate = plain
@@ -213,8 +214,9 @@ def calls(program, name, value, front):
 
 
 def outcomes(program):
-    for part_of in (one_begun, levels, from_no_journal, there_and_back, words, refused, not_level, unwritten):
+    for part_of in (one_begun, levels, from_no_journal, there_and_back, words, refused, unwritten):
         yield from part_of(program)
+    yield from by_first_that_fits(not_level, program, LIMITS)
     yield from calls(program, "ahead", AHEAD, [(BEGIN, 0, 1)])
     yield from calls(program, "two", TWO, [(BEGIN, 0, 1), (DONE, 0, 1)])
 

@@ -10,9 +10,9 @@ from carried import Items
 from journal_files import text_of
 from named import ONE
 from switches import Switch, plain, write_fleet
+from waiting import LONG_LIMIT, PATIENCE
 
 DEVICES = ("SWANROLL_JOURNAL", "SWANROLL_FLEET", "SWANROLL_LISTEN", "SWANROLL_TIMEOUT", "SWANROLL_LOG")
-PATIENCE = 120
 
 
 def planned(program, problem):
@@ -35,7 +35,7 @@ class Rollout:
         self.switches = {switch["name"]: self.plays(switch["name"], fates.get(switch["name"], plain)) for switch in self.document["problem"]["switches"]}
         write_fleet(self.fleet, self.switches.values())
         self.environment = {key: value for key, value in os.environ.items() if key not in DEVICES}
-        self.environment.update(SWANROLL_JOURNAL=self.journal, SWANROLL_FLEET=self.fleet, SWANROLL_TIMEOUT="30000")
+        self.environment.update(SWANROLL_JOURNAL=self.journal, SWANROLL_FLEET=self.fleet, SWANROLL_TIMEOUT=LONG_LIMIT)
 
     def put(self, image):
         if image is not None:

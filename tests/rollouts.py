@@ -16,14 +16,14 @@ import subprocess
 import sys
 import tempfile
 import threading
-import time
 
 from carried import Items, backwards
 from journal_files import BEGIN, DONE, PARTS, SLOT, digest_of, entries_in, part, size_of, slot, text_of
 from named import EXCHANGE, FULL_TABLES, LATE, ONE, TWO
 from outcomes import report
-from rolling import DEVICES, PATIENCE, finished, planned, rollout, same, stopped
+from rolling import DEVICES, finished, planned, rollout, same, stopped
 from switches import answer, plain, silent, write_fleet
+from waiting import LIMITS, PATIENCE, by_first_that_fits, until
 
 USAGE = (2, "", "usage: swanroll COMMAND [--NAME VALUE]\n")
 LAST, HEADS, COMPARED, WHOLE = 2 ** 32 - 1, 72, 600, 150
@@ -108,7 +108,7 @@ def rounds_enough(program):
                 yield f"{name} in {operations} rounds by {workers}", same(one.run(f"run --workers {workers} --rounds {operations}"), finished(operations, 0)) or one.misses()
 
 
-def one_port_of_two(program):
+def one_port_of_two(program, limit):
     """One switch breaks its connection off at its first command; the other one has answered. The same run goes on over another connection. Where it
     breaks off each one, the run ends with its operation, and a later one goes on to the end."""
     def breaks_off(switch, guest, command):
@@ -119,9 +119,9 @@ def one_port_of_two(program):
 
     for workers in (1, 2):
         with rollout(program, TWO, None, {"B": breaks_off_once}) as one:
-            yield f"one port of two breaks, by {workers}", same(one.run(f"run --workers {workers}", one.having(SWANROLL_TIMEOUT="100")), finished(2, 0)) or one.misses()
+            yield f"one port of two breaks, by {workers}", same(one.run(f"run --workers {workers}", one.having(SWANROLL_TIMEOUT=limit)), finished(2, 0)) or one.misses()
         with rollout(program, TWO, None, {"B": breaks_off}) as one:
-            end = one.run(f"run --workers {workers} --rounds 3", one.having(SWANROLL_TIMEOUT="100"))
+            end = one.run(f"run --workers {workers} --rounds 3", one.having(SWANROLL_TIMEOUT=limit))
             yield f"one port of two breaks for ever, by {workers}", same(end, stopped(5, "rounds spent: rounds 3, item 1 operation 1"))
             one.switches["B"].fate = plain
             end = one.run(f"run --workers {workers}")
@@ -231,23 +231,23 @@ def told(data):
     return lambda switch, guest, command: guest.sendall(data)
 
 
-def rounds_spent(program):
+def rounds_spent(program, limit):
     """Each round offers the operation again; what comes back settles nothing."""
     useless = (("nothing", silent), ("an answer of an earlier migration", told(answer(1, 0, 9))), ("one of a later migration", told(answer(3, 99, 9))),
                ("that nothing is held", told(answer(2, 0, 0))))
     for name, fate in useless:
         with rollout(program, ONE, None, fate) as one:
-            quick = one.having(SWANROLL_TIMEOUT="100")
+            quick = one.having(SWANROLL_TIMEOUT=limit)
             yield f"a switch that answers {name}", same(one.run("run --rounds 3 --migration 2", quick), stopped(5, "rounds spent: rounds 3, item 0 operation 1"))
             yield f"a switch that answers {name}, its commands", same(one.commands(), 3)
             yield f"a switch that answers {name}, report", same(one.report("report --migration 2"), (0, IN_FLIGHT, ""))
             one.switches["A"].fate = plain
             yield f"a switch that answers {name}, then well", same(one.run("run --rounds 1 --migration 2"), finished(1, 1)) or one.misses(2)
     with rollout(program, TWO, None, silent) as one:
-        quick = one.having(SWANROLL_TIMEOUT="100")
+        quick = one.having(SWANROLL_TIMEOUT=limit)
         yield "two switches", same(one.run("run --rounds 2 --workers 1", quick), stopped(5, "rounds spent: rounds 2, item 0 operation 1")) or same(one.commands() in (3, 4), True)
     with rollout(program, TWO, None, {"B": silent}) as one:
-        quick = one.having(SWANROLL_TIMEOUT="3000")
+        quick = one.having(SWANROLL_TIMEOUT=limit)
         yield "one switch of two", same(one.run("run --rounds 2 --workers 1", quick), stopped(5, "rounds spent: rounds 2, item 1 operation 1"))
         yield "one switch of two, the other", same(one.switches["A"].held, {0: (0, 1)}) or same([len(one.switches[name].commands) for name in "AB"], [1, 2])
         yield "one switch of two, journal", same(entries_in(one.image()), [(BEGIN, 0, 1), (BEGIN, 1, 1), (DONE, 0, 1)])
@@ -271,9 +271,7 @@ def no_journal(program):
         yield "a journal that no process holds any more", same(one.run(), finished(1, 1))
     with rollout(program, ONE, None, silent) as one:
         holding = one.fed()
-        until = time.monotonic() + PATIENCE
-        while not one.commands() and time.monotonic() < until:
-            time.sleep(0.01)
+        until(one.commands)
         yield "a journal that a controller holds", same(one.ended(one.start()), fault) or same(one.ended(one.start("report")), fault)
         holding.kill()
         one.ended(holding)
@@ -310,14 +308,8 @@ def no_port(program):
         yield "without a port no command", same((one.guests(), one.commands()), (set(), 0))
         with open(one.fleet, "w") as file:
             file.write(f"A {refusing}\n")
-        spent = stopped(5, "rounds spent: rounds 2, item 0 operation 1")
-        yield "a fleet with an address that refuses", same(one.run("run --rounds 2", one.having(SWANROLL_TIMEOUT="100")), spent) or same(one.report(), (0, IN_FLIGHT, ""))
-    for name, fate, held in (("hangs up", hung_up, {}), ("goes within an answer", cut_off, {0: (0, 1)})):
-        with rollout(program, ONE, None, fate) as one:
-            end = one.run("run --rounds 2", one.having(SWANROLL_TIMEOUT="100"))
-            yield f"a switch that {name}", same(end, spent) or same(one.switches["A"].held, held) or same(one.report(), (0, IN_FLIGHT, ""))
-            one.switches["A"].fate = plain
-            yield f"a switch that {name}, again", same(one.run(), finished(1, 1)) or one.misses()
+        end = one.run("run --rounds 2", one.having(SWANROLL_TIMEOUT="100"))
+        yield "a fleet with an address that refuses", same(end, stopped(5, "rounds spent: rounds 2, item 0 operation 1")) or same(one.report(), (0, IN_FLIGHT, ""))
     value = planned(program, FULL_TABLES)
     with rollout(program, value) as one:
         write_fleet(one.fleet, [switch for name, switch in one.switches.items() if name != "Y"])
@@ -327,6 +319,17 @@ def no_port(program):
     with rollout(program, odd) as one:
         yield "a name with spaces and quotes", same(one.run(), finished(1, 0)) or one.misses()
         yield "a name with spaces and quotes, no fleet", same(one.run(environment=one.without("SWANROLL_FLEET")), stopped(9, 'port fault at "left \\"edge\\" "'))
+
+
+def going(program, limit):
+    """A switch that goes each time that a command comes."""
+    for name, fate, held in (("hangs up", hung_up, {}), ("goes within an answer", cut_off, {0: (0, 1)})):
+        with rollout(program, ONE, None, fate) as one:
+            end = one.run("run --rounds 2", one.having(SWANROLL_TIMEOUT=limit))
+            spent = stopped(5, "rounds spent: rounds 2, item 0 operation 1")
+            yield f"a switch that {name}", same(end, spent) or same(one.switches["A"].held, held) or same(one.report(), (0, IN_FLIGHT, ""))
+            one.switches["A"].fate = plain
+            yield f"a switch that {name}, again", same(one.run(), finished(1, 1)) or one.misses()
 
 
 def refused_journals(program):
@@ -548,11 +551,13 @@ def rolled_out(reference, static, image, held, migration, policy):
 
 
 def outcomes(program, reference):
-    kinds = [from_nothing, to_the_end, rounds_enough, one_port_of_two, ranked, migrations, goes_on, words, refused, rounds_spent, no_journal, no_port, refused_journals, damaged_journals,
+    kinds = [from_nothing, to_the_end, rounds_enough, ranked, migrations, goes_on, words, refused, no_journal, no_port, refused_journals, damaged_journals,
              alien_answers, streams, killed_between]
     if reference is None:
         for kind in kinds:
             yield from kind(program)
+        for kind in (one_port_of_two, rounds_spent, going):
+            yield from by_first_that_fits(kind, program, LIMITS)
     else:
         known = Reference(reference)
         yield from drawn(program, known)

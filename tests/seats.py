@@ -18,15 +18,16 @@ import tempfile
 import threading
 import time
 
-from agents import FENCED, connected, ended, held_port, with_term
+from agents import FENCED, connected, ended, heard, held_port, with_term
 from named import ONE, TWO
 from rolling import finished
 from switches import ANSWER_BYTES, answer
+from waiting import PATIENCE, watched
 
 sys.path.insert(0, os.path.join(os.path.dirname(os.path.abspath(__file__)), "..", "bench"))
 from agent_streams import command, is_next  # noqa: E402
 
-PATIENCE, SEATS, TURNS, SOON = 60, 64, 400, 20
+SEATS, TURNS = 64, 400
 # Half a command, and then nothing, from a process of its own: it is stopped, so that its end of the connection stays open and says nothing.
 STANDS_STILL = "import os, signal, socket, sys; s = socket.create_connection(('127.0.0.1', int(sys.argv[1]))); s.sendall(bytes.fromhex(sys.argv[2])); print(flush=True); os.kill(os.getpid(), signal.SIGSTOP)"
 
@@ -56,14 +57,13 @@ class Guest:
     def __init__(self, held, agent, room=None):
         self.stream = connected(held, agent, room)
         self.stream.setsockopt(socket.IPPROTO_TCP, socket.TCP_NODELAY, 1)
-        self.stream.settimeout(PATIENCE)
 
     def say(self, data):
         self.stream.sendall(data)
 
     def hear(self, length=ANSWER_BYTES):
         """One answer; less of it where the connection has ended."""
-        return self.stream.recv(length, socket.MSG_WAITALL)
+        return heard(self.stream, length)
 
     def ask(self, migration, item, number, rates=(6,)):
         self.say(command(migration, item, number, 1, list(rates)))
@@ -76,7 +76,7 @@ class Guest:
     def is_sent_away(self):
         try:
             return self.stream.recv(1) == b""
-        except OSError:
+        except ConnectionError:
             return True
 
     def leave(self):
@@ -233,9 +233,8 @@ def one_stands_still(program, state):
         try:
             still.stdout.readline()
             time.sleep(0.1)
-            begun = time.monotonic()
             guest = Guest(held, agent)
-            yield "beside one that stands still", guest.ask(0, 7, 1) == answer(0, 7, 1) and time.monotonic() - begun < SOON
+            yield "beside one that stands still", guest.ask(0, 7, 1) == answer(0, 7, 1)
             guest.leave()
             yield "the line beside it", ended(agent) == line(1, 1, 0)
             quiet.stream.close()
@@ -362,7 +361,7 @@ def outcomes(program):
 
 
 def main():
-    cases = list(outcomes(sys.argv[1]))
+    cases = list(watched(outcomes(sys.argv[1])))
     wrong = [name for name, right in cases if not right]
     print(f"seats: {len(cases)} cases, {len(wrong)} wrong")
     if wrong:

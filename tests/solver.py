@@ -20,7 +20,7 @@ from outcomes import report
 
 TOOLS = os.path.join(os.path.dirname(os.path.abspath(__file__)), "..", "tools")
 SCRIPT = os.path.join(TOOLS, "plan_by_solver.py")
-MOST, SECONDS = 12, 60
+MOST, SECONDS = 12, 3600
 # How many rate steps it takes for the networks, as examples/README.md says.
 NETWORKS = {"abilene": 3, "b4": 2, "nsfnet": 2, "geant": 5, "hundred": 3, "two-thirds": 2}
 RING, FLOWS = 9, 8

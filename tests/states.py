@@ -17,14 +17,15 @@ import tempfile
 import threading
 import time
 
-from agents import FENCED, connected, held_port, with_term
+from agents import FENCED, connected, heard, held_port, with_term
 from switches import ANSWER_BYTES, answer, next_command
 from syncs import NUMBERS, Calls
+from waiting import PATIENCE, watched
 
 sys.path.insert(0, os.path.join(os.path.dirname(os.path.abspath(__file__)), "..", "bench"))
 from agent_streams import command, is_next  # noqa: E402
 
-KIND, OPEN, MADE, PATIENCE, MOST_CALLS, KILLS = 0x55, 0x47, 11, 60, 60, 100
+KIND, OPEN, MADE, MOST_CALLS, KILLS = 0x55, 0x47, 11, 60, 100
 FAULT = (8, "", "state device fault\n")
 # Reads of commands, one behind the other: each is sent whole, and its answers are awaited before the next one goes out.
 READS = [
@@ -245,9 +246,9 @@ def floors(program, folder):
         with started(program, row, 10) as (held, agent):
             with connected(held, agent) as guest:
                 guest.sendall(said)
-                heard = guest.recv(len(answered), socket.MSG_WAITALL)
+                told_of = heard(guest, len(answered))
             agent.kill()
-        yield f"row {number}, and a kill behind it", heard == answered
+        yield f"row {number}, and a kill behind it", told_of == answered
     older = os.path.join(folder, "older")
     with started(program, older) as (held, agent):
         talk(held, agent, READS)
@@ -423,7 +424,7 @@ def main():
     program, failed, count = os.path.abspath(sys.argv[1]), 0, 0
     with tempfile.TemporaryDirectory() as folder:
         for rows in (worked, floors, each_call, cut_and_torn, refused, grown, killed):
-            for name, good in rows(program, folder):
+            for name, good in watched(rows(program, folder)):
                 count += 1
                 if not good:
                     failed += 1

@@ -15,11 +15,13 @@ import sys
 import threading
 import time
 
+from waiting import PATIENCE
+
 sys.path.insert(0, os.path.join(os.path.dirname(os.path.abspath(__file__)), "..", "bench"))
 from agent_streams import HEAD, KIND, MOST_RATES, is_next  # noqa: E402
 
 Command = collections.namedtuple("Command", "migration item number scale rates")
-ANSWER, ANSWER_BYTES, PATIENCE = 0x4E, 13, 120
+ANSWER, ANSWER_BYTES = 0x4E, 13
 
 
 def answer(migration, item, number):

@@ -11,6 +11,8 @@ import socket
 import struct
 import threading
 
+from waiting import PATIENCE
+
 LIBC = ctypes.CDLL(None, use_errno=True)
 NO_NEW_PRIVILEGES, FILTER, LISTENER = 38, 1, 8
 RECEIVE, SEND, GOES_ON = 0xC0502100, 0xC0182101, 1
@@ -96,7 +98,7 @@ class Calls:
 
     def close(self):
         if self.thread:
-            self.thread.join(10)
+            self.thread.join(PATIENCE)
             os.close(self.listener)
         self.here.close()
         self.there.close()

@@ -19,7 +19,8 @@ from journal_files import entries_in, kept_in
 from named import FULL_TABLES, LATE, TWO, document, read
 from outcomes import report
 from rolling import Rollout, finished, planned, rollout, same, stopped
-from switches import PATIENCE, Switch, next_command, plain
+from switches import Switch, next_command, plain
+from waiting import until
 
 ONE, AHEAD, PASSING = json.loads(read("one.out")), document("ahead.json"), document("passing.json")
 USAGE = (2, "", "usage: swanroll COMMAND [--NAME VALUE]\n")
@@ -215,9 +216,7 @@ def older(program, value, means):
 
     with taken(program, value, fates=fate) as one:
         old = one.fed("run --rounds 200000 --workers 1", one.having(SWANROLL_TIMEOUT="50"))
-        until = time.monotonic() + PATIENCE
-        while not one.asked() and time.monotonic() < until:
-            time.sleep(0.01)
+        until(one.asked)
         time.sleep(0.2)
         if means == "hung":
             old.send_signal(signal.SIGSTOP)

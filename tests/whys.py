@@ -14,6 +14,7 @@ from journal_files import PARTS, SLOT, slot
 from named import FULL_TABLES, ONE
 from outcomes import report
 from rolling import planned, rollout, same, stopped
+from waiting import PATIENCE
 
 WHY = os.path.join(os.path.dirname(os.path.abspath(__file__)), "..", "bin", "why")
 NO_JOURNAL, NO_PORT, FINE = stopped(8, "journal device fault"), stopped(9, 'port fault at "A"'), "nothing is wrong"
@@ -21,7 +22,7 @@ NO_JOURNAL, NO_PORT, FINE = stopped(8, "journal device fault"), stopped(9, 'port
 
 def why(one, environment=None, *words):
     """The status of `bin/why`, and what it says of the journal and of each switch."""
-    done = subprocess.run([WHY, *words], input=one.text, env=environment or one.environment, capture_output=True, text=True, timeout=120)
+    done = subprocess.run([WHY, *words], input=one.text, env=environment or one.environment, capture_output=True, text=True, timeout=PATIENCE)
     return done.returncode, [line.partition('": ')[2] for line in done.stdout.splitlines()], done.stderr
 
 
@@ -114,7 +115,7 @@ def connections(program):
             pass
         status, told, notes = why(one)
         yield "each switch at which there is work", same((status, set(told[1:]), notes), (1, {"it has no line in the fleet file"}, "")) or same(len(told) - 1, homes(one))
-        none = subprocess.run([WHY], input="{}", env=one.environment, capture_output=True, text=True, timeout=120)
+        none = subprocess.run([WHY], input="{}", env=one.environment, capture_output=True, text=True, timeout=PATIENCE)
         yield "what is no document", same((none.returncode, none.stdout, "no document" in none.stderr), (1, "", True))
 
 

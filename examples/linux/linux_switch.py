@@ -3,10 +3,9 @@
     linux_switch.py FOLDER SWITCH ADDRESS
 
 An entry is a route to its tunnel's label. A flow's split is the sender's rates, or the kernel's group of next hops with weights. What a command takes is
-drawn by the lab's seed; the lab is told of each that was carried out.
+drawn by the lab's seed; the lab is told of each that was carried out, before it is answered.
 """
 
-import contextlib
 import json
 import math
 import os
@@ -20,14 +19,14 @@ sys.path.append(os.path.join(os.path.dirname(os.path.abspath(__file__)), "..", "
 from network import destination, label, read_network  # noqa: E402
 from swanroll_agent import serve  # noqa: E402
 
-PATIENCE, MOST_WEIGHT = 10, 256
+PATIENCE, MOST_WEIGHT = 300, 256
 
 
 class Device:
     """What the items of one switch are in the kernel and at the sender. `put` of what is there already changes nothing."""
 
     def __init__(self, network, switch, folder):
-        self.network, self.switch, self.folder = network, switch, folder
+        self.network, self.switch, self.folder, self.asked = network, switch, folder, 0
         self.place = os.path.join(folder, f"device-{switch}-{os.getpid()}")
         self.socket = socket.socket(socket.AF_UNIX, socket.SOCK_DGRAM)
         self.socket.bind(self.place)
@@ -53,6 +52,15 @@ class Device:
             self.ask_source(item.flow, self.sent_rates(rates, scale))
         else:
             self.put_group(item, rates, scale)
+
+    def ask(self, whom, *words):
+        """What the source answers, or the lab. The answer to an earlier question, which came too late, is passed over."""
+        self.asked += 1
+        self.socket.sendto(json.dumps([self.asked, *words]).encode(), os.path.join(self.folder, whom))
+        while True:
+            number, answer = json.loads(self.socket.recv(1 << 16))
+            if number == self.asked:
+                return answer
 
     # Entries.
 
@@ -80,8 +88,7 @@ class Device:
 
     def ask_source(self, flow, rates):
         """The rates by which the sender sends a flow, once it has taken these."""
-        self.socket.sendto(json.dumps([flow, rates]).encode(), os.path.join(self.folder, "source"))
-        return json.loads(self.socket.recv(1 << 16))
+        return self.ask("source", flow, rates)
 
     def weights(self, item, rates):
         """The weight of each tunnel that has a rate, as near as 256 steps allow."""
@@ -116,7 +123,6 @@ def main():
     folder, switch, address = sys.argv[1], int(sys.argv[2]), sys.argv[3]
     network = read_network(folder)
     device, draw = Device(network, switch, folder), random.Random(f"{network.words.seed} {switch}")
-    events = socket.socket(socket.AF_UNIX, socket.SOCK_DGRAM)
 
     def apply(number, rates, scale):
         item = network.items[number]
@@ -124,8 +130,7 @@ def main():
             return
         time.sleep(draw.uniform(*network.command_seconds(switch)))
         device.put(item, rates, scale)
-        with contextlib.suppress(OSError):  # the lab has seen enough
-            events.sendto(json.dumps([time.monotonic(), switch, number]).encode(), os.path.join(folder, "events"))
+        device.ask("events", switch)
 
     def settle(number):
         return network.settle() if network.items[number].tunnel is None else 0.0

@@ -7,6 +7,7 @@ import os
 import socket
 import struct
 import subprocess
+import time
 
 from network import FRAME_BYTES, destination
 
@@ -16,6 +17,7 @@ NEW_NETWORK = 0x40000000
 GET_QDISC, DUMP, DONE = 38, 0x301, 3
 KIND, STATS = 1, 3
 BUCKET_BYTES = 4 * FRAME_BYTES
+MULTICAST, MOST_SETTLING = "ff" + 30 * "0", 10
 
 Queue = collections.namedtuple("Queue", "bytes packets drops backlog")
 
@@ -58,6 +60,23 @@ def build(network):
         for flow, tunnels in enumerate(network.tunnels):
             if tunnels:
                 fed(["ip", "-6", "-n", f"s{network.paths[tunnels[0]][-1]}"], [f"route replace local {destination(flow)} dev lo"])
+    settle(near)
+
+
+def settle(near):
+    """Waits until the kernel takes each link as up, by the route that it then has for packets of its own there: before that it counts those among packets
+    without a route."""
+    end = time.monotonic() + MOST_SETTLING
+    for switch, others in near.items():
+        while multicast_devices(switch) < {f"to{to}" for to in others} and time.monotonic() < end:
+            time.sleep(0.02)
+
+
+def multicast_devices(switch):
+    """The devices of links for which a switch has the route ff00::/8."""
+    with inside(switch), open("/proc/thread-self/net/ipv6_route") as file:
+        rows = [line.split() for line in file]
+    return {row[-1] for row in rows if row[:2] == [MULTICAST, "08"] and row[-1].startswith("to")}
 
 
 @contextlib.contextmanager
@@ -112,10 +131,10 @@ def attributes_of(data, at, end):
     return found
 
 
-def counter(switch, name):
-    """A counter of a switch's IPv6, as Ip6InNoRoutes."""
+def counter(switch, *names):
+    """The sum of counters of a switch's IPv6, as Ip6InNoRoutes."""
     with inside(switch), open("/proc/thread-self/net/snmp6") as file:
-        return next(int(line.split()[1]) for line in file if line.startswith(name + " ") or line.startswith(name + "\t"))
+        return sum(int(value) for name, value in map(str.split, file) if name in names)
 
 
 def let_fall():
@@ -128,3 +147,9 @@ def first_in_line():
     """This process before all others, where that is allowed: a sender or a reader that is held up looks like a network that is."""
     with contextlib.suppress(PermissionError):
         os.sched_setscheduler(0, os.SCHED_FIFO, os.sched_param(1))
+
+
+def rest(begun, due=0.0):
+    """Sleeps until a moment, and no less than was worked since another one: what comes before all other processes leaves them half of its processor."""
+    now = time.monotonic()
+    time.sleep(max(now - begun, due - now))

@@ -19,10 +19,10 @@ import struct
 import sys
 import time
 
-from namespaces import first_in_line, inside
+from namespaces import first_in_line, inside, rest
 from network import FRAME_BYTES, HEADERS, destination, label, read_network
 
-PORT, TICK, MOST_BEHIND = 5000, 0.001, 0.005
+PORT, TICK, MOST_BEHIND, QUIET = 5000, 0.001, 0.005, 0.5
 BUFFER_BYTES, SEND_FLOW_LABEL, RECEIVE_BUFFER_FORCE = 4 << 20, 33, 33
 STAMP = struct.Struct("=Id")
 
@@ -83,11 +83,11 @@ class Source:
                     stream.credit -= 1
                     self.send(number, stream)
             last = now
-            time.sleep(max(0.0, now + TICK - time.monotonic()))
+            rest(now, now + TICK)
         self.write()
 
     def send(self, number, stream):
-        """One packet. The kernel splits by the label of its flow, which is drawn for each; a full socket is no packet."""
+        """One packet. The kernel splits by the label of its flow, which is drawn for each; a full socket, or want of memory, is no packet."""
         now = time.monotonic()
         data = STAMP.pack(len(stream.times), now) + self.fill
         chosen = random.getrandbits(20) if self.network.split == "kernel" else 0
@@ -96,6 +96,8 @@ class Source:
         except BlockingIOError:
             return
         except OSError as fault:
+            if fault.errno in (errno.ENOBUFS, errno.ENOMEM):
+                return
             if fault.errno not in (errno.ENETUNREACH, errno.EHOSTUNREACH, errno.EACCES):
                 raise
             stream.refused.append(len(stream.times))
@@ -103,15 +105,18 @@ class Source:
 
     def hear(self):
         """Takes new rates of a flow, and answers with those that it has by then; without rates it only answers."""
-        with contextlib.suppress(BlockingIOError):
-            while True:
-                data, sender = self.control.recvfrom(1 << 16)
-                flow, rates = json.loads(data)
-                streams = self.of_flow[flow]
-                if rates is not None:
-                    for stream, rate in zip(streams, rates):
-                        stream.rate = rate
-                self.control.sendto(json.dumps([stream.rate for stream in streams]).encode(), sender)
+        while True:
+            try:
+                data, asker = self.control.recvfrom(1 << 16)
+            except BlockingIOError:
+                return
+            number, flow, rates = json.loads(data)
+            streams = self.of_flow[flow]
+            if rates is not None:
+                for stream, rate in zip(streams, rates):
+                    stream.rate = rate
+            with contextlib.suppress(OSError):  # an asker that was killed, or that reads no answers
+                self.control.sendto(json.dumps([number, [stream.rate for stream in streams]]).encode(), asker)
 
     def write(self):
         with open(os.path.join(self.folder, "sent"), "w") as file:
@@ -140,15 +145,23 @@ class Sink:
             opened.setsockopt(socket.SOL_SOCKET, RECEIVE_BUFFER_FORCE, BUFFER_BYTES)
 
     def run(self):
+        """Reads until it is asked to end, and nothing comes any more."""
         first_in_line()
         open(os.path.join(self.folder, "sink"), "w").close()
-        while not self.asked:
-            for key, _ in self.selector.select(0.1):
-                with contextlib.suppress(BlockingIOError):
-                    while True:
-                        self.take(key.data, key.fileobj.recv(2048))
+        while self.read() or not self.asked:
+            pass
         with open(os.path.join(self.folder, "seen"), "w") as file:
             json.dump({"slowest": self.slowest, "streams": [[number for number, here in enumerate(stream.seen) if here] for stream in self.streams]}, file)
+
+    def read(self):
+        """Takes what has come; whether anything has, after a while."""
+        ready, begun = self.selector.select(QUIET), time.monotonic()
+        for key, _ in ready:
+            with contextlib.suppress(BlockingIOError):
+                while True:
+                    self.take(key.data, key.fileobj.recv(2048))
+        rest(begun)
+        return bool(ready)
 
     def take(self, stream, data):
         number, sent = STAMP.unpack_from(data)

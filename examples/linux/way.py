@@ -6,6 +6,7 @@ It wants to be the first process of namespaces of its own, with a /run of its ow
 """
 
 import concurrent.futures
+import contextlib
 import json
 import os
 import socket
@@ -16,13 +17,15 @@ import threading
 import time
 
 from linux_switch import Device
-from namespaces import Queues, build, counter, first_in_line, let_fall
+from namespaces import Queues, build, counter, first_in_line, let_fall, rest
 from network import FRAME_BYTES, read_network, write_network
+from processes import Processes
 
-HERE = os.path.dirname(os.path.abspath(__file__))
 FOLDER = "/run/lab"
-SAMPLE, SHARP, BEHIND, PAUSE, PATIENCE, ANSWER_BYTES = 0.01, 0.003, 0.6, 0.5, 60, 13
+SAMPLE, SHARP, BEHIND, PAUSE, ANSWER_BYTES = 0.01, 0.003, 0.6, 0.5, 13
+PATIENCE = 600  # seconds for a way that takes ten on a quiet machine: only what stands still takes so long
 LIMIT, MOST_ROUNDS, MOST_STARTS = "100", "20000", 20
+UNREAD = ("Udp6RcvbufErrors", "Udp6MemErrors")
 AGAIN = (5, 9, 12, -9)  # statuses after which a controller is started again; the last is a kill
 
 
@@ -31,7 +34,7 @@ class Watch(threading.Thread):
     nothing of a moment, and is left out."""
 
     def __init__(self, network):
-        super().__init__(daemon=True)
+        super().__init__(name="the watch on the queues", daemon=True)
         self.queues = [Queues(network, switch) for switch in range(len(network.names))]
         self.samples, self.drops = {link: [] for link in network.capacity}, {link: 0 for link in network.capacity}
         self.is_asked = False
@@ -40,10 +43,15 @@ class Watch(threading.Thread):
         first_in_line()
         due = time.monotonic()
         while not self.is_asked:
-            for queues in self.queues:
-                self.sample(queues)
+            begun = time.monotonic()
+            self.sample_all()
             due = max(due + SAMPLE, time.monotonic())
-            time.sleep(max(0.0, due - time.monotonic()))
+            rest(begun, due)
+        self.sample_all()  # drops may have come since the last one
+
+    def sample_all(self):
+        for queues in self.queues:
+            self.sample(queues)
 
     def sample(self, queues):
         begun = time.monotonic()
@@ -60,26 +68,40 @@ class Way:
         self.network = read_network(FOLDER)
         self.given = self.network.words
         self.slow = self.network.number[self.given.slow] if self.given.slow else None
-        self.agents, self.events, self.kills = {}, [], []
+        self.homes = sorted({self.network.number[item.switch] for item in self.network.items if item.switch})
+        self.carried_out, self.kills, self.starting = 0, [], threading.Lock()
+        self.processes = Processes(PATIENCE, self.stands)
         self.told = socket.socket(socket.AF_UNIX, socket.SOCK_DGRAM)
         self.told.bind(os.path.join(FOLDER, "events"))
+
+    def stands(self):
+        """How far the way is, for whoever looks for what stands still."""
+        killed = [name for _, name in self.kills]
+        return f"{self.given.way}, {self.carried_out} commands carried out, killed {killed}, the controller's notes {self.read_notes()!r}"
+
+    @staticmethod
+    def read_notes():
+        with contextlib.suppress(FileNotFoundError), open(os.path.join(FOLDER, "notes")) as told:
+            return told.read().strip()
+        return ""
 
     # What stands before the change.
 
     def start(self):
         """The network, an agent at each switch, and the packets of the old split, once all processes are there."""
         build(self.network)
-        for switch in sorted({self.network.number[item.switch] for item in self.network.items if item.switch}):
+        for switch in self.homes:
             self.start_agent(switch)
-        for switch in self.agents:
+        for switch in self.homes:
             self.connected(switch).close()
         with open(os.path.join(FOLDER, "fleet"), "w", encoding="utf-8") as file:
-            file.writelines(f"{self.network.names[switch]} 127.0.0.1:{7000 + switch}\n" for switch in self.agents)
+            file.writelines(f"{self.network.names[switch]} 127.0.0.1:{7000 + switch}\n" for switch in self.homes)
         self.counted = self.counts()
         self.watch = Watch(self.network)
         self.watch.start()
-        threading.Thread(target=self.listen, daemon=True).start()
-        self.sink, self.source = self.traffic("sink"), self.traffic("source")
+        threading.Thread(target=self.listen, name="the kills", daemon=True).start()
+        self.start_traffic("sink")
+        self.start_traffic("source")
         self.devices = [Device(self.network, switch, FOLDER) for switch in range(len(self.network.names))]
         for item in reversed(self.network.items):  # entries before splits
             if item.switch and any(self.network.content(item, 0)):
@@ -93,31 +115,25 @@ class Way:
     def device(self, item):
         return self.devices[self.network.number[item.switch]]
 
-    def process(self, name, *words):
-        return subprocess.Popen([sys.executable, "-B", os.path.join(HERE, name), *map(str, words)], stdin=subprocess.DEVNULL, stdout=sys.stderr)
-
-    def traffic(self, name):
-        """The source or the sink, once it is ready."""
-        started = self.process("traffic.py", name, FOLDER)
-        end = time.monotonic() + PATIENCE
+    def start_traffic(self, name):
+        """The source or the sink, which is ready when this returns."""
+        self.processes.begin(name, "traffic.py", name, FOLDER)
         while not os.path.exists(os.path.join(FOLDER, name)):
-            if time.monotonic() > end or started.poll() is not None:
-                raise SystemExit(f"lab: the {name} of packets didn't start")
             time.sleep(0.01)
-        return started
+
+    def agent(self, switch):
+        return f"agent of {self.network.names[switch]}"
 
     def start_agent(self, switch):
-        self.agents[switch] = self.process("linux_switch.py", FOLDER, switch, f"127.0.0.1:{7000 + switch}")
+        self.processes.begin(self.agent(switch), "linux_switch.py", FOLDER, switch, f"127.0.0.1:{7000 + switch}")
 
-    def connected(self, switch):
-        end = time.monotonic() + PATIENCE
+    @staticmethod
+    def connected(switch):
+        """A connection to an agent, once it listens."""
         while True:
-            try:
-                return socket.create_connection(("127.0.0.1", 7000 + switch), PATIENCE)
-            except ConnectionRefusedError:
-                if time.monotonic() > end or self.agents[switch].poll() is not None:
-                    raise SystemExit(f"lab: the agent of {self.network.names[switch]} didn't start") from None
-                time.sleep(0.02)
+            with contextlib.suppress(ConnectionRefusedError):
+                return socket.create_connection(("127.0.0.1", 7000 + switch))
+            time.sleep(0.02)
 
     # The ways.
 
@@ -159,39 +175,46 @@ class Way:
         environment = dict(os.environ, SWANROLL_JOURNAL=os.path.join(FOLDER, "journal"), SWANROLL_FLEET=os.path.join(FOLDER, "fleet"), SWANROLL_TIMEOUT=LIMIT)
         notes = os.path.join(FOLDER, "notes")
         for _ in range(MOST_STARTS):
-            with open(os.path.join(FOLDER, "document")) as document, open(notes, "w") as told:
+            with self.starting, open(os.path.join(FOLDER, "document")) as document, open(notes, "w") as told:
                 self.controller = subprocess.Popen([self.given.controller, "run", "--rounds", MOST_ROUNDS], env=environment, stdin=document, stdout=told, stderr=told)
             self.status = self.controller.wait()
             if self.status not in AGAIN:
                 break
             time.sleep(PAUSE)
-        with open(notes) as told:
-            self.notes = told.read().strip()
+        self.notes = self.read_notes()
 
     # Kills, by commands that were carried out.
 
     def listen(self):
+        """Hears of each command that was carried out. Its agent waits for an answer, so that a kill comes before the command is answered."""
         while True:
-            self.events.append(json.loads(self.told.recv(1 << 10)))
+            data, agent = self.told.recvfrom(1 << 10)
+            number, switch = json.loads(data)
+            self.carried_out += 1
             if self.given.way == "run":
-                self.kill(len(self.events))
+                self.kill(self.carried_out, switch)
+            with contextlib.suppress(OSError):  # that agent was killed
+                self.told.sendto(json.dumps([number, None]).encode(), agent)
 
-    def kill(self, count):
+    def kill(self, count, switch):
+        """Does what is to be done once so many commands are carried out, the last of them at this switch."""
         if count == self.given.kill:
             self.kills.append((time.monotonic(), "controller"))
-            self.controller.kill()
+            with self.starting:
+                self.controller.kill()
         if count == self.given.kill_agent:
-            switch = self.events[-1][1] if self.slow is None else self.slow
-            self.kills.append((time.monotonic(), f"agent of {self.network.names[switch]}"))
-            self.agents[switch].kill()
-            self.agents[switch].wait()
-            threading.Timer(PAUSE, self.start_agent, [switch]).start()
+            switch = switch if self.slow is None else self.slow
+            self.kills.append((time.monotonic(), self.agent(switch)))
+            self.processes.kill(self.agent(switch))
+            again = threading.Timer(PAUSE, self.start_agent, [switch])
+            again.name, again.daemon = f"the start of the {self.agent(switch)}", True
+            again.start()
 
     # What is measured.
 
     def counts(self):
         """Packets that found no route at a switch, and those that the machine was too busy for: nobody read them in time, or no processor had the time."""
-        no_route, unread = (sum(counter(switch, name) for switch in range(len(self.network.names))) for name in ("Ip6InNoRoutes", "Udp6RcvbufErrors"))
+        no_route, unread = (sum(counter(switch, *names) for switch in range(len(self.network.names))) for names in (("Ip6InNoRoutes",), UNREAD))
         return no_route, unread + let_fall()
 
     def measured(self):
@@ -203,21 +226,15 @@ class Way:
         missed = [item.number for item in self.network.items
                   if item.switch and not self.device(item).carries(item, self.network.content(item, -1), self.scale(item))]
         stopped = time.monotonic()
-        self.end(self.source)
+        self.processes.end("source")
         time.sleep(BEHIND)
         self.watch.is_asked = True
         self.watch.join()
-        self.end(self.sink)
+        self.processes.end("sink")
         no_route, too_busy = (now - before for now, before in zip(self.counts(), self.counted))
         return {"way": self.given.way, "status": self.status, "notes": self.notes, "missed": missed, "kills": self.kills,
                 "begun": begun, "ended": ended, "stopped": stopped, "no_route": no_route, "too_busy": too_busy,
                 "loads": self.loads(), **self.packets()}
-
-    @staticmethod
-    def end(process):
-        process.terminate()
-        if process.wait(PATIENCE):
-            raise SystemExit(f"lab: {process.args[-2]} ended with {process.returncode}")
 
     def loads(self):
         """Of each link its name, its capacity in bytes a second, what was offered by each moment of a sample, and the packets dropped in all."""
