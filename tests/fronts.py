@@ -69,7 +69,7 @@ def cases(program):
         yield from cut_at(program, words[0], words, given, every)
     large = subprocess.run([sys.executable, "-B", TOP / "bench/generate.py", "--share", "32"], stdout=subprocess.PIPE, check=True).stdout
     document = ran(program, ("plan",), large)[1]
-    for words, given in ((("plan",), large), (("back",), document)):
+    for words, given in ((("plan",), large), (("back",), document), (("loads",), document), (("explain",), document)):
         yield from cut_at(program, f"{words[0]} of a long text", words, given, around_buffers)
 
 

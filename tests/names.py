@@ -130,6 +130,26 @@ def names_of_code():
     return words
 
 
+def proofs_cited():
+    """Of each crate the modules of proofs that other crates cite."""
+    found = {}
+    for crate in crates():
+        for folder, below, files in os.walk(os.path.join(TOP, "crates", crate)):
+            below[:] = [name for name in below if name not in ("out", "must-fail")]
+            code = "".join(text(folder, name) for name in files if name.endswith((".rt", ".antt")))
+            for other, module in re.findall(r"\b(\w+)(?:\.|::)proofs(?:\.|::)([A-Z]\w*)", code):
+                if other in crates() and other != crate:
+                    found.setdefault(other, set()).add(module)
+    return found
+
+
+def proofs_told():
+    """Of each crate the modules of proofs that docs/ARCHITECTURE.md says are cited; None where it says all."""
+    table = text("docs/ARCHITECTURE.md").split("Of lower proofs they cite", 1)[1].split("\n\n", 2)[1]
+    rows = re.findall(r"^\| `(\w+)` \| (.*?) \|", table, re.M)
+    return {crate: None if cell.startswith("all") else set(re.findall(r"`([A-Z]\w*)`", cell)) for crate, cell in rows}
+
+
 def names_cited(document):
     """What looks like a name of the code between a document's back quotes: `like_this`, `LikeThis`, `This`."""
     prose = re.sub(r"```.*?```", "", text(document), flags=re.S)
@@ -170,6 +190,10 @@ def outcomes():
     yield "the table of the environment", same(sorted(rows_of("docs/COMMANDS.md", "Variable")), variables())
     for name in variables():
         yield f"{name} in bin/help.txt", None if name in text("bin/help.txt") else "it isn't named"
+    told_of = proofs_told()
+    for crate, modules in proofs_cited().items():
+        told_modules = told_of.get(crate, set())
+        yield f"the proofs of {crate} that others cite", None if told_modules is None else same(sorted(told_modules), sorted(modules))
     yield "the table of statuses", same(sorted(map(int, rows_of("docs/COMMANDS.md", "Status"))), statuses())
     yield "the table of crates", same(sorted(sum(map(names_in, rows_of("docs/PROVED.md", "Crate", whole=True)), [])), sorted(crates()))
     sections = sum(map(names_in, re.findall(r"^### (.*)$", text("docs/PROVED.md"), re.M)), [])

@@ -1,22 +1,15 @@
 //! The books of small rollouts.
-ghost use Rattle.std.specs.Prelude.{◌≡◌, [], IfOk, IfSome};
-ghost use Rattle.order_policy.specs.Answers.{rank_by};
-ghost use Rattle.rollout_book.specs.Lists.{IsKeptList};
+ghost use Rattle.std.specs.Prelude.{◌≡◌, [], IfOk};
 ghost use Rattle.rollout_rules.specs.History.{from_nothing};
-ghost use Rattle.shared_book.specs.Opened.{IsOpened, opening_of};
 
 use dependency_graph::Graph;
-use disk_model::{Disk, MemoryDisk};
-use intent_journal::{Digest, Unopened, digest_of};
+use disk_model::Disk;
+use fixtures::plan_of_document;
+use intent_journal::{Digest, digest_of};
 use lists::Memory;
-use order_policy::Policy;
-use plan_check::check_plan;
-use problem_json::read_document;
 use rollout_book::Book;
 use std::alloc::Global;
 use std::test::Fail;
-use wan_edge::{Nums8, Turns};
-use wan_model::CheckedPlan;
 use wire_frames::{Answer, Command};
 
 /// One flow moves 3 of its 4 to a second path in one step.
@@ -40,25 +33,6 @@ pub const SWITCHES: [u32; 8] = [0, 1, 2, 3, 4, 5, 6, 7];
 /// How many calls a disk without a byte has until a book is open on it.
 pub const CALLS_TO_OPEN: u64 = 9;
 
-/// A disk in memory without a byte, of which these calls fail.
-pub fn disk_of(alloc: Global, fails: &[u64]) -> Result<MemoryDisk, Memory> {
-    let mut turns = Turns::new(alloc);
-    turns.extend_from_slice(fails)?;
-    Ok(MemoryDisk::new(alloc, Nums8::new(alloc), turns))
-}
-
-/// The plan of a document. Fails where the document or its plan is refused.
-pub fn plan_of_document(alloc: Global, text: &str) -> Result<CheckedPlan, Fail> {
-    let document = read_document(alloc, text.as_bytes())?;
-    match check_plan(alloc, &document.problem, &document.plan) {
-        Ok(()) => Ok(CheckedPlan::seal(document.problem, document.plan)),
-        Err(fault) => {
-            drop(document);
-            Err(Fail::from(fault))
-        }
-    }
-}
-
 /// The graph of a rollout, at its start.
 pub fn graph_of(alloc: Global, text: &str) -> Result<Graph, Fail>
     ensures { IfOk result (λ graph. graph.history ≡ from_nothing graph.rollout.problem []) }
@@ -75,26 +49,6 @@ pub fn graph_of(alloc: Global, text: &str) -> Result<Graph, Fail>
 /// What each of these journals is known by.
 pub fn digest() -> Digest {
     digest_of("one", "planned", 0)
-}
-
-/// The book of a rollout, opened on a disk.
-pub fn open_book<'d, D: Disk>(
-    alloc: Global,
-    graph: Graph,
-    digest: &Digest,
-    policy: &'d Policy,
-    disk: D,
-) -> Result<Book<'d, D>, Unopened<D>>
-    requires empty { graph.history ≡ from_nothing graph.rollout.problem [] }
-    ensures opened { IfOk result
-        (λ book. IsOpened (opening_of book.chronicle (rank_by book.policy.now.answers))
-        book.chronicle) }
-    ensures has { IfOk result
-        (λ book. IfSome (D.told book.chronicle.disk).bytes
-        (IsKeptList book.chronicle.history.start book.chronicle.entries
-        (D.told book.chronicle.disk).may_leave)) }
-{
-    Book::open(alloc, graph, digest, policy, disk)
 }
 
 /// Takes a book apart, and gives its disk. What the graph kept beside its plan goes in the graph's own crate.

@@ -2,15 +2,14 @@
 ghost use Rattle.std.specs.Prelude.{◌≡◌, []};
 ghost use Rattle.rollout_rules.specs.History.{from_nothing};
 
-use crate::books::{
-    CALLS_TO_OPEN, digest, disk_behind, disk_of, graph_of, late, one, open_book, tables,
-};
+use crate::books::{CALLS_TO_OPEN, digest, disk_behind, graph_of, late, one, tables};
 use crate::histories::{are_answered, are_stopped, are_told, before_the_fault, counts_up};
 use crate::many::CALLS;
 use crate::sharing::{ALIKE, Done, SEATS, Task, share_ranked};
 use crate::threads::Part;
 use dependency_graph::Graph;
 use disk_model::{Disk, MemoryDisk};
+use fixtures::{disk_of, open_book};
 use lists::Memory;
 use order_policy::Policy;
 use rollout_book::Book;

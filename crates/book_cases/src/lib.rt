@@ -9,11 +9,7 @@ mod crowds;
 #[cfg(test)]
 mod histories;
 #[cfg(test)]
-mod jobs;
-#[cfg(test)]
 mod many;
-#[cfg(test)]
-mod nowhere;
 #[cfg(test)]
 mod rows;
 #[cfg(test)]

@@ -6,8 +6,8 @@ ghost use Rattle.book_cases.specs.Seats.{HasCalled, MayCall, TakesAny};
 
 use crate::books::{SWITCHES, answers_to};
 use crate::histories::{Kind, kind_of, said_of_list, said_of_round, said_of_wake};
-use crate::nowhere::as_heard;
 use disk_model::Disk;
+use fixtures::as_heard;
 use shared_book::{BookPass, Listed, Marker, Note, NoteList, SharedBook, What};
 use std::alloc::Global;
 use std::sync::Wait;

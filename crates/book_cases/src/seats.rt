@@ -4,8 +4,8 @@ ghost use Rattle.order_policy.specs.Answers.{rank_by};
 ghost use Rattle.shared_book.specs.Homes.{homes_of};
 ghost use Rattle.book_cases.specs.Seats.{HasCalled, MayCall, TakesAny};
 
-use crate::nowhere::as_heard;
 use disk_model::Disk;
+use fixtures::as_heard;
 use shared_book::{BookPass, Cause, Halt, ListReply, Listed, Marker, RoundReply, SharedBook, Wake};
 use std::alloc::Global;
 use std::sync::Wait;

@@ -9,11 +9,12 @@ ghost use Rattle.shared_book.specs.Images.{StandsSo};
 ghost use Rattle.shared_book.specs.Opened.{IsOpened, IsOpenedOn, opening_of};
 ghost use Rattle.book_cases.specs.Seats.{AllAreIn, MayCall, TakesAny};
 
-use crate::books::{digest, disk_behind, disk_of, graph_of, open_book};
+use crate::books::{digest, disk_behind, graph_of};
 use crate::rows::{Row, two_seats};
 use crate::threads::{Part, four_threads};
 use dependency_graph::Graph;
 use disk_model::Disk;
+use fixtures::{disk_of, open_book};
 use intent_journal::Unopened;
 use order_policy::Policy;
 use rollout_book::Book;

@@ -5,11 +5,11 @@ ghost use Rattle.turn_lock.specs.Passes.{IsFirstPass};
 ghost use Rattle.shared_book.specs.Homes.{homes_of};
 ghost use Rattle.book_cases.specs.Seats.{AllAreIn, HasCalled, MayCall, TakesAny};
 
-use crate::jobs::{Job, four_jobs};
 use crate::many::many_calls;
 use crate::rows::{Row, Seats, all_calls};
 use crate::seats::{Call, SeatReply, make_call};
 use disk_model::Disk;
+use fixtures::{Job, four_jobs};
 use rollout_book::Turn;
 use rollout_rules::Op;
 use shared_book::{BookPass, CallPass, Marker, NoteList, NotedBook, RoundReply, SharedBook, Wake};

@@ -3,11 +3,10 @@ ghost use Rattle.std.specs.Prelude.{◌≡◌};
 
 use controller_run::{Limits, RolloutEnd, RolloutResult, run_rollout};
 use disk_model::{Disk, MemoryDisk};
+use fixtures::{plan_of_document, two_flows};
 use lists::{Memory, Text};
 use lossy_link::{Gate, GatedPort, MemoryFleet};
 use order_policy::Policy;
-use plan_check::check_plan;
-use problem_json::read_document;
 use std::alloc::Global;
 use std::sync::Wait;
 use std::test::Fail;
@@ -15,26 +14,9 @@ use std::thread::Threads;
 use wan_edge::{Fleet, Nums8, Turns};
 use wan_model::{CheckedPlan, OpView};
 
-/// Two flows at two switches, which each move 3 of their 4 at once.
-pub fn two() -> &'static str {
-    "{\"plan\":{\"scale\":1,\"stages\":[{\"installed\":[true,true,true,true],\"rates\":[4,0,4,0]},{\"installed\":[true,true,true,true],\"rates\":[1,3,1,3]}]},\"problem\":{\"flows\":[{\"name\":\"f\",\"tunnels\":[{\"new\":1,\"old\":4,\"path\":[\"A\",\"X\"]},{\"new\":3,\"old\":0,\"path\":[\"A\",\"Y\",\"X\"]}]},{\"name\":\"g\",\"tunnels\":[{\"new\":1,\"old\":4,\"path\":[\"B\",\"X\"]},{\"new\":3,\"old\":0,\"path\":[\"B\",\"Y\",\"X\"]}]}],\"links\":[{\"capacity\":10,\"from\":\"A\",\"to\":\"X\"},{\"capacity\":10,\"from\":\"A\",\"to\":\"Y\"},{\"capacity\":10,\"from\":\"Y\",\"to\":\"X\"},{\"capacity\":10,\"from\":\"B\",\"to\":\"X\"},{\"capacity\":10,\"from\":\"B\",\"to\":\"Y\"}],\"switches\":[{\"name\":\"A\",\"table\":8},{\"name\":\"B\",\"table\":8},{\"name\":\"X\",\"table\":8},{\"name\":\"Y\",\"table\":8}]}}"
-}
-
 // Four such flows, at the switches with the numbers 0 to 3.
 fn four() -> &'static str {
     "{\"plan\":{\"scale\":1,\"stages\":[{\"installed\":[true,true,true,true,true,true,true,true],\"rates\":[4,0,4,0,4,0,4,0]},{\"installed\":[true,true,true,true,true,true,true,true],\"rates\":[1,3,1,3,1,3,1,3]}]},\"problem\":{\"flows\":[{\"name\":\"f\",\"tunnels\":[{\"new\":1,\"old\":4,\"path\":[\"A\",\"X\"]},{\"new\":3,\"old\":0,\"path\":[\"A\",\"Y\",\"X\"]}]},{\"name\":\"g\",\"tunnels\":[{\"new\":1,\"old\":4,\"path\":[\"B\",\"X\"]},{\"new\":3,\"old\":0,\"path\":[\"B\",\"Y\",\"X\"]}]},{\"name\":\"h\",\"tunnels\":[{\"new\":1,\"old\":4,\"path\":[\"C\",\"X\"]},{\"new\":3,\"old\":0,\"path\":[\"C\",\"Y\",\"X\"]}]},{\"name\":\"i\",\"tunnels\":[{\"new\":1,\"old\":4,\"path\":[\"D\",\"X\"]},{\"new\":3,\"old\":0,\"path\":[\"D\",\"Y\",\"X\"]}]}],\"links\":[{\"capacity\":20,\"from\":\"A\",\"to\":\"X\"},{\"capacity\":20,\"from\":\"A\",\"to\":\"Y\"},{\"capacity\":20,\"from\":\"Y\",\"to\":\"X\"},{\"capacity\":20,\"from\":\"B\",\"to\":\"X\"},{\"capacity\":20,\"from\":\"B\",\"to\":\"Y\"},{\"capacity\":20,\"from\":\"C\",\"to\":\"X\"},{\"capacity\":20,\"from\":\"C\",\"to\":\"Y\"},{\"capacity\":20,\"from\":\"D\",\"to\":\"X\"},{\"capacity\":20,\"from\":\"D\",\"to\":\"Y\"}],\"switches\":[{\"name\":\"A\",\"table\":8},{\"name\":\"B\",\"table\":8},{\"name\":\"C\",\"table\":8},{\"name\":\"D\",\"table\":8},{\"name\":\"X\",\"table\":8},{\"name\":\"Y\",\"table\":8}]}}"
-}
-
-/// The plan of a document. Fails where the document or its plan is refused.
-pub fn plan_of_document(alloc: Global, text: &str) -> Result<CheckedPlan, Fail> {
-    let document = read_document(alloc, text.as_bytes())?;
-    match check_plan(alloc, &document.problem, &document.plan) {
-        Ok(()) => Ok(CheckedPlan::seal(document.problem, document.plan)),
-        Err(fault) => {
-            drop(document);
-            Err(Fail::from(fault))
-        }
-    }
 }
 
 // The name of a switch with a port.
@@ -204,11 +186,11 @@ fn alone() -> Workload {
 fn workers_meet_at_their_gates_and_one_alone_spends_its_rounds(
     rt: HostRuntime,
 ) -> Result<(), Fail> {
-    let by_two = run_at_gates(&rt, rt.alloc(), two(), many(2), &[[0, 1]])?;
+    let by_two = run_at_gates(&rt, rt.alloc(), two_flows(), many(2), &[[0, 1]])?;
     assert!(rt; has_finished(by_two, 2));
     let by_four = run_at_gates(&rt, rt.alloc(), four(), many(4), &[[0, 1], [2, 3]])?;
     assert!(rt; has_finished(by_four, 4));
-    let by_one = run_at_gates(&rt, rt.alloc(), two(), alone(), &[[0, 1]])?;
+    let by_one = run_at_gates(&rt, rt.alloc(), two_flows(), alone(), &[[0, 1]])?;
     assert!(rt; has_stopped(by_one));
     Ok(())
 }

@@ -1,18 +1,13 @@
 //! One schedule of the definition's world, with a crash inside a write: taken event by event, and as a whole.
 
-use crate::gates::{plan_of_document, two};
 use dependency_graph::checked_plan_is_valid;
+use fixtures::{FIRST_BEGUN, FIRST_DONE, plan_of_document, two_flows, write_of};
 use lists::Memory;
 use rollout_core::{Event, EventList, World, any_rollout};
-use rollout_rules::{Entry, EntryList, Held, Op};
+use rollout_rules::Held;
 use std::alloc::Global;
 use std::test::Fail;
 use wan_model::{CheckedPlan, item_count};
-
-// The first flow moves.
-const BEGIN: Entry = Entry::Begin(Op { item: 0, number: 1 });
-
-const DONE: Entry = Entry::Done(Op { item: 0, number: 1 });
 
 // How many events the schedule has.
 const EVENTS: u32 = 8;
@@ -21,22 +16,15 @@ const EVENTS: u32 = 8;
 // durable; it starts again, and the operation is carried out and settled.
 fn event(alloc: Global, place: u32) -> Result<Event, Memory> {
     Ok(match place {
-        0 => write_of(alloc, BEGIN)?,
+        0 => write_of(alloc, FIRST_BEGUN)?,
         1 => Event::Crash(1),
         2 => Event::Restart,
         3 => Event::Send(0),
         4 => Event::Deliver(0),
         5 => Event::Hand(0),
-        6 => write_of(alloc, DONE)?,
+        6 => write_of(alloc, FIRST_DONE)?,
         _ => Event::EndWrite,
     })
-}
-
-// The event that a batch of one entry begins to be written.
-fn write_of(alloc: Global, entry: Entry) -> Result<Event, Memory> {
-    let mut batch = EntryList::new(alloc);
-    batch.push(entry)?;
-    Ok(Event::Write(batch))
 }
 
 // The events of the schedule, after what stands.
@@ -96,7 +84,9 @@ const NOTHING: Held = Held {
 // Whether the operation is settled in this world, and its switch holds it.
 fn is_the_end(world: &World) -> bool {
     let durable = world.durable().as_slice();
-    durable == [BEGIN, DONE].as_slice() && world.items() > 0 && world.held(0).number == 1
+    durable == [FIRST_BEGUN, FIRST_DONE].as_slice()
+        && world.items() > 0
+        && world.held(0).number == 1
 }
 
 // Lets the world go.
@@ -140,7 +130,7 @@ fn lead_to_the_end(alloc: Global, plan: &CheckedPlan) -> Result<bool, Memory> {
 
 // Of the rollout of two flows.
 fn both_lead_to_the_end(alloc: Global) -> Result<bool, Fail> {
-    let plan = plan_of_document(alloc, two())?;
+    let plan = plan_of_document(alloc, two_flows())?;
     let both = lead_to_the_end(alloc, &plan);
     drop(plan);
     Ok(both?)

@@ -1,6 +1,6 @@
 //! Rounds of a book in one thread, alone or as a seat of a shared book, over a disk in memory. Standard input
 //! is a document.
-ghost use Rattle.std.specs.Prelude.{◌≡◌, [], IfOk, IfSome};
+ghost use Rattle.std.specs.Prelude.{◌≡◌, [], IfSome};
 ghost use Rattle.rollout_rules.specs.History.{from_nothing};
 ghost use Rattle.wan_edge.specs.Frames.{Answer};
 ghost use Rattle.order_policy.specs.Answers.{rank_by};
@@ -10,12 +10,12 @@ ghost use Rattle.shared_book.specs.Calls.{IsCounted};
 ghost use Rattle.shared_book.specs.Images.{StandsSo};
 ghost use Rattle.shared_book.specs.Opened.{IsOpened, IsOpenedOn, opening_of};
 
-use crate::nowhere::as_heard;
 use crate::rollout;
 use anyhow::{Result, bail};
 use dependency_graph::Graph;
 use disk_model::{Disk, MemoryDisk};
-use intent_journal::{Digest, Unopened, digest_of};
+use fixtures::{as_heard, open_book};
+use intent_journal::digest_of;
 use order_policy::Policy;
 use rollout_book::{Book, CommandList, Turn};
 use shared_book::{BookPass, Listed, Marker, RoundReply, SharedBook};
@@ -161,26 +161,6 @@ fn dones_from<R: Wait, D: Disk + Drop>(
             bail!("no book is open")
         }
     }
-}
-
-/// The book of a rollout at its start, opened on a disk.
-pub(crate) fn open_book<'d, D: Disk>(
-    alloc: Global,
-    graph: Graph,
-    digest: &Digest,
-    policy: &'d Policy,
-    disk: D,
-) -> Result<Book<'d, D>, Unopened<D>>
-    requires empty { graph.history ≡ from_nothing graph.rollout.problem [] }
-    ensures opened { IfOk result
-        (λ book. IsOpened (opening_of book.chronicle (rank_by book.policy.now.answers))
-        book.chronicle) }
-    ensures has { IfOk result
-        (λ book. IfSome (D.told book.chronicle.disk).bytes
-        (IsKeptList book.chronicle.history.start book.chronicle.entries
-        (D.told book.chronicle.disk).may_leave)) }
-{
-    Book::open(alloc, graph, digest, policy, disk)
 }
 
 fn dones_of<R: Wait, D: Disk + Drop>(

@@ -11,13 +11,11 @@ ghost use Rattle.shared_book.specs.Homes.{homes_of};
 ghost use Rattle.shared_book.specs.Images.{StandsSo};
 ghost use Rattle.shared_book.specs.Opened.{IsOpened, IsOpenedOn, opening_of};
 
-use crate::jobs::{Job, two_jobs};
-use crate::nowhere::as_heard;
 use crate::rollout;
-use crate::rounds::open_book;
 use anyhow::{Result, bail};
 use dependency_graph::Graph;
 use disk_model::{Disk, MemoryDisk};
+use fixtures::{Job, as_heard, open_book, two_jobs};
 use intent_journal::digest_of;
 use order_policy::Policy;
 use rollout_book::Book;

@@ -3,6 +3,7 @@ pub mod Cells
 pub mod Lines
 pub mod Greatest
 pub mod Between
-pub mod Pieces
+pub mod Pushes
+mod Called
 pub mod Needs
 pub mod Told

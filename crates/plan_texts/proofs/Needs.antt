@@ -16,21 +16,21 @@ use Rattle.plan_texts.specs.Needs.{entry_need, entry_needs, carrier_needs, flow_
 -- ---- in a text
 
 -- what a tunnel that doesn't carry needs, and one that does
-pub carrier-none : (p : Problem) (plan : Plan) (s t rate : ℕ) (text : List ℕ) → rate ≡ rate_at plan s t → (rate == 0) ≡ true → text ≡ text ++ needs_text p (carrier_needs p plan s t)
-carrier-none p plan s t rate text is none =
-    sym (append-nil text) ∙ ap (λ b. text ++ needs_text p (if b then [] else entry_needs p t (installed_since plan t s))) (sym (ap (λ n. n == 0) (sym is) ∙ none))
+pub carrier-none : (p : Problem) (plan : Plan) (s t rate : ℕ) → rate ≡ rate_at plan s t → (rate == 0) ≡ true → [] ≡ needs_text p (carrier_needs p plan s t)
+carrier-none p plan s t rate is none =
+    ap (λ b. needs_text p (if b then [] else entry_needs p t (installed_since plan t s))) (sym (ap (λ n. n == 0) (sym is) ∙ none))
 
-pub carrier-some : (p : Problem) (plan : Plan) (s t rate since : ℕ) (text after : List ℕ) → rate ≡ rate_at plan s t → (rate == 0) ≡ false → since ≡ installed_since plan t s → after ≡ text ++ needs_text p (entry_needs p t since) → after ≡ text ++ needs_text p (carrier_needs p plan s t)
-carrier-some p plan s t rate since text after is some first told =
-    told ∙ ap (λ u. text ++ needs_text p (entry_needs p t u)) first
-    ∙ ap (λ b. text ++ needs_text p (if b then [] else entry_needs p t (installed_since plan t s))) (sym (ap (λ n. n == 0) (sym is) ∙ some))
+pub carrier-some : (p : Problem) (plan : Plan) (s t rate since : ℕ) → rate ≡ rate_at plan s t → (rate == 0) ≡ false → since ≡ installed_since plan t s → needs_text p (entry_needs p t since) ≡ needs_text p (carrier_needs p plan s t)
+carrier-some p plan s t rate since is some first =
+    ap (λ u. needs_text p (entry_needs p t u)) first
+    ∙ ap (λ b. needs_text p (if b then [] else entry_needs p t (installed_since plan t s))) (sym (ap (λ n. n == 0) (sym is) ∙ some))
 
 -- an item that stands from the start, and one that has to come
-pub stood-none : (n s : ℕ) (text : List ℕ) → s ≡ 0 → text ≡ text ++ stood_text n s
-stood-none n s text start = sym (append-nil text) ∙ ap (λ k. text ++ stood_text n k) (sym start)
+pub stood-none : (n s : ℕ) → s ≡ 0 → [] ≡ stood_text n s
+stood-none n s start = ap (λ k. stood_text n k) (sym start)
 
-pub stood-some : (n s : ℕ) (text after : List ℕ) → (s == 0) ≡ false → after ≡ text ++ at_stage_text n s → after ≡ text ++ stood_text n s
-stood-some n s text after later told = told ∙ ap (λ b. text ++ (if b then [] else at_stage_text n s)) (sym later)
+pub stood-some : (n s : ℕ) → (s == 0) ≡ false → at_stage_text n s ≡ stood_text n s
+stood-some n s later = ap (λ b. if b then [] else at_stage_text n s) (sym later)
 
 -- an entry by its number
 pub entry-number : (q r : Rollout) (t h first : ℕ) → q ≡ r → first ≡ number_of q.problem (item.Entry t 0) → first + h ≡ number_of r.problem (item.Entry t h)
@@ -39,15 +39,16 @@ entry-number q r t h first same is =
     omega (arith, here)
 
 -- an installation needs nothing, and a removal that its flow has gone
-pub arrival-told : (p : Problem) (plan : Plan) (t h s : ℕ) (mark : Bool) (text : List ℕ) → mark ≡ mark_at plan (s + 1) t → mark ≡ true → text ≡ text ++ needs_text p (needs_of p plan (item.Entry t h) s)
-arrival-told p plan t h s mark text is there =
-    sym (append-nil text) ∙ ap (λ b. text ++ needs_text p (if b then [] else flow_need p plan t s ∷ [])) (sym (sym is ∙ there))
+pub arrival-told : (p : Problem) (plan : Plan) (t h s : ℕ) (mark : Bool) → mark ≡ mark_at plan (s + 1) t → mark ≡ true → [] ≡ needs_text p (needs_of p plan (item.Entry t h) s)
+arrival-told p plan t h s mark is there =
+    ap (λ b. needs_text p (if b then [] else flow_need p plan t s ∷ [])) (sym (sym is ∙ there))
 
-pub departure-told : (p : Problem) (plan : Plan) (t h s flow since : ℕ) (mark : Bool) (text after : List ℕ) → mark ≡ mark_at plan (s + 1) t → mark ≡ false → flow ≡ (tunnel_at p t).flow → since ≡ idle_since plan t s → after ≡ text ++ stood_text flow since → after ≡ text ++ needs_text p (needs_of p plan (item.Entry t h) s)
-departure-told p plan t h s flow since mark text after is gone own first told =
-    told ∙ ap₂ (λ f u. text ++ stood_text f u) own first
-    ∙ ap (λ x. text ++ x) (sym (append-nil (stood_text (tunnel_at p t).flow (idle_since plan t s))))
-    ∙ ap (λ b. text ++ needs_text p (if b then [] else flow_need p plan t s ∷ [])) (sym (sym is ∙ gone))
+pub departure-told : (p : Problem) (plan : Plan) (t h s flow since : ℕ) (mark : Bool) → mark ≡ mark_at plan (s + 1) t → mark ≡ false → flow ≡ (tunnel_at p t).flow → since ≡ idle_since plan t s
+    → stood_text flow since ≡ needs_text p (needs_of p plan (item.Entry t h) s)
+departure-told p plan t h s flow since mark is gone own first =
+    ap₂ (λ f u. stood_text f u) own first
+    ∙ sym (append-nil (stood_text (tunnel_at p t).flow (idle_since plan t s)))
+    ∙ ap (λ b. needs_text p (if b then [] else flow_need p plan t s ∷ [])) (sym (sym is ∙ gone))
 
 -- ---- all of them
 

@@ -3,3 +3,5 @@ pub mod Rows
 pub mod Needs
 pub mod Explain
 pub mod Told
+pub mod Named
+pub mod LookedUp

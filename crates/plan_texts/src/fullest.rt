@@ -1,85 +1,80 @@
 //! The link that is fullest in a step.
-ghost use Rattle.std.specs.Prelude.{◌≡◌, ℕ, ◌+◌, ◌*◌, ◌++◌, ◌<◌, ◌≤◌, ◌^◌, length, nat_lt, IfSome, OnOk};
+ghost use Rattle.std.specs.Prelude.{◌≡◌, ℕ, ◌+◌, ◌*◌, ◌++◌, ◌<◌, ◌≤◌, ◌^◌, length, nat_lt, IfSome};
 ghost use Rattle.rollout_rules.specs.Wan.{last_stage};
+ghost use Rattle.plan_texts.specs.Named.{AreNamesOf};
 ghost use Rattle.plan_texts.specs.Loads as spec;
 ghost use Rattle.plan_texts.specs.Rows.{AreLong, IsChecked, cell, link_rows};
 
+use crate::names::Names;
+use crate::pieces::{push_link, push_number};
 use crate::rows::{Rows, read};
 use crate::sums::Sums;
-use lists::{Many, Memory, Text};
-use std::alloc::Global;
+use lists::Many;
+use text_writer::Pieces;
 use wan_model::{Plan, Problem};
-use wan_text::push_link;
 
 /// Adds the last line: the first link of which the greatest share may be taken in a step, how much that
 /// is of what there is, and the first step of that link in which it is so much.
-pub(crate) fn push_fullest(
-    alloc: Global,
-    text: &mut Text,
+pub(crate) fn push_fullest<P: Pieces>(
+    text: &mut P,
+    names: &Names,
     problem: &Problem,
     plan: &Plan,
     rows: &Rows,
-) -> Result<(), Memory>
+)
+    requires names { AreNamesOf names.now problem.now }
     requires checked { IsChecked problem.now plan.now }
     requires most { rows.now.most ≡ link_rows problem.now plan.now 1 }
-    ensures { OnOk result (text.new ≡ text.old ++ spec.fullest_line problem.now plan.now) }
+    ensures { P.pushes text.old (spec.fullest_line problem.now plan.now) text.new }
 {
-    text.push_str("fullest link: ")?;
-    push_found(alloc, text, problem, plan, rows)
+    text.push_str("fullest link: ");
+    push_found(text, names, problem, plan, rows);
 }
 
-fn push_found(
-    alloc: Global,
-    text: &mut Text,
-    problem: &Problem,
-    plan: &Plan,
-    rows: &Rows,
-) -> Result<(), Memory>
+fn push_found<P: Pieces>(text: &mut P, names: &Names, problem: &Problem, plan: &Plan, rows: &Rows)
+    requires names { AreNamesOf names.now problem.now }
     requires checked { IsChecked problem.now plan.now }
     requires most { rows.now.most ≡ link_rows problem.now plan.now 1 }
-    ensures { OnOk result
-        (text.new
-        ≡ text.old
-        ++ spec.fullest_text problem.now plan.now (spec.fullest_link problem.now plan.now)) }
+    ensures { P.pushes text.old
+        (spec.fullest_text problem.now plan.now (spec.fullest_link problem.now plan.now)) text.new }
 {
     match fullest_link(problem, plan, rows) {
-        Some(link) => push_fullness(alloc, text, problem, plan, rows, link),
+        Some(link) => push_fullness(text, names, problem, plan, rows, link),
         None => text.push_str("none\n"),
     }
 }
 
-fn push_fullness(
-    alloc: Global,
-    text: &mut Text,
+fn push_fullness<P: Pieces>(
+    text: &mut P,
+    names: &Names,
     problem: &Problem,
     plan: &Plan,
     rows: &Rows,
     link: usize,
-) -> Result<(), Memory>
+)
+    requires names { AreNamesOf names.now problem.now }
     requires checked { IsChecked problem.now plan.now }
     requires most { rows.now.most ≡ link_rows problem.now plan.now 1 }
     requires link { link < length problem.now.links }
-    ensures { OnOk result
-        (text.new ≡ text.old ++ spec.fullest_text problem.now plan.now (Some link)) }
+    ensures { P.pushes text.old (spec.fullest_text problem.now plan.now (Some link)) text.new }
 {
     let step = fullest_step(problem, plan, rows, link);
     let total = greatest_total(problem, plan, rows, link);
     let room = room_of(problem, plan, link);
-    push_link(alloc, text, problem, link)?;
-    push_share(alloc, text, total, room, step)
+    push_link(text, names, problem, link);
+    push_share(text, total, room, step);
 }
 
-fn push_share(
-    alloc: Global,
-    text: &mut Text,
-    total: u128,
-    room: u128,
-    step: usize,
-) -> Result<(), Memory>
-    ensures { OnOk result (text.new ≡ text.old ++ spec.share_text total room step) }
+fn push_share<P: Pieces>(text: &mut P, total: u128, room: u128, step: usize)
+    ensures { P.pushes text.old (spec.share_text total room step) text.new }
 {
-    let share = format!(in alloc; " {total} of {room} in step {step}\n")?;
-    text.push_str(&share)
+    text.push_str(" ");
+    push_number(text, total);
+    text.push_str(" of ");
+    push_number(text, room);
+    text.push_str(" in step ");
+    push_number(text, step);
+    text.push_str("\n");
 }
 
 /// The fullest link, where there is a step.

@@ -1,152 +1,132 @@
 //! The lines of the items.
-ghost use Rattle.std.specs.Prelude.{◌≡◌, ◌++◌, ◌<◌, length, IsTrue, OnOk};
+ghost use Rattle.std.specs.Prelude.{◌≡◌, ◌++◌, ◌<◌, length, IsTrue};
+ghost use Rattle.rollout_rules.specs.Wan as wan;
 ghost use Rattle.rollout_rules.specs.Items.{is_item, item_count};
 ghost use Rattle.rollout_rules.specs.declared.item.Item.TheVariants as variants;
+ghost use Rattle.plan_texts.specs.Named.{AreNamesOf};
 ghost use Rattle.plan_texts.specs.Explain as spec;
+ghost use Rattle.plan_texts.specs.LookedUp.{IsLookupOf};
 
 use crate::lookup::Lookup;
+use crate::names::Names;
 use crate::op_lines::push_operations;
-use lists::{Memory, Text};
+use crate::pieces::{push_number, push_switch};
 use rollout_rules::Item;
-use std::alloc::Global;
+use text_writer::Pieces;
 use wan_model::{CheckedPlan, Problem, home_of_item};
-use wan_text::{push_name, push_switch};
 
 /// Adds the line of the item with a number, and those of its operations.
-pub(crate) fn push_item(
-    alloc: Global,
-    text: &mut Text,
-    plan: &CheckedPlan,
-    lookup: &Lookup,
-    number: u32,
-) -> Result<(), Memory>
-    requires index { lookup.now.index ≡ plan.now }
-    requires chains { lookup.now.chains ≡ plan.now }
+pub(crate) fn push_item<P: Pieces>(text: &mut P, plan: &CheckedPlan, lookup: &Lookup, number: u32)
+    requires lookup { IsLookupOf lookup.now plan.now }
     requires number { number < item_count plan.now.problem }
-    ensures { OnOk result
-        (text.new ≡ text.old ++ spec.item_lines plan.now.problem plan.now.plan number) }
+    ensures { P.pushes text.old (spec.item_lines plan.now.problem plan.now.plan number) text.new }
 {
     let item = lookup.index.item(number);
     let count = lookup.index.operations(number);
-    push_line(alloc, text, plan.problem(), number, item, count)?;
-    push_operations(alloc, text, plan, lookup, number, item, count)
+    push_line(text, &lookup.names, plan.problem(), number, item, count);
+    push_operations(text, plan, lookup, number, item, count);
 }
 
 /// Adds the line of an item with so many operations.
-fn push_line(
-    alloc: Global,
-    text: &mut Text,
+fn push_line<P: Pieces>(
+    text: &mut P,
+    names: &Names,
     problem: &Problem,
     number: u32,
     item: Item,
     count: u32,
-) -> Result<(), Memory>
-    requires { IsTrue (is_item problem.now item) }
-    ensures { OnOk result (text.new ≡ text.old ++ spec.item_line problem.now number item count) }
+)
+    requires names { AreNamesOf names.now problem.now }
+    requires item { IsTrue (is_item problem.now item) }
+    ensures { P.pushes text.old (spec.item_line problem.now number item count) text.new }
 {
-    push_number(alloc, text, number)?;
-    push_what(alloc, text, problem, item)?;
-    push_count(alloc, text, count)
+    push_item_number(text, number);
+    push_what(text, names, problem, item);
+    push_count(text, count);
 }
 
-fn push_number(alloc: Global, text: &mut Text, number: u32) -> Result<(), Memory>
-    ensures { OnOk result (text.new ≡ text.old ++ spec.number_text number) }
+fn push_item_number<P: Pieces>(text: &mut P, number: u32)
+    ensures { P.pushes text.old (spec.number_text number) text.new }
 {
-    let part = format!(in alloc; "item {number}: ")?;
-    text.push_str(&part)
+    text.push_str("item ");
+    push_number(text, number);
+    text.push_str(": ");
 }
 
-fn push_count(alloc: Global, text: &mut Text, count: u32) -> Result<(), Memory>
-    ensures { OnOk result (text.new ≡ text.old ++ spec.count_text count) }
+fn push_count<P: Pieces>(text: &mut P, count: u32)
+    ensures { P.pushes text.old (spec.count_text count) text.new }
 {
-    let part = format!(in alloc; ", operations {count}\n")?;
-    text.push_str(&part)
+    text.push_str(", operations ");
+    push_number(text, count);
+    text.push_str("\n");
 }
 
 /// Adds what an item is, and where it is at home.
-fn push_what(alloc: Global, text: &mut Text, problem: &Problem, item: Item) -> Result<(), Memory>
-    requires { IsTrue (is_item problem.now item) }
-    ensures { OnOk result (text.new ≡ text.old ++ spec.item_text problem.now item) }
+fn push_what<P: Pieces>(text: &mut P, names: &Names, problem: &Problem, item: Item)
+    requires names { AreNamesOf names.now problem.now }
+    requires item { IsTrue (is_item problem.now item) }
+    ensures { P.pushes text.old (spec.item_text problem.now item) text.new }
 {
     match item {
-        Item::Flow(flow) => push_split(alloc, text, problem, flow),
+        Item::Flow(flow) => push_split(text, names, problem, flow),
         Item::Entry { tunnel, hop } => {
-            push_entry(alloc, text, problem, tunnel as usize, hop as usize)
+            push_entry(text, names, problem, tunnel as usize, hop as usize);
         }
     }
 }
 
-fn push_split(alloc: Global, text: &mut Text, problem: &Problem, flow: u32) -> Result<(), Memory>
-    requires { flow < length problem.now.flows }
-    ensures { OnOk result (text.new ≡ text.old ++ spec.item_text problem.now (variants.Flow flow)) }
+fn push_split<P: Pieces>(text: &mut P, names: &Names, problem: &Problem, flow: u32)
+    requires names { AreNamesOf names.now problem.now }
+    requires flow { flow < length problem.now.flows }
+    ensures { P.pushes text.old (spec.item_text problem.now (variants.Flow flow)) text.new }
 {
-    push_flow(alloc, text, problem, flow as usize)?;
-    text.push_str(" at ")?;
-    push_home(
-        alloc,
-        text,
-        problem,
-        home_of_item(problem, Item::Flow(flow)),
-    )
+    push_flow(text, names, flow as usize);
+    text.push_str(" at ");
+    let home = home_of_item(problem, Item::Flow(flow));
+    push_home(text, names, home);
 }
 
-fn push_home(
-    alloc: Global,
-    text: &mut Text,
-    problem: &Problem,
-    home: Option<u32>,
-) -> Result<(), Memory>
-    ensures { OnOk result (text.new ≡ text.old ++ spec.home_text problem.now home) }
+fn push_home<P: Pieces>(text: &mut P, names: &Names, home: Option<u32>)
+    ensures { (p : wan.Problem)
+        → AreNamesOf names.now p
+        → P.pushes text.old (spec.home_text p home) text.new }
 {
     match home {
-        Some(switch) => {
-            push_switch(alloc, text, problem, switch as usize)?;
-            Ok(())
-        }
+        Some(switch) => push_switch(text, names, switch as usize),
         None => text.push_str("none"),
     }
 }
 
-fn push_entry(
-    alloc: Global,
-    text: &mut Text,
-    problem: &Problem,
-    tunnel: usize,
-    hop: usize,
-) -> Result<(), Memory>
-    requires { IsTrue (is_item problem.now (variants.Entry tunnel hop)) }
-    ensures { OnOk result
-        (text.new ≡ text.old ++ spec.item_text problem.now (variants.Entry tunnel hop)) }
+fn push_entry<P: Pieces>(text: &mut P, names: &Names, problem: &Problem, tunnel: usize, hop: usize)
+    requires names { AreNamesOf names.now problem.now }
+    requires item { IsTrue (is_item problem.now (variants.Entry tunnel hop)) }
+    ensures { P.pushes text.old (spec.item_text problem.now (variants.Entry tunnel hop)) text.new }
 {
-    text.push_str("entry at ")?;
-    push_switch(alloc, text, problem, problem.switch_of(tunnel, hop))?;
-    text.push_str(" of ")?;
-    push_tunnel(alloc, text, problem, tunnel)
+    text.push_str("entry at ");
+    push_switch(text, names, problem.switch_of(tunnel, hop));
+    text.push_str(" of ");
+    push_tunnel(text, names, problem, tunnel);
 }
 
 /// Adds a flow by its name.
-fn push_flow(alloc: Global, text: &mut Text, problem: &Problem, flow: usize) -> Result<(), Memory>
-    requires { flow < length problem.now.flows }
-    ensures { OnOk result (text.new ≡ text.old ++ spec.flow_text problem.now flow) }
+fn push_flow<P: Pieces>(text: &mut P, names: &Names, flow: usize)
+    ensures { (p : wan.Problem)
+        → AreNamesOf names.now p
+        → P.pushes text.old (spec.flow_text p flow) text.new }
 {
-    text.push_str("flow ")?;
-    push_name(alloc, text, problem.flow_name(flow))?;
-    Ok(())
+    text.push_str("flow ");
+    text.push_str(names.flow(flow));
 }
 
 /// Adds a tunnel: its flow, its place among the flow's tunnels, and its path.
-fn push_tunnel(
-    alloc: Global,
-    text: &mut Text,
-    problem: &Problem,
-    tunnel: usize,
-) -> Result<(), Memory>
-    requires { tunnel < length problem.now.tunnels }
-    ensures { OnOk result (text.new ≡ text.old ++ spec.tunnel_text problem.now tunnel) }
+fn push_tunnel<P: Pieces>(text: &mut P, names: &Names, problem: &Problem, tunnel: usize)
+    requires names { AreNamesOf names.now problem.now }
+    requires tunnel { tunnel < length problem.now.tunnels }
+    ensures { P.pushes text.old (spec.tunnel_text problem.now tunnel) text.new }
 {
-    push_flow(alloc, text, problem, problem.flow_of(tunnel))?;
-    push_place(alloc, text, place_in_flow(problem, tunnel))?;
-    push_path(alloc, text, problem, tunnel)
+    push_flow(text, names, problem.flow_of(tunnel));
+    push_place(text, place_in_flow(problem, tunnel));
+    push_path(text, names, problem, tunnel);
 }
 
 /// The place of a tunnel among those of its flow, from 0.
@@ -158,23 +138,24 @@ fn place_in_flow(problem: &Problem, tunnel: usize) -> usize
     tunnel.saturating_sub(flow.first as usize)
 }
 
-fn push_place(alloc: Global, text: &mut Text, place: usize) -> Result<(), Memory>
-    ensures { OnOk result (text.new ≡ text.old ++ spec.place_text place) }
+fn push_place<P: Pieces>(text: &mut P, place: usize)
+    ensures { P.pushes text.old (spec.place_text place) text.new }
 {
-    let part = format!(in alloc; " tunnel {place} ")?;
-    text.push_str(&part)
+    text.push_str(" tunnel ");
+    push_number(text, place);
+    text.push_str(" ");
 }
 
 /// Adds the switches on the path of a tunnel, with `>` between.
-fn push_path(alloc: Global, text: &mut Text, problem: &Problem, tunnel: usize) -> Result<(), Memory>
-    requires { tunnel < length problem.now.tunnels }
-    ensures { OnOk result (text.new ≡ text.old ++ spec.path_text problem.now tunnel) }
+fn push_path<P: Pieces>(text: &mut P, names: &Names, problem: &Problem, tunnel: usize)
+    requires names { AreNamesOf names.now problem.now }
+    requires tunnel { tunnel < length problem.now.tunnels }
+    ensures { P.pushes text.old (spec.path_text problem.now tunnel) text.new }
 {
     for hop in 0..problem.path(tunnel).len() {
-        text.push_str(gap_before(hop))?;
-        push_switch(alloc, text, problem, problem.switch_of(tunnel, hop))?;
+        text.push_str(gap_before(hop));
+        push_switch(text, names, problem.switch_of(tunnel, hop));
     }
-    Ok(())
 }
 
 fn gap_before(hop: usize) -> &'static str

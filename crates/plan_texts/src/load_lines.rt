@@ -1,39 +1,40 @@
-ghost use Rattle.std.specs.Prelude.{◌≡◌, ◌+◌, ◌++◌, ◌<◌, length, IfOk, OnOk};
+ghost use Rattle.std.specs.Prelude.{◌≡◌, ◌+◌, ◌++◌, ◌<◌, length};
 ghost use Rattle.rollout_rules.specs.Items.{the_link, the_table};
+ghost use Rattle.plan_texts.specs.Named.{AreNamesOf};
 ghost use Rattle.plan_texts.specs.Loads as spec;
 ghost use Rattle.plan_texts.specs.Loads.{load_line, load_lines, loads_text};
+ghost use Rattle.plan_texts.specs.LookedUp.{AreLoadsIn, AreLoadsOf};
 ghost use Rattle.plan_texts.specs.Rows.{AreLong, IsChecked, cell, link_rows, table_rows};
 
 use crate::fullest::{push_fullest, room_of};
-use crate::rows::{Rows, all_links, all_tables, read};
+use crate::load_rows::LoadRows;
+use crate::names::Names;
+use crate::pieces::{push_link, push_number, push_switch};
+use crate::rows::{Rows, read};
 use dependency_graph::checked_plan_is_valid;
-use lists::{Memory, Text};
-use std::alloc::Global;
+use text_writer::Pieces;
 use wan_model::{CheckedPlan, Plan, Problem};
-use wan_text::{push_link, push_switch};
 
-/// The loads of a plan: its steps and scale; of each link, and of each table, how much is taken at each
+/// Pushes the loads of a plan: its steps and scale; of each link, and of each table, how much is taken at each
 /// stage and, in parentheses between, at most in the step; and the link that is fullest in a step. Links
-/// are in units of 1/scale, tables in the widths of their entries. An Err is lack of memory.
-pub fn loads(alloc: Global, plan: &CheckedPlan) -> Result<Text, Memory>
-    ensures { IfOk result (λ text. text ≡ loads_text plan.now.problem plan.now.plan) }
+/// are in units of 1/scale, tables in the widths of their entries. It takes no memory.
+pub fn push_loads<P: Pieces>(text: &mut P, plan: &CheckedPlan, rows: &LoadRows)
+    requires { AreLoadsOf rows.now plan.now }
+    ensures { P.pushes text.old (loads_text plan.now.problem plan.now.plan) text.new }
 {
     checked_plan_is_valid(plan);
-    loads_of(alloc, plan.problem(), plan.plan())
+    push_all(text, plan.problem(), plan.plan(), rows);
 }
 
-fn loads_of(alloc: Global, problem: &Problem, plan: &Plan) -> Result<Text, Memory>
-    requires { IsChecked problem.now plan.now }
-    ensures { IfOk result (λ text. text ≡ loads_text problem.now plan.now) }
+fn push_all<P: Pieces>(text: &mut P, problem: &Problem, plan: &Plan, rows: &LoadRows)
+    requires checked { IsChecked problem.now plan.now }
+    requires rows { AreLoadsIn rows.now problem.now plan.now }
+    ensures { P.pushes text.old (loads_text problem.now plan.now) text.new }
 {
-    let links = all_links(alloc, problem, plan)?;
-    let tables = all_tables(alloc, problem, plan)?;
-    let mut text = Text::new(alloc);
-    push_sizes(alloc, &mut text, plan.last_stage(), scale_of(plan))?;
-    push_links(alloc, &mut text, problem, plan, &links)?;
-    push_tables(alloc, &mut text, problem, plan, &tables)?;
-    push_fullest(alloc, &mut text, problem, plan, &links)?;
-    Ok(text)
+    push_sizes(text, plan.last_stage(), scale_of(plan));
+    push_links(text, &rows.names, problem, plan, &rows.links);
+    push_tables(text, &rows.names, problem, plan, &rows.tables);
+    push_fullest(text, &rows.names, problem, plan, &rows.links);
 }
 
 pub(crate) fn scale_of(plan: &Plan) -> u32
@@ -43,172 +44,136 @@ pub(crate) fn scale_of(plan: &Plan) -> u32
 }
 
 /// Adds the first line.
-fn push_sizes(alloc: Global, text: &mut Text, steps: usize, scale: u32) -> Result<(), Memory>
-    ensures { OnOk result (text.new ≡ text.old ++ spec.sizes_line steps scale) }
+fn push_sizes<P: Pieces>(text: &mut P, steps: usize, scale: u32)
+    ensures { P.pushes text.old (spec.sizes_line steps scale) text.new }
 {
-    let line = format!(in alloc; "steps {steps}, scale {scale}\n")?;
-    text.push_str(&line)
+    text.push_str("steps ");
+    push_number(text, steps);
+    text.push_str(", scale ");
+    push_number(text, scale);
+    text.push_str("\n");
 }
 
 /// Adds the lines of the links.
-fn push_links(
-    alloc: Global,
-    text: &mut Text,
-    problem: &Problem,
-    plan: &Plan,
-    rows: &Rows,
-) -> Result<(), Memory>
+fn push_links<P: Pieces>(text: &mut P, names: &Names, problem: &Problem, plan: &Plan, rows: &Rows)
+    requires names { AreNamesOf names.now problem.now }
     requires checked { IsChecked problem.now plan.now }
     requires taken { rows.now.taken ≡ link_rows problem.now plan.now 0 }
     requires most { rows.now.most ≡ link_rows problem.now plan.now 1 }
-    ensures { OnOk result
-        (text.new
-        ≡ text.old ++ load_lines problem.now plan.now the_link (length problem.now.links)) }
+    ensures { P.pushes text.old
+        (load_lines problem.now plan.now the_link (length problem.now.links)) text.new }
 {
     for link in 0..problem.links().len() {
-        push_link_line(alloc, text, problem, plan, rows, link)?;
+        push_link_line(text, names, problem, plan, rows, link);
     }
-    Ok(())
 }
 
 /// Adds the line of a link.
-fn push_link_line(
-    alloc: Global,
-    text: &mut Text,
+fn push_link_line<P: Pieces>(
+    text: &mut P,
+    names: &Names,
     problem: &Problem,
     plan: &Plan,
     rows: &Rows,
     link: usize,
-) -> Result<(), Memory>
+)
+    requires names { AreNamesOf names.now problem.now }
     requires checked { IsChecked problem.now plan.now }
     requires taken { rows.now.taken ≡ link_rows problem.now plan.now 0 }
     requires most { rows.now.most ≡ link_rows problem.now plan.now 1 }
     requires link { link < length problem.now.links }
-    ensures { OnOk result
-        (text.new ≡ text.old ++ load_line problem.now plan.now (the_link link)) }
+    ensures { P.pushes text.old (load_line problem.now plan.now (the_link link)) text.new }
 {
-    text.push_str("load ")?;
-    push_link(alloc, text, problem, link)?;
-    push_totals(
-        alloc,
-        text,
-        rows,
-        link,
-        plan.last_stage(),
-        room_of(problem, plan, link),
-    )
+    text.push_str("load ");
+    push_link(text, names, problem, link);
+    let room = room_of(problem, plan, link);
+    push_totals(text, rows, link, plan.last_stage(), room);
 }
 
 /// Adds the lines of the tables.
-fn push_tables(
-    alloc: Global,
-    text: &mut Text,
-    problem: &Problem,
-    plan: &Plan,
-    rows: &Rows,
-) -> Result<(), Memory>
+fn push_tables<P: Pieces>(text: &mut P, names: &Names, problem: &Problem, plan: &Plan, rows: &Rows)
+    requires names { AreNamesOf names.now problem.now }
     requires checked { IsChecked problem.now plan.now }
     requires taken { rows.now.taken ≡ table_rows problem.now plan.now 0 }
     requires most { rows.now.most ≡ table_rows problem.now plan.now 1 }
-    ensures { OnOk result
-        (text.new
-        ≡ text.old ++ load_lines problem.now plan.now the_table (length problem.now.switches)) }
+    ensures { P.pushes text.old
+        (load_lines problem.now plan.now the_table (length problem.now.switches)) text.new }
 {
     for switch in 0..problem.switches().len() {
-        push_table_line(alloc, text, problem, plan, rows, switch)?;
+        push_table_line(text, names, problem, plan, rows, switch);
     }
-    Ok(())
 }
 
 /// Adds the line of a switch's table.
-fn push_table_line(
-    alloc: Global,
-    text: &mut Text,
+fn push_table_line<P: Pieces>(
+    text: &mut P,
+    names: &Names,
     problem: &Problem,
     plan: &Plan,
     rows: &Rows,
     switch: usize,
-) -> Result<(), Memory>
+)
+    requires names { AreNamesOf names.now problem.now }
     requires checked { IsChecked problem.now plan.now }
     requires taken { rows.now.taken ≡ table_rows problem.now plan.now 0 }
     requires most { rows.now.most ≡ table_rows problem.now plan.now 1 }
     requires switch { switch < length problem.now.switches }
-    ensures { OnOk result
-        (text.new ≡ text.old ++ load_line problem.now plan.now (the_table switch)) }
+    ensures { P.pushes text.old (load_line problem.now plan.now (the_table switch)) text.new }
 {
-    text.push_str("load table ")?;
-    push_switch(alloc, text, problem, switch)?;
-    push_totals(
-        alloc,
-        text,
-        rows,
-        switch,
-        plan.last_stage(),
-        u128::from(problem.table(switch)),
-    )
+    text.push_str("load table ");
+    push_switch(text, names, switch);
+    let size = u128::from(problem.table(switch));
+    push_totals(text, rows, switch, plan.last_stage(), size);
 }
 
 /// Adds how much there is of a resource, and what is taken at each stage and at most in each step.
-fn push_totals(
-    alloc: Global,
-    text: &mut Text,
-    rows: &Rows,
-    place: usize,
-    steps: usize,
-    capacity: u128,
-) -> Result<(), Memory>
+fn push_totals<P: Pieces>(text: &mut P, rows: &Rows, place: usize, steps: usize, capacity: u128)
     requires taken { AreLong rows.now.taken (steps + 1) place }
     requires most { AreLong rows.now.most (steps + 1) place }
-    ensures { OnOk result
-        (text.new
-        ≡ text.old
-        ++ spec.totals_text capacity steps (cell rows.now.taken place) (cell rows.now.most place)) }
+    ensures { P.pushes text.old
+        (spec.totals_text capacity steps (cell rows.now.taken place) (cell rows.now.most place)) text.new }
 {
-    push_capacity(alloc, text, capacity)?;
-    push_steps(alloc, text, rows, place, steps)?;
-    push_last(alloc, text, read(&rows.taken, steps, place))
+    push_capacity(text, capacity);
+    push_steps(text, rows, place, steps);
+    push_last(text, read(&rows.taken, steps, place));
 }
 
 /// Adds what is taken at the stages before the last, and at most in each step.
-fn push_steps(
-    alloc: Global,
-    text: &mut Text,
-    rows: &Rows,
-    place: usize,
-    steps: usize,
-) -> Result<(), Memory>
+fn push_steps<P: Pieces>(text: &mut P, rows: &Rows, place: usize, steps: usize)
     requires taken { AreLong rows.now.taken (steps + 1) place }
     requires most { AreLong rows.now.most (steps + 1) place }
-    ensures { OnOk result
-        (text.new
-        ≡ text.old
-        ++ spec.step_texts (cell rows.now.taken place) (cell rows.now.most place) steps) }
+    ensures { P.pushes text.old
+        (spec.step_texts (cell rows.now.taken place) (cell rows.now.most place) steps) text.new }
 {
     for step in 0..steps {
         let taken = read(&rows.taken, step, place);
         let most = read(&rows.most, step, place);
-        push_step(alloc, text, taken, most)?;
+        push_step(text, taken, most);
     }
-    Ok(())
 }
 
-fn push_capacity(alloc: Global, text: &mut Text, capacity: u128) -> Result<(), Memory>
-    ensures { OnOk result (text.new ≡ text.old ++ spec.capacity_text capacity) }
+fn push_capacity<P: Pieces>(text: &mut P, capacity: u128)
+    ensures { P.pushes text.old (spec.capacity_text capacity) text.new }
 {
-    let part = format!(in alloc; " of {capacity}:")?;
-    text.push_str(&part)
+    text.push_str(" of ");
+    push_number(text, capacity);
+    text.push_str(":");
 }
 
-fn push_step(alloc: Global, text: &mut Text, taken: u128, most: u128) -> Result<(), Memory>
-    ensures { OnOk result (text.new ≡ text.old ++ spec.step_text taken most) }
+fn push_step<P: Pieces>(text: &mut P, taken: u128, most: u128)
+    ensures { P.pushes text.old (spec.step_text taken most) text.new }
 {
-    let part = format!(in alloc; " {taken} ({most})")?;
-    text.push_str(&part)
+    text.push_str(" ");
+    push_number(text, taken);
+    text.push_str(" (");
+    push_number(text, most);
+    text.push_str(")");
 }
 
-fn push_last(alloc: Global, text: &mut Text, taken: u128) -> Result<(), Memory>
-    ensures { OnOk result (text.new ≡ text.old ++ spec.last_text taken) }
+fn push_last<P: Pieces>(text: &mut P, taken: u128)
+    ensures { P.pushes text.old (spec.last_text taken) text.new }
 {
-    let part = format!(in alloc; " {taken}\n")?;
-    text.push_str(&part)
+    text.push_str(" ");
+    push_number(text, taken);
+    text.push_str("\n");
 }

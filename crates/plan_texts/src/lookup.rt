@@ -1,29 +1,42 @@
-//! What is looked up of a plan while it is explained.
-ghost use Rattle.std.specs.Prelude.{◌≡◌, IfOk};
+//! What is looked up of a plan before it is explained.
+ghost use Rattle.std.specs.Prelude.{IfOk};
+ghost use Rattle.plan_texts.specs.LookedUp.{IsLookupOf};
 
+use crate::names::Names;
 use dependency_graph::{Chains, Index};
 use lists::Memory;
 use std::alloc::Global;
 use wan_model::CheckedPlan;
 
-/// The items of a plan by number, and the longest chain from each of their operations on.
+/// The names of a plan's problem, its items by number, and the longest chain from each of their operations on.
 #[derive(Drop)]
-pub(crate) struct Lookup {
+pub struct Lookup {
+    pub(crate) names: Names,
     pub(crate) index: Index,
     pub(crate) chains: Chains,
 }
 
-/// Those of a plan.
-pub(crate) fn looked_up(alloc: Global, plan: &CheckedPlan) -> Result<Lookup, Memory>
-    ensures index { IfOk result (λ lookup. lookup.index ≡ plan.now) }
-    ensures chains { IfOk result (λ lookup. lookup.chains ≡ plan.now) }
-{
-    let index = Index::new(alloc, plan)?;
-    match Chains::new(alloc, plan) {
-        Ok(chains) => Ok(Lookup { index, chains }),
-        Err(refused) => {
-            drop(index);
-            Err(refused)
+impl Lookup {
+    ghost use Rattle.std.specs.Prelude.{IfOk};
+    ghost use Rattle.plan_texts.specs.LookedUp.{IsLookupOf};
+
+    /// Those of a plan. All the memory for its text is taken here: an Err is want of it.
+    pub fn of(alloc: Global, plan: &CheckedPlan) -> Result<Self, Memory>
+        ensures { IfOk result (λ lookup. IsLookupOf lookup plan.now) }
+    {
+        let names = Names::of(alloc, plan.problem())?;
+        let index = Index::new(alloc, plan)?;
+        match Chains::new(alloc, plan) {
+            Ok(chains) => Ok(Lookup {
+                names,
+                index,
+                chains,
+            }),
+            Err(refused) => {
+                drop(names);
+                drop(index);
+                Err(refused)
+            }
         }
     }
 }

@@ -1,5 +1,5 @@
 -- How a report follows from its input and from the journal.
-use Rattle.std.proofs.Common.{◌≡◌, ◌⊎◌, ℕ, ◌<◌, ◌≤◌, List, ◌++◌, length, length-append, true, false, Option, Some, None, IfSome, Result, Ok, Err, refl, sym, ap, ◌∙◌, subst, inl, inr, arith}
+use Rattle.std.proofs.Common.{◌≡◌, ◌⊎◌, ℕ, ◌<◌, ◌≤◌, List, length, length-append, true, false, Option, Some, None, IfSome, Result, Ok, Err, refl, sym, ap, ◌∙◌, subst, inl, inr, arith}
 use Rattle.std.proofs.lemmas.Bool.{cases_lt, le-ltb, lt-ltb}
 use Rattle.wan_edge.specs.Streams.{SourceTrace}
 use Rattle.rollout_rules.specs.Wan.{Rollout}
@@ -19,7 +19,6 @@ use Rattle.text_commands.specs.CommandEnds.{ending_of, ending_of_journal, status
 use Rattle.text_commands.specs.Reading.{IsCut, IsShortInput}
 use Rattle.swanroll_top.specs.Reports.{EndsJournal, EndsReport, FollowsReport, FollowsReported, IsLate, ReadsDocument, RunsReport, or_journal}
 use Rattle.text_commands.specs.Runs.{EndsWith, Gives, IsInput, IsReadToEnd}
-use Rattle.text_commands.specs.Safety.{IsValid}
 use Rattle.text_commands.specs.Taken.{IsValidDocument}
 use Rattle.text_commands.specs.declared.command_end.CommandEnd.{CommandEnd}
 use Rattle.text_commands.specs.declared.command_end.CommandEnd.TheVariants.{Done, Usage, AboveLimit, Input, NotValid, NoPlan, Unshown, ReadFault, WriteFault, DiskFault, GuestFault, Refused, NotFinished, OutOfMemory}
@@ -29,17 +28,13 @@ use Rattle.text_commands.proofs.Inputs.{beyond-input}
 use Rattle.text_commands.proofs.Steps.{fault-ends}
 use Rattle.text_commands.specs.declared.unfinished.Unfinished.{Unfinished}
 use Rattle.text_commands.proofs.Statuses.{not-status}
+use Rattle.text_commands.proofs.Refused.{same-document}
 
 -- ---- whether an input is a document with a valid plan
 
 abbrev pub IsJudgedAs : List ℕ → Result Rollout CommandEnd → Type 0
 IsJudgedAs input (Ok o) = IsValidDocument input
 IsJudgedAs input (Err e) = (e ≡ OutOfMemory) ⊎ ((IsValidDocument input → ⊥) × (status_of e ≡ 3))
-
-same-document : (input : List ℕ) (d : DocumentRead) → document_in input ≡ Ok d → IsValidDocument input → IsValid d.problem d.plan
-same-document input d is t =
-    let same : t.document ≡ d = cc (is, t.read) in
-    subst (λ x. IsValid x.problem x.plan) same t.valid
 
 broken-judged : (input : List ℕ) (d : DocumentRead) → document_in input ≡ Ok d → length input ≤ MOST_INPUT → (broken : Option Broken) → first_broken d.problem d.plan ≡ broken → IsJudgedAs input (unless_broken d broken)
 broken-judged input d read within None is = record { within = within; document = d; read = read; valid = unbroken-valid d.problem d.plan is }

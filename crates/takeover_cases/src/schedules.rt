@@ -1,38 +1,15 @@
 //! A takeover, from the older controller's first entry to the newer one's last.
 
 use dependency_graph::checked_plan_is_valid;
+use fixtures::{FIRST_BEGUN, FIRST_DONE, plan_of_document, two_flows, write_of};
 use lists::Memory;
-use plan_check::check_plan;
-use problem_json::read_document;
 use rollout_core::{Event, World};
-use rollout_rules::{Entry, EntryList, Held, Op};
+use rollout_rules::Held;
 use std::alloc::Global;
 use std::test::Fail;
 use takeover_core::{TwoWorlds, any_takeover};
 use takeover_rules::{TwoEvent, TwoEventList};
 use wan_model::{CheckedPlan, item_count};
-
-// Two flows at two switches, which each move 3 of their 4 at once.
-fn two() -> &'static str {
-    "{\"plan\":{\"scale\":1,\"stages\":[{\"installed\":[true,true,true,true],\"rates\":[4,0,4,0]},{\"installed\":[true,true,true,true],\"rates\":[1,3,1,3]}]},\"problem\":{\"flows\":[{\"name\":\"f\",\"tunnels\":[{\"new\":1,\"old\":4,\"path\":[\"A\",\"X\"]},{\"new\":3,\"old\":0,\"path\":[\"A\",\"Y\",\"X\"]}]},{\"name\":\"g\",\"tunnels\":[{\"new\":1,\"old\":4,\"path\":[\"B\",\"X\"]},{\"new\":3,\"old\":0,\"path\":[\"B\",\"Y\",\"X\"]}]}],\"links\":[{\"capacity\":10,\"from\":\"A\",\"to\":\"X\"},{\"capacity\":10,\"from\":\"A\",\"to\":\"Y\"},{\"capacity\":10,\"from\":\"Y\",\"to\":\"X\"},{\"capacity\":10,\"from\":\"B\",\"to\":\"X\"},{\"capacity\":10,\"from\":\"B\",\"to\":\"Y\"}],\"switches\":[{\"name\":\"A\",\"table\":8},{\"name\":\"B\",\"table\":8},{\"name\":\"X\",\"table\":8},{\"name\":\"Y\",\"table\":8}]}}"
-}
-
-// The plan of a document. Fails where the document or its plan is refused.
-fn plan_of_document(alloc: Global, text: &str) -> Result<CheckedPlan, Fail> {
-    let document = read_document(alloc, text.as_bytes())?;
-    match check_plan(alloc, &document.problem, &document.plan) {
-        Ok(()) => Ok(CheckedPlan::seal(document.problem, document.plan)),
-        Err(fault) => {
-            drop(document);
-            Err(Fail::from(fault))
-        }
-    }
-}
-
-// The first flow moves.
-const BEGIN: Entry = Entry::Begin(Op { item: 0, number: 1 });
-
-const DONE: Entry = Entry::Done(Op { item: 0, number: 1 });
 
 // What a switch holds of an item to which nothing was applied.
 const NOTHING: Held = Held {
@@ -40,16 +17,9 @@ const NOTHING: Held = Held {
     number: 0,
 };
 
-// The event that a batch of one entry begins to be written.
-fn write_of(alloc: Global, entry: Entry) -> Result<Event, Memory> {
-    let mut batch = EntryList::new(alloc);
-    batch.push(entry)?;
-    Ok(Event::Write(batch))
-}
-
 // The older controller begins the first flow's operation and sends its command.
 fn add_older(alloc: Global, events: &mut TwoEventList) -> Result<(), Memory> {
-    events.push(TwoEvent::Old(write_of(alloc, BEGIN)?))?;
+    events.push(TwoEvent::Old(write_of(alloc, FIRST_BEGUN)?))?;
     events.push(TwoEvent::Old(Event::EndWrite))?;
     events.push(TwoEvent::Old(Event::Send(0)))
 }
@@ -63,12 +33,12 @@ fn add_fences(events: &mut TwoEventList) -> Result<(), Memory> {
 
 // The newer controller begins the operation anew, and it is carried out and settled.
 fn add_newer(alloc: Global, events: &mut TwoEventList) -> Result<(), Memory> {
-    events.push(TwoEvent::New(write_of(alloc, BEGIN)?))?;
+    events.push(TwoEvent::New(write_of(alloc, FIRST_BEGUN)?))?;
     events.push(TwoEvent::New(Event::EndWrite))?;
     events.push(TwoEvent::New(Event::Send(0)))?;
     events.push(TwoEvent::New(Event::Deliver(0)))?;
     events.push(TwoEvent::New(Event::Hand(0)))?;
-    events.push(TwoEvent::New(write_of(alloc, DONE)?))?;
+    events.push(TwoEvent::New(write_of(alloc, FIRST_DONE)?))?;
     events.push(TwoEvent::New(Event::EndWrite))
 }
 
@@ -93,13 +63,17 @@ fn taken_over<'p>(
 // Whether the older controller was answered with what was held before, and has begun no more.
 fn is_behind(older: &World) -> bool {
     let given = older.given().as_slice();
-    older.durable().as_slice() == [BEGIN].as_slice() && given.len() == 1 && given[0].held == NOTHING
+    older.durable().as_slice() == [FIRST_BEGUN].as_slice()
+        && given.len() == 1
+        && given[0].held == NOTHING
 }
 
 // Whether the newer controller has settled the operation, and the switch holds it.
 fn is_the_end(newer: &World) -> bool {
     let durable = newer.durable().as_slice();
-    durable == [BEGIN, DONE].as_slice() && newer.items() > 0 && newer.held(0).number == 1
+    durable == [FIRST_BEGUN, FIRST_DONE].as_slice()
+        && newer.items() > 0
+        && newer.held(0).number == 1
 }
 
 // Of both worlds.
@@ -134,7 +108,7 @@ fn leads_to_the_end(alloc: Global, plan: &CheckedPlan) -> Result<bool, Memory> {
 
 // Of the rollout of two flows.
 fn two_lead_to_the_end(alloc: Global) -> Result<bool, Fail> {
-    let plan = plan_of_document(alloc, two())?;
+    let plan = plan_of_document(alloc, two_flows())?;
     let led = leads_to_the_end(alloc, &plan);
     drop(plan);
     Ok(led?)

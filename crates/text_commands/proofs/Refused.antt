@@ -121,7 +121,7 @@ checked-judging : (taken : Type 0) (d : DocumentRead) (next : Rollout → List �
 checked-judging taken d next None e to from = rw (checked-by d None e) (inl (to (unbroken-valid d.problem d.plan e), refl))
 checked-judging taken d next (Some b) e to from = rw (checked-by d (Some b) e) (inr (inl (λ t. let both : true ≡ false = sym (from t) ∙ broken-invalid d.problem d.plan b e in cc, refl)))
 
-same-document : (input : List ℕ) (d : DocumentRead) → document_in input ≡ Ok d → IsValidDocument input → IsValid d.problem d.plan
+pub same-document : (input : List ℕ) (d : DocumentRead) → document_in input ≡ Ok d → IsValidDocument input → IsValid d.problem d.plan
 same-document input d is t =
     let same : t.document ≡ d = cc (is, t.read) in
     subst (λ x. IsValid x.problem x.plan) same t.valid

@@ -81,6 +81,18 @@ abbrev pub documented : Result Rollout CommandEnd → Result (List ℕ) CommandE
 documented (Ok o) = Ok (rollout_text o)
 documented (Err e) = Err e
 
+-- the text of what was found, or the ending without it
+abbrev pub told_by : {A : Type 0} → (A → List ℕ) → Result A CommandEnd → Result (List ℕ) CommandEnd
+told_by text (Ok a) = Ok (text a)
+told_by text (Err e) = Err e
+
+-- the loads of a rollout, and what it has to be done
+abbrev pub loads_of : Rollout → List ℕ
+loads_of o = loads_text o.problem o.plan
+
+abbrev pub explanation_of : Rollout → List ℕ
+explanation_of o = explain_text o.problem o.plan
+
 -- the document of a problem with the plan chosen for it, and a line feed
 abbrev pub with_choice : Problem → Result Choice Cause → Result (List ℕ) CommandEnd
 with_choice p (Ok choice) = Ok (document_text p choice.plan ++ 10 ∷ [])

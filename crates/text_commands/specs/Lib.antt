@@ -8,6 +8,7 @@ pub mod Lines
 pub mod Words
 pub mod Answers
 pub mod Answered
+pub mod Ready
 pub mod Safety
 pub mod Taken
 pub mod Runs

@@ -1,9 +1,14 @@
 use lists::Text;
 use wan_model::CheckedPlan;
 
-/// What a command answers: a text, or a valid plan whose document, and a line feed, is the text.
+/// What a command answers: a text, or what its text is made of while it is written.
 #[derive(Debug, Drop)]
 pub enum Answer {
     Made(Text),
+    /// A valid plan, whose document, and a line feed, is the text.
     Document(CheckedPlan),
+    /// One of which the loads are told.
+    Loads(CheckedPlan),
+    /// One that is explained.
+    Explained(CheckedPlan),
 }

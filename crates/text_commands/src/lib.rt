@@ -2,7 +2,7 @@
 //! `rehearse`, from their words to the exit status. [`make_text`] does what the words ask for over streams, and
 //! [`start_text`] is the same from the arguments of a program on: a program that has no other commands needs
 //! nothing of devices. What the whole program shares with them is here, too: how a run ends and its line, reading
-//! all of the source, writing all of a text, or of a document piece by piece, and the notes.
+//! all of the source, writing all of a text, or that of an answer piece by piece, and the notes.
 //!
 //! A module a concern: the words, reading, writing, how a run ends, each kind of line, and the notes. The commands
 //! stand in `texts`, a module each. The contract speaks from the bytes read to the bytes written; what it promises of
@@ -20,6 +20,7 @@ mod making;
 mod no_plan_line;
 mod notes;
 mod reading;
+mod ready;
 mod starting;
 mod text_run;
 mod texts;
@@ -45,4 +46,4 @@ pub use words::{
     LARGEST_SEED, MOST_EVENTS, Planner, TextCommand, TextKind, begins_with_dash, number_from,
     number_in, planner_of, script_shape_of, text_command_of, text_kind_named, text_takes, value_or,
 };
-pub use writing::{write_document, write_text};
+pub use writing::write_text;

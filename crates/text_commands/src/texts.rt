@@ -12,7 +12,7 @@ mod sim;
 
 ghost use Rattle.std.specs.Prelude.{◌≡◌, IfOk};
 ghost use Rattle.text_commands.specs.Answered.{told};
-ghost use Rattle.text_commands.specs.Answers.{answer_in, documented};
+ghost use Rattle.text_commands.specs.Answers.{answer_in, documented, explanation_of, loads_of, told_by};
 ghost use Rattle.text_commands.specs.Runs.{Gives};
 ghost use Rattle.text_commands.specs.Safety.{DoesSafely};
 ghost use Rattle.text_commands.specs.Words.{text_asked};
@@ -40,9 +40,9 @@ pub fn answer_of(
     match command {
         TextCommand::Plan(planner) => document(plan::plan(alloc, planner, input)),
         TextCommand::Check => made(check::check(alloc, input)),
-        TextCommand::Loads => made(loads::loads(alloc, input)),
+        TextCommand::Loads => of_loads(loads::loads(alloc, input)),
         TextCommand::Back => document(back::back(alloc, input)),
-        TextCommand::Explain => made(explain::explain(alloc, input)),
+        TextCommand::Explain => of_explanation(explain::explain(alloc, input)),
         TextCommand::Least => made(least::least(alloc, input)),
         TextCommand::Sim(policy) => made(sim::sim(alloc, policy, input)),
         TextCommand::Rehearse(shape, policy) => {
@@ -65,6 +65,24 @@ fn document(plan: Result<CheckedPlan, CommandEnd>) -> Result<Answer, CommandEnd>
 {
     match plan {
         Ok(plan) => Ok(Answer::Document(plan)),
+        Err(ending) => Err(ending),
+    }
+}
+
+fn of_loads(found: Result<CheckedPlan, CommandEnd>) -> Result<Answer, CommandEnd>
+    ensures { told result ≡ told_by loads_of found }
+{
+    match found {
+        Ok(found) => Ok(Answer::Loads(found)),
+        Err(ending) => Err(ending),
+    }
+}
+
+fn of_explanation(found: Result<CheckedPlan, CommandEnd>) -> Result<Answer, CommandEnd>
+    ensures { told result ≡ told_by explanation_of found }
+{
+    match found {
+        Ok(found) => Ok(Answer::Explained(found)),
         Err(ending) => Err(ending),
     }
 }

@@ -3,10 +3,13 @@ ghost use Rattle.wan_edge.specs.Streams.{Rose};
 ghost use Rattle.problem_json.specs.WritingNames.{AreNamesOf};
 ghost use Rattle.text_commands.specs.Answered.{text_in};
 ghost use Rattle.text_commands.specs.Answers.{rollout_text};
+ghost use Rattle.text_commands.specs.Ready.{IsReady, ready_text};
 ghost use Rattle.text_commands.specs.Runs.{EndsWith, Follows};
 
 use crate::answer::Answer;
 use crate::command_end::CommandEnd;
+use crate::ready::{Ready, made_ready};
+use plan_texts::{push_explanation, push_loads};
 use problem_json::{Names, push_document};
 use sink_pieces::{Kept, PieceSink};
 use std::alloc::Global;
@@ -27,47 +30,45 @@ pub fn write_text<K: Sink>(sink: &mut K, text: &str) -> CommandEnd
     }
 }
 
-/// Writes the text of an answer.
+/// Writes the text of an answer, piece by piece. The memory for it, a buffer and what is looked up, is taken before
+/// the first byte is written: where it isn't found nothing is.
 pub fn write_told<K: Sink>(alloc: Global, answer: Answer, sink: &mut K) -> CommandEnd
     ensures written { Follows (Ok (text_in answer)) result (K.told sink.old).written
         (K.told sink.new).written }
     ensures cause { result ≡ CommandEnd.WriteFault
         → Rose (K.told sink.old).faults (K.told sink.new).faults }
 {
-    match answer {
-        Answer::Made(text) => write_text(sink, text.as_str()),
-        Answer::Document(plan) => write_document(alloc, sink, &plan),
-    }
+    let Ok(ready) = made_ready(alloc, answer) else {
+        return CommandEnd::OutOfMemory;
+    };
+    write_ready(alloc, sink, &ready)
 }
 
-/// Writes the document of a plan with its problem, and a line feed, piece by piece. The memory for it, a buffer and the
-/// problem's names, is taken before the first byte is written: where it isn't found nothing is.
-pub fn write_document<K: Sink>(alloc: Global, sink: &mut K, plan: &CheckedPlan) -> CommandEnd
-    ensures written { Follows (Ok (rollout_text plan.now)) result (K.told sink.old).written
+/// Writes it through a buffer.
+fn write_ready<K: Sink>(alloc: Global, sink: &mut K, ready: &Ready) -> CommandEnd
+    requires { IsReady ready.now }
+    ensures written { Follows (Ok (ready_text ready.now)) result (K.told sink.old).written
         (K.told sink.new).written }
     ensures cause { result ≡ CommandEnd.WriteFault
         → Rose (K.told sink.old).faults (K.told sink.new).faults }
 {
-    let Ok(names) = Names::of(alloc, plan.problem()) else {
-        return CommandEnd::OutOfMemory;
-    };
     match Kept::new(alloc) {
-        Ok(mut kept) => write_by(sink, &mut kept, &names, plan),
+        Ok(mut kept) => write_by(sink, &mut kept, ready),
         Err(_) => CommandEnd::OutOfMemory,
     }
 }
 
-/// Writes it by the names of the problem and an empty buffer.
-fn write_by<K: Sink>(sink: &mut K, kept: &mut Kept, names: &Names, plan: &CheckedPlan) -> CommandEnd
+/// Writes it by an empty buffer.
+fn write_by<K: Sink>(sink: &mut K, kept: &mut Kept, ready: &Ready) -> CommandEnd
     requires empty { kept.old ≡ [] }
-    requires names { AreNamesOf names.now plan.now.problem }
-    ensures written { EndsWith (Ok (rollout_text plan.now)) result (K.told sink.old).written
+    requires ready { IsReady ready.now }
+    ensures written { EndsWith (Ok (ready_text ready.now)) result (K.told sink.old).written
         (K.told sink.new).written }
     ensures cause { result ≡ CommandEnd.WriteFault
         → Rose (K.told sink.old).faults (K.told sink.new).faults }
 {
     let mut pieces = PieceSink::new(sink, kept);
-    push_rollout(&mut pieces, names, plan);
+    push_ready(&mut pieces, ready);
     match pieces.finish() {
         Ok(()) => CommandEnd::Done,
         Err(_) => CommandEnd::WriteFault,
@@ -75,6 +76,19 @@ fn write_by<K: Sink>(sink: &mut K, kept: &mut Kept, names: &Names, plan: &Checke
 }
 
 /// Pushes it.
+fn push_ready<P: Pieces>(pieces: &mut P, ready: &Ready)
+    requires { IsReady ready.now }
+    ensures { P.pushes pieces.old (ready_text ready.now) pieces.new }
+{
+    match ready {
+        Ready::Made(text) => pieces.push_str(text.as_str()),
+        Ready::Document(names, plan) => push_rollout(pieces, names, plan),
+        Ready::Loads(rows, plan) => push_loads(pieces, plan, rows),
+        Ready::Explained(lookup, plan) => push_explanation(pieces, plan, lookup),
+    }
+}
+
+/// Pushes the document of a plan with its problem, and a line feed, by the names of the problem.
 fn push_rollout<P: Pieces>(pieces: &mut P, names: &Names, plan: &CheckedPlan)
     requires { AreNamesOf names.now plan.now.problem }
     ensures { P.pushes pieces.old (rollout_text plan.now) pieces.new }

@@ -1,9 +1,5 @@
-use Rattle.std.proofs.Common.{◌≡◌, ◌++◌, append_assoc, ap, ◌∙◌}
-use Rattle.std.proofs.lemmas.Result.{on_ok_weaker}
-use Rattle.plan_texts.specs.Explain.{op_text}
+use Rattle.plan_texts.proofs.Pushes.{by_seven}
 use Rattle.plan_texts.proofs.op_lines.push_head.Goals as goal
 
 pub returns : goal.returns
-returns c =
-    let part : c.deref.result.now ≡ op_text c.args.item c.args.number c.args.stage = simp append_assoc (c.deref.ensures ∙ c.in_ok-part.ensures.ok) in
-    on_ok_weaker c.push_str.result (λ e. e ∙ ap (λ l. c.args.text.now ++ l) part) c.push_str.ensures.ok
+returns g c = by_seven g.P.Pieces.pushes g.met.P.Pieces.pushed_further c.push_str.ensures c.push_number.ensures c.push_str-2.ensures c.push_number-2.ensures c.push_str-3.ensures c.push_number-3.ensures c.push_str-4.ensures

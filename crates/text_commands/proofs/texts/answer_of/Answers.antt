@@ -1,8 +1,8 @@
 use Rattle.std.proofs.Common.{sym, ap, subst}
-use Rattle.text_commands.specs.Answers.{answer_in}
+use Rattle.text_commands.specs.Answers.{answer_in, explanation_of, loads_of}
 use Rattle.text_commands.specs.Safety.{DoesSafely}
 use Rattle.text_commands.specs.Words.{TextAsked, text_asked}
-use Rattle.text_commands.proofs.Answered.{told-gives, told-safe, documented-safe}
+use Rattle.text_commands.proofs.Answered.{told-gives, told-safe, documented-safe, found-safe}
 use Rattle.text_commands.proofs.texts.answer_of.Goals as goal
 
 pub returns-in-Plan-clause-gives : goal.returns-in-Plan-clause-gives
@@ -23,11 +23,11 @@ returns-in-Check-clause-safe g c =
 
 pub returns-in-Loads-clause-gives : goal.returns-in-Loads-clause-gives
 returns-in-Loads-clause-gives g c =
-    told-gives _ _ _ _ c.made-in-Loads.ensures (ap (λ (asked : TextAsked). answer_in asked c.args.input) (sym (ap (λ m. text_asked m) c.in-Loads.is))) c.loads.ensures.gives
+    told-gives _ _ _ _ c.of_loads.ensures (ap (λ (asked : TextAsked). answer_in asked c.args.input) (sym (ap (λ m. text_asked m) c.in-Loads.is))) c.loads.ensures.gives
 
 pub returns-in-Loads-clause-safe : goal.returns-in-Loads-clause-safe
 returns-in-Loads-clause-safe g c =
-    told-safe _ _ _ _ c.made-in-Loads.ensures (subst (λ (asked : TextAsked). DoesSafely asked c.args.input) (sym (ap (λ m. text_asked m) c.in-Loads.is))) c.loads.ensures.safe
+    found-safe loads_of _ _ _ _ c.of_loads.ensures (subst (λ (asked : TextAsked). DoesSafely asked c.args.input) (sym (ap (λ m. text_asked m) c.in-Loads.is))) c.loads.ensures.safe
 
 pub returns-in-Back-clause-gives : goal.returns-in-Back-clause-gives
 returns-in-Back-clause-gives g c =
@@ -39,11 +39,11 @@ returns-in-Back-clause-safe g c =
 
 pub returns-in-Explain-clause-gives : goal.returns-in-Explain-clause-gives
 returns-in-Explain-clause-gives g c =
-    told-gives _ _ _ _ c.made-in-Explain.ensures (ap (λ (asked : TextAsked). answer_in asked c.args.input) (sym (ap (λ m. text_asked m) c.in-Explain.is))) c.explain.ensures.gives
+    told-gives _ _ _ _ c.of_explanation.ensures (ap (λ (asked : TextAsked). answer_in asked c.args.input) (sym (ap (λ m. text_asked m) c.in-Explain.is))) c.explain.ensures.gives
 
 pub returns-in-Explain-clause-safe : goal.returns-in-Explain-clause-safe
 returns-in-Explain-clause-safe g c =
-    told-safe _ _ _ _ c.made-in-Explain.ensures (subst (λ (asked : TextAsked). DoesSafely asked c.args.input) (sym (ap (λ m. text_asked m) c.in-Explain.is))) c.explain.ensures.safe
+    found-safe explanation_of _ _ _ _ c.of_explanation.ensures (subst (λ (asked : TextAsked). DoesSafely asked c.args.input) (sym (ap (λ m. text_asked m) c.in-Explain.is))) c.explain.ensures.safe
 
 pub returns-in-Least-clause-gives : goal.returns-in-Least-clause-gives
 returns-in-Least-clause-gives g c =

@@ -6,7 +6,7 @@ pub returns-in_err-document-clause-gives : goal.returns-in_err-document-clause-g
 returns-in_err-document-clause-gives c = let p = err_from_is_err_and c.from_residual.result c.from_residual.ensures.1 in rw (p.1, p.2) (loads-refuses _ _ c.in_err-document.ensures)
 
 pub returns-clause-gives : goal.returns-clause-gives
-returns-clause-gives c = rw (loads-answers _ _ c.in_ok-document.ensures) c.loads_of.ensures.gives
+returns-clause-gives c = rw (loads-answers _ _ c.in_ok-document.ensures) c.loaded_of.ensures.gives
 
 pub returns-clause-safe : goal.returns-clause-safe
-returns-clause-safe c = read-loads-safely _ _ c.loads_of.result c.in_ok-document.ensures c.loads_of.ensures.safe
+returns-clause-safe c = read-loads-safely _ _ c.loaded_of.result c.in_ok-document.ensures c.loaded_of.ensures.safe

@@ -1,0 +1,5 @@
+use Rattle.plan_texts.proofs.Pushes.{by_three}
+use Rattle.plan_texts.proofs.item_lines.push_item_number.Goals as goal
+
+pub returns : goal.returns
+returns g c = by_three g.P.Pieces.pushes g.met.P.Pieces.pushed_further c.push_str.ensures c.push_number.ensures c.push_str-2.ensures

@@ -1,0 +1,5 @@
+use Rattle.plan_texts.proofs.Pushes.{both}
+use Rattle.plan_texts.proofs.op_lines.push_rate.Goals as goal
+
+pub returns : goal.returns
+returns g c = both g.P.Pieces.pushes g.met.P.Pieces.pushed_further c.push_str.ensures c.push_number.ensures

@@ -1,0 +1,72 @@
+ghost use Rattle.std.specs.Prelude.{◌≡◌, IfOk};
+ghost use Rattle.text_commands.specs.Answered.{text_in};
+ghost use Rattle.text_commands.specs.Answers.{explanation_of, loads_of, rollout_text};
+ghost use Rattle.text_commands.specs.Ready.{IsReady, ready_text};
+
+use crate::answer::Answer;
+use lists::{Memory, Text};
+use plan_texts::{LoadRows, Lookup};
+use problem_json::Names;
+use std::alloc::Global;
+use wan_model::CheckedPlan;
+
+/// An answer with all that its text takes memory for.
+#[derive(Drop)]
+pub(crate) enum Ready {
+    Made(Text),
+    Document(Names, CheckedPlan),
+    Loads(LoadRows, CheckedPlan),
+    Explained(Lookup, CheckedPlan),
+}
+
+/// Makes an answer ready to be written. An Err is want of memory.
+pub(crate) fn made_ready(alloc: Global, answer: Answer) -> Result<Ready, Memory>
+    ensures text { IfOk result (λ ready. ready_text ready ≡ text_in answer) }
+    ensures ready { IfOk result (λ ready. IsReady ready) }
+{
+    match answer {
+        Answer::Made(text) => Ok(Ready::Made(text)),
+        Answer::Document(plan) => document_ready(alloc, plan),
+        Answer::Loads(plan) => loads_ready(alloc, plan),
+        Answer::Explained(plan) => explanation_ready(alloc, plan),
+    }
+}
+
+fn document_ready(alloc: Global, plan: CheckedPlan) -> Result<Ready, Memory>
+    ensures text { IfOk result (λ ready. ready_text ready ≡ rollout_text plan) }
+    ensures ready { IfOk result (λ ready. IsReady ready) }
+{
+    match Names::of(alloc, plan.problem()) {
+        Ok(names) => Ok(Ready::Document(names, plan)),
+        Err(refused) => {
+            drop(plan);
+            Err(refused)
+        }
+    }
+}
+
+fn loads_ready(alloc: Global, plan: CheckedPlan) -> Result<Ready, Memory>
+    ensures text { IfOk result (λ ready. ready_text ready ≡ loads_of plan) }
+    ensures ready { IfOk result (λ ready. IsReady ready) }
+{
+    match LoadRows::of(alloc, &plan) {
+        Ok(rows) => Ok(Ready::Loads(rows, plan)),
+        Err(refused) => {
+            drop(plan);
+            Err(refused)
+        }
+    }
+}
+
+fn explanation_ready(alloc: Global, plan: CheckedPlan) -> Result<Ready, Memory>
+    ensures text { IfOk result (λ ready. ready_text ready ≡ explanation_of plan) }
+    ensures ready { IfOk result (λ ready. IsReady ready) }
+{
+    match Lookup::of(alloc, &plan) {
+        Ok(lookup) => Ok(Ready::Explained(lookup, plan)),
+        Err(refused) => {
+            drop(plan);
+            Err(refused)
+        }
+    }
+}
