@@ -1,11 +1,12 @@
 -- Reads of commands that were kept, one after the other, and guests that were served turn by turn by an agent with a file.
-use Rattle.std.proofs.Common.{◌≡◌, ◌≢◌, ◌⊎◌, ◌∙◌, inl, inr, ⊎_elim, ℕ, ◌+◌, ◌≤◌, ◌<◌, List, [], ◌∷◌, ◌++◌, length, take, Option, Some, None, IfErr, IfOk, IfSome, IsErr, Result, Ok, Err, OnErr, OnOk, unwrap_or, refl, sym, ap, ap₂, subst, arith, length-append}
+use Rattle.std.proofs.Common.{◌≡◌, ◌≢◌, ◌⊎◌, ◌∙◌, inl, inr, ⊎_elim, ℕ, ◌≤◌, ◌<◌, List, [], ◌∷◌, ◌++◌, length, take, Option, Some, None, IfErr, IfOk, IfSome, IsErr, Result, Ok, Err, OnErr, OnOk, unwrap_or, refl, sym, ap, ap₂, subst, arith, length-append}
 use Rattle.std.specs.List.{All, flat_map}
 use Rattle.std.proofs.lemmas.List.Elements.{All-append, All-nil}
-use Rattle.wan_edge.specs.Frames.{CommandFrame, IsCommand, command_bytes}
+use Rattle.wan_edge.specs.Frames.{CommandFrame, command_bytes}
 use Rattle.wan_edge.specs.Streams.{Appends, AppendsPart, KeepsTelling, Reads, Rose, SinkTrace, SourceTrace}
 use Rattle.wan_edge.specs.Switches.{Holdings}
-use Rattle.fenced_agent.specs.Agents.{FencedHoldings, FencedItems, after_all_termed, after_termed, fenced_holding}
+use Rattle.wan_edge.proofs.Sizes.{command-some}
+use Rattle.fenced_agent.specs.Agents.{FencedHoldings, FencedItems, after_all_termed, fenced_holding}
 use Rattle.fenced_agent.specs.Frames.{IsTermedCommand, TermedCommand, fence_bytes}
 use Rattle.disk_model.specs.Moments.{LeavesOnly}
 use Rattle.disk_model.specs.Traces.{DiskTrace}
@@ -17,6 +18,7 @@ use Rattle.switch_agent.specs.declared.serve_fault.ServeFault.{ServeFault}
 use Rattle.switch_agent.specs.declared.serve_fault.ServeFault.TheVariants.{Frame, Long, Memory, Read, Write}
 use Rattle.switch_agent.specs.declared.serve_fault.Served.{Served}
 use Rattle.agent_talks.proofs.Pieces.{guest_heard}
+use Rattle.agent_talks.proofs.Chains.{after_all_termed-append}
 use Rattle.agent_state.specs.Stored.{AreBytes, IsBeforeOrAfter, IsKept, IsReadAs, with_all, with_batch}
 use Rattle.agent_state.specs.declared.place.Place.{Place}
 use Rattle.agent_state.proofs.KeptFiles.{kept_reads}
@@ -30,13 +32,13 @@ use Rattle.agent_state.specs.Opened.{ReadsAlike}
 use Rattle.agent_service.specs.declared.keep_fault.KeepFault.{KeepFault}
 use Rattle.agent_service.specs.declared.keep_fault.KeepFault.TheVariants.{Fleet, NoRoom, State}
 use Rattle.agent_service.specs.declared.service.Service.{Service}
-use Rattle.agent_service.proofs.Rows.{TurnsSoFar, none_came, rose_until, some_bytes}
+use Rattle.agent_service.proofs.Rows.{TurnsSoFar, none_came, rose_until}
 
 -- ---- batches
 
 none_by : (commands : List CommandFrame) (a b : Holdings) (bytes : List ℕ) → AreBytes commands bytes → length bytes ≡ 0 → b ≡ with_all a commands → b ≡ a
 none_by [] a b bytes are none leads = leads
-none_by (c ∷ cs) a b bytes are none leads = absurd (omega (arith, none, ap length are.is, length-append (command_bytes c) (flat_map command_bytes cs), some_bytes c))
+none_by (c ∷ cs) a b bytes are none leads = absurd (omega (arith, none, ap length are.is, length-append (command_bytes c) (flat_map command_bytes cs), command-some c))
 
 abbrev under : ℕ → Holdings → FencedHoldings
 under floor held = record { floor = floor; held = held }
@@ -51,10 +53,6 @@ none_stored a b batch stores none = stores.leads ∙ none_in stores.stored.floor
 
 -- ---- what a crash leaves
 
-after-append : (held : FencedHoldings) (xs ys : List TermedCommand) → after_all_termed held (xs ++ ys) ≡ after_all_termed (after_all_termed held xs) ys
-after-append held [] ys = refl
-after-append held (x ∷ xs) ys = after-append (after_termed held x) xs ys
-
 pub come_now : (a : FencedHoldings) (image : List ℕ) → IsReadAs image a → HasCome a image
 come_now a image read = record { commands = []; fit = All-nil IsTermedCommand; read = read }
 
@@ -62,7 +60,7 @@ pub come_more : (a b : FencedHoldings) (commands : List TermedCommand) (image : 
 come_more a b commands image fit reached come = record {
   commands = commands ++ come.commands;
   fit = All-append IsTermedCommand commands come.commands fit come.fit;
-  read = subst (IsReadAs image) (ap (λ (h : FencedHoldings). after_all_termed h come.commands) reached ∙ sym (after-append a commands come.commands)) come.read;
+  read = subst (IsReadAs image) (ap (λ (h : FencedHoldings). after_all_termed h come.commands) reached ∙ sym (after_all_termed-append a commands come.commands)) come.read;
 }
 
 pub come_either : (a b : FencedHoldings) (commands : List TermedCommand) (image : List ℕ) → All IsTermedCommand commands → b ≡ after_all_termed a commands → IsBeforeOrAfter a b image → HasCome a image
@@ -337,7 +335,7 @@ turns_reached tells before (table ∷ later) now row =
     record {
       commands = first.commands ++ rest.commands;
       fit = All-append IsTermedCommand first.commands rest.commands first.fit rest.fit;
-      are = rest.are ∙ ap (λ (h : FencedHoldings). after_all_termed h rest.commands) first.are ∙ sym (after-append (fenced_holding before.items) first.commands rest.commands);
+      are = rest.are ∙ ap (λ (h : FencedHoldings). after_all_termed h rest.commands) first.are ∙ sym (after_all_termed-append (fenced_holding before.items) first.commands rest.commands);
     }
 
 -- the run of one turn more

@@ -1,27 +1,25 @@
 -- What an image is read as, and what a restart goes on from.
 use Rattle.std.proofs.Common.{◌≡◌, ◌==◌, ◌∙◌, ◌<◌, ◌≤◌, ◌^◌, nat_lt, true, inl, inr, ℕ, zero, suc, List, [], ◌∷◌, ◌++◌, length, drop, slice_index, Option, Some, None, unwrap_or, refl, sym, ap, ap₂, subst, arith, length-append}
-use Rattle.std.specs.Int.{w32, to_be_bytes, from_be_bytes}
-use Rattle.std.proofs.lemmas.Nat.{from_be_bytes-to_be_bytes_4}
 use Rattle.std.specs.List.{All, flat_map}
 use Rattle.std.proofs.lemmas.Bool.{cases_Bool, cases_lt, cond-false, cond-true, cond_both, le-ltb, lt-ltb}
 use Rattle.rollout_rules.specs.Agent.{Holding, held_after, is_at_most}
-use Rattle.rollout_laws.proofs.Pairs.{after-more, at_most-refl, at_most-trans}
+use Rattle.rollout_rules.proofs.Pairs.{after-more, at_most-refl, at_most-trans}
 use Rattle.wan_edge.specs.Frames.{CommandFrame, IsCommand, command_bytes, command_head}
 use Rattle.wan_edge.specs.Switches.{Holdings, after_command, pair_asked}
-use Rattle.wire_frames.proofs.OneSpelling.{one_command, same_parts}
+use Rattle.wan_edge.proofs.Sizes.{command-some}
+use Rattle.wire_frames.proofs.OneSpelling.{one_command, one_number, same_parts}
 use Rattle.fenced_agent.specs.Agents.{FencedHoldings, after_all_termed, after_termed}
-use Rattle.fenced_agent.specs.Frames.{IsTermedCommand, TermedCommand, fence_bytes, fence_kind, term_of}
-use Rattle.agent_state.specs.Stored.{AreBytes, IsBatch, IsReadAs, Leaves, StoredBatch, nothing_yet, with_all, with_batch}
+use Rattle.fenced_agent.specs.Frames.{TermedCommand, fence_bytes, term_of}
+use Rattle.agent_state.specs.Stored.{AreBytes, IsBatch, IsReadAs, Leaves, StoredBatch, nothing_yet, with_batch}
 use Rattle.agent_service.specs.Keeping.{GoesOnBy, HasCome}
-use Rattle.agent_service.proofs.Rows.{some_bytes}
 
 -- ---- one thing alone
 
 -- bytes of commands are those of one row of commands
 rows_one : (xs ys : List CommandFrame) → All IsCommand xs → All IsCommand ys → flat_map command_bytes xs ≡ flat_map command_bytes ys → xs ≡ ys
 rows_one [] [] fit also same = refl
-rows_one [] (y ∷ ys) fit also same = absurd (omega (arith, ap length same, length-append (command_bytes y) (flat_map command_bytes ys), some_bytes y))
-rows_one (x ∷ xs) [] fit also same = absurd (omega (arith, ap length same, length-append (command_bytes x) (flat_map command_bytes xs), some_bytes x))
+rows_one [] (y ∷ ys) fit also same = absurd (omega (arith, ap length same, length-append (command_bytes y) (flat_map command_bytes ys), command-some y))
+rows_one (x ∷ xs) [] fit also same = absurd (omega (arith, ap length same, length-append (command_bytes x) (flat_map command_bytes xs), command-some x))
 rows_one (x ∷ xs) (y ∷ ys) fit also same =
     let first = one_command x y (flat_map command_bytes xs) (flat_map command_bytes ys) (fit zero x (omega arith)) (also zero y (omega arith)) same in
     let later = rows_one xs ys (λ k d inside. fit (suc k) d (omega (arith, inside))) (λ k d inside. also (suc k) d (omega (arith, inside))) first.1 in
@@ -32,9 +30,6 @@ other_kind : (commands : List CommandFrame) (term : ℕ) (behind : List ℕ) →
 unfolding command_bytes command_head
 other_kind [] term behind same = absurd (omega (arith, ap length same))
 other_kind (c ∷ cs) term behind same = absurd (omega (arith, ap (λ (xs : List ℕ). slice_index xs 0) same))
-
-one_floor : (m n : ℕ) → m < 2 ^ 32 → n < 2 ^ 32 → to_be_bytes w32 m ≡ to_be_bytes w32 n → m ≡ n
-one_floor m n m_fits n_fits e = sym (from_be_bytes-to_be_bytes_4 m m_fits) ∙ ap (from_be_bytes w32) e ∙ from_be_bytes-to_be_bytes_4 n n_fits
 
 abbrev batch_of : Option ℕ → List CommandFrame → StoredBatch
 batch_of floor commands = record { floor = floor; commands = commands }
@@ -47,7 +42,7 @@ parts_one None (Some n) xs ys a b m_fits n_fits first second same = absurd (othe
 parts_one (Some m) None xs ys a b m_fits n_fits first second same = absurd (other_kind ys m a (sym second.is ∙ sym same))
 parts_one (Some m) (Some n) xs ys a b m_fits n_fits first second same =
     let parts = same_parts (fence_bytes (Some m)) (fence_bytes (Some n)) a b refl same in
-    let floor : m ≡ n = one_floor m n m_fits n_fits (ap (drop 1) parts.0) in
+    let floor : m ≡ n = one_number m n m_fits n_fits (ap (drop 1) parts.0) in
     ap₂ (λ (k : ℕ) (cs : List CommandFrame). batch_of (Some k) cs) floor (rows_one xs ys first.fit second.fit (sym first.is ∙ parts.1 ∙ second.is))
 
 batch_one : (bytes : List ℕ) (x y : StoredBatch) → IsBatch x bytes → IsBatch y bytes → x ≡ y

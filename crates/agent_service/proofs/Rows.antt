@@ -4,10 +4,10 @@ use Rattle.std.specs.Prelude.{IfErr, IfOk, IfSome, IsErrOf}
 use Rattle.std.specs.List.{remove}
 use Rattle.std.proofs.lemmas.List.{length_push}
 use Rattle.wan_edge.specs.Fleets.{WaitsFor}
-use Rattle.wan_edge.specs.Frames.{CommandFrame, command_bytes, command_head}
 use Rattle.wan_edge.specs.Streams.{Rose}
 use Rattle.wan_edge.specs.declared.waited.Waited.{Waited}
 use Rattle.wan_edge.specs.declared.waited.Waited.TheVariants.{Came, NoMore, Seat}
+use Rattle.wan_edge.proofs.Faults.{rose_since}
 use Rattle.fenced_agent.specs.Agents.{FencedItems}
 use Rattle.agent_talks.specs.Serving.{GoesFurther}
 use Rattle.switch_agent.specs.ReadStates.{ReadSoFar, most, new_read_state, room_of}
@@ -20,11 +20,6 @@ use Rattle.agent_service.specs.Services.{Guests, HearsOne, MakesRoom, SeatsNext,
 use Rattle.agent_service.specs.declared.service.Service.{Service}
 use Rattle.agent_service.specs.declared.service.ServiceFault.{ServiceFault}
 use Rattle.agent_service.specs.declared.service.ServiceFault.TheVariants.{Fleet, Memory as NoMemory}
-
--- each command has a byte
-pub some_bytes : (c : CommandFrame) → 0 < length (command_bytes c)
-unfolding command_bytes command_head
-some_bytes c = omega arith
 
 -- ---- lists
 
@@ -364,10 +359,6 @@ all_served tells first now asked so_far within enough = record {
 }
 
 -- ---- causes
-
-pub rose_since : (a b c : ℕ) → a ≤ b → Rose b c → Rose a c
-rose_since a b c no_less (inl more) = inl (omega (arith, no_less, more))
-rose_since a b c no_less (inr most_faults) = inr most_faults
 
 pub cause_since : {X : Type 0} (result : Result X ServiceFault) (a b c : ℕ) → a ≤ b → IfErr result (λ why. why ≡ Fleet → Rose b c) → IfErr result (λ why. why ≡ Fleet → Rose a c)
 cause_since (Ok x) a b c no_less cause = tt

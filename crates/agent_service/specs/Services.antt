@@ -1,7 +1,7 @@
 -- What the serving of guests by one agent comes to, several of them at once, whose commands may name a term.
 use Rattle.std.specs.Prelude.{◌≡◌, ◌≢◌, ◌⊎◌, ℕ, ◌+◌, ◌<◌, ◌≤◌, List, [], ◌∷◌, ◌++◌, length, slice_index_or, Option, Some, None, IfSome, Result, Ok, Err}
 use Rattle.std.specs.List.{remove}
-use Rattle.wan_edge.specs.Fleets.{GivesGuest}
+use Rattle.wan_edge.specs.Fleets.{FleetTrace, GivesGuest}
 use Rattle.wan_edge.specs.Streams.{Rose, SinkTrace, SourceTrace}
 use Rattle.fenced_agent.specs.Agents.{FencedItems}
 use Rattle.switch_agent.specs.Items.{most_items}
@@ -27,6 +27,10 @@ pub record Tells (G : Type 0) : Type 0 where
 pub record Guests (G : Type 0) : Type 0 where
   pub coming : Option (List G)
   pub served : List G
+
+-- what a fleet tells of these
+abbrev pub guests_of : {P G : Type 0} → FleetTrace P G → Guests G
+guests_of fleet = record { coming = fleet.coming; served = fleet.served }
 
 -- One moment of a service: the floor of the agent and what it holds; the guests that sit, from the one that has said nothing for longest to the one that spoke last, and what is
 -- kept of each of them; who is to come, where that is told; who was given back; and what was counted.

@@ -135,9 +135,9 @@ fn gather_next(
     requires some { 0 < length piece.now }
     ensures taken { IfOk result (λ next. (0 < next.0) × (next.0 ≤ length piece.now)) }
     ensures carried { IfOk result
-        (λ next. CarriesOut agent.old agent.new (all_kept reader.old ++ take next.0 piece.now) next.1
-        (λ rest. rest ≡ all_kept reader.new) (Some gathered.old.answers.items)
-        (Some gathered.new.answers.items)) }
+        (λ next. CarriesOut agent.old agent.new
+        (all_kept reader.old ++ take next.0 piece.now) next.1 (λ rest. rest ≡ all_kept reader.new)
+        (Some gathered.old.answers.items) (Some gathered.new.answers.items)) }
     ensures stored { OnOk result
         (Stores (fenced_holding agent.old) (fenced_holding agent.new) gathered.old.batch.items
         gathered.new.batch.items) }

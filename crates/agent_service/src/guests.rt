@@ -1,10 +1,10 @@
 //! The guests of an agent without a file.
 ghost use Rattle.std.specs.Prelude.{◌≡◌, ◌≢◌, ◌+◌, ◌≤◌, ◌<◌, [], Some, false, length, true, vec_capacity, IfErr, IfOk, IfSome, IsErrOf};
 ghost use Rattle.agent_service.specs.Seats.{HasSeats};
-ghost use Rattle.agent_service.specs.Services.{Serves, ServesBy, ServesSeated, StopsTurn, TakesTurn, most_seats, nothing_counted, table_of};
+ghost use Rattle.agent_service.specs.Services.{Serves, ServesBy, ServesSeated, StopsTurn, TakesTurn, guests_of, most_seats, nothing_counted, table_of};
 ghost use Rattle.agent_service.specs.declared.service.ServiceFault.TheVariants as stop;
 ghost use Rattle.switch_agent.specs.declared.serve_fault.ServeFault.TheVariants as fault;
-ghost use Rattle.wan_edge.specs.Fleets.{WaitsFor};
+ghost use Rattle.wan_edge.specs.Fleets.{PortsStay, WaitsFor};
 ghost use Rattle.wan_edge.specs.Streams.{Rose};
 
 use crate::seats::{MOST_SEATS, keep_seated, settle, sit_down};
@@ -32,16 +32,12 @@ pub fn serve_guests<F: Fleet>(
       source = F.Guest.Source.told;
       sink = F.Guest.Sink.told;
     })
-        (record { coming = F.coming fleet.old; served = F.served fleet.old })
-        (record { coming = F.coming fleet.new; served = F.served fleet.new }) guests result }
-    ensures visiting { F.visiting fleet.new ≡ F.visiting fleet.old }
-    ensures ports { (F.waiting fleet.new ≡ F.waiting fleet.old)
-        × (F.kept fleet.new ≡ F.kept fleet.old)
-        × (F.lent fleet.new ≡ F.lent fleet.old)
-        × (F.named fleet.new ≡ F.named fleet.old) }
+        (guests_of (F.told fleet.old)) (guests_of (F.told fleet.new)) guests result }
+    ensures visiting { (F.told fleet.new).visiting ≡ (F.told fleet.old).visiting }
+    ensures ports { PortsStay (F.told fleet.old) (F.told fleet.new) }
     ensures cause { IsErrOf result ServiceFault.Fleet
-        → Rose (F.faults fleet.old) (F.faults fleet.new) }
-    ensures count { F.faults fleet.old ≤ F.faults fleet.new }
+        → Rose (F.told fleet.old).faults (F.told fleet.new).faults }
+    ensures count { (F.told fleet.old).faults ≤ (F.told fleet.new).faults }
 {
     let plain = Agent::new(alloc);
     let mut agent = FencedAgent::new(plain);
@@ -65,16 +61,12 @@ fn serve_with<F: Fleet>(
       source = F.Guest.Source.told;
       sink = F.Guest.Sink.told;
     }) agent.old
-        (record { coming = F.coming fleet.old; served = F.served fleet.old })
-        (record { coming = F.coming fleet.new; served = F.served fleet.new }) guests result }
-    ensures visiting { F.visiting fleet.new ≡ F.visiting fleet.old }
-    ensures ports { (F.waiting fleet.new ≡ F.waiting fleet.old)
-        × (F.kept fleet.new ≡ F.kept fleet.old)
-        × (F.lent fleet.new ≡ F.lent fleet.old)
-        × (F.named fleet.new ≡ F.named fleet.old) }
+        (guests_of (F.told fleet.old)) (guests_of (F.told fleet.new)) guests result }
+    ensures visiting { (F.told fleet.new).visiting ≡ (F.told fleet.old).visiting }
+    ensures ports { PortsStay (F.told fleet.old) (F.told fleet.new) }
     ensures cause { IfErr result
-        (λ why. why ≡ stop.Fleet → Rose (F.faults fleet.old) (F.faults fleet.new)) }
-    ensures count { F.faults fleet.old ≤ F.faults fleet.new }
+        (λ why. why ≡ stop.Fleet → Rose (F.told fleet.old).faults (F.told fleet.new).faults) }
+    ensures count { (F.told fleet.old).faults ≤ (F.told fleet.new).faults }
 {
     match Vec::with_capacity(alloc, MOST_SEATS) {
         Ok(mut seated) => {
@@ -101,19 +93,14 @@ fn serve_seated<F: Fleet>(
       source = F.Guest.Source.told;
       sink = F.Guest.Sink.told;
     })
-        (table_of agent.old [] []
-        (record { coming = F.coming fleet.old; served = F.served fleet.old }) nothing_counted)
-        guests result seated.new.items
-        (record { coming = F.coming fleet.new; served = F.served fleet.new }) }
-    ensures visiting { F.visiting fleet.new
-        ≡ F.visiting fleet.old + length seated.new.items }
-    ensures ports { (F.waiting fleet.new ≡ F.waiting fleet.old)
-        × (F.kept fleet.new ≡ F.kept fleet.old)
-        × (F.lent fleet.new ≡ F.lent fleet.old)
-        × (F.named fleet.new ≡ F.named fleet.old) }
+        (table_of agent.old [] [] (guests_of (F.told fleet.old)) nothing_counted) guests result
+        seated.new.items (guests_of (F.told fleet.new)) }
+    ensures visiting { (F.told fleet.new).visiting
+        ≡ (F.told fleet.old).visiting + length seated.new.items }
+    ensures ports { PortsStay (F.told fleet.old) (F.told fleet.new) }
     ensures cause { IfErr result
-        (λ why. why ≡ stop.Fleet → Rose (F.faults fleet.old) (F.faults fleet.new)) }
-    ensures count { F.faults fleet.old ≤ F.faults fleet.new }
+        (λ why. why ≡ stop.Fleet → Rose (F.told fleet.old).faults (F.told fleet.new).faults) }
+    ensures count { (F.told fleet.old).faults ≤ (F.told fleet.new).faults }
 {
     let mut service = Service {
         guests: 0,
@@ -142,36 +129,33 @@ fn take_turn<F: Fleet>(
     service: Service,
 ) -> Result<Option<Service>, ServiceFault>
     requires { HasSeats seated.old.items talks.old.items service (vec_capacity seated.old)
-        (vec_capacity talks.old) (F.visiting fleet.old) }
+        (vec_capacity talks.old) (F.told fleet.old).visiting }
     ensures turn { IfOk result
         (λ found. TakesTurn (record {
           source = F.Guest.Source.told;
           sink = F.Guest.Sink.told;
         })
-        (table_of agent.old seated.old.items talks.old.items
-        (record { coming = F.coming fleet.old; served = F.served fleet.old }) service) found
-        (table_of agent.new seated.new.items talks.new.items
-        (record { coming = F.coming fleet.new; served = F.served fleet.new }) service)) }
+        (table_of agent.old seated.old.items talks.old.items (guests_of (F.told fleet.old)) service)
+        found
+        (table_of agent.new seated.new.items talks.new.items (guests_of (F.told fleet.new))
+        service)) }
     ensures stops { IfErr result
         (λ why. StopsTurn (record {
           source = F.Guest.Source.told;
           sink = F.Guest.Sink.told;
         })
-        (table_of agent.old seated.old.items talks.old.items
-        (record { coming = F.coming fleet.old; served = F.served fleet.old }) service) why
-        (table_of agent.new seated.new.items talks.new.items
-        (record { coming = F.coming fleet.new; served = F.served fleet.new }) service)) }
+        (table_of agent.old seated.old.items talks.old.items (guests_of (F.told fleet.old)) service)
+        why
+        (table_of agent.new seated.new.items talks.new.items (guests_of (F.told fleet.new))
+        service)) }
     ensures places { (vec_capacity seated.new ≡ vec_capacity seated.old)
         × (vec_capacity talks.new ≡ vec_capacity talks.old) }
-    ensures visiting { F.visiting fleet.new + length seated.old.items
-        ≡ F.visiting fleet.old + length seated.new.items }
-    ensures ports { (F.waiting fleet.new ≡ F.waiting fleet.old)
-        × (F.kept fleet.new ≡ F.kept fleet.old)
-        × (F.lent fleet.new ≡ F.lent fleet.old)
-        × (F.named fleet.new ≡ F.named fleet.old) }
+    ensures visiting { (F.told fleet.new).visiting + length seated.old.items
+        ≡ (F.told fleet.old).visiting + length seated.new.items }
+    ensures ports { PortsStay (F.told fleet.old) (F.told fleet.new) }
     ensures cause { IfErr result
-        (λ why. why ≡ stop.Fleet → Rose (F.faults fleet.old) (F.faults fleet.new)) }
-    ensures count { F.faults fleet.old ≤ F.faults fleet.new }
+        (λ why. why ≡ stop.Fleet → Rose (F.told fleet.old).faults (F.told fleet.new).faults) }
+    ensures count { (F.told fleet.old).faults ≤ (F.told fleet.new).faults }
 {
     match fleet.wait(seated.as_slice()) {
         Ok(woken) => wake(agent, fleet, seated, talks, woken, service),
@@ -189,37 +173,34 @@ fn wake<F: Fleet>(
     service: Service,
 ) -> Result<Option<Service>, ServiceFault>
     requires seats { HasSeats seated.old.items talks.old.items service (vec_capacity seated.old)
-        (vec_capacity talks.old) (F.visiting fleet.old) }
-    requires woken { WaitsFor (F.coming fleet.old) seated.old.items woken }
+        (vec_capacity talks.old) (F.told fleet.old).visiting }
+    requires woken { WaitsFor (F.told fleet.old).coming seated.old.items woken }
     ensures turn { IfOk result
         (λ found. TakesTurn (record {
           source = F.Guest.Source.told;
           sink = F.Guest.Sink.told;
         })
-        (table_of agent.old seated.old.items talks.old.items
-        (record { coming = F.coming fleet.old; served = F.served fleet.old }) service) found
-        (table_of agent.new seated.new.items talks.new.items
-        (record { coming = F.coming fleet.new; served = F.served fleet.new }) service)) }
+        (table_of agent.old seated.old.items talks.old.items (guests_of (F.told fleet.old)) service)
+        found
+        (table_of agent.new seated.new.items talks.new.items (guests_of (F.told fleet.new))
+        service)) }
     ensures stops { IfErr result
         (λ why. StopsTurn (record {
           source = F.Guest.Source.told;
           sink = F.Guest.Sink.told;
         })
-        (table_of agent.old seated.old.items talks.old.items
-        (record { coming = F.coming fleet.old; served = F.served fleet.old }) service) why
-        (table_of agent.new seated.new.items talks.new.items
-        (record { coming = F.coming fleet.new; served = F.served fleet.new }) service)) }
+        (table_of agent.old seated.old.items talks.old.items (guests_of (F.told fleet.old)) service)
+        why
+        (table_of agent.new seated.new.items talks.new.items (guests_of (F.told fleet.new))
+        service)) }
     ensures places { (vec_capacity seated.new ≡ vec_capacity seated.old)
         × (vec_capacity talks.new ≡ vec_capacity talks.old) }
-    ensures visiting { F.visiting fleet.new + length seated.old.items
-        ≡ F.visiting fleet.old + length seated.new.items }
-    ensures ports { (F.waiting fleet.new ≡ F.waiting fleet.old)
-        × (F.kept fleet.new ≡ F.kept fleet.old)
-        × (F.lent fleet.new ≡ F.lent fleet.old)
-        × (F.named fleet.new ≡ F.named fleet.old) }
+    ensures visiting { (F.told fleet.new).visiting + length seated.old.items
+        ≡ (F.told fleet.old).visiting + length seated.new.items }
+    ensures ports { PortsStay (F.told fleet.old) (F.told fleet.new) }
     ensures cause { IfErr result
-        (λ why. why ≡ stop.Fleet → Rose (F.faults fleet.old) (F.faults fleet.new)) }
-    ensures count { F.faults fleet.old ≤ F.faults fleet.new }
+        (λ why. why ≡ stop.Fleet → Rose (F.told fleet.old).faults (F.told fleet.new).faults) }
+    ensures count { (F.told fleet.old).faults ≤ (F.told fleet.new).faults }
 {
     match woken {
         Waited::Came => seat_next(agent, fleet, seated, talks, service),
@@ -237,37 +218,34 @@ fn seat_next<F: Fleet>(
     service: Service,
 ) -> Result<Option<Service>, ServiceFault>
     requires seats { HasSeats seated.old.items talks.old.items service (vec_capacity seated.old)
-        (vec_capacity talks.old) (F.visiting fleet.old) }
-    requires comes { IfSome (F.coming fleet.old) (λ guests. 0 < length guests) }
+        (vec_capacity talks.old) (F.told fleet.old).visiting }
+    requires comes { IfSome (F.told fleet.old).coming (λ guests. 0 < length guests) }
     ensures turn { IfOk result
         (λ found. TakesTurn (record {
           source = F.Guest.Source.told;
           sink = F.Guest.Sink.told;
         })
-        (table_of _agent.now seated.old.items talks.old.items
-        (record { coming = F.coming fleet.old; served = F.served fleet.old }) service) found
-        (table_of _agent.now seated.new.items talks.new.items
-        (record { coming = F.coming fleet.new; served = F.served fleet.new }) service)) }
+        (table_of _agent.now seated.old.items talks.old.items (guests_of (F.told fleet.old))
+        service) found
+        (table_of _agent.now seated.new.items talks.new.items (guests_of (F.told fleet.new))
+        service)) }
     ensures stops { IfErr result
         (λ why. StopsTurn (record {
           source = F.Guest.Source.told;
           sink = F.Guest.Sink.told;
         })
-        (table_of _agent.now seated.old.items talks.old.items
-        (record { coming = F.coming fleet.old; served = F.served fleet.old }) service) why
-        (table_of _agent.now seated.new.items talks.new.items
-        (record { coming = F.coming fleet.new; served = F.served fleet.new }) service)) }
+        (table_of _agent.now seated.old.items talks.old.items (guests_of (F.told fleet.old))
+        service) why
+        (table_of _agent.now seated.new.items talks.new.items (guests_of (F.told fleet.new))
+        service)) }
     ensures places { (vec_capacity seated.new ≡ vec_capacity seated.old)
         × (vec_capacity talks.new ≡ vec_capacity talks.old) }
-    ensures visiting { F.visiting fleet.new + length seated.old.items
-        ≡ F.visiting fleet.old + length seated.new.items }
-    ensures ports { (F.waiting fleet.new ≡ F.waiting fleet.old)
-        × (F.kept fleet.new ≡ F.kept fleet.old)
-        × (F.lent fleet.new ≡ F.lent fleet.old)
-        × (F.named fleet.new ≡ F.named fleet.old) }
+    ensures visiting { (F.told fleet.new).visiting + length seated.old.items
+        ≡ (F.told fleet.old).visiting + length seated.new.items }
+    ensures ports { PortsStay (F.told fleet.old) (F.told fleet.new) }
     ensures cause { IfErr result
-        (λ why. why ≡ stop.Fleet → Rose (F.faults fleet.old) (F.faults fleet.new)) }
-    ensures count { F.faults fleet.old ≤ F.faults fleet.new }
+        (λ why. why ≡ stop.Fleet → Rose (F.told fleet.old).faults (F.told fleet.new).faults) }
+    ensures count { (F.told fleet.old).faults ≤ (F.told fleet.new).faults }
 {
     match sit_down(fleet, seated, talks, service) {
         Ok(found) => Ok(found),
@@ -285,7 +263,7 @@ fn hear<F: Fleet>(
     service: Service,
 ) -> Result<Option<Service>, ServiceFault>
     requires seats { HasSeats seated.old.items talks.old.items service (vec_capacity seated.old)
-        (vec_capacity talks.old) (F.visiting fleet.old) }
+        (vec_capacity talks.old) (F.told fleet.old).visiting }
     requires place { place < length seated.old.items }
     requires even { length talks.old.items ≡ length seated.old.items }
     ensures turn { IfOk result
@@ -293,29 +271,26 @@ fn hear<F: Fleet>(
           source = F.Guest.Source.told;
           sink = F.Guest.Sink.told;
         })
-        (table_of agent.old seated.old.items talks.old.items
-        (record { coming = F.coming fleet.old; served = F.served fleet.old }) service) found
-        (table_of agent.new seated.new.items talks.new.items
-        (record { coming = F.coming fleet.new; served = F.served fleet.new }) service)) }
+        (table_of agent.old seated.old.items talks.old.items (guests_of (F.told fleet.old)) service)
+        found
+        (table_of agent.new seated.new.items talks.new.items (guests_of (F.told fleet.new))
+        service)) }
     ensures stops { IfErr result
         (λ why. StopsTurn (record {
           source = F.Guest.Source.told;
           sink = F.Guest.Sink.told;
         })
-        (table_of agent.old seated.old.items talks.old.items
-        (record { coming = F.coming fleet.old; served = F.served fleet.old }) service) why
-        (table_of agent.new seated.new.items talks.new.items
-        (record { coming = F.coming fleet.new; served = F.served fleet.new }) service)) }
+        (table_of agent.old seated.old.items talks.old.items (guests_of (F.told fleet.old)) service)
+        why
+        (table_of agent.new seated.new.items talks.new.items (guests_of (F.told fleet.new))
+        service)) }
     ensures places { (vec_capacity seated.new ≡ vec_capacity seated.old)
         × (vec_capacity talks.new ≡ vec_capacity talks.old) }
-    ensures visiting { F.visiting fleet.new + length seated.old.items
-        ≡ F.visiting fleet.old + length seated.new.items }
-    ensures ports { (F.waiting fleet.new ≡ F.waiting fleet.old)
-        × (F.kept fleet.new ≡ F.kept fleet.old)
-        × (F.lent fleet.new ≡ F.lent fleet.old)
-        × (F.named fleet.new ≡ F.named fleet.old) }
+    ensures visiting { (F.told fleet.new).visiting + length seated.old.items
+        ≡ (F.told fleet.old).visiting + length seated.new.items }
+    ensures ports { PortsStay (F.told fleet.old) (F.told fleet.new) }
     ensures cause { IfErr result (λ why. why ≢ stop.Fleet) }
-    ensures count { F.faults fleet.old ≤ F.faults fleet.new }
+    ensures count { (F.told fleet.old).faults ≤ (F.told fleet.new).faults }
 {
     let mut guest = seated.remove(place);
     let talk = talks.remove(place);

@@ -201,7 +201,8 @@ fn keep_batch<D: Disk>(
         → IsOnDisk (D.told disk.old) place before
         → StoresAll before (fenced_holding agent.now) batch.now
         → IfSome (D.told disk.old).bytes
-        (λ _. LeavesOnly D.told disk.old disk.new (IsBeforeOrAfter before (fenced_holding agent.now))) }
+        (λ _. LeavesOnly D.told disk.old disk.new
+        (IsBeforeOrAfter before (fenced_holding agent.now))) }
     ensures done { IfOk result
         (λ now. (before : FencedHoldings)
         → IsOnDisk (D.told disk.old) place before

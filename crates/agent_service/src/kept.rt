@@ -3,12 +3,12 @@ ghost use Rattle.std.specs.Prelude.{◌≡◌, ◌≢◌, ◌+◌, ◌<◌, ◌�
 ghost use Rattle.agent_service.specs.Keeping.{IsOnDisk};
 ghost use Rattle.agent_service.specs.KeptServices.{EndsService, HasComeAlways, IsKeptBehind, IsHeldOnDisk, KeepsFrom, KeepsGuests, KeepsSeated, KeepsTurn, MayBeLeft, StopsService, at_place};
 ghost use Rattle.agent_service.specs.Seats.{HasSeats};
-ghost use Rattle.agent_service.specs.Services.{back_behind, count_behind, guests_behind, most_seats, nothing_counted, table_of, talks_behind};
+ghost use Rattle.agent_service.specs.Services.{back_behind, count_behind, guests_behind, guests_of, most_seats, nothing_counted, table_of, talks_behind};
 ghost use Rattle.agent_service.specs.declared.keep_fault.KeepFault.TheVariants as stop;
 ghost use Rattle.disk_model.specs.Moments.{LeavesOnly};
 ghost use Rattle.fenced_agent.specs.Agents.{fenced_holding};
 ghost use Rattle.switch_agent.specs.declared.serve_fault.ServeFault.TheVariants as fault;
-ghost use Rattle.wan_edge.specs.Fleets.{WaitsFor};
+ghost use Rattle.wan_edge.specs.Fleets.{PortsStay, WaitsFor};
 ghost use Rattle.wan_edge.specs.Streams.{KeepsTelling};
 
 use crate::guests::wants_room;
@@ -38,19 +38,15 @@ pub fn keep_guests<F: Fleet, D: Disk>(
           source = F.Guest.Source.told;
           sink = F.Guest.Sink.told;
         }) disk.old disk.new
-        (record { coming = F.coming fleet.old; served = F.served fleet.old })
-        (record { coming = F.coming fleet.new; served = F.served fleet.new }) guests service) }
+        (guests_of (F.told fleet.old)) (guests_of (F.told fleet.new)) guests service) }
     ensures any_moment { IfSome (D.told disk.old).bytes
         (λ image. LeavesOnly D.told disk.old disk.new
         (MayBeLeft (D.told disk.old).may_leave image)) }
     ensures cause { IfErr result
-        (λ why. EndsService why (F.faults fleet.old) (F.faults fleet.new)
+        (λ why. EndsService why (F.told fleet.old).faults (F.told fleet.new).faults
         (D.told disk.old).faults (D.told disk.new).faults) }
-    ensures visiting { F.visiting fleet.new ≡ F.visiting fleet.old }
-    ensures ports { (F.waiting fleet.new ≡ F.waiting fleet.old)
-        × (F.kept fleet.new ≡ F.kept fleet.old)
-        × (F.lent fleet.new ≡ F.lent fleet.old)
-        × (F.named fleet.new ≡ F.named fleet.old) }
+    ensures visiting { (F.told fleet.new).visiting ≡ (F.told fleet.old).visiting }
+    ensures ports { PortsStay (F.told fleet.old) (F.told fleet.new) }
 {
     let plain = Agent::new(alloc);
     let mut agent = FencedAgent::new(plain);
@@ -74,19 +70,15 @@ fn keep_all<F: Fleet, D: Disk>(
           source = F.Guest.Source.told;
           sink = F.Guest.Sink.told;
         }) agent.old disk.new
-        (record { coming = F.coming fleet.old; served = F.served fleet.old })
-        (record { coming = F.coming fleet.new; served = F.served fleet.new }) guests service) }
+        (guests_of (F.told fleet.old)) (guests_of (F.told fleet.new)) guests service) }
     ensures any_moment { HasComeAlways D.told disk.old disk.new (fenced_holding agent.old) }
     ensures told { KeepsTelling (D.told disk.old).bytes (D.told disk.new).bytes }
-    ensures visiting { F.visiting fleet.new ≡ F.visiting fleet.old }
-    ensures ports { (F.waiting fleet.new ≡ F.waiting fleet.old)
-        × (F.kept fleet.new ≡ F.kept fleet.old)
-        × (F.lent fleet.new ≡ F.lent fleet.old)
-        × (F.named fleet.new ≡ F.named fleet.old) }
+    ensures visiting { (F.told fleet.new).visiting ≡ (F.told fleet.old).visiting }
+    ensures ports { PortsStay (F.told fleet.old) (F.told fleet.new) }
     ensures cause { IfErr result
-        (λ why. StopsService why (F.faults fleet.old) (F.faults fleet.new)
+        (λ why. StopsService why (F.told fleet.old).faults (F.told fleet.new).faults
         (D.told disk.old).faults (D.told disk.new).faults) }
-    ensures count { F.faults fleet.old ≤ F.faults fleet.new }
+    ensures count { (F.told fleet.old).faults ≤ (F.told fleet.new).faults }
     ensures disk_count { (D.told disk.old).faults ≤ (D.told disk.new).faults }
 {
     match Vec::with_capacity(alloc, MOST_SEATS) {
@@ -113,19 +105,15 @@ fn keep_with<F: Fleet, D: Disk>(
           source = F.Guest.Source.told;
           sink = F.Guest.Sink.told;
         }) agent.old disk.new
-        (record { coming = F.coming fleet.old; served = F.served fleet.old })
-        (record { coming = F.coming fleet.new; served = F.served fleet.new }) guests service) }
+        (guests_of (F.told fleet.old)) (guests_of (F.told fleet.new)) guests service) }
     ensures any_moment { HasComeAlways D.told disk.old disk.new (fenced_holding agent.old) }
     ensures told { KeepsTelling (D.told disk.old).bytes (D.told disk.new).bytes }
-    ensures visiting { F.visiting fleet.new ≡ F.visiting fleet.old }
-    ensures ports { (F.waiting fleet.new ≡ F.waiting fleet.old)
-        × (F.kept fleet.new ≡ F.kept fleet.old)
-        × (F.lent fleet.new ≡ F.lent fleet.old)
-        × (F.named fleet.new ≡ F.named fleet.old) }
+    ensures visiting { (F.told fleet.new).visiting ≡ (F.told fleet.old).visiting }
+    ensures ports { PortsStay (F.told fleet.old) (F.told fleet.new) }
     ensures cause { IfErr result
-        (λ why. StopsService why (F.faults fleet.old) (F.faults fleet.new)
+        (λ why. StopsService why (F.told fleet.old).faults (F.told fleet.new).faults
         (D.told disk.old).faults (D.told disk.new).faults) }
-    ensures count { F.faults fleet.old ≤ F.faults fleet.new }
+    ensures count { (F.told fleet.old).faults ≤ (F.told fleet.new).faults }
     ensures disk_count { (D.told disk.old).faults ≤ (D.told disk.new).faults }
 {
     match Vec::with_capacity(alloc, MOST_SEATS) {
@@ -159,23 +147,18 @@ fn keep_each<F: Fleet, D: Disk>(
           source = F.Guest.Source.told;
           sink = F.Guest.Sink.told;
         })
-        (table_of agent.old [] []
-        (record { coming = F.coming fleet.old; served = F.served fleet.old }) nothing_counted)
-        guests seated.new.items agent.new service
-        (record { coming = F.coming fleet.new; served = F.served fleet.new })) }
+        (table_of agent.old [] [] (guests_of (F.told fleet.old)) nothing_counted) guests
+        seated.new.items agent.new service (guests_of (F.told fleet.new))) }
     ensures durable { IfOk result (λ _. IsHeldOnDisk (D.told disk.new) (fenced_holding agent.new)) }
     ensures any_moment { HasComeAlways D.told disk.old disk.new (fenced_holding agent.old) }
     ensures told { KeepsTelling (D.told disk.old).bytes (D.told disk.new).bytes }
-    ensures visiting { F.visiting fleet.new
-        ≡ F.visiting fleet.old + length seated.new.items }
-    ensures ports { (F.waiting fleet.new ≡ F.waiting fleet.old)
-        × (F.kept fleet.new ≡ F.kept fleet.old)
-        × (F.lent fleet.new ≡ F.lent fleet.old)
-        × (F.named fleet.new ≡ F.named fleet.old) }
+    ensures visiting { (F.told fleet.new).visiting
+        ≡ (F.told fleet.old).visiting + length seated.new.items }
+    ensures ports { PortsStay (F.told fleet.old) (F.told fleet.new) }
     ensures cause { IfErr result
-        (λ why. StopsService why (F.faults fleet.old) (F.faults fleet.new)
+        (λ why. StopsService why (F.told fleet.old).faults (F.told fleet.new).faults
         (D.told disk.old).faults (D.told disk.new).faults) }
-    ensures count { F.faults fleet.old ≤ F.faults fleet.new }
+    ensures count { (F.told fleet.old).faults ≤ (F.told fleet.new).faults }
     ensures disk_count { (D.told disk.old).faults ≤ (D.told disk.new).faults }
 {
     let mut service = Service {
@@ -207,33 +190,30 @@ fn keep_turn<F: Fleet, D: Disk>(
     service: Service,
 ) -> Result<Option<(Place, Service)>, KeepFault>
     requires seats { HasSeats seated.old.items talks.old.items service (vec_capacity seated.old)
-        (vec_capacity talks.old) (F.visiting fleet.old) }
+        (vec_capacity talks.old) (F.told fleet.old).visiting }
     requires kept { IsOnDisk (D.told disk.old) place (fenced_holding agent.old) }
     ensures turn { IfOk result
         (λ found. KeepsTurn (record {
           source = F.Guest.Source.told;
           sink = F.Guest.Sink.told;
         })
-        (table_of agent.old seated.old.items talks.old.items
-        (record { coming = F.coming fleet.old; served = F.served fleet.old }) service) found
-        (table_of agent.new seated.new.items talks.new.items
-        (record { coming = F.coming fleet.new; served = F.served fleet.new }) service)) }
+        (table_of agent.old seated.old.items talks.old.items (guests_of (F.told fleet.old)) service)
+        found
+        (table_of agent.new seated.new.items talks.new.items (guests_of (F.told fleet.new))
+        service)) }
     ensures kept { IfOk result
         (λ found. IsKeptBehind (D.told disk.new) place found (fenced_holding agent.new)) }
     ensures any_moment { HasComeAlways D.told disk.old disk.new (fenced_holding agent.old) }
     ensures told { KeepsTelling (D.told disk.old).bytes (D.told disk.new).bytes }
     ensures places { (vec_capacity seated.new ≡ vec_capacity seated.old)
         × (vec_capacity talks.new ≡ vec_capacity talks.old) }
-    ensures visiting { F.visiting fleet.new + length seated.old.items
-        ≡ F.visiting fleet.old + length seated.new.items }
-    ensures ports { (F.waiting fleet.new ≡ F.waiting fleet.old)
-        × (F.kept fleet.new ≡ F.kept fleet.old)
-        × (F.lent fleet.new ≡ F.lent fleet.old)
-        × (F.named fleet.new ≡ F.named fleet.old) }
+    ensures visiting { (F.told fleet.new).visiting + length seated.old.items
+        ≡ (F.told fleet.old).visiting + length seated.new.items }
+    ensures ports { PortsStay (F.told fleet.old) (F.told fleet.new) }
     ensures cause { IfErr result
-        (λ why. StopsService why (F.faults fleet.old) (F.faults fleet.new)
+        (λ why. StopsService why (F.told fleet.old).faults (F.told fleet.new).faults
         (D.told disk.old).faults (D.told disk.new).faults) }
-    ensures count { F.faults fleet.old ≤ F.faults fleet.new }
+    ensures count { (F.told fleet.old).faults ≤ (F.told fleet.new).faults }
     ensures disk_count { (D.told disk.old).faults ≤ (D.told disk.new).faults }
 {
     match fleet.wait(seated.as_slice()) {
@@ -257,34 +237,31 @@ fn keep_wake<F: Fleet, D: Disk>(
     service: Service,
 ) -> Result<Option<(Place, Service)>, KeepFault>
     requires seats { HasSeats seated.old.items talks.old.items service (vec_capacity seated.old)
-        (vec_capacity talks.old) (F.visiting fleet.old) }
-    requires woken { WaitsFor (F.coming fleet.old) seated.old.items woken }
+        (vec_capacity talks.old) (F.told fleet.old).visiting }
+    requires woken { WaitsFor (F.told fleet.old).coming seated.old.items woken }
     requires kept { IsOnDisk (D.told disk.old) place (fenced_holding agent.old) }
     ensures turn { IfOk result
         (λ found. KeepsTurn (record {
           source = F.Guest.Source.told;
           sink = F.Guest.Sink.told;
         })
-        (table_of agent.old seated.old.items talks.old.items
-        (record { coming = F.coming fleet.old; served = F.served fleet.old }) service) found
-        (table_of agent.new seated.new.items talks.new.items
-        (record { coming = F.coming fleet.new; served = F.served fleet.new }) service)) }
+        (table_of agent.old seated.old.items talks.old.items (guests_of (F.told fleet.old)) service)
+        found
+        (table_of agent.new seated.new.items talks.new.items (guests_of (F.told fleet.new))
+        service)) }
     ensures kept { IfOk result
         (λ found. IsKeptBehind (D.told disk.new) place found (fenced_holding agent.new)) }
     ensures any_moment { HasComeAlways D.told disk.old disk.new (fenced_holding agent.old) }
     ensures told { KeepsTelling (D.told disk.old).bytes (D.told disk.new).bytes }
     ensures places { (vec_capacity seated.new ≡ vec_capacity seated.old)
         × (vec_capacity talks.new ≡ vec_capacity talks.old) }
-    ensures visiting { F.visiting fleet.new + length seated.old.items
-        ≡ F.visiting fleet.old + length seated.new.items }
-    ensures ports { (F.waiting fleet.new ≡ F.waiting fleet.old)
-        × (F.kept fleet.new ≡ F.kept fleet.old)
-        × (F.lent fleet.new ≡ F.lent fleet.old)
-        × (F.named fleet.new ≡ F.named fleet.old) }
+    ensures visiting { (F.told fleet.new).visiting + length seated.old.items
+        ≡ (F.told fleet.old).visiting + length seated.new.items }
+    ensures ports { PortsStay (F.told fleet.old) (F.told fleet.new) }
     ensures cause { IfErr result
-        (λ why. StopsService why (F.faults fleet.old) (F.faults fleet.new)
+        (λ why. StopsService why (F.told fleet.old).faults (F.told fleet.new).faults
         (D.told disk.old).faults (D.told disk.new).faults) }
-    ensures count { F.faults fleet.old ≤ F.faults fleet.new }
+    ensures count { (F.told fleet.old).faults ≤ (F.told fleet.new).faults }
     ensures disk_count { (D.told disk.old).faults ≤ (D.told disk.new).faults }
 {
     match woken {
@@ -307,34 +284,31 @@ fn keep_next<F: Fleet, D: Disk>(
     service: Service,
 ) -> Result<Option<(Place, Service)>, KeepFault>
     requires seats { HasSeats seated.old.items talks.old.items service (vec_capacity seated.old)
-        (vec_capacity talks.old) (F.visiting fleet.old) }
+        (vec_capacity talks.old) (F.told fleet.old).visiting }
     requires kept { IsOnDisk (D.told disk.old) place (fenced_holding agent.old) }
-    requires comes { IfSome (F.coming fleet.old) (λ guests. 0 < length guests) }
+    requires comes { IfSome (F.told fleet.old).coming (λ guests. 0 < length guests) }
     ensures turn { IfOk result
         (λ found. KeepsTurn (record {
           source = F.Guest.Source.told;
           sink = F.Guest.Sink.told;
         })
-        (table_of agent.old seated.old.items talks.old.items
-        (record { coming = F.coming fleet.old; served = F.served fleet.old }) service) found
-        (table_of agent.new seated.new.items talks.new.items
-        (record { coming = F.coming fleet.new; served = F.served fleet.new }) service)) }
+        (table_of agent.old seated.old.items talks.old.items (guests_of (F.told fleet.old)) service)
+        found
+        (table_of agent.new seated.new.items talks.new.items (guests_of (F.told fleet.new))
+        service)) }
     ensures kept { IfOk result
         (λ found. IsKeptBehind (D.told disk.new) place found (fenced_holding agent.new)) }
     ensures any_moment { HasComeAlways D.told disk.old disk.new (fenced_holding agent.old) }
     ensures told { KeepsTelling (D.told disk.old).bytes (D.told disk.new).bytes }
     ensures places { (vec_capacity seated.new ≡ vec_capacity seated.old)
         × (vec_capacity talks.new ≡ vec_capacity talks.old) }
-    ensures visiting { F.visiting fleet.new + length seated.old.items
-        ≡ F.visiting fleet.old + length seated.new.items }
-    ensures ports { (F.waiting fleet.new ≡ F.waiting fleet.old)
-        × (F.kept fleet.new ≡ F.kept fleet.old)
-        × (F.lent fleet.new ≡ F.lent fleet.old)
-        × (F.named fleet.new ≡ F.named fleet.old) }
+    ensures visiting { (F.told fleet.new).visiting + length seated.old.items
+        ≡ (F.told fleet.old).visiting + length seated.new.items }
+    ensures ports { PortsStay (F.told fleet.old) (F.told fleet.new) }
     ensures cause { IfErr result
-        (λ why. StopsService why (F.faults fleet.old) (F.faults fleet.new)
+        (λ why. StopsService why (F.told fleet.old).faults (F.told fleet.new).faults
         (D.told disk.old).faults (D.told disk.new).faults) }
-    ensures count { F.faults fleet.old ≤ F.faults fleet.new }
+    ensures count { (F.told fleet.old).faults ≤ (F.told fleet.new).faults }
     ensures disk_count { (D.told disk.old).faults ≤ (D.told disk.new).faults }
 {
     match sit_down(fleet, seated, talks, service) {
@@ -365,7 +339,7 @@ fn keep_heard<F: Fleet, D: Disk>(
     service: Service,
 ) -> Result<Option<(Place, Service)>, KeepFault>
     requires seats { HasSeats seated.old.items talks.old.items service (vec_capacity seated.old)
-        (vec_capacity talks.old) (F.visiting fleet.old) }
+        (vec_capacity talks.old) (F.told fleet.old).visiting }
     requires at { at < length seated.old.items }
     requires even { length talks.old.items ≡ length seated.old.items }
     requires kept { IsOnDisk (D.told disk.old) place (fenced_holding agent.old) }
@@ -374,26 +348,23 @@ fn keep_heard<F: Fleet, D: Disk>(
           source = F.Guest.Source.told;
           sink = F.Guest.Sink.told;
         })
-        (table_of agent.old seated.old.items talks.old.items
-        (record { coming = F.coming fleet.old; served = F.served fleet.old }) service) found
-        (table_of agent.new seated.new.items talks.new.items
-        (record { coming = F.coming fleet.new; served = F.served fleet.new }) service)) }
+        (table_of agent.old seated.old.items talks.old.items (guests_of (F.told fleet.old)) service)
+        found
+        (table_of agent.new seated.new.items talks.new.items (guests_of (F.told fleet.new))
+        service)) }
     ensures kept { IfOk result
         (λ found. IsKeptBehind (D.told disk.new) place found (fenced_holding agent.new)) }
     ensures any_moment { HasComeAlways D.told disk.old disk.new (fenced_holding agent.old) }
     ensures told { KeepsTelling (D.told disk.old).bytes (D.told disk.new).bytes }
     ensures places { (vec_capacity seated.new ≡ vec_capacity seated.old)
         × (vec_capacity talks.new ≡ vec_capacity talks.old) }
-    ensures visiting { F.visiting fleet.new + length seated.old.items
-        ≡ F.visiting fleet.old + length seated.new.items }
-    ensures ports { (F.waiting fleet.new ≡ F.waiting fleet.old)
-        × (F.kept fleet.new ≡ F.kept fleet.old)
-        × (F.lent fleet.new ≡ F.lent fleet.old)
-        × (F.named fleet.new ≡ F.named fleet.old) }
+    ensures visiting { (F.told fleet.new).visiting + length seated.old.items
+        ≡ (F.told fleet.old).visiting + length seated.new.items }
+    ensures ports { PortsStay (F.told fleet.old) (F.told fleet.new) }
     ensures cause { IfErr result
-        (λ why. StopsService why (F.faults fleet.old) (F.faults fleet.new)
+        (λ why. StopsService why (F.told fleet.old).faults (F.told fleet.new).faults
         (D.told disk.old).faults (D.told disk.new).faults) }
-    ensures count { F.faults fleet.old ≤ F.faults fleet.new }
+    ensures count { (F.told fleet.old).faults ≤ (F.told fleet.new).faults }
     ensures disk_count { (D.told disk.old).faults ≤ (D.told disk.new).faults }
 {
     let mut guest = seated.remove(at);
@@ -425,24 +396,22 @@ fn keep_settled<F: Fleet>(
     requires guests { service.guests + 1 < 2 ^ 32 }
     requires commands { service.commands + heard.served.commands < 2 ^ 64 }
     requires refused { service.refused + 1 < 2 ^ 32 }
-    requires visiting { 0 < F.visiting fleet.old }
+    requires visiting { 0 < (F.told fleet.old).visiting }
     ensures found { IfOk result
         (λ found. (found ≡ Some (place, count_behind service heard.served heard.talk))
         × (heard.served.fault ≢ Some fault.Memory)) }
     ensures stops { IfErr result (λ why. why ≡ stop.NoRoom) }
     ensures seated { seated.new.items ≡ guests_behind seated.old.items guest heard.talk }
     ensures talks { talks.new.items ≡ talks_behind talks.old.items heard.talk }
-    ensures back { F.served fleet.new ≡ back_behind (F.served fleet.old) guest heard.talk }
-    ensures coming { F.coming fleet.new ≡ F.coming fleet.old }
+    ensures back { (F.told fleet.new).served
+        ≡ back_behind (F.told fleet.old).served guest heard.talk }
+    ensures coming { (F.told fleet.new).coming ≡ (F.told fleet.old).coming }
     ensures places { (vec_capacity seated.new ≡ vec_capacity seated.old)
         × (vec_capacity talks.new ≡ vec_capacity talks.old) }
-    ensures visiting { F.visiting fleet.new + length seated.old.items + 1
-        ≡ F.visiting fleet.old + length seated.new.items }
-    ensures ports { (F.waiting fleet.new ≡ F.waiting fleet.old)
-        × (F.kept fleet.new ≡ F.kept fleet.old)
-        × (F.lent fleet.new ≡ F.lent fleet.old)
-        × (F.named fleet.new ≡ F.named fleet.old) }
-    ensures count { F.faults fleet.old ≤ F.faults fleet.new }
+    ensures visiting { (F.told fleet.new).visiting + length seated.old.items + 1
+        ≡ (F.told fleet.old).visiting + length seated.new.items }
+    ensures ports { PortsStay (F.told fleet.old) (F.told fleet.new) }
+    ensures count { (F.told fleet.old).faults ≤ (F.told fleet.new).faults }
 {
     let served = heard.served;
     let now = settle(fleet, seated, talks, guest, heard, service);

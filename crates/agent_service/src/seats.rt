@@ -1,8 +1,9 @@
 //! The seats at which several guests are served at once: who sits down, who stays, and who leaves.
 ghost use Rattle.std.specs.Prelude.{◌≡◌, ◌+◌, ◌<◌, ◌≤◌, ◌^◌, false, length, true, vec_capacity, IfOk, OnErr};
-ghost use Rattle.agent_service.specs.Services.{LosesFirst, MakesRoom, SeatsNext, SitsFrom, after_leaving, back_behind, count_behind, guests_behind, most_seats, table_of, talks_behind};
+ghost use Rattle.agent_service.specs.Services.{LosesFirst, MakesRoom, SeatsNext, SitsFrom, after_leaving, back_behind, count_behind, guests_behind, guests_of, most_seats, table_of, talks_behind};
 ghost use Rattle.fenced_agent.specs.Agents.{FencedItems};
 ghost use Rattle.wan_edge.specs.Streams.{Rose};
+ghost use Rattle.wan_edge.specs.Fleets.{PortsStay};
 
 use crate::Service;
 use agent_talks::{Heard, Talk};
@@ -25,32 +26,28 @@ pub(crate) fn sit_down<F: Fleet>(
         × (most_seats ≤ vec_capacity talks.old) }
     requires guests { service.guests + 1 < 2 ^ 32 }
     requires refused { service.refused + 1 < 2 ^ 32 }
-    requires visiting { length seated.old.items ≤ F.visiting fleet.old }
+    requires visiting { length seated.old.items ≤ (F.told fleet.old).visiting }
     ensures sits { IfOk result
         (λ found. (items : FencedItems)
         → SeatsNext (record {
           source = F.Guest.Source.told;
           sink = F.Guest.Sink.told;
         })
-        (table_of items seated.old.items talks.old.items
-        (record { coming = F.coming fleet.old; served = F.served fleet.old }) service) found
-        (table_of items seated.new.items talks.new.items
-        (record { coming = F.coming fleet.new; served = F.served fleet.new }) service)) }
+        (table_of items seated.old.items talks.old.items (guests_of (F.told fleet.old)) service)
+        found
+        (table_of items seated.new.items talks.new.items (guests_of (F.told fleet.new)) service)) }
     ensures still { OnErr result
         ((seated.new.items ≡ seated.old.items)
         × (talks.new.items ≡ talks.old.items)
-        × (F.coming fleet.new ≡ F.coming fleet.old)
-        × (F.served fleet.new ≡ F.served fleet.old)) }
+        × ((F.told fleet.new).coming ≡ (F.told fleet.old).coming)
+        × ((F.told fleet.new).served ≡ (F.told fleet.old).served)) }
     ensures places { (vec_capacity seated.new ≡ vec_capacity seated.old)
         × (vec_capacity talks.new ≡ vec_capacity talks.old) }
-    ensures visiting { F.visiting fleet.new + length seated.old.items
-        ≡ F.visiting fleet.old + length seated.new.items }
-    ensures ports { (F.waiting fleet.new ≡ F.waiting fleet.old)
-        × (F.kept fleet.new ≡ F.kept fleet.old)
-        × (F.lent fleet.new ≡ F.lent fleet.old)
-        × (F.named fleet.new ≡ F.named fleet.old) }
-    ensures cause { OnErr result (Rose (F.faults fleet.old) (F.faults fleet.new)) }
-    ensures count { F.faults fleet.old ≤ F.faults fleet.new }
+    ensures visiting { (F.told fleet.new).visiting + length seated.old.items
+        ≡ (F.told fleet.old).visiting + length seated.new.items }
+    ensures ports { PortsStay (F.told fleet.old) (F.told fleet.new) }
+    ensures cause { OnErr result (Rose (F.told fleet.old).faults (F.told fleet.new).faults) }
+    ensures count { (F.told fleet.old).faults ≤ (F.told fleet.new).faults }
 {
     let found = fleet.guest()?;
     let Some(guest) = found else {
@@ -74,23 +71,19 @@ fn seat<F: Fleet>(
         × (most_seats ≤ vec_capacity talks.old) }
     requires guests { service.guests + 1 < 2 ^ 32 }
     requires refused { service.refused + 1 < 2 ^ 32 }
-    requires visiting { length seated.old.items ≤ F.visiting fleet.old }
+    requires visiting { length seated.old.items ≤ (F.told fleet.old).visiting }
     ensures sits { (items : FencedItems)
         → SitsFrom
-        (table_of items seated.old.items talks.old.items
-        (record { coming = F.coming fleet.old; served = F.served fleet.old }) service) guest
-        (table_of items seated.new.items talks.new.items
-        (record { coming = F.coming fleet.new; served = F.served fleet.new }) result) }
-    ensures coming { F.coming fleet.new ≡ F.coming fleet.old }
+        (table_of items seated.old.items talks.old.items (guests_of (F.told fleet.old)) service)
+        guest
+        (table_of items seated.new.items talks.new.items (guests_of (F.told fleet.new)) result) }
+    ensures coming { (F.told fleet.new).coming ≡ (F.told fleet.old).coming }
     ensures places { (vec_capacity seated.new ≡ vec_capacity seated.old)
         × (vec_capacity talks.new ≡ vec_capacity talks.old) }
-    ensures visiting { F.visiting fleet.new + length seated.old.items + 1
-        ≡ F.visiting fleet.old + length seated.new.items }
-    ensures ports { (F.waiting fleet.new ≡ F.waiting fleet.old)
-        × (F.kept fleet.new ≡ F.kept fleet.old)
-        × (F.lent fleet.new ≡ F.lent fleet.old)
-        × (F.named fleet.new ≡ F.named fleet.old) }
-    ensures count { F.faults fleet.old ≤ F.faults fleet.new }
+    ensures visiting { (F.told fleet.new).visiting + length seated.old.items + 1
+        ≡ (F.told fleet.old).visiting + length seated.new.items }
+    ensures ports { PortsStay (F.told fleet.old) (F.told fleet.new) }
+    ensures count { (F.told fleet.old).faults ≤ (F.told fleet.new).faults }
 {
     let now = make_room(fleet, seated, talks, service);
     let talk = Talk::new();
@@ -110,25 +103,22 @@ fn make_room<F: Fleet>(
     requires few { length seated.old.items ≤ most_seats }
     requires guests { service.guests + 1 < 2 ^ 32 }
     requires refused { service.refused + 1 < 2 ^ 32 }
-    requires visiting { length seated.old.items ≤ F.visiting fleet.old }
+    requires visiting { length seated.old.items ≤ (F.told fleet.old).visiting }
     ensures room { (items : FencedItems)
         → MakesRoom
-        (table_of items seated.old.items talks.old.items
-        (record { coming = F.coming fleet.old; served = F.served fleet.old }) service)
+        (table_of items seated.old.items talks.old.items (guests_of (F.told fleet.old)) service)
         (table_of items seated.new.items talks.new.items
-        (record { coming = F.coming fleet.old; served = F.served fleet.new }) result) }
-    ensures coming { F.coming fleet.new ≡ F.coming fleet.old }
+        (record { coming = (F.told fleet.old).coming; served = (F.told fleet.new).served })
+        result) }
+    ensures coming { (F.told fleet.new).coming ≡ (F.told fleet.old).coming }
     ensures free { (length seated.new.items < most_seats)
         × (length talks.new.items ≡ length seated.new.items) }
     ensures places { (vec_capacity seated.new ≡ vec_capacity seated.old)
         × (vec_capacity talks.new ≡ vec_capacity talks.old) }
-    ensures visiting { F.visiting fleet.new + length seated.old.items
-        ≡ F.visiting fleet.old + length seated.new.items }
-    ensures ports { (F.waiting fleet.new ≡ F.waiting fleet.old)
-        × (F.kept fleet.new ≡ F.kept fleet.old)
-        × (F.lent fleet.new ≡ F.lent fleet.old)
-        × (F.named fleet.new ≡ F.named fleet.old) }
-    ensures count { F.faults fleet.old ≤ F.faults fleet.new }
+    ensures visiting { (F.told fleet.new).visiting + length seated.old.items
+        ≡ (F.told fleet.old).visiting + length seated.new.items }
+    ensures ports { PortsStay (F.told fleet.old) (F.told fleet.new) }
+    ensures count { (F.told fleet.old).faults ≤ (F.told fleet.new).faults }
 {
     if is_full(seated.as_slice()) {
         return lose_first(fleet, seated, talks, service);
@@ -158,24 +148,21 @@ fn lose_first<F: Fleet>(
     requires even { length talks.old.items ≡ length seated.old.items }
     requires guests { service.guests + 1 < 2 ^ 32 }
     requires refused { service.refused + 1 < 2 ^ 32 }
-    requires visiting { 0 < F.visiting fleet.old }
+    requires visiting { 0 < (F.told fleet.old).visiting }
     ensures lost { (items : FencedItems)
         → LosesFirst
-        (table_of items seated.old.items talks.old.items
-        (record { coming = F.coming fleet.old; served = F.served fleet.old }) service)
+        (table_of items seated.old.items talks.old.items (guests_of (F.told fleet.old)) service)
         (table_of items seated.new.items talks.new.items
-        (record { coming = F.coming fleet.old; served = F.served fleet.new }) result) }
-    ensures coming { F.coming fleet.new ≡ F.coming fleet.old }
+        (record { coming = (F.told fleet.old).coming; served = (F.told fleet.new).served })
+        result) }
+    ensures coming { (F.told fleet.new).coming ≡ (F.told fleet.old).coming }
     ensures free { (length seated.new.items + 1 ≡ length seated.old.items)
         × (length talks.new.items + 1 ≡ length talks.old.items) }
     ensures places { (vec_capacity seated.new ≡ vec_capacity seated.old)
         × (vec_capacity talks.new ≡ vec_capacity talks.old) }
-    ensures visiting { F.visiting fleet.new + 1 ≡ F.visiting fleet.old }
-    ensures ports { (F.waiting fleet.new ≡ F.waiting fleet.old)
-        × (F.kept fleet.new ≡ F.kept fleet.old)
-        × (F.lent fleet.new ≡ F.lent fleet.old)
-        × (F.named fleet.new ≡ F.named fleet.old) }
-    ensures count { F.faults fleet.old ≤ F.faults fleet.new }
+    ensures visiting { (F.told fleet.new).visiting + 1 ≡ (F.told fleet.old).visiting }
+    ensures ports { PortsStay (F.told fleet.old) (F.told fleet.new) }
+    ensures count { (F.told fleet.old).faults ≤ (F.told fleet.new).faults }
 {
     let first = seated.remove(0);
     let talk = talks.remove(0);
@@ -198,21 +185,19 @@ pub(crate) fn settle<F: Fleet>(
     requires guests { service.guests + 1 < 2 ^ 32 }
     requires commands { service.commands + heard.served.commands < 2 ^ 64 }
     requires refused { service.refused + 1 < 2 ^ 32 }
-    requires visiting { 0 < F.visiting fleet.old }
+    requires visiting { 0 < (F.told fleet.old).visiting }
     ensures seated { seated.new.items ≡ guests_behind seated.old.items guest heard.talk }
     ensures talks { talks.new.items ≡ talks_behind talks.old.items heard.talk }
-    ensures back { F.served fleet.new ≡ back_behind (F.served fleet.old) guest heard.talk }
+    ensures back { (F.told fleet.new).served
+        ≡ back_behind (F.told fleet.old).served guest heard.talk }
     ensures counted { result ≡ count_behind service heard.served heard.talk }
-    ensures coming { F.coming fleet.new ≡ F.coming fleet.old }
+    ensures coming { (F.told fleet.new).coming ≡ (F.told fleet.old).coming }
     ensures places { (vec_capacity seated.new ≡ vec_capacity seated.old)
         × (vec_capacity talks.new ≡ vec_capacity talks.old) }
-    ensures visiting { F.visiting fleet.new + length seated.old.items + 1
-        ≡ F.visiting fleet.old + length seated.new.items }
-    ensures ports { (F.waiting fleet.new ≡ F.waiting fleet.old)
-        × (F.kept fleet.new ≡ F.kept fleet.old)
-        × (F.lent fleet.new ≡ F.lent fleet.old)
-        × (F.named fleet.new ≡ F.named fleet.old) }
-    ensures count { F.faults fleet.old ≤ F.faults fleet.new }
+    ensures visiting { (F.told fleet.new).visiting + length seated.old.items + 1
+        ≡ (F.told fleet.old).visiting + length seated.new.items }
+    ensures ports { PortsStay (F.told fleet.old) (F.told fleet.new) }
+    ensures count { (F.told fleet.old).faults ≤ (F.told fleet.new).faults }
 {
     let Heard { served, talk } = heard;
     match talk {
@@ -230,15 +215,14 @@ pub(crate) fn settle<F: Fleet>(
 
 /// Gives all back that sit, from the one that spoke last on. It takes no memory.
 pub(crate) fn keep_seated<F: Fleet>(fleet: &mut F, mut seated: Vec<F::Guest>)
-    requires { length seated.items ≤ F.visiting fleet.old }
-    ensures back { F.served fleet.new ≡ after_leaving (F.served fleet.old) seated.items }
-    ensures coming { F.coming fleet.new ≡ F.coming fleet.old }
-    ensures visiting { F.visiting fleet.new + length seated.items ≡ F.visiting fleet.old }
-    ensures ports { (F.waiting fleet.new ≡ F.waiting fleet.old)
-        × (F.kept fleet.new ≡ F.kept fleet.old)
-        × (F.lent fleet.new ≡ F.lent fleet.old)
-        × (F.named fleet.new ≡ F.named fleet.old) }
-    ensures count { F.faults fleet.old ≤ F.faults fleet.new }
+    requires { length seated.items ≤ (F.told fleet.old).visiting }
+    ensures back { (F.told fleet.new).served
+        ≡ after_leaving (F.told fleet.old).served seated.items }
+    ensures coming { (F.told fleet.new).coming ≡ (F.told fleet.old).coming }
+    ensures visiting { (F.told fleet.new).visiting + length seated.items
+        ≡ (F.told fleet.old).visiting }
+    ensures ports { PortsStay (F.told fleet.old) (F.told fleet.new) }
+    ensures count { (F.told fleet.old).faults ≤ (F.told fleet.new).faults }
 {
     while let Some(guest) = seated.pop() {
         fleet.keep_guest(guest);

@@ -10,7 +10,7 @@ use Rattle.disk_model.proofs.Agreeing.{Torn-agrees, same_range}
 use Rattle.disk_model.proofs.Parting.{Torn-beyond}
 use Rattle.agent_state.specs.Batches.{Stands, batches_of}
 use Rattle.agent_state.specs.Images.{batches_in, first_start, is_state, live_start, made_length, number_place, start_at, state_kind}
-use Rattle.agent_state.specs.Numbers.{byte_at, number_4}
+use Rattle.disk_model.specs.Numbers.{byte_at, number_4}
 use Rattle.agent_state.specs.States.{HasPart, Home, IsAtRest}
 use Rattle.agent_state.proofs.Reading.{batches_closed}
 

@@ -1,11 +1,9 @@
 pub mod Committing
-pub mod FirstBytes
 pub mod Heads
 pub mod KeptFiles
 pub mod Lasts
 pub mod Openings
 pub mod Passages
-pub mod Pieces
 pub mod Quiet
 pub mod Reading
 pub mod Refusals

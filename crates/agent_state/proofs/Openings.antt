@@ -7,14 +7,15 @@ use Rattle.fenced_agent.specs.Agents.{FencedHoldings}
 use Rattle.disk_model.specs.Crashes.{IsDurable}
 use Rattle.disk_model.specs.Moments.{LeavesOnly}
 use Rattle.disk_model.specs.Traces.{DiskTrace}
+use Rattle.disk_model.specs.Whole.{IsQuiet}
 use Rattle.disk_model.specs.Writes.{Torn, written}
 use Rattle.disk_model.proofs.Parting.{Torn-byte, Torn-drop}
 use Rattle.disk_model.proofs.Running.{LeavesOnly-chain, LeavesOnly-weaker}
 use Rattle.disk_model.proofs.Tearing.{Torn-written}
 use Rattle.agent_state.specs.Batches.{batches_of, open_gate}
-use Rattle.agent_state.specs.Disks.{Holds, IsQuiet}
+use Rattle.agent_state.specs.Disks.{Holds}
 use Rattle.agent_state.specs.Images.{batches_in, first_start, is_state, live_start, made, made_length, state_kind}
-use Rattle.agent_state.specs.Numbers.{byte_at, number_4}
+use Rattle.disk_model.specs.Numbers.{byte_at, number_4}
 use Rattle.agent_state.specs.Opened.{HasLive, IsBlank, IsFound, ReadsAlike, Walks, batch_at}
 use Rattle.agent_state.specs.States.{HasPart}
 use Rattle.agent_state.specs.Stored.{IsKept, IsReadAs, home_of, nothing_yet}

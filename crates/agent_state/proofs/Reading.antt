@@ -6,7 +6,7 @@ use Rattle.std.proofs.lemmas.List.{append_assoc, append-nil, drop_at, take_at}
 use Rattle.std.proofs.lemmas.Nat.{from_be_bytes-to_be_bytes_4}
 use Rattle.std.specs.Int.{w32, from_be_bytes, to_be_bytes}
 use Rattle.agent_state.specs.Batches.{IsBody, Stands, batch_body, batches, batches_of, open_gate}
-use Rattle.agent_state.specs.Numbers.{bytes_4, number_4}
+use Rattle.disk_model.specs.Numbers.{bytes_4, number_4}
 
 pub length-bytes_4 : (n : ℕ) → length (bytes_4 n) ≡ 4
 unfolding bytes_4

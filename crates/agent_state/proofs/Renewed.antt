@@ -1,35 +1,19 @@
 -- What the three writes leave by which a file is written anew, whole and torn.
-use Rattle.std.proofs.Common.{◌≡◌, inl, inr, ◌⊎◌, ⊎_elim, ◌==◌, Bool, true, false, ℕ, ◌+◌, ◌-◌, ◌<◌, ◌≤◌, ◌^◌, List, [], ◌∷◌, ◌++◌, length, take, drop, get_or, refl, sym, subst, ◌∙◌, ap, arith, length-append, length-drop}
-use Rattle.std.proofs.lemmas.Bool.{cases_lt}
-use Rattle.std.proofs.lemmas.List.{append_assoc, drop-drop, get_or-drop, take-take}
+use Rattle.std.proofs.Common.{◌≡◌, inl, inr, ◌⊎◌, ⊎_elim, ◌==◌, Bool, true, false, ℕ, ◌+◌, ◌-◌, ◌<◌, ◌≤◌, ◌^◌, List, [], ◌∷◌, ◌++◌, length, drop, get_or, refl, sym, subst, ◌∙◌, ap, arith, length-append, length-drop}
+use Rattle.std.proofs.lemmas.List.{append_assoc, get_or-drop}
 use Rattle.disk_model.specs.Writes.{Torn, written}
 use Rattle.disk_model.proofs.Parting.{Torn-beyond}
 use Rattle.disk_model.proofs.Tearing.{Torn-written, drop-written}
+use Rattle.disk_model.proofs.Tears.{torn_wider}
 use Rattle.agent_state.specs.Batches.{batch_body, open_gate}
 use Rattle.agent_state.specs.Images.{first_start, is_second, number_place}
-use Rattle.agent_state.specs.Numbers.{byte_at, bytes_4, number_4}
+use Rattle.disk_model.specs.Numbers.{byte_at, bytes_4, number_4}
 use Rattle.agent_state.specs.Renewals.{IsLaid, IsNamed, new_gate, new_home, other_of, side_byte}
 use Rattle.agent_state.specs.States.{Home, IsAtRest, IsEither}
 use Rattle.agent_state.specs.Stored.{part_bytes}
 use Rattle.agent_state.proofs.Committing.{torn_rest}
 use Rattle.agent_state.proofs.Heads.{part_apart, part_before, place_high, place_low, rest_reads, same_byte, same_number}
 use Rattle.agent_state.proofs.Reading.{Stands-more, Stands-nothing, length-bytes_4, number_4-bytes_4, length-batch_body}
-
--- a write that is torn within a wider range
-pub torn_wider : (at n from k : ℕ) (old new : List ℕ) → from ≤ at → at + n ≤ from + k → Torn at n old new → Torn from k old new
-torn_wider at n from k old new low high torn = record {
-  no_shorter = torn.no_shorter;
-  no_longer = omega (arith, torn.no_longer, low, high);
-  before = λ inside. ⊎_elim
-      (λ reaches. sym (take-take from at new low) ∙ ap (take from) (torn.before (omega (arith, reaches))) ∙ take-take from at old low)
-      (λ shorter. sym (take-take from (length old) new inside) ∙ ap (take from) (torn.beyond (omega (arith, shorter))))
-      (cases_lt at (length old));
-  beyond = λ outside. torn.beyond (omega (arith, outside, low));
-  after =
-      let is : at + n + (from + k - (at + n)) ≡ from + k = omega (arith, high) in
-      ap (λ (i : ℕ). drop i new) (sym is) ∙ sym (drop-drop (from + k - (at + n)) (at + n) new) ∙ ap (drop (from + k - (at + n))) torn.after
-      ∙ drop-drop (from + k - (at + n)) (at + n) old ∙ ap (λ (i : ℕ). drop i old) is;
-}
 
 -- the byte that was written
 pub written_one : (at byte : ℕ) (image : List ℕ) → byte_at at (written at (byte ∷ []) image) ≡ byte

@@ -13,7 +13,7 @@ use Rattle.fenced_agent.specs.Agents.{FencedHoldings, restored}
 use Rattle.fenced_agent.specs.Frames.{fence_bytes, term_of}
 use Rattle.switch_agent.specs.Items.{with_stored}
 use Rattle.agent_state.specs.Batches.{Stands, batches_of, open_gate}
-use Rattle.agent_state.specs.Numbers.{byte_at, number_4}
+use Rattle.disk_model.specs.Numbers.{byte_at, number_4}
 use Rattle.agent_state.specs.Opened.{HasFloor, Restores, RestoresBatch, Walks, batch_at}
 use Rattle.agent_state.specs.Stored.{AreBytes, IsBatch, Leaves, StoredBatch, nothing_yet, with_all, with_batch, with_commands}
 use Rattle.agent_state.proofs.Reading.{Stands-nothing, batches_step}

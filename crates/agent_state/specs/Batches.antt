@@ -1,6 +1,6 @@
 -- The batches of a part of an agent's file. Each stands after a gate: how many bytes it has, and these, and after it the next gate.
 use Rattle.std.specs.Prelude.{◌≡◌, ℕ, zero, suc, ◌+◌, ◌<◌, ◌^◌, ◌==◌, ◌&&◌, nat_lt, List, [], ◌∷◌, ◌++◌, length, take, drop, if◌then◌else◌}
-use Rattle.agent_state.specs.Numbers.{bytes_4, number_4}
+use Rattle.disk_model.specs.Numbers.{bytes_4, number_4}
 
 -- an open gate
 abbrev pub open_gate : ℕ

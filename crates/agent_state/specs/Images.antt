@@ -2,7 +2,7 @@
 -- numbers; after the head stand parts.
 use Rattle.std.specs.Prelude.{ℕ, ◌==◌, ◌&&◌, nat_le, nat_lt, Bool, List, [], ◌∷◌, length, drop, Option, Some, None, if◌then◌else◌}
 use Rattle.agent_state.specs.Batches.{batches_of}
-use Rattle.agent_state.specs.Numbers.{byte_at, number_4}
+use Rattle.disk_model.specs.Numbers.{byte_at, number_4}
 
 -- the first byte
 abbrev pub state_kind : ℕ

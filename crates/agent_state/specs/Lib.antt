@@ -1,7 +1,6 @@
 pub mod Batches
 pub mod Disks
 pub mod Images
-pub mod Numbers
 pub mod Opened
 pub mod Renewals
 pub mod States

@@ -5,7 +5,7 @@ use Rattle.fenced_agent.specs.Agents.{FencedHoldings}
 use Rattle.fenced_agent.specs.Frames.{fence_bytes}
 use Rattle.agent_state.specs.Batches.{Stands, batches_of, open_gate}
 use Rattle.agent_state.specs.Images.{batches_in, first_start, is_second, made_length, start_at, state_kind}
-use Rattle.agent_state.specs.Numbers.{byte_at, number_4}
+use Rattle.disk_model.specs.Numbers.{byte_at, number_4}
 use Rattle.agent_state.specs.States.{HasPart}
 use Rattle.agent_state.specs.Stored.{AreBytes, IsBatch, Leaves, StoredBatch, home_of, nothing_yet, with_batch, with_commands}
 use Rattle.agent_state.specs.declared.fault.StateFault.{StateFault}

@@ -3,7 +3,7 @@ use Rattle.std.specs.Prelude.{◌≡◌, ◌≢◌, ◌⊎◌, ℕ, ◌+◌, ◌
 use Rattle.disk_model.specs.Crashes.{Only}
 use Rattle.agent_state.specs.Batches.{Stands, batch_body, open_gate}
 use Rattle.agent_state.specs.Images.{batches_in, first_start, is_second, made_length, start_at, state_kind}
-use Rattle.agent_state.specs.Numbers.{byte_at}
+use Rattle.disk_model.specs.Numbers.{byte_at}
 
 -- which number names the live part, and where that starts
 pub record Home : Type 0 where

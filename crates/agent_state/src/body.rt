@@ -1,7 +1,7 @@
 //! The bytes of a batch after its gate, and of a part with one batch.
 ghost use Rattle.std.specs.Prelude.{◌≡◌, ◌<◌, ◌^◌, ◌∷◌, ◌++◌, [], length, IfOk};
 ghost use Rattle.agent_state.specs.Batches.{batch_body};
-ghost use Rattle.agent_state.specs.Numbers.{bytes_4};
+ghost use Rattle.disk_model.specs.Numbers.{bytes_4};
 ghost use Rattle.agent_state.specs.Stored.{part_bytes};
 
 use lists::Memory;
@@ -13,7 +13,7 @@ const OPEN_GATE: u8 = 0x47;
 const MOST_BATCH: usize = 1_000_000_000;
 
 /// A batch and a closed gate after it.
-#[tactic(auto, unfolding(crate::specs::Numbers::bytes_4))]
+#[tactic(auto, unfolding(disk_model::specs::Numbers::bytes_4))]
 pub(crate) fn body_of(alloc: Global, batch: &[u8]) -> Result<Vec<u8>, Memory>
     ensures few { IfOk result (λ _. length batch.now < 2 ^ 32) }
     ensures is { IfOk result (λ body. body.items ≡ batch_body batch.now ++ 0 ∷ []) }

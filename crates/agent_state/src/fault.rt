@@ -1,3 +1,4 @@
+use disk_model::ReadFault;
 use lists::Memory as OutOfMemory;
 use wan_edge::Failed;
 
@@ -33,5 +34,19 @@ impl From<OutOfMemory> for StateFault {
 
     fn from(_: OutOfMemory) -> Self {
         StateFault::Memory
+    }
+}
+
+impl From<ReadFault> for StateFault {
+    ghost use Rattle.std.specs.Prelude.{◌≡◌};
+    ghost use Rattle.agent_state.specs.Disks.{fault_of_read};
+
+    ghost from_gives = { λ read given. given ≡ fault_of_read read };
+
+    fn from(read: ReadFault) -> Self {
+        match read {
+            ReadFault::Disk => StateFault::Disk,
+            ReadFault::Memory => StateFault::Memory,
+        }
     }
 }

@@ -44,7 +44,8 @@ pub fn append<D: Disk>(
         → IsBatch stored batch.now
         → fenced_holding agent.now ≡ with_batch before stored
         → IfSome (D.told disk.old).bytes
-        (λ _. LeavesOnly D.told disk.old disk.new (IsBeforeOrAfter before (fenced_holding agent.now))) }
+        (λ _. LeavesOnly D.told disk.old disk.new
+        (IsBeforeOrAfter before (fenced_holding agent.now))) }
     ensures done { IfOk result
         (λ now. (before : FencedHoldings) (stored : StoredBatch)
         → Holds (IsKept place before) (D.told disk.old).bytes (D.told disk.old).may_leave

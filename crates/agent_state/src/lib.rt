@@ -13,9 +13,7 @@
 
 mod appending;
 mod body;
-mod bytes;
 mod fault;
-mod image;
 mod keeping;
 mod last;
 mod opening;

@@ -9,12 +9,11 @@ ghost use Rattle.disk_model.specs.Moments.{LeavesOnly};
 ghost use Rattle.fenced_agent.specs.Agents.{FencedHoldings, fenced_holding};
 ghost use Rattle.wan_edge.specs.Streams.{KeepsTelling, Rose};
 
-use crate::bytes::{byte_in, from_place, number_of_4};
 use crate::fault::StateFault;
-use crate::image::read_image;
 use crate::place::Place;
 use crate::walking::walk;
-use disk_model::{Disk, put};
+use disk_model::bytes::{byte_in, from_place, number_of_4};
+use disk_model::{Disk, put, read_synced};
 use fenced_agent::FencedAgent;
 use std::alloc::Global;
 use wan_edge::Failed;
@@ -52,7 +51,7 @@ pub fn open_state<D: Disk>(
     ensures told { KeepsTelling (D.told disk.old).bytes (D.told disk.new).bytes }
     ensures count { (D.told disk.old).faults ≤ (D.told disk.new).faults }
 {
-    let image = read_image(alloc, disk)?;
+    let image = read_synced(alloc, disk)?;
     let bytes = image.as_slice();
     if is_short(bytes) {
         let made = make(disk)?;

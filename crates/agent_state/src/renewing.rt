@@ -1,7 +1,7 @@
 ghost use Rattle.std.specs.Prelude.{◌≡◌, ◌+◌, ◌<◌, ◌≤◌, ◌^◌, ◌∷◌, [], ℕ, List, length, IfSome, OnErr, OnOk};
 ghost use Rattle.agent_state.specs.Disks.{Holds};
 ghost use Rattle.agent_state.specs.Images.{number_place};
-ghost use Rattle.agent_state.specs.Numbers.{bytes_4};
+ghost use Rattle.disk_model.specs.Numbers.{bytes_4};
 ghost use Rattle.agent_state.specs.Renewals as renewals;
 ghost use Rattle.agent_state.specs.Renewals.{IsLaid, IsNamed, new_gate, new_home, other_of};
 ghost use Rattle.agent_state.specs.States.{IsAtRest, IsEither};
@@ -133,7 +133,7 @@ fn side_byte(second: bool) -> u8
     if second { 0 } else { 1 }
 }
 
-#[tactic(auto, unfolding(crate::specs::Numbers::bytes_4))]
+#[tactic(auto, unfolding(disk_model::specs::Numbers::bytes_4))]
 fn number_bytes(number: u32) -> [u8; 4]
     ensures { result ≡ bytes_4 number }
 {

@@ -5,8 +5,8 @@ ghost use Rattle.agent_state.specs.Opened.{BeginsWith, HasFloor, IsMidway, Resto
 ghost use Rattle.agent_state.specs.Stored.{nothing_yet};
 ghost use Rattle.fenced_agent.specs.Agents.{fenced_holding, restored};
 
-use crate::bytes::{byte_in, from_place, number_of_4};
 use crate::fault::StateFault;
+use disk_model::bytes::{byte_in, from_place, number_of_4};
 use fenced_agent::FencedAgent;
 use fenced_wire::{FENCE_LEN, write_fence};
 use lists::Memory;
@@ -99,7 +99,8 @@ fn floor_in(bytes: &[u8]) -> Option<u32>
 #[tactic(auto, using(crate::proofs::Walked::restores_none, crate::proofs::Walked::restores_all))]
 fn restore_all(bytes: &[u8], agent: &mut FencedAgent) -> Result<bool, Memory>
     ensures { IfOk result
-        (λ whole. whole ≡ true → Restores (fenced_holding agent.old) (fenced_holding agent.new) bytes.now) }
+        (λ whole. whole ≡ true
+        → Restores (fenced_holding agent.old) (fenced_holding agent.new) bytes.now) }
 {
     let mut rest = bytes;
     while !rest.is_empty() {
@@ -115,7 +116,8 @@ fn restore_all(bytes: &[u8], agent: &mut FencedAgent) -> Result<bool, Memory>
 // Puts a command that was found, of this migration, into an agent.
 fn restore_found(agent: &mut FencedAgent, found: &(usize, u32, Command)) -> Result<(), Memory>
     ensures { OnOk result
-        (fenced_holding agent.new ≡ restored (fenced_holding agent.old) (found.now.1, found.now.2)) }
+        (fenced_holding agent.new
+        ≡ restored (fenced_holding agent.old) (found.now.1, found.now.2)) }
 {
     agent.restore(found.1, &found.2)?;
     Ok(())

@@ -1,6 +1,5 @@
 -- What a chain of servings comes to, by the rule of terms.
-use Rattle.std.proofs.Common.{◌≡◌, ℕ, zero, suc, ◌+◌, ◌<◌, List, [], ◌∷◌, ◌++◌, length, take, slice_index, Option, Some, None, refl, sym, ap, ap₂, subst, ◌∙◌, append_assoc, arith, length-append, ◌==◌, ◌||◌, ◌&&◌, not, nat_lt, Bool, true, false}
-use Rattle.std.proofs.Math.Seq.{take-append-add}
+use Rattle.std.proofs.Common.{◌≡◌, ℕ, zero, suc, ◌+◌, ◌<◌, List, [], ◌∷◌, ◌++◌, length, slice_index, Option, Some, None, refl, sym, ap, ap₂, subst, ◌∙◌, append_assoc, arith, length-append, ◌==◌, ◌||◌, ◌&&◌, not, nat_lt, Bool}
 use Rattle.std.proofs.lemmas.List.{append-nil}
 use Rattle.std.proofs.lemmas.List.Elements.{All-append}
 use Rattle.std.proofs.lemmas.Grind.{flat_map-append}
@@ -16,12 +15,13 @@ use Rattle.switch_agent.specs.Serving.{IsOwnFault}
 use Rattle.switch_agent.specs.declared.serve_fault.ServeFault.{ServeFault}
 use Rattle.switch_agent.specs.declared.serve_fault.ServeFault.TheVariants.{Frame, Long, Memory, Read, Write}
 use Rattle.switch_agent.specs.declared.serve_fault.Served.{Served}
+use Rattle.switch_agent.proofs.Chains.{AppendsPart-chain, command_fault_more, or_assoc, or_false, or_swapped}
 use Rattle.fenced_agent.specs.Agents.{FencedHoldings, FencedItems, after_all_termed, after_termed, answer_to_termed, answers_to_termed, fenced_holding}
 use Rattle.fenced_agent.specs.Frames.{FlooredAnswer, IsTermedCommand, TermedCommand, fence_bytes, floored_bytes, term_of, termed_bytes}
 use Rattle.fenced_wire.specs.Reading.{IsTermedFault}
 use Rattle.agent_talks.specs.Serving.{CarriesOut, Ends, answered, asked}
 
-after_all_termed-append : (held : FencedHoldings) (xs ys : List TermedCommand) → after_all_termed held (xs ++ ys) ≡ after_all_termed (after_all_termed held xs) ys
+pub after_all_termed-append : (held : FencedHoldings) (xs ys : List TermedCommand) → after_all_termed held (xs ++ ys) ≡ after_all_termed (after_all_termed held xs) ys
 after_all_termed-append held [] ys = refl
 after_all_termed-append held (x ∷ xs) ys = after_all_termed-append (after_termed held x) xs ys
 
@@ -32,17 +32,6 @@ answers_to-append held (x ∷ xs) ys = ap (λ (answers : List FlooredAnswer). an
 answered-append : (held : FencedHoldings) (xs ys : List TermedCommand) → answered held (xs ++ ys) ≡ answered held xs ++ answered (after_all_termed held xs) ys
 answered-append held xs ys = ap (flat_map floored_bytes) (answers_to-append held xs ys) ∙ flat_map-append floored_bytes (answers_to_termed held xs) (answers_to_termed (after_all_termed held xs) ys)
 
--- all of a list was appended, and then a part of the next
-AppendsPart-chain : (a b c : Option (List ℕ)) (xs ys : List ℕ) → Appends a xs b → AppendsPart b ys c → AppendsPart a (xs ++ ys) c
-AppendsPart-chain a b c xs ys first second =
-    let front : take (length xs + second.count) (xs ++ ys) ≡ xs ++ take second.count ys = take-append-add xs ys second.count in
-    let not_all = second.not_all in
-    record {
-      count = length xs + second.count;
-      not_all = omega (arith, length-append xs ys);
-      appended = subst (λ (bytes : List ℕ). Appends a bytes c) (sym front) (Appends-chain a b c xs (take second.count ys) first second.appended);
-    }
-
 ends_after : (fault : Option ServeFault) (GoesOn : List ℕ → Type 0) (items : FencedItems) (rest : List ℕ) (a b c : Option (List ℕ)) (xs ys : List ℕ) → Appends a xs b → Ends fault GoesOn items rest b ys c → Ends fault GoesOn items rest a (xs ++ ys) c
 ends_after None GoesOn items rest a b c xs ys first second = (second.0, Appends-chain a b c xs ys first second.1)
 ends_after (Some (Frame fault)) GoesOn items rest a b c xs ys first second = (second.0, Appends-chain a b c xs ys first second.1)
@@ -50,19 +39,6 @@ ends_after (Some Read) GoesOn items rest a b c xs ys first second = (second.0, A
 ends_after (Some Write) GoesOn items rest a b c xs ys first second = AppendsPart-chain a b c xs ys first second
 ends_after (Some Long) GoesOn items rest a b c xs ys first second = (second.0, Appends-chain a b c xs ys first second.1)
 ends_after (Some Memory) GoesOn items rest a b c xs ys first second = (second.0, Appends-chain a b c xs ys first second.1)
-
-or_false : (p a : Bool) → (p || a) ≡ ((p || false) || a)
-or_false true a = refl
-or_false false a = refl
-
-or_assoc : (p x a : Bool) → ((p || x) || a) ≡ (p || (x || a))
-or_assoc true x a = refl
-or_assoc false x a = refl
-
-or_swapped : (p x y a : Bool) → (y || ((p || x) || a)) ≡ (p || (y || (x || a)))
-or_swapped true x true a = refl
-or_swapped true x false a = refl
-or_swapped false x y a = refl
 
 asked-append : (held : FencedHoldings) (xs ys : List TermedCommand) (item : ℕ) (a : Bool)
     → (asked (after_all_termed held xs) ys item || (asked held xs item || a)) ≡ (asked held (xs ++ ys) item || a)
@@ -103,17 +79,6 @@ carry_on a b c bytes kept more m n fault GoesOn w1 w2 w3 first second =
       ends = subst (λ (answers : List ℕ). Ends fault GoesOn c second.rest w1 answers w3) (sym all)
           (ends_after fault GoesOn c second.rest w1 w2 w3 (answered (fenced_holding a) first.commands) (answered (fenced_holding b) second.commands) first.ends.1 second.ends);
     }
-
-command_fault_more : (rest more : List ℕ) (fault : FrameFault) → IsCommandFault rest fault → IsCommandFault (rest ++ more) fault
-command_fault_more rest more (Kind byte) found = record { other = found.other; behind = found.behind ++ more; parts = ap (λ (xs : List ℕ). xs ++ more) found.parts }
-command_fault_more rest more (Count byte) found = record {
-  head = found.head;
-  begins = found.begins;
-  long = found.long;
-  other = found.other;
-  behind = found.behind ++ more;
-  parts = ap (λ (xs : List ℕ). xs ++ more) found.parts ∙ append_assoc found.head (byte ∷ found.behind) more;
-}
 
 -- a fault has a byte, so its first byte stays
 fault_first : (rest more : List ℕ) (fault : FrameFault) → IsCommandFault rest fault → 0 < length rest

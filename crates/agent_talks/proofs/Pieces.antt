@@ -1,25 +1,22 @@
 -- What a read of a guest gave, and what came of it.
-use Rattle.std.proofs.Common.{◌≡◌, ◌∙◌, ℕ, zero, suc, ◌-◌, ◌<◌, ◌≤◌, ◌==◌, Bool, true, false, true≢false, List, [], ◌∷◌, ◌++◌, length, take, Option, Some, None, refl, sym, ap, ap₂, subst, arith}
+use Rattle.std.proofs.Common.{◌≡◌, ◌∙◌, ℕ, ◌-◌, ◌<◌, ◌≤◌, ◌==◌, Bool, true, false, List, [], ◌++◌, length, take, Option, Some, None, refl, sym, ap, ap₂, subst, arith}
 use Rattle.std.specs.Prelude.{IfSome}
 use Rattle.std.proofs.lemmas.Bool.{eqb-true}
 use Rattle.std.proofs.lemmas.List.{append-nil, length-take-le}
+use Rattle.lists.proofs.Rows.{none_of_length_0}
 use Rattle.wan_edge.specs.Streams.{Appends, FailsToRead, IsAtEnd, Reads, SinkTrace, SourceTrace, Takes, TakesFrom}
 use Rattle.wan_edge.proofs.Chains.{Appends-nothing, TakesFrom-nothing}
-use Rattle.wire_frames.specs.declared.fault.FrameFault.{FrameFault}
 use Rattle.switch_agent.specs.Serving.{IsOwnFault}
 use Rattle.switch_agent.specs.ReadStates.{ReadSoFar}
 use Rattle.switch_agent.specs.declared.serve_fault.ServeFault.{ServeFault}
 use Rattle.switch_agent.specs.declared.serve_fault.ServeFault.TheVariants.{Frame, Long, Memory, Read, Write}
 use Rattle.switch_agent.specs.declared.serve_fault.Served.{Served}
 use Rattle.switch_agent.proofs.Stops.{appends_nothing}
+use Rattle.switch_agent.proofs.Pieces.{frame_read, long_read, long_write, memory_read, no_fault, some_left, write_read}
 use Rattle.fenced_agent.specs.Agents.{FencedItems, fenced_holding}
 use Rattle.agent_talks.specs.Serving.{CarriesOut, Ends, HearsBytes, HearsGuest, IsCutTermed, answered, heard_by, heard_on}
 use Rattle.agent_talks.specs.declared.heard.Heard.{Heard}
 use Rattle.agent_talks.proofs.Stops.{nothing_carried}
-
-no_bytes : (xs : List ℕ) → length xs ≡ 0 → xs ≡ []
-no_bytes [] none = refl
-no_bytes (x ∷ xs) none = absurd (omega (arith, none))
 
 -- ---- what came of it
 
@@ -36,10 +33,6 @@ recast a b bytes commands fault fault_now P Q w w' change carried = record {
   items_seen = carried.items_seen;
   ends = change carried.rest (answered (fenced_holding a) carried.commands) carried.ends;
 }
-
-some_left : (n : ℕ) → (n == 0) ≡ false → 0 < n
-some_left zero isnt = absurd (true≢false isnt)
-some_left (suc n) isnt = omega arith
 
 abbrev pub talk_of : List ℕ → ℕ → ReadSoFar
 talk_of kept room = record { kept = kept; room = room }
@@ -91,32 +84,13 @@ module _ (a b : FencedItems) (kept piece kept_now : List ℕ) (room : ℕ) (left
 pub end_heard : (items : FencedItems) (kept piece : List ℕ) (room : ℕ) (left w : Option (List ℕ)) (heard : Heard) → heard ≡ record { served = record { commands = 0; fault = None }; talk = None } → IsCutTermed kept → length piece ≡ 0
     → (length piece ≡ 0 → IsAtEnd left) → HearsBytes items items (talk_of kept room) piece heard left w w
 end_heard items kept piece room left w heard is cut none at_end =
-    let all : kept ++ piece ≡ kept = ap (λ (xs : List ℕ). kept ++ xs) (no_bytes piece none) ∙ append-nil kept in
+    let all : kept ++ piece ≡ kept = ap (λ (xs : List ℕ). kept ++ xs) (none_of_length_0 piece none) ∙ append-nil kept in
     subst (λ (h : Heard). HearsBytes items items (talk_of kept room) piece h left w w) (sym is) (record {
       carried = subst (λ (bytes : List ℕ). CarriesOut items items bytes (record { commands = 0; fault = None }) IsCutTermed w w) (sym all)
           (nothing_carried items kept None IsCutTermed w (cut, appends_nothing w));
       few = omega arith;
       further = (none, at_end none);
     })
-
--- one fault isn't another, and no fault is none of them
-long_read : Some Long ≡ Some Read → ⊥
-long_read is = cc
-
-write_read : Some Write ≡ Some Read → ⊥
-write_read is = cc
-
-memory_read : Some Memory ≡ Some Read → ⊥
-memory_read is = cc
-
-frame_read : (fault : FrameFault) → Some (Frame fault) ≡ Some Read → ⊥
-frame_read fault is = cc
-
-no_fault : (found : Option ServeFault) (fault : ServeFault) → found ≡ None → found ≡ Some fault → ⊥
-no_fault found fault none some = let e : None ≡ Some fault = sym none ∙ some in cc
-
-long_write : Some Long ≡ Some Write → ⊥
-long_write is = cc
 
 -- a fault of the bytes or of writing is none of reading
 on_unread : (commands : ℕ) (kept : List ℕ) (room : ℕ) (full : Bool) → (heard_on commands kept room full).served.fault ≡ Some Read → ⊥

@@ -61,8 +61,9 @@ fn serve_next<G: Guest>(
     requires some { 0 < length piece.now }
     ensures taken { (0 < result.0) × (result.0 ≤ length piece.now) }
     ensures carried { CarriesOut agent.old agent.new
-        (all_kept reader.old ++ take result.0 piece.now) result.1 (λ rest. rest ≡ all_kept reader.new) (G.Sink.told guest.old).written
-        (G.Sink.told guest.new).written }
+        (all_kept reader.old ++ take result.0 piece.now) result.1
+        (λ rest. rest ≡ all_kept reader.new)
+        (G.Sink.told guest.old).written (G.Sink.told guest.new).written }
     ensures few { result.1.commands ≤ 1 }
     ensures own { IfSome result.1.fault IsOwnFault }
     ensures live { result.1.fault ≡ None → IsTrue reader.new.live }

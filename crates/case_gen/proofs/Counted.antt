@@ -1,26 +1,21 @@
 -- What is counted over tunnels: loads, which stay small, and the entries of tables.
 use Rattle.std.proofs.Common.{◌≡◌, ℕ, zero, suc, ◌+◌, ◌*◌, ◌^◌, ◌<◌, ◌≤◌, ◌==◌, max, Bool, true, false, ◌&&◌, List, [], ◌∷◌, ◌++◌, length, replicate, slice_index, unwrap_or, if◌then◌else◌, refl, sym, ap, ap₂, ◌∙◌, add-one, inl, inr, arith, append-nil, drop, take}
 use Rattle.std.proofs.lemmas.Bool.{cases_lt}
-use Rattle.std.proofs.lemmas.List.{drop_all, ext_get_or, get_or-replicate, length-replicate, take_all}
+use Rattle.std.proofs.lemmas.List.{drop_all, get_or-replicate, length-replicate, take_all}
 use Rattle.rollout_rules.specs.Network.{IsNetwork}
 use Rattle.rollout_rules.specs.Sums.{list_below, sum_below}
 use Rattle.rollout_rules.specs.Wan.{Problem, crosses, hops, switch_of, tunnel_at, width_of}
 use Rattle.rollout_rules.specs.declared.limits.TheConstants.{LARGEST_CAPACITY, LARGEST_TABLE}
 use Rattle.rollout_rules.proofs.Below.{sum_below-same}
+use Rattle.rollout_rules.proofs.Rows.{list_below-at, list_below-length}
 use Rattle.wan_model.specs.declared.side.Side.{Side}
 use Rattle.wan_model.specs.declared.side.Side.TheVariants.{Old, New}
 use Rattle.wan_model.specs.Sides.{rate_on}
 use Rattle.plan_check.specs.LeastSlack.{AreLoads}
 use Rattle.plan_check.specs.Parts.{GrownBy, added}
+use Rattle.plan_check.proofs.Rows.{list_below-from}
 use Rattle.case_gen.specs.Cases.{capacity_for, least_capacity, table_for}
 use Rattle.case_gen.specs.Conditions.{HasSmallRates}
-use Rattle.case_gen.proofs.Rows.{at-below, length-below}
-
--- a list that has as many numbers, and each of them
-pub below-from : (xs : List ℕ) (n : ℕ) (f : ℕ → ℕ) → length xs ≡ n → ((k : ℕ) → k < n → slice_index xs k ≡ f k) → xs ≡ list_below n f
-below-from xs n f count each =
-    ext_get_or 0 xs (list_below n f) (count ∙ sym (length-below n f))
-    (λ k lt. let below : k < n = omega (arith, count) in each k below ∙ sym (at-below n f k 0 below))
 
 -- rates up to 1,000 add up to no more than so many times that
 share_most : (b : Bool) (x : ℕ) → x ≤ 1_000 → (if b then x else 0) ≤ 1_000
@@ -58,8 +53,8 @@ within_more k l capacity p so is fits j lt = elim (cases_lt j l) as (λ _. capac
 pub capacities_within : (k n : ℕ) (p : Problem) (capacities : List ℕ) → capacities ≡ list_below n (capacity_for k p) → ((j : ℕ) → j < n → capacity_for k p j ≤ LARGEST_CAPACITY)
     → (j : ℕ) → j < length capacities → slice_index capacities j ≤ LARGEST_CAPACITY
 capacities_within k n p capacities are so j lt =
-    let below : j < n = omega (arith, ap length are, length-below n (capacity_for k p)) in
-    omega (arith, ap (λ cs. slice_index cs j) are, at-below n (capacity_for k p) j 0 below, so j below)
+    let below : j < n = omega (arith, ap length are, list_below-length n (capacity_for k p)) in
+    omega (arith, ap (λ cs. slice_index cs j) are, list_below-at n (capacity_for k p) j 0 below, so j below)
 
 -- what tunnel t takes of the table of switch w
 abbrev pub taken_by : Problem → ℕ → ℕ → ℕ
@@ -103,7 +98,7 @@ module _ (p : Problem) (net : IsNetwork p) (t : ℕ) (inside : t < length p.tunn
 
 module _ (p : Problem) (tables : List ℕ) (n : ℕ) (all : n ≡ length p.tunnels) (so : AreCounts p tables n) where
   pub counts_all : tables ≡ list_below (length p.switches) (table_for p)
-  counts_all = below-from tables (length p.switches) (table_for p) so.count (λ w lt. so.each w lt ∙ ap (λ m. sum_below m (λ t. taken_by p t w)) all)
+  counts_all = list_below-from tables (length p.switches) (table_for p) so.count (λ w lt. so.each w lt ∙ ap (λ m. sum_below m (λ t. taken_by p t w)) all)
 
   pub counts_within : IsNetwork p → (w : ℕ) → w < length tables → slice_index tables w ≤ LARGEST_TABLE
   counts_within net w lt = omega (arith, so.few w (omega (arith, so.count)), all, net.few)

@@ -1,5 +1,5 @@
 -- Each switch, link and flow that is added to a ring is new there, and within the limits.
-use Rattle.std.proofs.Common.{◌≡◌, ℕ, ◌+◌, ◌/◌, ◌%◌, ◌<◌, ◌≤◌, ◌^◌, ◌==◌, nat_lt, Bool, true, false, cond, ◌&&◌, List, [], ◌∷◌, ◌++◌, length, get_or, slice_index, Some, None, codes, decimal, refl, sym, ap, ap₂, subst, ◌∙◌, inl, inr, eqb-true, le-ltb, position, add-one, arith, length-append}
+use Rattle.std.proofs.Common.{◌≡◌, ℕ, ◌+◌, ◌/◌, ◌%◌, ◌<◌, ◌≤◌, ◌^◌, ◌==◌, nat_lt, Bool, false, cond, ◌&&◌, List, [], ◌∷◌, ◌++◌, length, get_or, slice_index, Some, None, codes, decimal, refl, sym, ap, ap₂, subst, ◌∙◌, inl, inr, eqb-true, le-ltb, position, add-one, arith, length-append}
 use Rattle.std.proofs.Math.Nat.{mod-lt}
 use Rattle.std.proofs.lemmas.Bool.{and_parts, cases_Bool, cond-false}
 use Rattle.std.proofs.lemmas.Fmt.{decimal_injective, length-decimal-le}
@@ -10,9 +10,10 @@ use Rattle.rollout_rules.specs.Building.{find_flow, find_link, find_switch, no_p
 use Rattle.rollout_rules.specs.declared.limits.TheConstants.{MOST_SWITCHES}
 use Rattle.rollout_rules.specs.Sums.{list_below, same_numbers}
 use Rattle.rollout_rules.specs.Wan.{Flow, Link, Problem, Switch, no_flow, no_link, no_switch}
+use Rattle.rollout_rules.proofs.Rows.{list_below-at, list_below-length}
+use Rattle.rollout_rules.proofs.Alike.{same_numbers-is}
 use Rattle.case_gen.specs.Conditions.{AreCapacities, AreTables}
 use Rattle.case_gen.specs.Rings.{flow_named, flows_below, link_with, links_below, switch_with, switches_below}
-use Rattle.case_gen.proofs.Rows.{at-below, length-below}
 use Rattle.case_gen.proofs.Round.{same_link}
 
 -- where a test passes nowhere, nothing is found
@@ -24,20 +25,13 @@ nowhere test xs d fails =
 -- a list of rows in which a test passes at no number
 nowhere_below : {X : Type 0} (test : X → Bool) (n : ℕ) (row : ℕ → X) (d : X) → ((k : ℕ) → k < n → test (row k) ≡ false) → position test (list_below n row) ≡ None
 nowhere_below test n row d fails =
-    nowhere test (list_below n row) d (λ k lt. let below : k < n = omega (arith, length-below n row) in ap test (at-below n row k d below) ∙ fails k below)
-
--- two texts that are the same
-same_is : (xs ys : List ℕ) → same_numbers xs ys ≡ true → xs ≡ ys
-same_is [] [] e = refl
-same_is [] (y ∷ ys) e = cc
-same_is (x ∷ xs) [] e = cc
-same_is (x ∷ xs) (y ∷ ys) e = let both = and_parts (x == y) (same_numbers xs ys) e in ap₂ (λ a b. a ∷ b) (eqb-true x y both.0) (same_is xs ys both.1)
+    nowhere test (list_below n row) d (λ k lt. let below : k < n = omega (arith, list_below-length n row) in ap test (list_below-at n row k d below) ∙ fails k below)
 
 -- names of different numbers are different
 names_apart : (letter : List ℕ) (a b : ℕ) → a < b → b < 2 ^ 64 → same_numbers (letter ++ decimal a) (letter ++ decimal b) ≡ false
 names_apart letter a b less small = elim (cases_Bool (same_numbers (letter ++ decimal a) (letter ++ decimal b))) as (λ _. same_numbers (letter ++ decimal a) (letter ++ decimal b) ≡ false) [
   | inl same ↦
-      let text : decimal a ≡ decimal b = append_cancel_left letter (decimal a) (decimal b) (same_is (letter ++ decimal a) (letter ++ decimal b) same) in
+      let text : decimal a ≡ decimal b = append_cancel_left letter (decimal a) (decimal b) (same_numbers-is (letter ++ decimal a) (letter ++ decimal b) same) in
       let number : a ≡ b = decimal_injective a b (omega arith) small text in
       absurd (omega arith)
   | inr other ↦ other
@@ -54,7 +48,7 @@ module _ (tables : List ℕ) (are : AreTables tables) (w : ℕ) (inside : w < le
 
   switch_count : length (switches_below tables w) ≡ w
   unfolding switches_below
-  switch_count = length-below w (λ v. switch_with v (slice_index tables v))
+  switch_count = list_below-length w (λ v. switch_with v (slice_index tables v))
 
   pub may_switch : (p : Problem) → p ≡ record no_problem { switches = switches_below tables w } → MayAddSwitch p (codes "s" ++ decimal w) (slice_index tables w)
   may_switch p is = subst (λ q. MayAddSwitch q (codes "s" ++ decimal w) (slice_index tables w)) (sym is) (record {
@@ -95,7 +89,7 @@ module _ (n : ℕ) (capacities : List ℕ) (three : 3 ≤ n) (most : n ≤ MOST_
 
   link_count : length p.links ≡ l
   unfolding links_below
-  link_count = ap length so ∙ length-below l (λ k. link_with n k (slice_index capacities k))
+  link_count = ap length so ∙ list_below-length l (λ k. link_with n k (slice_index capacities k))
 
   pub may_link : MayAddLink p (l / 2) ((l / 2 + 1 + l % 2) % n) (slice_index capacities l)
   may_link = record {
@@ -127,7 +121,7 @@ module _ (f : ℕ) (few : f < 1_024) (p : Problem) (so : p.flows ≡ flows_below
 
   pub flow_count : length p.flows ≡ f
   unfolding flows_below
-  flow_count = ap length so ∙ length-below f flow_named
+  flow_count = ap length so ∙ list_below-length f flow_named
 
   pub may_flow : (name : List ℕ) → name ≡ codes "f" ++ decimal f → MayAddFlow p name
   may_flow name named = subst (λ (text : List ℕ). MayAddFlow p text) (sym named) (record {

@@ -8,13 +8,13 @@ use Rattle.rand_pcg.specs.Pcg.{output_xsh_rr}
 use Rattle.rollout_rules.specs.Sums.{list_below}
 use Rattle.rollout_rules.specs.Wan.{Problem, Tunnel, new_rate, no_tunnel, old_rate}
 use Rattle.rollout_rules.specs.declared.limits.TheConstants.{LARGEST_CAPACITY, LARGEST_TABLE}
+use Rattle.rollout_rules.proofs.Rows.{list_below-at, list_below-length}
 use Rattle.case_gen.specs.Cases.{bare_ring, capacity_for, case, fitted_ring, table_for}
 use Rattle.case_gen.specs.Conditions.{AreCapacities, AreRates, AreTables, AreTrips, HasSmallRates, IsTrip}
 use Rattle.case_gen.specs.Draws.{after_draws, drawn}
 use Rattle.case_gen.specs.Rings.{first_tunnel, network, second_tunnel, trip_at, tunnels_below}
 use Rattle.case_gen.specs.Trips.{Trip, most_steps, no_trip, rate_of, rates_drawn, trip_drawn, trips_drawn}
 use Rattle.case_gen.proofs.Flows.{tunnels_count}
-use Rattle.case_gen.proofs.Rows.{at-below, length-below}
 use Rattle.case_gen.proofs.Whole.{links_count, switches_count}
 
 -- a draw is below its bound
@@ -46,10 +46,10 @@ trip-IsTrip draws n three =
 
 pub trips-AreTrips : (draws : Lcg) (n flows : ℕ) → 3 ≤ n → flows ≤ 1_024 → AreTrips n (trips_drawn draws n flows)
 trips-AreTrips draws n flows three few = record {
-  few = omega (arith, length-below flows (λ f. trip_drawn (after_draws draws (6 * f)) n));
+  few = omega (arith, list_below-length flows (λ f. trip_drawn (after_draws draws (6 * f)) n));
   each = λ f lt.
-      let below : f < flows = omega (arith, length-below flows (λ g. trip_drawn (after_draws draws (6 * g)) n)) in
-      subst (IsTrip n) (sym (at-below flows (λ g. trip_drawn (after_draws draws (6 * g)) n) f no_trip below)) (trip-IsTrip (after_draws draws (6 * f)) n three);
+      let below : f < flows = omega (arith, list_below-length flows (λ g. trip_drawn (after_draws draws (6 * g)) n)) in
+      subst (IsTrip n) (sym (list_below-at flows (λ g. trip_drawn (after_draws draws (6 * g)) n) f no_trip below)) (trip-IsTrip (after_draws draws (6 * f)) n three);
 }
 
 -- what holds of both tunnels of each trip holds of each tunnel
@@ -124,7 +124,7 @@ module _ (n : ℕ) (three : 3 ≤ n) (many : n ≤ 1_024) (trips : List Trip) (f
       tables_are = counted ∙ ap₂ (λ m (p : Problem). list_below m (table_for p)) bare_switches is
 
       tables_long : length tables ≡ n
-      tables_long = ap length tables_are ∙ length-below n (table_for (bare_ring n trips))
+      tables_long = ap length tables_are ∙ list_below-length n (table_for (bare_ring n trips))
 
       pub tables_fit : ((w : ℕ) → w < length tables → slice_index tables w ≤ LARGEST_TABLE) → AreTables tables
       tables_fit within = record {
@@ -142,7 +142,7 @@ module _ (n : ℕ) (three : 3 ≤ n) (many : n ≤ 1_024) (trips : List Trip) (f
 
         pub capacities_fit : ((l : ℕ) → l < length capacities → slice_index capacities l ≤ LARGEST_CAPACITY) → AreCapacities (length tables) capacities
         capacities_fit within = record {
-          count = omega (arith, ap length capacities_are, length-below (2 * n) (capacity_for k (bare_ring n trips)), tables_long);
+          count = omega (arith, ap length capacities_are, list_below-length (2 * n) (capacity_for k (bare_ring n trips)), tables_long);
           within = within;
         }
 

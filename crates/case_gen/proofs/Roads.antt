@@ -7,11 +7,11 @@ use Rattle.std.proofs.lemmas.List.Sums.{position_or_len_is}
 use Rattle.std.specs.List.{position_or_len}
 use Rattle.rollout_rules.specs.Building.{find_link, links_along, IsRoute}
 use Rattle.rollout_rules.specs.Wan.{Link, Problem, link_at, no_link}
+use Rattle.rollout_rules.proofs.Rows.{list_below-at, list_below-length}
 use Rattle.wan_model.proofs.Routes.{length-links_along, links_along-at}
 use Rattle.case_gen.specs.Conditions.{IsRing}
 use Rattle.case_gen.specs.Rings.{link_from, links_of_walk, walk, walked}
 use Rattle.case_gen.proofs.Round.{next_switch, same_link, walk_once}
-use Rattle.case_gen.proofs.Rows.{at-below, length-below}
 
 -- a path has one link less than switches
 links_count : (p : Problem) (path : List ℕ) → length (links_along p path) ≡ length path - 1
@@ -61,10 +61,10 @@ module _ (n : ℕ) (p : Problem) (ring : IsRing n p) where
     path = walk n start step count
 
     pub path_long : length path ≡ count + 1
-    path_long = length-below (count + 1) (walked n start step)
+    path_long = list_below-length (count + 1) (walked n start step)
 
     pub path_at : (h : ℕ) → h < count + 1 → slice_index path h ≡ walked n start step h
-    path_at h lt = at-below (count + 1) (walked n start step) h 0 lt
+    path_at h lt = list_below-at (count + 1) (walked n start step) h 0 lt
 
     on_ring : (h : ℕ) → walked n start step h < n
     on_ring h = mod-lt (start + h * step) {m = n} (omega arith)
@@ -88,9 +88,9 @@ module _ (n : ℕ) (p : Problem) (ring : IsRing n p) where
     pub walk-along : links_along p path ≡ links_of_walk n start step count
     walk-along =
         let long : length (links_along p path) ≡ count = omega (arith, links_count p path, path_long) in
-        ext_get_or 0 (links_along p path) (links_of_walk n start step count) (long ∙ sym (length-below count (λ j. link_from (walked n start step j) step)))
+        ext_get_or 0 (links_along p path) (links_of_walk n start step count) (long ∙ sym (list_below-length count (λ j. link_from (walked n start step j) step)))
         (λ h lt.
         let below : h < count = omega arith in
         links_along-at p path h (omega (arith, path_long))
         ∙ ap (λ o. unwrap_or o 0) (road h below)
-        ∙ sym (at-below count (λ j. link_from (walked n start step j) step) h 0 below))
+        ∙ sym (list_below-at count (λ j. link_from (walked n start step j) step) h 0 below))

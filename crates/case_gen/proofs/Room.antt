@@ -8,10 +8,10 @@ use Rattle.rollout_rules.specs.Slack.{has_slack, has_table_room, is_wanted_or_ca
 use Rattle.rollout_rules.specs.Sums.{list_below}
 use Rattle.rollout_rules.specs.Wan.{Link, Problem, Switch, hops, link_at, no_link, no_switch, switch_at, switch_of, width_of}
 use Rattle.rollout_rules.proofs.Below.{all_below-from, sum_below-mono}
+use Rattle.rollout_rules.proofs.Rows.{list_below-at, list_below-length}
 use Rattle.case_gen.specs.Cases.{bare_ring, capacity_for, case, least_capacity, table_for}
 use Rattle.case_gen.specs.Rings.{link_with, links_below, switch_with, switches_below}
 use Rattle.case_gen.specs.Trips.{trips_drawn}
-use Rattle.case_gen.proofs.Rows.{at-below, length-below}
 
 -- the least capacity leaves a share 1/k of it free
 enough : (k load most : ℕ) → 2 ≤ k → load ≤ most → k * load ≤ (k - 1) * least_capacity k most
@@ -41,23 +41,23 @@ module _ (k switches flows : ℕ) (draws : Lcg) where
 
   length-switches : length (switches_below tables switches) ≡ switches
   unfolding switches_below
-  length-switches = length-below switches (λ v. switch_with v (slice_index tables v))
+  length-switches = list_below-length switches (λ v. switch_with v (slice_index tables v))
 
   length-links : length (links_below switches capacities (2 * switches)) ≡ 2 * switches
   unfolding links_below
-  length-links = length-below (2 * switches) (λ l. link_with switches l (slice_index capacities l))
+  length-links = list_below-length (2 * switches) (λ l. link_with switches l (slice_index capacities l))
 
   table-is : (w : ℕ) → w < switches → (slice_index_or (switches_below tables switches) w no_switch).table ≡ table_for bare w
   unfolding switches_below
   table-is w lt =
-      ap (λ (s : Switch). s.table) (at-below switches (λ v. switch_with v (slice_index tables v)) w no_switch lt)
-      ∙ at-below switches (table_for bare) w 0 lt
+      ap (λ (s : Switch). s.table) (list_below-at switches (λ v. switch_with v (slice_index tables v)) w no_switch lt)
+      ∙ list_below-at switches (table_for bare) w 0 lt
 
   capacity-is : (l : ℕ) → l < 2 * switches → (slice_index_or (links_below switches capacities (2 * switches)) l no_link).capacity ≡ capacity_for k bare l
   unfolding links_below
   capacity-is l lt =
-      ap (λ (m : Link). m.capacity) (at-below (2 * switches) (λ m. link_with switches m (slice_index capacities m)) l no_link lt)
-      ∙ at-below (2 * switches) (capacity_for k bare) l 0 lt
+      ap (λ (m : Link). m.capacity) (list_below-at (2 * switches) (λ m. link_with switches m (slice_index capacities m)) l no_link lt)
+      ∙ list_below-at (2 * switches) (capacity_for k bare) l 0 lt
 
   pub room : has_table_room (case k switches flows draws) ≡ true
   unfolding case

@@ -1,10 +1,7 @@
 -- Draws after draws, and lists of what a function gives for each number below a bound.
-use Rattle.std.proofs.Common.{◌≡◌, ℕ, zero, suc, ◌+◌, ◌%◌, ◌<◌, [], ◌∷◌, ◌++◌, length, get_or, refl, ap, ◌∙◌, subst, inl, inr, arith, length-append}
-use Rattle.std.proofs.lemmas.Bool.{cases_lt}
-use Rattle.std.proofs.lemmas.List.{get_or_append_left, get_or_push}
+use Rattle.std.proofs.Common.{◌≡◌, ℕ, zero, suc, ◌+◌, ◌%◌, refl, ap, arith}
 use Rattle.rand_pcg.specs.Lcg.{Lcg, next_state, state_after}
 use Rattle.rand_pcg.specs.Pcg.{multiplier_64, output_xsh_rr}
-use Rattle.rollout_rules.specs.Sums.{list_below}
 use Rattle.case_gen.specs.Draws.{after_draws, drawn}
 
 further : (increment count more state : ℕ) → state_after 64 multiplier_64 increment more (state_after 64 multiplier_64 increment count state) ≡ state_after 64 multiplier_64 increment (count + more) state
@@ -29,14 +26,3 @@ in_a_row draws count place below = ap (λ (g : Lcg). output_xsh_rr g.state % bel
 pub not_yet : (draws : Lcg) → after_draws draws 0 ≡ draws
 unfolding after_draws state_after
 not_yet draws = refl
-
-pub length-below : {A : Type 0} (n : ℕ) (f : ℕ → A) → length (list_below n f) ≡ n
-length-below zero f = refl
-length-below (suc n) f = omega (arith, length-append (list_below n f) (f n ∷ []), length-below n f)
-
-pub at-below : {A : Type 0} (n : ℕ) (f : ℕ → A) (k : ℕ) (d : A) → k < n → get_or (list_below n f) k d ≡ f k
-at-below zero f k d lt = absurd (omega arith)
-at-below (suc n) f k d lt = elim (cases_lt k n) as (λ c. get_or (list_below (suc n) f) k d ≡ f k) [
-  | inl below ↦ get_or_append_left (list_below n f) (f n ∷ []) d k (omega (arith, below, length-below n f)) ∙ at-below n f k d below
-  | inr above ↦ let at : n ≡ k = omega arith in subst (λ m. get_or (list_below n f ++ f n ∷ []) m d ≡ f m) at (get_or_push (list_below n f) (f n) d n (length-below n f))
-]

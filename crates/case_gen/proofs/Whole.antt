@@ -2,18 +2,18 @@
 use Rattle.std.proofs.Common.{◌≡◌, ℕ, ◌*◌, List, [], length, slice_index, refl, sym, ap, subst, ◌∙◌}
 use Rattle.rollout_rules.specs.Building.{no_problem}
 use Rattle.rollout_rules.specs.Wan.{Link, Problem, no_link}
+use Rattle.rollout_rules.proofs.Rows.{list_below-at, list_below-length}
 use Rattle.case_gen.specs.Conditions.{AreTables, IsRing}
 use Rattle.case_gen.specs.Rings.{flows_below, link_with, links_below, network, switch_with, switches_below, tunnels_below}
 use Rattle.case_gen.specs.Trips.{Trip}
-use Rattle.case_gen.proofs.Rows.{at-below, length-below}
 
 pub switches_count : (tables : List ℕ) (n : ℕ) → length (switches_below tables n) ≡ n
 unfolding switches_below
-switches_count tables n = length-below n (λ v. switch_with v (slice_index tables v))
+switches_count tables n = list_below-length n (λ v. switch_with v (slice_index tables v))
 
 pub links_count : (n : ℕ) (capacities : List ℕ) (l : ℕ) → length (links_below n capacities l) ≡ l
 unfolding links_below
-links_count n capacities l = length-below l (λ k. link_with n k (slice_index capacities k))
+links_count n capacities l = list_below-length l (λ k. link_with n k (slice_index capacities k))
 
 module _ (tables capacities : List ℕ) (trips : List Trip) where
   abbrev n : ℕ
@@ -34,8 +34,8 @@ module _ (tables capacities : List ℕ) (trips : List Trip) where
     plain = refl;
     all = switches_count tables n;
     count = links_count n capacities (2 * n);
-    from = λ l lt. ap (λ (k : Link). k.from) (at-below (2 * n) (λ k. link_with n k (slice_index capacities k)) l no_link lt);
-    to = λ l lt. ap (λ (k : Link). k.to) (at-below (2 * n) (λ k. link_with n k (slice_index capacities k)) l no_link lt);
+    from = λ l lt. ap (λ (k : Link). k.from) (list_below-at (2 * n) (λ k. link_with n k (slice_index capacities k)) l no_link lt);
+    to = λ l lt. ap (λ (k : Link). k.to) (list_below-at (2 * n) (λ k. link_with n k (slice_index capacities k)) l no_link lt);
   }
 
   module _ (p : Problem) (one : p ≡ switches_alone) where

@@ -3,15 +3,14 @@ ghost use Rattle.std.specs.Prelude.{◌≡◌, ℕ, ◌+◌, ◌*◌, ◌^◌, �
 ghost use Rattle.rollout_rules.specs.Sums.{list_below};
 ghost use Rattle.rollout_rules.specs.Wan.{old_rate, new_rate, tunnel_at};
 ghost use Rattle.rollout_rules.specs.declared.limits.TheConstants.{LARGEST_TABLE, LARGEST_CAPACITY};
-ghost use Rattle.plan_check.specs.LeastSlack.{AreLoads};
 ghost use Rattle.plan_check.specs.Parts.{GrownBy, added};
 ghost use Rattle.case_gen.specs.Cases.{capacity_for, least_capacity, table_for};
 ghost use Rattle.case_gen.specs.Conditions.{HasSmallRates};
 
 use lists::{Memory, Nums};
-use plan_check::loads;
+use plan_check::SplitLoads;
 use std::alloc::Global;
-use wan_model::{Problem, Side};
+use wan_model::Problem;
 
 /// Per link the least capacity of which both splits leave a share 1/k free.
 pub(crate) fn capacities_for(alloc: Global, k: u32, problem: &Problem) -> Result<Nums, Memory>
@@ -26,28 +25,15 @@ pub(crate) fn capacities_for(alloc: Global, k: u32, problem: &Problem) -> Result
         → l < length capacities
         → slice_index capacities l ≤ LARGEST_CAPACITY) }
 {
-    let old = loads_on(alloc, problem, Side::Old)?;
-    let new = loads_on(alloc, problem, Side::New)?;
+    let loads = SplitLoads::of(alloc, problem)?;
+    let old = loads.old.as_slice();
+    let new = loads.new.as_slice();
     let mut capacities = Nums::new(alloc);
     for l in 0..problem.links().len() {
-        let load = old.as_slice()[l].max(new.as_slice()[l]);
+        let load = old[l].max(new[l]);
         capacities.push(least_capacity(u64::from(k), load))?;
     }
     Ok(capacities)
-}
-
-// The loads of a split.
-fn loads_on(alloc: Global, problem: &Problem, side: Side) -> Result<Nums, Memory>
-    requires { HasSmallRates problem.now }
-    ensures loads { IfOk result (λ sums. AreLoads side problem.now sums) }
-    ensures small { IfOk result
-        (λ sums. (l : ℕ) → l < length sums → slice_index sums l ≤ 4_096_000) }
-{
-    let mut rates = Nums::new(alloc);
-    for t in 0..problem.tunnels().len() {
-        rates.push(problem.rate_on(side, t).unwrap_or(0))?;
-    }
-    loads(alloc, problem, rates.as_slice())
 }
 
 // The least capacity of which a load leaves a share 1/k free.

@@ -7,10 +7,13 @@ use Rattle.rollout_rules.specs.Worked.{fresh, op_of}
 use Rattle.rollout_rules.specs.declared.op.Op.{Op}
 use Rattle.rollout_rules.specs.declared.op.Entry.{Entry}
 use Rattle.rollout_rules.specs.declared.op.Entry.TheVariants.{Begin, Done}
-use Rattle.wan_edge.specs.Frames.{AnswerFrame, CommandFrame, IsCommand, Splits, answer_bytes, command_bytes, command_head}
+use Rattle.wan_edge.specs.Frames.{AnswerFrame, CommandFrame, IsCommand, Splits, answer_bytes, command_bytes}
 use Rattle.wan_edge.specs.Ports.{AllAnswered, BeginsNoCommand}
 use Rattle.wan_edge.specs.Switches.{answers_to, holding_nothing}
+use Rattle.wan_edge.proofs.Commands.{nothing_begins_no_command}
+use Rattle.wan_edge.proofs.Sizes.{command-some}
 use Rattle.port_session.specs.Offers.{frames_of}
+use Rattle.port_session.proofs.Hearing.{length-answers}
 use Rattle.shared_book.specs.declared.note.What.{What}
 use Rattle.shared_book.specs.declared.note.What.TheVariants as what
 use Rattle.shared_book.specs.declared.note.Written.{Written}
@@ -21,17 +24,11 @@ use Rattle.switch_laws.proofs.SmallRuns.{unused_starts}
 use Rattle.completion_laws.specs.Answering.{HasAnswered, IsReady}
 use Rattle.completion_laws.specs.Turns.{EndsNoneAt, OthersEndElsewhere}
 use Rattle.completion_laws.specs.Worked.{begins_first, one_sent, promptly, settles_first}
-use Rattle.completion_laws.proofs.PortTurns.{no-command}
-use Rattle.completion_laws.proofs.Prompt.{long-answers}
-
-some_bytes : (c : CommandFrame) → 0 < length (command_bytes c)
-unfolding command_bytes command_head
-some_bytes c = omega arith
 
 none-offered : (commands : List CommandFrame) (rest : List ℕ) → Splits command_bytes IsCommand [] commands rest → BeginsNoCommand rest → [] ≡ flat_map answer_bytes (answers_to holding_nothing commands)
 none-offered [] rest split none = refl
 none-offered (c ∷ commands) rest split none =
-    absurd (omega (arith, ap length split.parts, length-append (command_bytes c ++ flat_map command_bytes commands) rest, length-append (command_bytes c) (flat_map command_bytes commands), some_bytes c))
+    absurd (omega (arith, ap length split.parts, length-append (command_bytes c ++ flat_map command_bytes commands) rest, length-append (command_bytes c) (flat_map command_bytes commands), command-some c))
 
 pub one-fits : All IsCommand one_sent
 one-fits =
@@ -54,16 +51,16 @@ unused-ready = record {
   offered = refl;
   heard = refl;
   held = refl;
-  in_order = record { commands = []; rest = []; whole = record { fit = All-nil IsCommand; parts = refl }; no_more = no-command; carried_out = 0; holds = refl; to_come = []; heard_front = refl };
+  in_order = record { commands = []; rest = []; whole = record { fit = All-nil IsCommand; parts = refl }; no_more = nothing_begins_no_command; carried_out = 0; holds = refl; to_come = []; heard_front = refl };
   no_more = none-offered;
   none_owed = refl;
 }
 
 unheard : (answers : List AnswerFrame) → 0 < length answers → [] ≡ flat_map answer_bytes answers → ⊥
-unheard answers some e = omega (arith, some, ap length e, long-answers answers)
+unheard answers some e = omega (arith, some, ap length e, length-answers answers)
 
 pub silent-waits : AllAnswered holding_nothing (frames_of 4 (first_command ∷ [])) [] → ⊥
-silent-waits all = unheard (answers_to holding_nothing one_sent) (omega arith) (all one_sent [] (record { fit = one-fits; parts = sym (append-nil (frames_of 4 (first_command ∷ []))) }) no-command)
+silent-waits all = unheard (answers_to holding_nothing one_sent) (omega arith) (all one_sent [] (record { fit = one-fits; parts = sym (append-nil (frames_of 4 (first_command ∷ []))) }) nothing_begins_no_command)
 
 pub answering-answered : HasAnswered one_sent (promptly answering)
 answering-answered = record {

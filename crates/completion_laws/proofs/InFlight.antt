@@ -1,5 +1,5 @@
 -- After a round of the book all that may begin is held back by the policy, where nothing is in flight.
-use Rattle.std.proofs.Common.{◌≡◌, ℕ, suc, ◌+◌, ◌<◌, Bool, true, false, not, ◌&&◌, ◌==◌, inl, inr, List, [], ◌∷◌, ◌++◌, length, map, filter, refl, sym, ap, ap₂, ◌∙◌, subst, arith, append_assoc, append-nil, eqb-true, eq-eqb, lt-ltb}
+use Rattle.std.proofs.Common.{◌≡◌, ℕ, ◌+◌, ◌<◌, Bool, true, false, not, ◌&&◌, ◌==◌, inl, inr, List, [], ◌∷◌, ◌++◌, length, filter, refl, sym, ap, ap₂, ◌∙◌, subst, arith, append_assoc, append-nil, eqb-true, eq-eqb, lt-ltb}
 use Rattle.std.proofs.lemmas.Bool.{and_parts, both_ways, cases_Bool}
 use Rattle.std.proofs.lemmas.List.Elements.{All-head}
 use Rattle.std.specs.List.{All}
@@ -26,52 +26,26 @@ use Rattle.update_scheduler.proofs.Rows.{times-filtered}
 use Rattle.shared_book.specs.declared.note.What.{What}
 use Rattle.shared_book.specs.declared.note.What.TheVariants as what
 use Rattle.shared_book.specs.declared.note.Written.{Written}
-use Rattle.shared_book.specs.Batches.{behind_dones, dones_ahead, ends, is_batch, items_rise, same_entries, same_entry, same_op}
+use Rattle.shared_book.specs.Batches.{behind_dones, dones_ahead, ends, is_batch, items_rise, same_entries}
 use Rattle.shared_book.specs.Histories.{Opening, history_of, segment_of}
 use Rattle.shared_book.specs.Legal.{is_legal_shared, is_still, is_turn, may_say}
 use Rattle.shared_book.specs.Notes.{calls_by, is_stopped}
 use Rattle.shared_book.proofs.Going.{next_may_be, front_is_legal as front_goes}
 use Rattle.shared_book.proofs.Lists.{history-next, list-is_legal}
+use Rattle.shared_book.proofs.Alike.{dones_then_the_rest, same_entries-is}
 use Rattle.controller_run.specs.Shifts.{HasTurned}
+use Rattle.controller_run.proofs.Rows.{map_long}
 
 -- ---- lists of entries that are the same
-one-op : (a b : Op) → same_op a b ≡ true → a ≡ b
-one-op a b same =
-    let parts = and_parts (a.item == b.item) (a.number == b.number) same in
-    λ k. record { item = eqb-true a.item b.item parts.0 k; number = eqb-true a.number b.number parts.1 k }
-
-one-entry : (a b : Entry) → same_entry a b ≡ true → a ≡ b
-one-entry (Begin a) (Begin b) same = ap Begin (one-op a b same)
-one-entry (Begin a) (Done b) same = absurd (both_ways false refl same)
-one-entry (Done a) (Begin b) same = absurd (both_ways false refl same)
-one-entry (Done a) (Done b) same = ap Done (one-op a b same)
-
-one-list : (es fs : List Entry) → same_entries es fs ≡ true → es ≡ fs
-one-list [] [] same = refl
-one-list [] (f ∷ fs) same = absurd (both_ways false refl same)
-one-list (e ∷ es) [] same = absurd (both_ways false refl same)
-one-list (e ∷ es) (f ∷ fs) same =
-    let parts = and_parts (same_entry e f) (same_entries es fs) same in
-    ap₂ (λ (x : Entry) (xs : List Entry). x ∷ xs) (one-entry e f parts.0) (one-list es fs parts.1)
-
--- a list is its Dones ahead, and what comes after them
-two-parts : (es : List Entry) → es ≡ ends (dones_ahead es) ++ behind_dones es
-two-parts [] = refl
-two-parts (Begin op ∷ es) = refl
-two-parts (Done op ∷ es) = ap (λ (xs : List Entry). Done op ∷ xs) (two-parts es)
 
 -- ---- nothing in flight
 no-item : (n : ℕ) (ns : List ℕ) → length ns ≡ 0 → times n ns ≡ 0
 no-item n [] none = refl
 no-item n (m ∷ ns) none = absurd (omega (arith, none))
 
-long-map : {A B : Type 0} (f : A → B) (xs : List A) → length (map f xs) ≡ length xs
-long-map f [] = refl
-long-map f (x ∷ xs) = ap suc (long-map f xs)
-
 pub still-flies : (p : Problem) (h : History) → is_still p h ≡ true → NothingFlies p h
 still-flies p h still n low =
-    let none : length (filter (flies h) (numbers (item_count p))) ≡ 0 = sym (long-map (next_op h) (filter (flies h) (numbers (item_count p)))) ∙ eqb-true (length (in_flight p h)) 0 still in
+    let none : length (filter (flies h) (numbers (item_count p))) ≡ 0 = sym (map_long (next_op h) (filter (flies h) (numbers (item_count p)))) ∙ eqb-true (length (in_flight p h)) 0 still in
     elim (cases_Bool (flies h n)) as (λ _. flies h n ≡ false) [
       | inl flying ↦
           let one : times n (filter (flies h) (numbers (item_count p))) ≡ 1 = times-filtered (flies h) (item_count p) n ∙ ap₂ (λ (a b : Bool). bit (a && b)) (lt-ltb n (item_count p) low) flying in
@@ -112,9 +86,9 @@ module _ (p : Problem) (plan : Plan) (policy : OpView → ℕ) where
   batch-holds h es legal batch =
       let parts = and_parts (items_rise 0 (dones_ahead es) && may_follow p plan h es) (same_entries (behind_dones es) (release p plan policy (with_entries h (ends (dones_ahead es))))) batch in
       let follows = (and_parts (items_rise 0 (dones_ahead es)) (may_follow p plan h es) parts.0).1 in
-      let whole : with_entries (with_entries h (ends (dones_ahead es))) (behind_dones es) ≡ with_entries h es = with_both h (ends (dones_ahead es)) (behind_dones es) ∙ ap (with_entries h) (sym (two-parts es)) in
+      let whole : with_entries (with_entries h (ends (dones_ahead es))) (behind_dones es) ≡ with_entries h es = with_both h (ends (dones_ahead es)) (behind_dones es) ∙ ap (with_entries h) (sym (dones_then_the_rest es)) in
       subst HoldsRest whole
-      (released-holds (with_entries h (ends (dones_ahead es))) (behind_dones es) (one-list (behind_dones es) _ parts.1) (subst (λ (g : History). is_legal p plan g ≡ true) (sym whole) (is_legal-append p plan h es legal follows)))
+      (released-holds (with_entries h (ends (dones_ahead es))) (behind_dones es) (same_entries-is (behind_dones es) _ parts.1) (subst (λ (g : History). is_legal p plan g ≡ true) (sym whole) (is_legal-append p plan h es legal follows)))
 
 module _ (o : Opening) where
   abbrev Rests : History → Type 0
@@ -180,7 +154,7 @@ module _ (p : Problem) (plan : Plan) (policy : OpView → ℕ) (h : History) (le
       absurd (no-end op (and_parts (may_end h op) (may_follow p plan (with_entries h (Done op ∷ [])) es) follows).0)
   empty-batch (Begin op ∷ es) batch =
       let parts = and_parts (items_rise 0 (dones_ahead (Begin op ∷ es)) && may_follow p plan h (Begin op ∷ es)) (same_entries (behind_dones (Begin op ∷ es)) (release p plan policy (with_entries h (ends (dones_ahead (Begin op ∷ es)))))) batch in
-      let released = one-list (Begin op ∷ es) (release p plan policy (with_entries h [])) parts.1 in
+      let released = same_entries-is (Begin op ∷ es) (release p plan policy (with_entries h [])) parts.1 in
       released ∙ (ap (release p plan policy) (with_none h) ∙ held-none p plan policy h held)
 
 module _ (o : Opening) where

@@ -1,6 +1,5 @@
 -- The next run finds a switch right, with the bytes of this one on their way.
-use Rattle.std.proofs.Common.{◌≡◌, ℕ, ◌^◌, ◌<◌, ◌==◌, true, List, [], ◌∷◌, ◌++◌, take, drop, Option, Some, IfSome, inl, inr, refl, sym, ap, ap₂, ◌∙◌, subst, append_assoc, append-nil, take-append-drop}
-use Rattle.std.proofs.lemmas.Bool.{cond_both}
+use Rattle.std.proofs.Common.{◌≡◌, ℕ, ◌^◌, ◌<◌, true, List, [], ◌++◌, take, drop, Option, Some, IfSome, inl, inr, refl, sym, ap, ap₂, ◌∙◌, subst, append_assoc, append-nil, take-append-drop}
 use Rattle.std.proofs.lemmas.Grind.{flat_map-append}
 use Rattle.std.proofs.lemmas.List.Elements.{All-append, All-filter, All-nil, All-weaker}
 use Rattle.std.specs.List.{All, flat_map}
@@ -8,12 +7,12 @@ use Rattle.rollout_rules.specs.Wan.{Rollout}
 use Rattle.rollout_rules.specs.Network.{IsNetwork}
 use Rattle.rollout_rules.specs.Valid.{is_valid_plan}
 use Rattle.rollout_rules.specs.History.{History, with_entries}
-use Rattle.rollout_rules.specs.Agent.{held_after, is_at_most}
+use Rattle.rollout_rules.specs.Agent.{is_at_most}
 use Rattle.rollout_rules.specs.declared.op.Entry.{Entry}
-use Rattle.rollout_laws.proofs.Pairs.{after-more, at_most-refl, at_most-trans}
+use Rattle.rollout_rules.proofs.Pairs.{at_most-trans}
 use Rattle.wan_edge.specs.Frames.{Command, CommandFrame, IsAnswer, IsCommand, command_bytes}
 use Rattle.wan_edge.specs.Ports.{MovesByRule}
-use Rattle.wan_edge.specs.Switches.{Holdings, after_command, after_commands, pair_asked}
+use Rattle.wan_edge.specs.Switches.{Holdings, pair_asked}
 use Rattle.port_session.specs.Offers.{frames_of}
 use Rattle.switch_ports.specs.Outboxes.{home_at, is_switch, own}
 use Rattle.switch_ports.specs.Views.{SessionTrace}
@@ -28,27 +27,18 @@ use Rattle.switch_laws.proofs.Fitting.{has_frame}
 use Rattle.switch_laws.proofs.Listed.{begun_stays}
 use Rattle.switch_laws.proofs.Offered.{all_framed, frames-framed, framed}
 use Rattle.switch_laws.proofs.Stands.{if_some}
+use Rattle.switch_laws.proofs.Again.{none_falls}
 use Rattle.controller_run.specs.Keeping.{IsBegun}
 use Rattle.controller_run.specs.PortRuns.{IsPortRun}
 use Rattle.completion_laws.specs.Untold.{IsFoundWith, IsLeftTo, IsNewTo, MayHold}
 use Rattle.completion_laws.proofs.Each.{each_stands}
-
--- no command takes anything back
-none-falls : (commands : List CommandFrame) (holdings : Holdings) (n : ℕ) → is_at_most (holdings n).held (after_commands holdings commands n).held ≡ true
-none-falls [] holdings n = at_most-refl (holdings n).held
-none-falls (c ∷ cs) holdings n =
-    let here : is_at_most (holdings n).held (after_command holdings c n).held ≡ true
-    = cond_both (n == c.1.item) (held_after (holdings n) (pair_asked c) c.1.content) (holdings n) (λ holding. is_at_most (holdings n).held holding.held ≡ true)
-    (λ _. after-more (holdings n) (pair_asked c) c.1.content)
-    (λ _. at_most-refl (holdings n).held) in
-    at_most-trans (holdings n).held (after_command holdings c n).held (after_commands holdings (c ∷ cs) n).held here (none-falls cs (after_command holdings c) n)
 
 -- what might come before may come still
 module _ (r : Rollout) (migration : ℕ) (found : History) (added : List Entry) (bytes : List ℕ) (before after : Holdings) (moves : MovesByRule bytes before after) where
   may-still : (c : CommandFrame) → MayCome r migration found before c → MayCome r migration (with_entries found added) after c
   may-still c (inl own) = inl (own.0, begun_stays r found added c.1 own.1)
   may-still c (inr (inl late)) =
-      let no_lower = subst (λ (holdings : Holdings). is_at_most (before c.1.item).held (holdings c.1.item).held ≡ true) (sym moves.moved) (none-falls moves.delivered before c.1.item) in
+      let no_lower = subst (λ (holdings : Holdings). is_at_most (before c.1.item).held (holdings c.1.item).held ≡ true) (sym moves.moved) (none_falls moves.delivered before c.1.item) in
       inr (inl (record { earlier = late.earlier; late = at_most-trans (pair_asked c) (before c.1.item).held (after c.1.item).held late.late no_lower }))
   may-still c (inr (inr none)) = inr (inr none)
 

@@ -7,7 +7,6 @@ use Rattle.std.specs.Prelude.{IsTrue, nat_eq}
 use Rattle.rollout_rules.specs.Legal.{is_finished}
 use Rattle.port_session.specs.Sessions.{SessionView}
 use Rattle.shared_book.specs.declared.note.Written.{Written}
-use Rattle.shared_book.specs.declared.call_reply.Halt.{Halt}
 use Rattle.shared_book.specs.declared.call_reply.Wake.{Wake}
 use Rattle.shared_book.specs.declared.call_reply.Wake.TheVariants as wake
 use Rattle.shared_book.specs.Histories.{Opening, history_of}
@@ -26,11 +25,9 @@ use Rattle.controller_run.specs.Together.{HasWorked}
 use Rattle.controller_run.proofs.Kept.{distinct_of}
 use Rattle.controller_run.proofs.Over.{talks_switches}
 use Rattle.controller_run.proofs.RunPorts.{of_one}
+use Rattle.controller_run.proofs.Quiet.{none_is_no_halt}
 use Rattle.completion_laws.specs.Finishing.{HasEnded, IsOfWorkers}
 use Rattle.completion_laws.proofs.Apart.{served-apart}
-
-none-some : (halt : Halt) → None ≡ Some halt → ⊥
-none-some halt e = cc e
 
 -- what has turned has turned, whatever comes later
 turned-on : (ws more : List Written) → HasTurned ws → HasTurned (ws ++ more)
@@ -51,7 +48,7 @@ module _ {P : Type 0} (tell : P → PortTrace) (o : Opening) (migration : ℕ) (
   -- no stop stands in what it has seen
   unhalted : IsHalted s.now.seen → ⊥
   unhalted halted =
-      none-some halted.0 (sym none ∙ ap first_stop shift.follows.is ∙ first_stop-stays s.now.seen shift.follows.past halted.0 halted.1)
+      none_is_no_halt halted.0 (sym none ∙ ap first_stop shift.follows.is ∙ first_stop-stays s.now.seen shift.follows.past halted.0 halted.1)
 
   promised : (end : Wake) → Returns tell o s.given.seat migration homes rounds s.given.before (Some end) s.now → Promises tell o s.given.seat migration homes rounds s.given.before end s.now
   promised end returns =

@@ -1,6 +1,6 @@
 -- Notes that end no operation of a worker's switches, and what they leave as it was.
-use Rattle.std.proofs.Common.{◌≡◌, ℕ, suc, ◌+◌, ◌<◌, ◌≤◌, ◌^◌, Bool, true, ◌&&◌, ◌==◌, nat_le, List, [], ◌∷◌, ◌++◌, slice_index_or, slice_get, get_or, Option, Some, None, inl, inr, refl, sym, ap, ◌∙◌, subst, arith, append_assoc, eqb-true, eq-eqb, lt-ltb, zero, if◌then◌else◌}
-use Rattle.std.proofs.lemmas.Bool.{and_from, false≢true, le-leb}
+use Rattle.std.proofs.Common.{◌≡◌, ℕ, ◌+◌, ◌<◌, ◌≤◌, ◌^◌, Bool, true, ◌&&◌, ◌==◌, nat_le, List, [], ◌∷◌, ◌++◌, slice_index_or, Option, Some, None, inl, inr, refl, sym, ap, ◌∙◌, subst, arith, append_assoc, eqb-true, eq-eqb, lt-ltb, if◌then◌else◌}
+use Rattle.std.proofs.lemmas.Bool.{and_from, le-leb}
 use Rattle.std.proofs.lemmas.List.Elements.{All-append, All-contains, All-cons, All-filter, All-map, All-nil, All-weaker, Contains-append_left, Contains-append_right, Contains-get_or, filter_passes}
 use Rattle.std.specs.List.{All, Contains, filter, list_any}
 use Rattle.rollout_rules.specs.Sums.{list_below}
@@ -23,7 +23,7 @@ use Rattle.turn_lock.specs.Histories.{Follows}
 use Rattle.wan_edge.specs.Frames.{Answer, Command}
 use Rattle.wan_edge.specs.Switches.{after_commands}
 use Rattle.rollout_book.specs.Aliens.{op_of, told_by}
-use Rattle.rollout_book.specs.Commands.{asked, command_of, is_among, is_asked}
+use Rattle.rollout_book.specs.Commands.{asked, command_of, is_asked}
 use Rattle.shared_book.specs.declared.note.What.{What}
 use Rattle.shared_book.specs.declared.note.Written.{Written}
 use Rattle.shared_book.specs.Histories.{Opening, history_of}
@@ -32,14 +32,16 @@ use Rattle.shared_book.specs.Replies.{batch_at}
 use Rattle.shared_book.specs.Calls.{seat_of}
 use Rattle.shared_book.specs.Homes.{homes_of}
 use Rattle.shared_book.proofs.HomeRows.{home-is}
-use Rattle.switch_ports.specs.Outboxes.{home_at, home_in}
+use Rattle.switch_ports.specs.Outboxes.{home_at}
 use Rattle.switch_ports.specs.Views.{SessionTrace}
 use Rattle.switch_laws.proofs.Begun.{settled_told}
 use Rattle.switch_laws.proofs.Fitting.{has_frame}
 use Rattle.switch_laws.proofs.Listed.{listed_are_begun}
 use Rattle.controller_run.proofs.Answered.{batch-covered, told-answer}
 use Rattle.controller_run.proofs.Behind.{begun-behind, settled-behind, some-done}
-use Rattle.controller_run.proofs.Elements.{any-found, any-has, below-has, filter-has, map-has, none-inside}
+use Rattle.controller_run.proofs.Elements.{any-has, below-has, filter-has, map-has, none-inside}
+use Rattle.controller_run.proofs.AtHome.{read-home}
+use Rattle.controller_run.proofs.Begun.{home-among}
 use Rattle.completion_laws.specs.Answering.{IsOnTheWay, IsUpToDate, answer_for}
 use Rattle.completion_laws.specs.Turns.{EndsNoneAt, OthersEndElsewhere}
 use Rattle.completion_laws.proofs.Between.{settled-same, unsettled-later, unsettled-less}
@@ -47,22 +49,11 @@ use Rattle.completion_laws.proofs.PortTurns.{IsFlying}
 use Rattle.completion_laws.proofs.RowTurns.{IsFor, IsThrough, own-has}
 
 -- ---- what is listed
-read-home : (homes : List (Option ℕ)) (n : ℕ) → home_in (slice_get homes n) ≡ get_or homes n None
-read-home [] n = refl
-read-home (home ∷ homes) zero = refl
-read-home (home ∷ homes) (suc n) = read-home homes n
 
 -- the home of an item that exists, by the list of homes
 pub home-here : (p : Problem) (homes : List (Option ℕ)) (n : ℕ) → homes ≡ homes_of p → n < item_count p → home_at homes n ≡ home_of p (item_at p n)
 home-here p homes n same low =
     read-home homes n ∙ home-is p homes n same ∙ ap (λ (b : Bool). if b then home_of p (item_at p n) else None) (lt-ltb n (item_count p) low)
-
--- a home among switches
-among-is : (switches : List ℕ) (home : Option ℕ) → is_among switches home ≡ true → (switch : ℕ) × (home ≡ Some switch) × Contains switches switch
-among-is switches None is = absurd (false≢true is)
-among-is switches (Some home) is =
-    let found = any-found (λ (w : ℕ). w == home) switches is in
-    (home, refl, subst (Contains switches) (eqb-true found.0 home found.2) found.1)
 
 -- a command is for an item that is at home at one of these switches
 abbrev pub IsAtHome : Rollout → List ℕ → Command → Type 0
@@ -95,7 +86,7 @@ module _ (r : Rollout) (migration : ℕ) (homes : List (Option ℕ)) (h : Histor
   pub listed-home : All (IsAtHome r switches) (asked r switches (in_flight r.problem h))
   listed-home =
       All-map (IsAtHome r switches) (command_of r) (filter (is_asked r.problem switches) (in_flight r.problem h))
-      (All-weaker (λ (op : Op). is_asked r.problem switches op ≡ true) (λ (op : Op). IsAtHome r switches (command_of r op)) (λ op is. among-is switches (home_of r.problem (item_at r.problem op.item)) is) (filter (is_asked r.problem switches) (in_flight r.problem h))
+      (All-weaker (λ (op : Op). is_asked r.problem switches op ≡ true) (λ (op : Op). IsAtHome r switches (command_of r op)) (λ op is. home-among switches (home_of r.problem (item_at r.problem op.item)) is) (filter (is_asked r.problem switches) (in_flight r.problem h))
       (filter_passes (is_asked r.problem switches) (in_flight r.problem h)))
 
 -- ---- notes that end nothing here

@@ -1,6 +1,6 @@
 -- A round at a prompt port that has answered all before: each of its own commands is answered by its own number.
-use Rattle.std.proofs.Common.{◌≡◌, ◌≢◌, ℕ, suc, ◌+◌, ◌*◌, ◌<◌, ◌≤◌, true, ◌==◌, List, [], ◌∷◌, ◌++◌, length, map, get_or, slice_index_or, Option, Some, IfSome, inl, inr, refl, sym, ap, ◌∙◌, subst, ⊎_elim, arith, append_assoc, append-nil, length-append}
-use Rattle.std.proofs.lemmas.Bool.{OnTrue_at, cases_Bool, cases_lt, false≢true}
+use Rattle.std.proofs.Common.{◌≡◌, ◌≢◌, ℕ, suc, ◌+◌, ◌*◌, ◌<◌, ◌≤◌, true, List, [], ◌∷◌, ◌++◌, length, map, get_or, slice_index_or, Option, Some, IfSome, inl, inr, refl, sym, ap, ◌∙◌, subst, ⊎_elim, arith, append_assoc, append-nil, length-append}
+use Rattle.std.proofs.lemmas.Bool.{OnTrue_at, cases_lt, false≢true}
 use Rattle.std.proofs.lemmas.List.Elements.{All-cons, All-filter, All-head, All-map, All-nil, All-tail, All-weaker, filter_passes}
 use Rattle.std.specs.List.{All, Contains, flat_map}
 use Rattle.rollout_rules.specs.Wan.{Rollout}
@@ -8,12 +8,16 @@ use Rattle.rollout_rules.specs.Items.{item_count}
 use Rattle.rollout_rules.specs.History.{History, begun, settled}
 use Rattle.rollout_rules.specs.Agent.{pair_of}
 use Rattle.rollout_rules.specs.declared.held.Held.{Held}
-use Rattle.wan_edge.specs.Frames.{Answer, AnswerFrame, Command, CommandFrame, IsAnswer, IsCommand, HasOtherKind, IsCutAnswer, answer_bytes, answer_kind, command_bytes, command_head}
-use Rattle.wan_edge.specs.Ports.{AllAnswered, BeginsNoCommand, NothingToCome}
+use Rattle.wan_edge.specs.Frames.{Answer, AnswerFrame, Command, IsAnswer, IsCommand, HasOtherKind, IsCutAnswer, answer_bytes, answer_kind, command_bytes}
+use Rattle.wan_edge.specs.Ports.{AllAnswered, NothingToCome}
 use Rattle.wan_edge.specs.Switches.{Holdings, after_commands, answers_to}
+use Rattle.wan_edge.proofs.Sizes.{answer-length}
+use Rattle.wan_edge.proofs.Commands.{nothing_begins_no_command}
 use Rattle.port_session.specs.Reading.{answers_of}
 use Rattle.port_session.specs.declared.fault.SessionFault.{SessionFault}
 use Rattle.port_session.proofs.Awaited.{awaited_none, awaited_some}
+use Rattle.port_session.proofs.Chaining.{answers_of-append}
+use Rattle.port_session.proofs.Hearing.{length-answers}
 use Rattle.switch_ports.specs.Hearing.{HearsOut, IsOwn, Listens, Reads}
 use Rattle.switch_ports.specs.Outboxes.{home_at, is_switch, own}
 use Rattle.switch_ports.specs.Offering.{OffersAll}
@@ -23,7 +27,7 @@ use Rattle.switch_laws.proofs.Offered.{framed}
 use Rattle.controller_run.proofs.Chains.{is-home}
 use Rattle.completion_laws.specs.Answering.{HasAnswered, IsOnTheWay, IsUpToDate, answer_for}
 use Rattle.completion_laws.proofs.Numbered.{IsNext, Takes, all-held, answers-fit, answers-told, on-all, own-answers, own_answer}
-use Rattle.completion_laws.proofs.Prompt.{after-append, all-came, all-fit, as-many, front-came, front-read, heard-all, long-answer, long-answers, now-heard, now-held, now-offered, now-prompt, now-start}
+use Rattle.completion_laws.proofs.Prompt.{after-append, all-came, all-fit, as-many, front-came, front-read, heard-all, now-heard, now-held, now-offered, now-prompt, now-start}
 
 long-framed : (migration : ℕ) (commands : List Command) → length (framed migration commands) ≡ length commands
 long-framed migration [] = refl
@@ -31,14 +35,7 @@ long-framed migration (c ∷ commands) = ap suc (long-framed migration commands)
 
 -- the front of an answer has fewer bytes than one
 few-kept : (bytes : List ℕ) → IsCutAnswer bytes → length bytes < 13
-few-kept bytes cut = omega (arith, cut.some, ap length cut.begins, length-append bytes cut.missing, long-answer cut.frame)
-
-some-bytes : (c : CommandFrame) → 0 < length (command_bytes c)
-unfolding command_bytes command_head
-some-bytes c = omega arith
-
-pub no-command : BeginsNoCommand []
-no-command c behind fits e = absurd (omega (arith, ap length e, length-append (command_bytes c) behind, some-bytes c))
+few-kept bytes cut = omega (arith, cut.some, ap length cut.begins, length-append bytes cut.missing, answer-length cut.frame)
 
 no-answers : (later : List AnswerFrame) → 13 * length later < 13 → later ≡ []
 no-answers [] few = refl
@@ -48,18 +45,8 @@ pub All-front : {X : Type 0} (P : X → Type 0) (xs ys : List X) → All P (xs +
 All-front P [] ys all = All-nil P
 All-front P (x ∷ xs) ys all = All-cons P x xs (All-head P x (xs ++ ys) all) (All-front P xs ys (All-tail P x (xs ++ ys) all))
 
-answers_of-append : (migration : ℕ) (xs ys : List AnswerFrame) → answers_of migration (xs ++ ys) ≡ answers_of migration xs ++ answers_of migration ys
-unfolding answers_of
-answers_of-append migration [] ys = refl
-answers_of-append migration (x ∷ xs) ys =
-    let rest = answers_of-append migration xs ys in
-    elim (cases_Bool (x.0 == migration)) as (λ _. answers_of migration (x ∷ xs ++ ys) ≡ answers_of migration (x ∷ xs) ++ answers_of migration ys) [
-      | inl same ↦ rw same (ap (λ (us : List Answer). x.1 ∷ us) rest)
-      | inr other ↦ rw other rest
-    ]
-
 -- a row of answers begins with no other byte
-other-first : (answers : List AnswerFrame) (byte : ℕ) (behind : List ℕ) → byte ≢ answer_kind → byte ∷ behind ≡ flat_map answer_bytes answers → ⊥
+pub other-first : (answers : List AnswerFrame) (byte : ℕ) (behind : List ℕ) → byte ≢ answer_kind → byte ∷ behind ≡ flat_map answer_bytes answers → ⊥
 unfolding answer_bytes
 other-first [] byte behind other e = absurd (omega (arith, ap length e))
 other-first (a ∷ answers) byte behind other e = other (ap (λ (bs : List ℕ). get_or bs 0 0) e)
@@ -149,8 +136,8 @@ module _ (r : Rollout) (migration : ℕ) (homes : List (Option ℕ)) (h : Histor
           let answered : AllAnswered mid.port.start (flat_map command_bytes all) (earlier ++ bytes)
           = some_at (λ b. AllAnswered mid.port.start (flat_map command_bytes all) b) now.port.heard (earlier ++ bytes) heard-now
           (some_at (λ o. IfSome now.port.heard (λ b. AllAnswered mid.port.start o b)) now.port.offered (flat_map command_bytes all) offered-now none) in
-          let is : earlier ++ bytes ≡ flat_map answer_bytes (answers_to mid.port.start all) = answered all [] (record { fit = fit-now; parts = sym (append-nil (flat_map command_bytes all)) }) no-command in
-          omega (arith, ap length is, length-append earlier bytes, long-answers (answers_to before.port.start up.commands), as-many before.port.start up.commands, long-answers (answers_to mid.port.start all), as-many mid.port.start all, length-append up.commands (framed migration mine))
+          let is : earlier ++ bytes ≡ flat_map answer_bytes (answers_to mid.port.start all) = answered all [] (record { fit = fit-now; parts = sym (append-nil (flat_map command_bytes all)) }) nothing_begins_no_command in
+          omega (arith, ap length is, length-append earlier bytes, length-answers (answers_to before.port.start up.commands), as-many before.port.start up.commands, length-answers (answers_to mid.port.start all), as-many mid.port.start all, length-append up.commands (framed migration mine))
 
       -- as many answers are awaited as commands went out
       awaits-all : mid.stream.awaited ≡ length mine
@@ -163,7 +150,7 @@ module _ (r : Rollout) (migration : ℕ) (homes : List (Option ℕ)) (h : Histor
       many =
           ⊎_elim
           (λ (enough : mid.stream.awaited ≤ length read).
-          omega (arith, enough, awaits-all, long-framed migration mine, ap length parts, length-append (flat_map answer_bytes read) hears.reads.reads.rest, long-answers read))
+          omega (arith, enough, awaits-all, long-framed migration mine, ap length parts, length-append (flat_map answer_bytes read) hears.reads.reads.rest, length-answers read))
           (λ given. all-given given) (OnTrue_at (out.some.goes_on.prompt ∙ up.answered.prompt) hears.all_given)
 
       -- none is awaited any more
@@ -181,7 +168,7 @@ module _ (r : Rollout) (migration : ℕ) (homes : List (Option ℕ)) (h : Histor
           let answers = answers_to holdings (framed migration mine) in
           let front = front-read read answers hears.reads.reads.rest hears.reads.reads.whole.fit own-fit (sym parts ∙ came) in
           let few : length hears.reads.reads.rest < 13 = subst (λ (bs : List ℕ). length bs < 13) (sym hears.reads.reads.ends) (few-kept now.stream.kept hears.cut) in
-          let none : front.0 ≡ [] = no-answers front.0 (omega (arith, few, ap length front.2, long-answers front.0)) in
+          let none : front.0 ≡ [] = no-answers front.0 (omega (arith, few, ap length front.2, length-answers front.0)) in
           (sym (front.1 ∙ ap (λ (us : List AnswerFrame). read ++ us) none ∙ append-nil read), front.2 ∙ ap (flat_map answer_bytes) none)
 
       switch-now : now.switch ≡ before.switch

@@ -1,16 +1,19 @@
 -- What a prompt port tells that has answered all before.
-use Rattle.std.proofs.Common.{◌≡◌, ◌⊎◌, ℕ, suc, ◌+◌, ◌*◌, ◌<◌, ◌≤◌, true, List, [], ◌∷◌, ◌++◌, length, take, drop, Option, Some, None, IfSome, is_some, option_map, inl, inr, refl, sym, ap, ap₂, ◌∙◌, subst, arith, append_assoc, append-nil, length-append, take-append-drop}
+use Rattle.std.proofs.Common.{◌≡◌, ◌⊎◌, ℕ, suc, ◌+◌, ◌*◌, ◌≤◌, true, List, [], ◌∷◌, ◌++◌, length, take, drop, Option, Some, None, IfSome, is_some, option_map, inl, inr, refl, sym, ap, ap₂, ◌∙◌, subst, arith, append_assoc, append-nil, length-append, take-append-drop}
 use Rattle.std.proofs.lemmas.Bool.{OnTrue_at, false≢true}
 use Rattle.std.proofs.lemmas.Grind.{flat_map-append}
 use Rattle.std.proofs.lemmas.List.Elements.{All-append, All-head, All-tail}
 use Rattle.std.proofs.lemmas.Option.{same_Some}
 use Rattle.std.specs.List.{All, flat_map}
-use Rattle.wan_edge.specs.Frames.{AnswerFrame, Command, CommandFrame, IsAnswer, IsCommand, answer_bytes, command_bytes, command_head}
+use Rattle.lists.proofs.Rows.{none_of_length_0}
+use Rattle.wan_edge.specs.Frames.{AnswerFrame, Command, CommandFrame, IsAnswer, IsCommand, answer_bytes, command_bytes}
 use Rattle.wan_edge.specs.Ports.{AnswersInOrder, BeginsNoCommand, GoesOn, IsPromptState, PortTrace}
 use Rattle.wan_edge.specs.Streams.{Appends}
 use Rattle.wan_edge.specs.Switches.{Holdings, after_command, after_commands, answer_to, answers_to}
+use Rattle.wan_edge.proofs.Sizes.{answer-length, command-some}
 use Rattle.wire_frames.proofs.OneSpelling.{one_answer, one_command, same_parts}
 use Rattle.port_session.specs.Offers.{frames_of}
+use Rattle.port_session.proofs.Hearing.{length-answers}
 use Rattle.switch_ports.specs.Offering.{OffersAll}
 use Rattle.switch_ports.specs.Views.{SessionTrace}
 use Rattle.switch_laws.proofs.Offered.{all_framed, frames-framed, framed}
@@ -18,29 +21,16 @@ use Rattle.switch_laws.proofs.Answered.{some_at}
 use Rattle.completion_laws.specs.Answering.{HasAnswered}
 
 -- ---- rows of frames
-some_bytes : (c : CommandFrame) → 0 < length (command_bytes c)
-unfolding command_bytes command_head
-some_bytes c = omega arith
 
 -- whole commands with no whole command after them are one row
 one_row : (xs cs : List CommandFrame) (rest : List ℕ) → All IsCommand xs → All IsCommand cs → BeginsNoCommand rest → flat_map command_bytes cs ≡ flat_map command_bytes xs ++ rest → xs ≡ cs
 one_row [] [] rest xs_fit cs_fit none e = refl
 one_row [] (c ∷ cs) rest xs_fit cs_fit none e = absurd (none c (flat_map command_bytes cs) (All-head IsCommand c cs cs_fit) (sym e))
 one_row (x ∷ xs) [] rest xs_fit cs_fit none e =
-    absurd (omega (arith, ap length e, length-append (command_bytes x ++ flat_map command_bytes xs) rest, length-append (command_bytes x) (flat_map command_bytes xs), some_bytes x))
+    absurd (omega (arith, ap length e, length-append (command_bytes x ++ flat_map command_bytes xs) rest, length-append (command_bytes x) (flat_map command_bytes xs), command-some x))
 one_row (x ∷ xs) (c ∷ cs) rest xs_fit cs_fit none e =
     let parts = one_command c x (flat_map command_bytes cs) (flat_map command_bytes xs ++ rest) (All-head IsCommand c cs cs_fit) (All-head IsCommand x xs xs_fit) (e ∙ append_assoc (command_bytes x) (flat_map command_bytes xs) rest) in
     ap₂ (λ (d : CommandFrame) (ds : List CommandFrame). d ∷ ds) (sym parts.0) (one_row xs cs rest (All-tail IsCommand x xs xs_fit) (All-tail IsCommand c cs cs_fit) none parts.1)
-
--- each answer has 13 bytes
-pub long-answer : (a : AnswerFrame) → length (answer_bytes a) ≡ 13
-unfolding answer_bytes
-long-answer a = refl
-
-pub long-answers : (answers : List AnswerFrame) → length (flat_map answer_bytes answers) ≡ 13 * length answers
-unfolding answer_bytes
-long-answers [] = omega arith
-long-answers (a ∷ answers) = omega (arith, length-append (answer_bytes a) (flat_map answer_bytes answers), long-answers answers)
 
 pub as-many : (start : Holdings) (cs : List CommandFrame) → length (answers_to start cs) ≡ length cs
 as-many start [] = refl
@@ -61,10 +51,6 @@ take-whole k xs long = empty-behind (take k xs) (drop k xs) xs (take-append-drop
     empty-behind : {X : Type 0} (front back xs : List X) → front ++ back ≡ xs → length xs ≤ length front → front ≡ xs
     empty-behind front [] xs is long = sym (append-nil front) ∙ is
     empty-behind front (b ∷ back) xs is long = absurd (omega (arith, length-append front (b ∷ back), ap length is, long))
-
-no-bytes : (xs : List ℕ) → length xs ≡ 0 → xs ≡ []
-no-bytes [] none = refl
-no-bytes (x ∷ xs) none = absurd (omega (arith, none))
 
 -- ---- a state that keeps to the order, where the commands offered are known
 module _ (start now : Holdings) (cs : List CommandFrame) (heard : List ℕ) (fit : All IsCommand cs) (state : AnswersInOrder start (flat_map command_bytes cs) heard now) where
@@ -96,7 +82,7 @@ module _ (start now : Holdings) (cs : List CommandFrame) (heard : List ℕ) (fit
   pub all-carried : 13 * length cs ≤ length heard → now ≡ after_commands start cs
   all-carried long =
       let front : length (flat_map answer_bytes (answers_to start carried)) ≡ length heard + length state.to_come = ap length heard-front ∙ length-append heard state.to_come in
-      let many : length cs ≤ length carried = omega (arith, long, front, long-answers (answers_to start carried), as-many start carried) in
+      let many : length cs ≤ length carried = omega (arith, long, front, length-answers (answers_to start carried), as-many start carried) in
       holds ∙ ap (after_commands start) (take-whole state.carried_out cs many)
 
 -- ---- a round at a port
@@ -175,7 +161,7 @@ module _ (migration : ℕ) (mine : List Command) (cs : List CommandFrame) (befor
     none-came same =
         let alike : flat_map answer_bytes (answers_to before.port.start cs) ++ bytes ≡ flat_map answer_bytes (answers_to before.port.start cs)
         = same_Some (flat_map answer_bytes (answers_to before.port.start cs) ++ bytes) (flat_map answer_bytes (answers_to before.port.start cs)) (sym now-heard ∙ ap (λ (t : PortTrace). t.heard) same ∙ mid-heard) in
-        no-bytes bytes (omega (arith, ap length alike, length-append (flat_map answer_bytes (answers_to before.port.start cs)) bytes))
+        none_of_length_0 bytes (omega (arith, ap length alike, length-append (flat_map answer_bytes (answers_to before.port.start cs)) bytes))
 
     front-by : (now.port ≡ mid.port) ⊎ IsPromptState mid.port.start now.port.offered now.port.heard now.port.held → (behind : List ℕ) × (bytes ++ behind ≡ flat_map answer_bytes answers)
     front-by (inl same) = (flat_map answer_bytes answers, ap (λ (xs : List ℕ). xs ++ flat_map answer_bytes answers) (none-came same))
@@ -193,12 +179,12 @@ module _ (migration : ℕ) (mine : List Command) (cs : List CommandFrame) (befor
     module _ (many : 13 * length fs ≤ length bytes) where
       pub all-came : bytes ≡ flat_map answer_bytes answers
       all-came =
-          let none : length front-came.0 ≡ 0 = omega (arith, many, ap length front-came.1, length-append bytes front-came.0, long-answers answers, as-many held fs) in
-          sym (append-nil bytes) ∙ ap (λ (xs : List ℕ). bytes ++ xs) (sym (no-bytes front-came.0 none)) ∙ front-came.1
+          let none : length front-came.0 ≡ 0 = omega (arith, many, ap length front-came.1, length-append bytes front-came.0, length-answers answers, as-many held fs) in
+          sym (append-nil bytes) ∙ ap (λ (xs : List ℕ). bytes ++ xs) (sym (none_of_length_0 front-came.0 none)) ∙ front-came.1
 
       long : 13 * length (cs ++ fs) ≤ length (flat_map answer_bytes (answers_to before.port.start cs) ++ bytes)
       long =
-          omega (arith, many, length-append cs fs, length-append (flat_map answer_bytes (answers_to before.port.start cs)) bytes, long-answers (answers_to before.port.start cs), as-many before.port.start cs)
+          omega (arith, many, length-append cs fs, length-append (flat_map answer_bytes (answers_to before.port.start cs)) bytes, length-answers (answers_to before.port.start cs), as-many before.port.start cs)
 
       no-commands : bytes ≡ [] → fs ≡ []
       no-commands none = empty fs (omega (arith, many, ap length none))
@@ -237,7 +223,7 @@ module _ (migration : ℕ) (mine : List Command) (cs : List CommandFrame) (befor
 pub front-read : (us xs : List AnswerFrame) (behind : List ℕ) → All IsAnswer us → All IsAnswer xs → flat_map answer_bytes us ++ behind ≡ flat_map answer_bytes xs → (later : List AnswerFrame) × (xs ≡ us ++ later) × (behind ≡ flat_map answer_bytes later)
 front-read [] xs behind as_fit xs_fit e = (xs, refl, e)
 front-read (a ∷ us) [] behind as_fit xs_fit e =
-    absurd (omega (arith, ap length e, length-append (answer_bytes a ++ flat_map answer_bytes us) behind, length-append (answer_bytes a) (flat_map answer_bytes us), long-answer a))
+    absurd (omega (arith, ap length e, length-append (answer_bytes a ++ flat_map answer_bytes us) behind, length-append (answer_bytes a) (flat_map answer_bytes us), answer-length a))
 front-read (a ∷ us) (x ∷ xs) behind as_fit xs_fit e =
     let parts = one_answer a x (flat_map answer_bytes us ++ behind) (flat_map answer_bytes xs) (All-head IsAnswer a us as_fit) (All-head IsAnswer x xs xs_fit) (sym (append_assoc (answer_bytes a) (flat_map answer_bytes us) behind) ∙ e) in
     let rest = front-read us xs behind (All-tail IsAnswer a us as_fit) (All-tail IsAnswer x xs xs_fit) parts.1 in

@@ -8,13 +8,14 @@ use Rattle.rollout_rules.specs.Agent.{Holding}
 use Rattle.wan_edge.specs.Frames.{CommandFrame, answer_bytes, command_bytes}
 use Rattle.wan_edge.specs.Ports.{AllAnswered, AnswersInOrder}
 use Rattle.wan_edge.specs.Switches.{Holdings, after_commands, answers_to}
+use Rattle.wan_edge.proofs.Commands.{nothing_begins_no_command}
+use Rattle.port_session.proofs.Hearing.{length-answers}
 use Rattle.switch_ports.specs.Views.{SessionTrace}
 use Rattle.switch_laws.specs.Holdings.{AreHeldAt, IsHeldAt}
 use Rattle.switch_laws.specs.Runs.{AreCommands}
 use Rattle.switch_laws.proofs.Answered.{some_at}
 use Rattle.completion_laws.specs.Answering.{IsOnTheWay, IsReady, IsUpToDate}
-use Rattle.completion_laws.proofs.PortTurns.{no-command}
-use Rattle.completion_laws.proofs.Prompt.{all-carried, as-many, long-answers}
+use Rattle.completion_laws.proofs.Prompt.{all-carried, as-many}
 
 told : {A : Type 0} (x : Option A) → is_some x ≡ true → (a : A) × (x ≡ Some a)
 told None some = absurd (false≢true some)
@@ -55,7 +56,7 @@ module _ (r : Rollout) (migration : ℕ) (homes : List (Option ℕ)) (found : Hi
       let all : AllAnswered first.port.start offered heard
       = some_at (AllAnswered first.port.start offered) first.port.heard heard heard-is
       (some_at (λ o. IfSome first.port.heard (AllAnswered first.port.start o)) first.port.offered offered offered-is ready.no_more) in
-      all commands [] came.whole no-command
+      all commands [] came.whole nothing_begins_no_command
 
   state : AnswersInOrder first.port.start (flat_map command_bytes commands) heard held
   state =
@@ -67,7 +68,7 @@ module _ (r : Rollout) (migration : ℕ) (homes : List (Option ℕ)) (found : Hi
   carried : held ≡ after_commands first.port.start commands
   carried =
       all-carried first.port.start held commands heard came.whole.fit state
-      (omega (arith, ap length answered, long-answers (answers_to first.port.start commands), as-many first.port.start commands))
+      (omega (arith, ap length answered, length-answers (answers_to first.port.start commands), as-many first.port.start commands))
 
   on-the-way : (n : ℕ) (holding : Holding) → IsHeldAt r migration found n holding → IsOnTheWay migration found n holding.held
   on-the-way n holding (inl moved) = inl (moved.pair, moved.least, moved.most)

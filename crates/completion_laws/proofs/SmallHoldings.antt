@@ -7,12 +7,14 @@ use Rattle.rollout_rules.specs.Worked.{begin_of, fresh, op_of}
 use Rattle.wan_edge.specs.Frames.{CommandFrame, IsAnswer, IsCommand, answer_bytes, command_bytes, command_head}
 use Rattle.wan_edge.specs.Ports.{AnswersHeld, IsOffered, MovesByRule}
 use Rattle.wan_edge.specs.Switches.{Holdings, after_command, after_commands, holding_nothing}
+use Rattle.wan_edge.proofs.Commands.{nothing_is_offered}
 use Rattle.wire_frames.proofs.OneSpelling.{one_answer}
 use Rattle.port_session.specs.Offers.{frames_of}
 use Rattle.switch_laws.specs.Runs.{AreCommands, MayCome}
 use Rattle.switch_laws.specs.Worked.{both_at_first, first_answer, first_command, two_flows, unused}
 use Rattle.switch_laws.proofs.Answered.{IsHeld, none_in_nothing}
 use Rattle.switch_laws.proofs.Offered.{one_offered}
+use Rattle.switch_laws.proofs.SmallRuns.{answer_fits, command_fits, one_answered}
 use Rattle.completion_laws.specs.Untold.{IsFoundWith, MayHold}
 use Rattle.completion_laws.specs.WorkedHoldings.{at_start, second_ahead, second_command}
 
@@ -21,20 +23,6 @@ sent = frames_of 4 (first_command ∷ [])
 
 abbrev pub moved : Holdings
 moved = after_command holding_nothing (4, first_command)
-
-command_fits : IsCommand (4, first_command)
-command_fits = record {
-  migration = omega arith;
-  item = omega arith;
-  number = omega arith;
-  scale = omega arith;
-  some = omega arith;
-  few = omega arith;
-  rates = All-cons (λ rate. rate < 2 ^ 64) 0 (0 ∷ 2 ∷ []) (omega arith) (All-cons (λ rate. rate < 2 ^ 64) 0 (2 ∷ []) (omega arith) (All-cons (λ rate. rate < 2 ^ 64) 2 [] (omega arith) (All-nil (λ rate. rate < 2 ^ 64))));
-}
-
-answer_fits : IsAnswer (4, first_answer)
-answer_fits = record { migration = omega arith; item = omega arith; held = omega arith }
 
 came-once : MovesByRule sent holding_nothing moved
 came-once = record {
@@ -92,9 +80,6 @@ one-heard (a ∷ later) rest split =
 pub has-come : MayHold sent (answer_bytes (4, first_answer)) holding_nothing moved
 has-come = record { moves = came-once; answers = one-heard }
 
-one_answered : All IsAnswer ((4, first_answer) ∷ [])
-one_answered = All-cons IsAnswer (4, first_answer) [] answer_fits (All-nil IsAnswer)
-
 -- the pair that was answered isn't held
 pub not-lost : MayHold sent (answer_bytes (4, first_answer)) holding_nothing holding_nothing → ⊥
 not-lost may =
@@ -102,20 +87,12 @@ not-lost may =
     let held = All-head (IsHeld holding_nothing) (4, first_answer) [] each in
     cc held
 
-some_bytes : (c : CommandFrame) → 0 < length (command_bytes c)
-unfolding command_bytes command_head
-some_bytes c = omega arith
-
--- no command stands among no bytes
-not-offered : (c : CommandFrame) → IsOffered [] c → ⊥
-not-offered c is = omega (arith, ap length is.parts, length-append (flat_map command_bytes is.earlier) (command_bytes c ++ is.behind), length-append (command_bytes c) is.behind, some_bytes c)
-
 pub not-moved : MayHold [] [] holding_nothing moved → ⊥
 not-moved may = none may.moves.delivered may.moves.each_offered may.moves.moved
   where
     none : (delivered : List CommandFrame) → All (IsOffered []) delivered → moved ≡ after_commands holding_nothing delivered → ⊥
     none [] each is = omega (arith, ap (λ (holdings : Holdings). (holdings 0).held.number) is)
-    none (c ∷ cs) each is = not-offered c (All-head (IsOffered []) c cs each)
+    none (c ∷ cs) each is = nothing_is_offered c (All-head (IsOffered []) c cs each)
 
 abbrev pub begun_one : History
 begun_one = fresh (begin_of 0 1 ∷ [])

@@ -11,6 +11,7 @@ use Rattle.shared_book.specs.Notes.{calls_by, cause_of, first_stop, halt_by}
 use Rattle.shared_book.specs.Replies.{halt_or}
 use Rattle.shared_book.specs.Calls.{IsStopCall, seat_of}
 use Rattle.controller_run.specs.Promises.{StopsNothing}
+use Rattle.controller_run.proofs.Quiet.{none_is_no_halt}
 use Rattle.completion_laws.specs.Faults.{IsExcused}
 
 -- a note that stops all is excused by its cause
@@ -23,9 +24,6 @@ AreExcused seat ws = All (λ w. w.note.seat ≡ seat → Excused w) ws
 
 none-some : (why : Cause) → None ≡ Some why → ⊥
 none-some why e = cc e
-
-none-halt : (halt : Halt) → None ≡ Some halt → ⊥
-none-halt halt e = cc e
 
 -- a note that stops nothing
 pub plain : (w : Written) → cause_of w.note.what ≡ None → Excused w
@@ -56,7 +54,7 @@ module _ (seat : ℕ) where
 
   -- the first stop, where it is the seat's
   pub first-excused : (ws : List Written) (halt : Halt) → AreExcused seat ws → first_stop ws ≡ Some halt → halt.seat ≡ seat → IsExcused halt.cause
-  first-excused [] halt excused first mine = absurd (none-halt halt first)
+  first-excused [] halt excused first mine = absurd (none_is_no_halt halt first)
   first-excused (w ∷ ws) halt excused first mine =
       by-note w (cause_of w.note.what) (first_stop ws) halt refl first
       (λ later. first-excused ws halt (All-tail (λ v. v.note.seat ≡ seat → Excused v) w ws excused) later mine) (All-head (λ v. v.note.seat ≡ seat → Excused v) w ws excused) mine

@@ -7,6 +7,7 @@ use Rattle.std.proofs.lemmas.Option.{same_Some}
 use Rattle.std.specs.List.{All, Contains}
 use Rattle.std.specs.Option.{option_or}
 use Rattle.std.specs.Prelude.{IsTrue}
+use Rattle.lists.proofs.Conditions.{some_same_is}
 use Rattle.rollout_rules.specs.History.{History}
 use Rattle.rollout_rules.specs.Legal.{unsettled}
 use Rattle.rollout_laws.proofs.Histories.{with_none}
@@ -33,7 +34,7 @@ use Rattle.controller_run.specs.Promises.{AreAnswered, IsEndAt, Promises, StopsN
 use Rattle.controller_run.specs.Serving.{Served}
 use Rattle.controller_run.proofs.Keeps.{serves-keeps}
 use Rattle.controller_run.proofs.Elements.{inside-later, map-has}
-use Rattle.controller_run.proofs.Quiet.{quiet-first}
+use Rattle.controller_run.proofs.Quiet.{none_is_no_halt, quiet-first}
 use Rattle.controller_run.specs.Shifts.{IsEarlyCause, IsShift, Returns, Shift}
 use Rattle.controller_run.specs.Together.{given_ports}
 use Rattle.controller_run.proofs.Keeping.{keeps}
@@ -46,12 +47,6 @@ use Rattle.completion_laws.proofs.Passing.{Passes, passes-unsettled, passes-up}
 use Rattle.completion_laws.proofs.WholeRounds.{worker-excused}
 use Rattle.completion_laws.proofs.Stopping.{excused-quiet}
 
-same-halt : (a b : Halt) → Some a ≡ Some b → a ≡ b
-same-halt a b e = cc e
-
-none-some : (halt : Halt) → None ≡ Some halt → ⊥
-none-some halt e = cc e
-
 -- ---- the note that a first stop is of
 record IsNoted (log : List Written) (halt : Halt) : Type 0 where
   note : Written
@@ -60,10 +55,10 @@ record IsNoted (log : List Written) (halt : Halt) : Type 0 where
 
 noted-by : (w : Written) (log : List Written) (halt : Halt) (why : Option Cause) → option_or (option_map (λ (c : Cause). record { seat = w.note.seat; call = w.note.call; cause = c }) why) (first_stop log) ≡ Some halt → (first_stop log ≡ Some halt → IsNoted log halt) → IsNoted (w ∷ log) halt
 noted-by w log halt None is later = let found = later is in record { note = found.note; among = inside-later w found.note log found.among; seat = found.seat }
-noted-by w log halt (Some why) is later = record { note = w; among = (0, omega arith, refl); seat = ap (λ (h : Halt). h.seat) (same-halt (record { seat = w.note.seat; call = w.note.call; cause = why }) halt is) }
+noted-by w log halt (Some why) is later = record { note = w; among = (0, omega arith, refl); seat = ap (λ (h : Halt). h.seat) (some_same_is (record { seat = w.note.seat; call = w.note.call; cause = why }) halt is) }
 
 noted : (log : List Written) (halt : Halt) → first_stop log ≡ Some halt → IsNoted log halt
-noted [] halt first = absurd (none-some halt first)
+noted [] halt first = absurd (none_is_no_halt halt first)
 noted (w ∷ log) halt first = noted-by w log halt (cause_of w.note.what) first (λ later. noted log halt later)
 
 -- a stop of a seat stands where the seat's notes do
@@ -138,10 +133,10 @@ module _ {P : Type 0} (tell : P → PortTrace) (o : Opening) (migration : ℕ) (
 
   by-wake : (end : Wake) → IsEndAt o s.now.seen end → Promises tell o seat migration homes rounds s.given.before end s.now → StopsNothing seat before → Served tell o (seat ∷ []) seat migration homes rounds s.given.before end s.now → (halt : Halt) → first_stop s.now.seen ≡ Some halt → halt.seat ≡ seat → IsExcused halt.cause
   by-wake (wake.Work op) ends promises quiet served halt first mine = absurd ends
-  by-wake wake.Finished ends promises quiet served halt first mine = absurd (none-some halt (sym ends.0 ∙ first))
-  by-wake wake.Held ends promises quiet served halt first mine = absurd (none-some halt (sym ends.0 ∙ first))
+  by-wake wake.Finished ends promises quiet served halt first mine = absurd (none_is_no_halt halt (sym ends.0 ∙ first))
+  by-wake wake.Held ends promises quiet served halt first mine = absurd (none_is_no_halt halt (sym ends.0 ∙ first))
   by-wake (wake.Stopped told) ends promises quiet served halt first mine =
-      let same = same-halt told halt (sym ends ∙ first) in
+      let same = some_same_is told halt (sym ends ∙ first) in
       subst (λ (h : Halt). IsExcused h.cause) same (served-excused promises.more promises.goes_on quiet told served (ap (λ (h : Halt). h.seat) same ∙ mine))
   by-wake wake.Memory ends promises quiet served halt first mine = absurd ends
 

@@ -39,7 +39,8 @@ pub fn a_run_over_ready_ports_ends_for_an_excuse<D: Disk, T: Port>()
     ensures { (o : Opening) (from count migration rounds : ℕ) (homes : List ℕ)
         (before : FleetPorts T) (end : RunEnd) (book : Journaled D) (now : FleetPorts T)
         (ran : Ran D.told T.told o from count migration rounds homes before end book now)
-        → IsProvided T.told o migration (homes_of o.rollout.problem) rounds (first_sessions ran.berths)
+        → IsProvided T.told o migration (homes_of o.rollout.problem) rounds
+        (first_sessions ran.berths)
         → EndsOrIsExcused end }
 {}
 
@@ -49,7 +50,8 @@ pub fn a_run_over_ports_that_have_answered_ends_for_an_excuse<D: Disk, T: Port>(
     ensures { (o : Opening) (from count migration rounds : ℕ) (homes : List ℕ)
         (before : FleetPorts T) (end : RunEnd) (book : Journaled D) (now : FleetPorts T)
         (ran : Ran D.told T.told o from count migration rounds homes before end book now)
-        → IsServed T.told o migration (homes_of o.rollout.problem) rounds (first_sessions ran.berths)
+        → IsServed T.told o migration (homes_of o.rollout.problem) rounds
+        (first_sessions ran.berths)
         → EndsOrIsExcused end }
 {}
 

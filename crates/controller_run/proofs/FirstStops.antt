@@ -1,15 +1,17 @@
 -- Whose the first stop is that ends a worker, and why.
-use Rattle.std.proofs.Common.{◌≡◌, ◌≢◌, ◌⊎◌, ℕ, ◌+◌, ◌<◌, ◌≤◌, Bool, false, List, [], ◌∷◌, ◌++◌, map, All, Option, Some, None, refl, sym, ap, ◌∙◌, ⊎_elim, inl, inr, subst, arith, append_assoc, slice_index_or, if◌then◌else◌}
+use Rattle.std.proofs.Common.{◌≡◌, ◌≢◌, ◌⊎◌, ℕ, ◌≤◌, false, List, [], ◌∷◌, ◌++◌, All, Option, Some, None, refl, sym, ap, ◌∙◌, ⊎_elim, inl, inr, subst, arith, append_assoc, slice_index_or}
 use Rattle.std.proofs.lemmas.List.Elements.{Contains-get_or}
 use Rattle.std.specs.List.{AllZip, Contains}
 use Rattle.std.specs.Prelude.{IsTrue}
+use Rattle.lists.proofs.Conditions.{some_same_is}
 use Rattle.rollout_rules.specs.History.{settled}
 use Rattle.rollout_rules.specs.declared.op.Op.{Op}
 use Rattle.rollout_rules.specs.declared.op.Entry.{Entry}
 use Rattle.wan_edge.specs.Frames.{Answer, Command}
 use Rattle.wan_edge.specs.Ports.{PortTrace}
 use Rattle.wan_edge.specs.Streams.{Rose}
-use Rattle.rollout_book.specs.Aliens.{op_of, told_by}
+use Rattle.wan_edge.proofs.Faults.{rose_since}
+use Rattle.rollout_book.specs.Aliens.{told_by}
 use Rattle.rollout_book.specs.declared.fault.BookFault.TheVariants as fault
 use Rattle.port_session.specs.Sessions.{SessionView}
 use Rattle.shared_book.specs.declared.note.Cause.{Cause}
@@ -29,10 +31,9 @@ use Rattle.shared_book.proofs.Stops.{first_stop-stays}
 use Rattle.shared_book.specs.Calls.{IsRoundCall, IsStopCall}
 use Rattle.shared_book.specs.declared.reply.RoundReply.TheVariants as round
 use Rattle.switch_ports.specs.Due.{any_late, due_of}
-use Rattle.switch_ports.specs.Hearing.{IsHearCause}
 use Rattle.switch_ports.specs.Outboxes.{own}
 use Rattle.switch_ports.specs.Offering.{IsOfferCause, OffersAll}
-use Rattle.switch_ports.specs.Rows.{AtOne, IsCauseOfHear, IsCauseOfOffer, OffersAllEach}
+use Rattle.switch_ports.specs.Rows.{AtOne, OffersAllEach}
 use Rattle.switch_ports.specs.Stories.{Story, StoryEach}
 use Rattle.switch_ports.specs.Views.{view}
 use Rattle.controller_run.specs.Exchanging.{StopsInHear, StopsInOffer}
@@ -41,7 +42,7 @@ use Rattle.controller_run.specs.Promises.{AreListed, IsToldAtHome, StopsNothing,
 use Rattle.controller_run.specs.Reasons.{AreHeardOut, FailedAt, HasCome, HasFailed, IsReason}
 use Rattle.controller_run.specs.Serving.{HasStopped, IsLast, Moment, Served, caller_of}
 use Rattle.controller_run.specs.Settling.{StopsRound}
-use Rattle.controller_run.specs.Working.{RestsFor, Settles, Standing, Works, is_some_command}
+use Rattle.controller_run.specs.Working.{RestsFor, Settles, Standing}
 use Rattle.controller_run.specs.declared.round_end.RoundEnd.{RoundEnd}
 use Rattle.controller_run.specs.declared.round_end.RoundEnd.TheVariants as outcome
 use Rattle.switch_ports.proofs.Lateness.{all_due}
@@ -50,16 +51,13 @@ use Rattle.controller_run.proofs.HeardOut.{IsRow, row-of}
 use Rattle.controller_run.proofs.Passed.{asked-next, passed-behind}
 use Rattle.controller_run.proofs.Answered.{told-answer}
 use Rattle.controller_run.proofs.Endings.{first-stops, list-stopped, look-stopped, look-works}
-use Rattle.controller_run.proofs.Keeps.{Adds, IsWork, hear-breaks, no-one, quiet-here, rests-add, rests-quiet, round-adds, seats, stop-adds, stop-ends, ws}
+use Rattle.controller_run.proofs.Keeps.{IsWork, hear-breaks, no-one, quiet-here, rests-quiet, stop-adds, stop-ends, ws}
 use Rattle.controller_run.proofs.Noted.{looked, then-none}
 use Rattle.controller_run.proofs.Ports.{GoOn, home-now, hear-goes, offer-goes, one-behind, same-switches, zip-chain, zip-weaker}
 use Rattle.controller_run.proofs.Quiet.{quiet-first, quiet-past}
 use Rattle.controller_run.proofs.Reaches.{Answers, Good, Reaches, exchanged, plain-answers, plain-good, reaches-all, reaches-first, so-far}
-use Rattle.controller_run.proofs.Reasoned.{IsAlienAt, round-alien}
+use Rattle.controller_run.proofs.Reasoned.{round-alien}
 use Rattle.controller_run.proofs.Tallies.{Tally, tally-weaker}
-
-halt-same : (a b : Halt) → Some a ≡ Some b → a ≡ b
-halt-same a b e = cc e
 
 -- ---- the stop of a seat that had stopped nothing
 own-why : (s : Option Halt) (own halt : Halt) (seat : ℕ) → halt ≡ halt_or s own → ((first : Halt) → s ≡ Some first → first.seat ≢ seat) → halt.seat ≡ seat → halt.cause ≡ own.cause
@@ -72,9 +70,6 @@ stop-own o seat joined seen after why halt quiet call mine =
     own-why (first_stop call.log) (record { seat = seat; call = calls_by seat call.log; cause = why }) halt seat call.told (λ first is. quiet-first seat call.log first still is) mine
 
 -- ---- ports that failed
-rose-on : (a b c : ℕ) → a ≤ b → Rose b c → Rose a c
-rose-on a b c le (inl rose) = inl (omega (arith, le, rose))
-rose-on a b c le (inr top) = inr top
 
 module _ {P : Type 0} (tell : P → PortTrace) where
   -- the same port, whose count hasn't fallen
@@ -84,7 +79,7 @@ module _ {P : Type 0} (tell : P → PortTrace) where
   failed-behind : (switch : ℕ) (ps bs ns : List (SessionView P)) → AllZip Later ps bs → AtOne (λ b n. (switch ≡ b.switch) × Rose (tell b.port).faults (tell n.port).faults) bs ns → HasFailed tell switch ps ns
   unfolding Later
   failed-behind switch = one-behind Later (λ b n. (switch ≡ b.switch) × Rose (tell b.port).faults (tell n.port).faults) (λ a c. FailedAt switch (view tell a) (view tell c))
-      (λ a b c later failed. (sym (failed.0 ∙ later.0), rose-on (tell a.port).faults (tell b.port).faults (tell c.port).faults later.1 failed.1))
+      (λ a b c later failed. (sym (failed.0 ∙ later.0), rose_since (tell a.port).faults (tell b.port).faults (tell c.port).faults later.1 failed.1))
 
   module _ (migration : ℕ) (homes : List (Option ℕ)) where
     story-later : (commands : List Command) (ps bs : List (SessionView P)) → StoryEach tell migration homes commands ps bs → AllZip Later ps bs
@@ -220,7 +215,7 @@ module _ {P : Type 0} (tell : P → PortTrace) (o : Opening) (seat : ℕ) (joine
       round-stops said es why call_log log seen halt none stops noted adds first =
           let mine = first-stops o seat call_log said es why log none stops noted in
           let ever : first_stop seen ≡ Some mine.0 = ap first_stop adds.is ∙ first_stop-stays log adds.more mine.0 mine.1 in
-          ap (λ (h : Halt). h.cause) (halt-same halt mine.0 (sym first ∙ ever)) ∙ mine.3
+          ap (λ (h : Halt). h.cause) (some_same_is halt mine.0 (sym first ∙ ever)) ∙ mine.3
 
       round-why : (why : Cause) (log seen : List Written) (halt : Halt) → StopsRound o (seat ∷ joined) seat works.log (told_by settles.told) why log → IsStopCall o (seat ∷ joined) seat log why halt seen → Adding last.ports log seen → first_stop seen ≡ Some halt → halt.seat ≡ seat → halt.cause ≡ why
       round-why (cause.Spent rounds item number) log seen halt stops asked adds first mine = absurd stops

@@ -1,10 +1,11 @@
 -- A worker's rounds keep what its clause promises.
-use Rattle.std.proofs.Common.{◌≡◌, ◌≢◌, ◌⊎◌, ℕ, ◌+◌, ◌<◌, ◌≤◌, Bool, true, false, List, [], ◌∷◌, ◌++◌, map, All, Option, Some, None, refl, sym, ap, ◌∙◌, ⊎_elim, inl, inr, subst, arith, if◌then◌else◌}
-use Rattle.std.proofs.lemmas.List.Elements.{All-append, All-weaker}
+use Rattle.std.proofs.Common.{◌≡◌, ◌⊎◌, ℕ, ◌+◌, ◌≤◌, Bool, true, false, List, [], ◌∷◌, ◌++◌, All, Option, Some, None, refl, sym, ap, ◌∙◌, ⊎_elim, inl, inr, subst, arith, if◌then◌else◌}
+use Rattle.std.proofs.lemmas.List.Elements.{All-append}
 use Rattle.std.specs.Prelude.{IsTrue}
+use Rattle.lists.proofs.Conditions.{one_at_most}
 use Rattle.rollout_rules.specs.declared.op.Op.{Op}
 use Rattle.turn_lock.specs.Histories.{Follows}
-use Rattle.wan_edge.specs.Frames.{Answer, Command}
+use Rattle.wan_edge.specs.Frames.{Command}
 use Rattle.wan_edge.specs.Ports.{PortTrace}
 use Rattle.rollout_book.specs.Aliens.{told_by}
 use Rattle.port_session.specs.Sessions.{SessionView}
@@ -20,9 +21,9 @@ use Rattle.shared_book.specs.declared.call_reply.Wake.TheVariants as wake
 use Rattle.shared_book.specs.Histories.{Opening, history_of}
 use Rattle.shared_book.specs.Knows.{next_note}
 use Rattle.shared_book.specs.Legal.{is_legal_shared}
-use Rattle.shared_book.specs.Notes.{cause_of, first_stop, has_asked}
+use Rattle.shared_book.specs.Notes.{cause_of, has_asked}
 use Rattle.shared_book.specs.Replies.{batch_at}
-use Rattle.shared_book.specs.Calls.{IsListCall, IsRoundCall, IsStopCall, seat_of}
+use Rattle.shared_book.specs.Calls.{IsStopCall, seat_of}
 use Rattle.shared_book.specs.Waking.{IsLookCall}
 use Rattle.shared_book.specs.declared.reply.RoundReply.TheVariants as round
 use Rattle.switch_ports.specs.Hearing.{IsHearCause}
@@ -34,13 +35,13 @@ use Rattle.controller_run.specs.Exchanging.{StopsInHear, StopsInOffer}
 use Rattle.switch_ports.specs.Due.{any_late, due_of}
 use Rattle.controller_run.specs.Finding.{Lists, Looks}
 use Rattle.controller_run.specs.Promises.{BreaksOff, IsBreak, IsEndAt, Promises, StopsNothing, UnlessStopped, switches_of}
-use Rattle.controller_run.specs.Serving.{HasStopped, IsLast, Moment, Served, Worked, caller_of}
+use Rattle.controller_run.specs.Serving.{HasStopped, IsLast, Moment, Served, caller_of}
 use Rattle.controller_run.specs.Working.{ListsNone, ListsSome, RestsFor, Settles, Standing, Works, is_some_command}
 use Rattle.controller_run.specs.Settling.{StopsRound}
 use Rattle.controller_run.specs.declared.round_end.RoundEnd.{RoundEnd}
 use Rattle.controller_run.specs.declared.round_end.RoundEnd.TheVariants as outcome
 use Rattle.controller_run.proofs.Chains.{stories_end_in_hear, stories_end_in_offer}
-use Rattle.controller_run.proofs.Endings.{ends-finished, ends-held, first-stops, list-stopped, look-stopped, still-stopped, stop-first}
+use Rattle.controller_run.proofs.Endings.{ends-finished, ends-held, list-stopped, look-stopped, still-stopped, stop-first}
 use Rattle.controller_run.proofs.Noted.{listed, listed-none, listed-stopped, looked, then-none, unnoted}
 use Rattle.controller_run.proofs.Ports.{GoOn, hear-goes, last-of, offer-goes}
 use Rattle.controller_run.proofs.Quiet.{IsQuiet, quiet-asks-not, quiet-past}
@@ -54,10 +55,6 @@ no-one R none [] (y ∷ ys) one = one
 no-one R none (x ∷ xs) [] one = one
 no-one R none (x ∷ xs) (y ∷ ys) (inl here) = none x y here
 no-one R none (x ∷ xs) (y ∷ ys) (inr later) = no-one R none xs ys later
-
-at-most-one : (b : Bool) → (if b then 1 else 0) ≤ 1
-at-most-one true = omega arith
-at-most-one false = omega arith
 
 module _ {P : Type 0} (tell : P → PortTrace) where
   pub offer-breaks : (why : Cause) (bs ns : List (SessionView P)) → IsCauseOfOffer tell why bs ns → IsBreak why
@@ -156,7 +153,7 @@ module _ {P : Type 0} (tell : P → PortTrace) (o : Opening) (seat : ℕ) (joine
     -- a round is left where some command was listed
     pub some-left : (commands : List Command) (log : List Written) → ListsSome (caller_of o seats seat at.stands.ports) at.left at.stands.seen commands log ⊎ ListsNone (caller_of o seats seat at.stands.ports) at.left at.stands.seen commands log
         → (if is_some_command commands then 1 else 0) ≤ at.left
-    some-left commands log (inl found) = let some = found.some_left in let few = at-most-one (is_some_command commands) in omega (arith, some, few)
+    some-left commands log (inl found) = let some = found.some_left in let few = one_at_most (is_some_command commands) in omega (arith, some, few)
     some-left commands log (inr found) = let none : (if is_some_command commands then 1 else 0) ≡ 0 = ap {B = ℕ} (λ (cs : List Command). if is_some_command cs then 1 else 0) found.none in omega (arith, none)
 
     -- ---- a last round in which nothing went out

@@ -10,7 +10,6 @@ pub mod Causes
 pub mod Over
 pub mod Ends
 pub mod Standing
-pub mod Stayed
 pub mod Rows
 pub mod Shuffles
 pub mod Histories

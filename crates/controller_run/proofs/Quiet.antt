@@ -1,5 +1,5 @@
 -- A seat that has stopped nothing yet.
-use Rattle.std.proofs.Common.{◌≡◌, ◌≢◌, ◌⊎◌, ℕ, suc, Bool, true, false, ◌&&◌, ◌||◌, ◌==◌, List, [], ◌∷◌, ◌++◌, All, Option, Some, None, option_map, refl, sym, ap, ◌∙◌, subst, ⊎_elim, inl, inr, arith, eqb-true, ◌+◌, if◌then◌else◌}
+use Rattle.std.proofs.Common.{◌≡◌, ◌≢◌, ℕ, Bool, true, false, ◌&&◌, ◌==◌, List, [], ◌∷◌, ◌++◌, All, Option, Some, None, option_map, refl, sym, ap, ◌∙◌, subst, arith, eqb-true, if◌then◌else◌}
 use Rattle.std.specs.Option.{option_or}
 use Rattle.std.proofs.lemmas.Bool.{and_left, and_right, eqb-false, or_from}
 use Rattle.std.proofs.lemmas.List.Elements.{All-append, All-cons, All-head, All-nil, All-tail}
@@ -31,8 +31,8 @@ asks-not (what.Stop why) e = absurd (cc e)
 some-none : (why : Cause) → Some why ≡ None → ⊥
 some-none why e = cc e
 
-none-some : (halt : Halt) → None ≡ Some halt → ⊥
-none-some halt e = cc e
+pub none_is_no_halt : (halt : Halt) → None ≡ Some halt → ⊥
+none_is_no_halt halt e = cc e
 
 module _ (seat : ℕ) where
   one-asks-not : (w : Written) (own : Bool) → (w.note.seat == seat) ≡ own → IsQuiet seat w → ((w.note.seat == seat) && asks_to_stop w.note.what) ≡ false
@@ -77,5 +77,5 @@ module _ (seat : ℕ) where
       λ own. some-none why (sym is ∙ quiet (ap (λ (h : Halt). h.seat) same ∙ own))
 
   pub quiet-first : (ws : List Written) (halt : Halt) → StopsNothing seat ws → first_stop ws ≡ Some halt → halt.seat ≢ seat
-  quiet-first [] halt quiet first = λ own. none-some halt first
+  quiet-first [] halt quiet first = λ own. none_is_no_halt halt first
   quiet-first (w ∷ ws) halt quiet first = of-note w (cause_of w.note.what) (first_stop ws) halt refl first (λ later. quiet-first ws halt (All-tail (IsQuiet seat) w ws quiet) later) (All-head (IsQuiet seat) w ws quiet)

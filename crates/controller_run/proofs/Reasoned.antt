@@ -1,32 +1,21 @@
 -- Where a worker was the first that stopped all, it had a reason.
-use Rattle.std.proofs.Common.{◌≡◌, ◌≢◌, ◌⊎◌, ℕ, ◌+◌, ◌-◌, ◌^◌, ◌<◌, ◌≤◌, Bool, true, false, not, ◌&&◌, List, [], ◌∷◌, ◌++◌, map, All, Option, Some, None, refl, sym, ap, ap₂, ◌∙◌, ⊎_elim, inl, inr, subst, arith, append_assoc, if◌then◌else◌}
-use Rattle.std.proofs.lemmas.Bool.{cases_Bool}
-use Rattle.std.specs.List.{AllZip, Contains}
-use Rattle.std.specs.Prelude.{IsTrue}
+use Rattle.std.proofs.Common.{◌≡◌, ℕ, Bool, true, false, List, [], ◌∷◌, Option, Some, None, refl, sym, ap, ◌∙◌, subst, arith, if◌then◌else◌}
+use Rattle.std.specs.List.{Contains}
+use Rattle.lists.proofs.Conditions.{some_same_is}
 use Rattle.rollout_rules.specs.Wan.{Problem}
 use Rattle.rollout_rules.specs.History.{History}
 use Rattle.rollout_rules.specs.declared.op.Op.{Op}
 use Rattle.rollout_rules.specs.declared.op.Entry.{Entry}
-use Rattle.turn_lock.specs.Histories.{Follows}
-use Rattle.wan_edge.specs.Frames.{Answer, Command}
-use Rattle.wan_edge.specs.Streams.{Rose}
-use Rattle.rollout_book.specs.Aliens.{op_of, told_by}
 use Rattle.rollout_book.specs.declared.fault.BookFault.TheVariants as fault
-use Rattle.port_session.specs.Sessions.{SessionView}
 use Rattle.shared_book.specs.declared.note.Cause.{Cause}
 use Rattle.shared_book.specs.declared.note.Cause.TheVariants as cause
 use Rattle.shared_book.specs.declared.note.What.{What}
 use Rattle.shared_book.specs.declared.note.What.TheVariants as what
-use Rattle.shared_book.specs.declared.note.Written.{Written}
 use Rattle.shared_book.specs.declared.call_reply.Halt.{Halt}
 use Rattle.shared_book.specs.declared.call_reply.Wake.{Wake}
 use Rattle.shared_book.specs.declared.call_reply.Wake.TheVariants as wake
-use Rattle.shared_book.specs.Histories.{Opening, history_of}
-use Rattle.shared_book.specs.Knows.{next_note}
 use Rattle.shared_book.specs.Legal.{begun_of, is_alien}
-use Rattle.shared_book.specs.Notes.{first_stop, has_asked}
-use Rattle.shared_book.specs.Replies.{asked_at, batch_at, first_alien, halt_or, or_stopped, or_turned, turned}
-use Rattle.shared_book.specs.Calls.{IsRoundCall, IsStopCall, seat_of}
+use Rattle.shared_book.specs.Replies.{first_alien, or_stopped, or_turned}
 use Rattle.shared_book.specs.declared.reply.RoundReply.TheVariants as round
 use Rattle.controller_run.proofs.Elements.{inside-later}
 
@@ -39,9 +28,6 @@ pub record IsAlienAt (p : Problem) (h : History) (answers : List Op) (item held 
 
 above-parts : (a b c d e f : ℕ) → what.Alien a b c ≡ what.Alien d e f → (a ≡ d) × (b ≡ e) × (c ≡ f)
 above-parts a b c d e f is = (cc is, cc is, cc is)
-
-some-same : (a b : What) → Some a ≡ Some b → a ≡ b
-some-same a b e = cc e
 
 module _ (p : Problem) (h : History) (item held begun : ℕ) where
   alien-here : (answer : Op) (later : List Op) → is_alien p h answer ≡ true → what.Alien answer.item answer.number (begun_of p h answer.item) ≡ what.Alien item held begun → IsAlienAt p h (answer ∷ later) item held begun
@@ -60,7 +46,7 @@ module _ (p : Problem) (h : History) (item held begun : ℕ) where
     where
       by : (b : Bool) → is_alien p h answer ≡ b → (if b then Some (what.Alien answer.item answer.number (begun_of p h answer.item)) else first_alien p h later) ≡ Some (what.Alien item held begun)
           → (first_alien p h later ≡ Some (what.Alien item held begun) → IsAlienAt p h later item held begun) → IsAlienAt p h (answer ∷ later) item held begun
-      by true alien here rest = alien-here answer later alien (some-same _ _ here)
+      by true alien here rest = alien-here answer later alien (some_same_is _ _ here)
       by false alien there rest = let found = rest there in record { among = inside-later answer _ later found.among; alien = found.alien; begun_is = found.begun_is }
 
   alien-said : (a : Option What) (es : List Entry) → or_turned a es ≡ what.Alien item held begun → a ≡ Some (what.Alien item held begun)

@@ -17,7 +17,7 @@ use Rattle.controller_run.specs.Keeping.{IsBegun}
 use Rattle.controller_run.specs.PortRuns.{Covers, IsPortRun}
 
 -- what a note adds came with it
-of_segment : (said : What) (es : List Entry) (e : Entry) → Contains (segment_of said es) e → Contains es e
+pub of_segment : (said : What) (es : List Entry) (e : Entry) → Contains (segment_of said es) e → Contains es e
 of_segment (what.Turned dones begins) es e at = at
 of_segment (what.Alien item held begun) es e at = absurd (omega (arith, at.1))
 of_segment what.Disk es e at = absurd (omega (arith, at.1))
@@ -28,7 +28,7 @@ of_segment what.Held es e at = absurd (omega (arith, at.1))
 of_segment what.Stopped es e at = absurd (omega (arith, at.1))
 of_segment (what.Stop why) es e at = absurd (omega (arith, at.1))
 
-of_added : (log : List Written) (e : Entry) → Contains (added log) e → Contains (all_entries log) e
+pub of_added : (log : List Written) (e : Entry) → Contains (added log) e → Contains (all_entries log) e
 of_added [] e at = at
 of_added (w ∷ log) e at =
     ⊎_elim (λ here. Contains-append_left w.entries (all_entries log) e (of_segment w.note.what w.entries e here)) (λ later. Contains-append_right w.entries (all_entries log) e (of_added log e later))

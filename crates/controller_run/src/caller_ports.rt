@@ -54,8 +54,9 @@ impl<T: Port + Drop> CallerPorts<T> {
         ensures room { vec_capacity self.new.spare ≡ vec_capacity self.old.spare }
         ensures pass { result.pass ≡ back.pass }
         ensures end { result.end ≡ back.end }
-        ensures ports { Relieves result.end back.ports result.ports self.old.ports
-            (first_sessions self.old.spare.items) self.new.ports (first_sessions self.new.spare.items) }
+        ensures ports { Relieves result.end back.ports result.ports
+            self.old.ports (first_sessions self.old.spare.items)
+            self.new.ports (first_sessions self.new.spare.items) }
     {
         let WorkerResult { pass, ports, end } = back;
         match end {

@@ -131,8 +131,8 @@ where
     ensures all_in { out_of result.0.pass ≡ 0 }
     ensures worked { HasWorked T.told M.opening limits.migration
         (homes_of M.opening.rollout.problem) limits.rounds
-        (workers_ports team.own.ports team.own.spare.items team.crews.items) (given_of result.0.pass)
-        (seen_of result.0.pass)
+        (workers_ports team.own.ports team.own.spare.items team.crews.items)
+        (given_of result.0.pass) (seen_of result.0.pass)
         (workers_ports result.1.own.ports result.1.own.spare.items result.1.crews.items) }
 {
     let nothing = PortAnswers::<T>::new(alloc, limits.migration);

@@ -1,6 +1,7 @@
 //! A rollout over a fleet.
 ghost use Rattle.std.specs.Prelude.{◌≡◌, ◌<◌, ◌≤◌, ℕ, IfSome, IsPermutation, length, map, max, vec_capacity};
 ghost use Rattle.wan_edge.specs.Streams.{Rose};
+ghost use Rattle.wan_edge.specs.Fleets.{GuestsStay};
 ghost use Rattle.order_policy.specs.Answers.{rank_by};
 ghost use Rattle.rollout_book.specs.Lists.{IsKeptList};
 ghost use Rattle.shared_book.specs.Images.{StaysOpened};
@@ -39,7 +40,7 @@ pub struct Limits {
 /// stopped. Where a thread can't be started the caller serves its ports beside its own. Then the ports are
 /// given back. The book comes back with every answer; its disk keeps the owner of its journal, from before the
 /// opening on.
-#[tactic(auto, using(crate::proofs::Stayed::stays_alone))]
+#[tactic(auto, using(shared_book::proofs::Staying::stays_alone))]
 pub fn run<'d, R, D, F>(
     rt: &R,
     alloc: Global,
@@ -59,25 +60,23 @@ where
         (D.told book.chronicle.disk).may_leave) }
     ensures ran { EndsRun F.Port.told
         (working_homes book.entry.chronicle.rollout.problem book.entry.chronicle.rollout.plan)
-        book.entry.chronicle result.0.chronicle (ports_of F.waiting F.kept F.lent F.named fleet.old)
-        (ports_of F.waiting F.kept F.lent F.named fleet.new)
+        book.entry.chronicle result.0.chronicle (ports_of (F.told fleet.old))
+        (ports_of (F.told fleet.new))
         (Ran D.told F.Port.told
         (opening_of book.entry.chronicle (rank_by book.entry.policy.now.answers))
         (D.told book.entry.chronicle.disk).moment (D.told book.entry.chronicle.disk).faults
         limits.migration limits.rounds
         (working_homes book.entry.chronicle.rollout.problem book.entry.chronicle.rollout.plan)
-        (ports_of F.waiting F.kept F.lent F.named fleet.old) result.1 result.0.chronicle
-        (ports_of F.waiting F.kept F.lent F.named fleet.new)) result.1 }
+        (ports_of (F.told fleet.old)) result.1 result.0.chronicle (ports_of (F.told fleet.new)))
+        result.1 }
     ensures stays { StaysOpened D.told
         (opening_of book.entry.chronicle (rank_by book.entry.policy.now.answers))
         (D.told book.entry.chronicle.disk) result.0.chronicle.disk }
-    ensures guests { (F.coming fleet.new ≡ F.coming fleet.old)
-        × (F.served fleet.new ≡ F.served fleet.old)
-        × (F.visiting fleet.new ≡ F.visiting fleet.old) }
+    ensures guests { GuestsStay (F.told fleet.old) (F.told fleet.new) }
     ensures cause { (switch : ℕ)
         → result.1 ≡ RunEnd.NoPort switch
-        → Rose (F.faults fleet.old) (F.faults fleet.new) }
-    ensures count { F.faults fleet.old ≤ F.faults fleet.new }
+        → Rose (F.told fleet.old).faults (F.told fleet.new).faults }
+    ensures count { (F.told fleet.old).faults ≤ (F.told fleet.new).faults }
 {
     match open_ports(alloc, fleet, book.graph().plan()) {
         Ok(berths) => run_over(rt, alloc, book, fleet, berths, limits),
@@ -106,21 +105,19 @@ where
         (IsKeptList book.chronicle.history.start book.chronicle.entries
         (D.told book.chronicle.disk).may_leave) }
     requires apart { AreApart berths.items }
-    requires lent { AreLent (F.lent fleet.old) berths.items }
-    ensures ran { IsOver (ports_of F.waiting F.kept F.lent F.named fleet.old)
-        (ports_of F.waiting F.kept F.lent F.named fleet.new) berths.items result.1
+    requires lent { AreLent (F.told fleet.old).lent berths.items }
+    ensures ran { IsOver (ports_of (F.told fleet.old)) (ports_of (F.told fleet.new)) berths.items
+        result.1
         (λ ports. Runs D.told F.Port.told
         (opening_of book.entry.chronicle (rank_by book.entry.policy.now.answers))
         (D.told book.entry.chronicle.disk).moment (D.told book.entry.chronicle.disk).faults
-        limits.migration limits.rounds (first_sessions berths.items) result.1 result.0.chronicle ports)
-        (result.0.chronicle ≡ book.entry.chronicle) }
+        limits.migration limits.rounds (first_sessions berths.items) result.1 result.0.chronicle
+        ports) (result.0.chronicle ≡ book.entry.chronicle) }
     ensures stays { StaysOpened D.told
         (opening_of book.entry.chronicle (rank_by book.entry.policy.now.answers))
         (D.told book.entry.chronicle.disk) result.0.chronicle.disk }
-    ensures guests { (F.coming fleet.new ≡ F.coming fleet.old)
-        × (F.served fleet.new ≡ F.served fleet.old)
-        × (F.visiting fleet.new ≡ F.visiting fleet.old) }
-    ensures count { F.faults fleet.old ≤ F.faults fleet.new }
+    ensures guests { GuestsStay (F.told fleet.old) (F.told fleet.new) }
+    ensures count { (F.told fleet.old).faults ≤ (F.told fleet.new).faults }
 {
     match Workers::of(alloc, berths, limits.workers) {
         Ok(team) => {

@@ -1,5 +1,6 @@
 //! All ports of a run, as they are dealt to its workers.
 ghost use Rattle.std.specs.Prelude.{◌≡◌, ◌⊎◌, ◌<◌, ◌≤◌, ◌++◌, [], ◌∷◌, IfErr, IfOk, IsPermutation, length, max, vec_capacity};
+ghost use Rattle.wan_edge.specs.Fleets.{GuestsStay};
 ghost use Rattle.switch_ports.specs.Berths.{AreApart, AreLent, after_keeping, ports_of};
 ghost use Rattle.switch_ports.specs.Hands.{berths_of, first_sessions};
 ghost use Rattle.controller_run.specs.Workers.{AreWorkers, workers_ports};
@@ -71,15 +72,13 @@ where
     F::Port: Drop,
     requires apart { AreApart (berths_of (workers_ports team.own.ports team.own.spare.items
         team.crews.items)) }
-    requires lent { AreLent (F.lent fleet.old)
+    requires lent { AreLent (F.told fleet.old).lent
         (berths_of (workers_ports team.own.ports team.own.spare.items team.crews.items)) }
-    ensures ports { ports_of F.waiting F.kept F.lent F.named fleet.new
-        ≡ after_keeping (ports_of F.waiting F.kept F.lent F.named fleet.old)
+    ensures ports { ports_of (F.told fleet.new)
+        ≡ after_keeping (ports_of (F.told fleet.old))
         (berths_of (workers_ports team.own.ports team.own.spare.items team.crews.items)) }
-    ensures guests { (F.coming fleet.new ≡ F.coming fleet.old)
-        × (F.served fleet.new ≡ F.served fleet.old)
-        × (F.visiting fleet.new ≡ F.visiting fleet.old) }
-    ensures count { F.faults fleet.old ≤ F.faults fleet.new }
+    ensures guests { GuestsStay (F.told fleet.old) (F.told fleet.new) }
+    ensures count { (F.told fleet.old).faults ≤ (F.told fleet.new).faults }
 {
     let Workers { own, crews } = team;
     let CallerPorts { ports, spare } = own;

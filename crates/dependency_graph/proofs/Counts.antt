@@ -11,6 +11,7 @@ use Rattle.rollout_rules.specs.Room.{least_stage, fits}
 use Rattle.rollout_rules.specs.declared.op.Op.{Op}
 use Rattle.rollout_rules.specs.declared.op.Entry.TheVariants.{Begin}
 use Rattle.rollout_rules.proofs.Numbers.{is_item-item_at, number_of-item_at}
+use Rattle.rollout_rules.proofs.Below.{count_below-most}
 use Rattle.rollout_laws.proofs.Histories.{with_none}
 use Rattle.rollout_laws.proofs.Standing.{stand-left}
 use Rattle.dependency_graph.specs.Progress.{Counts, AreCountsOf}
@@ -20,7 +21,6 @@ use Rattle.dependency_graph.proofs.Agreement.{Agree, stand-same, least_stage-sam
 use Rattle.dependency_graph.proofs.Needed.{needs-same}
 use Rattle.dependency_graph.proofs.Counted.{with-agree, begun-agree}
 use Rattle.dependency_graph.proofs.Touched.{least-numbers}
-use Rattle.dependency_graph.proofs.StageCounts.{count-most}
 
 module _ (c : Counts) (h : History) (so : AreCountsOf c h) where
   abbrev p : Problem
@@ -74,7 +74,7 @@ left-stands r c n lt = stand-left r.problem r.plan (item_at r.problem n) (settle
 
 -- each operation comes to a stage of its own
 pub operations-most : (p : Problem) (plan : Plan) (i : Item) → operations p plan i ≤ last_stage plan
-operations-most p plan i = count-most (last_stage plan) (changes_behind p plan i)
+operations-most p plan i = count_below-most (last_stage plan) (changes_behind p plan i)
 
 -- the least stage by the counts' numbers
 pub own-least-with : (r : Rollout) (c : Counts) → least_stand r c [] ≡ least_stage r.problem r.plan (places_with r c [])

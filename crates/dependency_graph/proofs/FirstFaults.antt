@@ -12,7 +12,7 @@ use Rattle.rollout_rules.specs.Needs.{needs_met_at}
 use Rattle.rollout_rules.specs.Room.{fits}
 use Rattle.rollout_rules.specs.Legal as legal
 use Rattle.rollout_rules.specs.declared.item.Item.{Item}
-use Rattle.rollout_rules.proofs.Below.{all_below-at}
+use Rattle.rollout_rules.proofs.Below.{all_below-at, all_below_stops}
 use Rattle.rollout_rules.proofs.Numbers.{number_of-item_at, is_item-item_at}
 use Rattle.dependency_graph.specs.Progress.{Counts, AreCountsOf}
 use Rattle.dependency_graph.specs.Ahead.{places_with}
@@ -23,7 +23,6 @@ use Rattle.dependency_graph.specs.Soundness as parts
 use Rattle.dependency_graph.specs.declared.start_fault.StartFault.{StartFault}
 use Rattle.dependency_graph.specs.declared.start_fault.StartFault.TheVariants as fault
 use Rattle.dependency_graph.proofs.Agreement.{Agree, all_below-same, room-same, least_stage-same, fits_at-same}
-use Rattle.dependency_graph.proofs.Contents.{all_below_stops}
 use Rattle.dependency_graph.proofs.Counts.{counts-agree}
 use Rattle.dependency_graph.proofs.Starts.{needs_at-same, sound-counts}
 use Rattle.dependency_graph.proofs.Walks.{walk, walk-stops}

@@ -1,7 +1,8 @@
 -- The links of a flow as they are gathered with the tunnels that cross each, and as they are taken out.
-use Rattle.std.proofs.Common.{◌≡◌, ℕ, suc, ◌+◌, ◌<◌, ◌≤◌, Bool, true, false, ◌==◌, if◌then◌else◌, List, [], ◌∷◌, ◌++◌, length, slice_index, slice_index_or, slice_set, inl, inr, refl, sym, ap, ◌∙◌, subst, arith, eq-eqb, eqb-true, ne_eqb, ltb-true}
+use Rattle.std.proofs.Common.{◌≡◌, ℕ, suc, ◌+◌, ◌<◌, ◌≤◌, true, false, ◌==◌, if◌then◌else◌, List, [], ◌∷◌, ◌++◌, length, slice_index, slice_index_or, slice_set, inl, inr, refl, sym, ap, ◌∙◌, subst, arith, eq-eqb, eqb-true, ne_eqb, ltb-true}
 use Rattle.std.proofs.lemmas.Bool.{cases_Bool, cases_eq, cases_lt, or_parts}
 use Rattle.std.proofs.lemmas.List.{get_or-set_same, get_or-set_other, length-set}
+use Rattle.lists.proofs.Conditions.{not_both}
 use Rattle.rollout_rules.specs.Sums.{sum_below}
 use Rattle.rollout_rules.specs.Wan.{Problem, flow_at, tunnel_at, tunnel_of}
 use Rattle.rollout_rules.specs.Network.{IsNetwork}
@@ -48,13 +49,9 @@ has-other (x ∷ links) l k other none =
     let behind = has-other links l k other parts.1 in
     rw (away, behind) refl
 
-clash : (b : Bool) → b ≡ true → b ≡ false → ⊥
-clash true is away = cc
-clash false is away = cc
-
 kept-none : (q : ℕ) (links later : List ℕ) (k : ℕ) → IsWith q links later → has later k ≡ false → has links k ≡ false
 kept-none q links later k so none = elim (cases_Bool (has links k)) as (λ _. has links k ≡ false) [
-  | inl there ↦ absurd (clash (has later k) (so.kept k there) none)
+  | inl there ↦ absurd (not_both (has later k) (so.kept k there) none)
   | inr away ↦ away
 ]
 
@@ -104,14 +101,14 @@ module _ (p : Problem) (f n m t l : ℕ) (links : List ℕ) (rows : List (List �
         each = all;
         inside = more.inside (length p.links) low so.inside;
         once = more.once so.once;
-        missing = λ k below away. others k (λ e. clash (has (links ++ l ∷ []) l) more.here (subst (λ i. has (links ++ l ∷ []) i ≡ false) e away)) ∙ so.missing k below (kept-none l links (links ++ l ∷ []) k more away);
+        missing = λ k below away. others k (λ e. not_both (has (links ++ l ∷ []) l) more.here (subst (λ i. has (links ++ l ∷ []) i ≡ false) e away)) ∙ so.missing k below (kept-none l links (links ++ l ∷ []) k more away);
         empty = λ k below gone. has-other links l k (other-than k gone) (so.empty k below (sym (others k (other-than k gone)) ∙ gone));
       }
 
   there : length (slice_index_or rows l []) == 0 ≡ false → has links l ≡ true
   there full = elim (cases_Bool (has links l)) as (λ _. has links l ≡ true) [
     | inl here ↦ here
-    | inr away ↦ absurd (clash (length row == 0) (eq-eqb (length row) 0 (ap length (so.missing l low away))) full)
+    | inr away ↦ absurd (not_both (length row == 0) (eq-eqb (length row) 0 (ap length (so.missing l low away))) full)
   ]
 
   further : length (slice_index_or rows l []) == 0 ≡ false → AreGathered p f n (m + 1) links (slice_set rows l (slice_index_or rows l [] ++ t ∷ []))
@@ -120,7 +117,7 @@ module _ (p : Problem) (f n m t l : ℕ) (links : List ℕ) (rows : List (List �
     each = all;
     inside = so.inside;
     once = so.once;
-    missing = λ k below away. others k (λ e. clash (has links l) (there full) (subst (λ i. has links i ≡ false) e away)) ∙ so.missing k below away;
+    missing = λ k below away. others k (λ e. not_both (has links l) (there full) (subst (λ i. has links i ≡ false) e away)) ∙ so.missing k below away;
     empty = λ k below gone. so.empty k below (sym (others k (other-than k gone)) ∙ gone);
   }
 

@@ -1,13 +1,12 @@
 -- The rows of an index as they grow.
-use Rattle.std.proofs.Common.{◌≡◌, refl, ℕ, zero, suc, ◌+◌, ◌*◌, ◌^◌, ◌<◌, ◌≤◌, true, false, List, [], ◌∷◌, ◌++◌, length, subst, ap, ◌∙◌, sym, arith, ◌==◌}
-use Rattle.rollout_rules.specs.Sums.{sum_below}
+use Rattle.std.proofs.Common.{◌≡◌, refl, ℕ, suc, ◌+◌, ◌^◌, ◌<◌, true, false, List, [], ◌∷◌, ◌++◌, length, subst, ap, ◌∙◌, sym, arith, ◌==◌}
 use Rattle.rollout_rules.specs.Wan.{Problem, Rollout, hops, switch_of}
 use Rattle.rollout_rules.specs.Network.{IsNetwork}
 use Rattle.rollout_rules.specs.Items.{item_count, item_at, number_of}
 use Rattle.rollout_rules.specs.Operations as operation
 use Rattle.rollout_rules.specs.declared.item.Item.{Item}
 use Rattle.rollout_rules.specs.declared.item.Item.TheVariants as item
-use Rattle.rollout_rules.proofs.Below.{sum_below-up}
+use Rattle.rollout_rules.proofs.Below.{sum_below-most}
 use Rattle.rollout_rules.proofs.Numbers.{item_at-number_of, number_of-below}
 use Rattle.rollout_rules.proofs.OverItems.{is_item-flow, is_item-entry}
 use Rattle.dependency_graph.specs.declared.index.table_place.TablePlace.{TablePlace}
@@ -15,12 +14,6 @@ use Rattle.dependency_graph.specs.Index.{no_place, AreItems, AreOperations, AreF
 use Rattle.dependency_graph.proofs.Elements.{length-push, each-push, sum-push}
 
 -- ---- numbers of items are small
-sum_below-most : (n m : ℕ) (f : ℕ → ℕ) → ((k : ℕ) → k < n → f k ≤ m) → sum_below n f ≤ n * m
-sum_below-most zero m f le = omega arith
-sum_below-most (suc n) m f le = omega (arith, sum_below-most n m f (λ k lt. le k (omega arith)), le n (omega arith), suc_times)
-  where
-    suc_times : suc n * m ≡ n * m + m
-    suc_times = grind arith
 
 pub item_count-few : (p : Problem) → IsNetwork p → item_count p < 2 ^ 20
 item_count-few p net =
@@ -28,9 +21,6 @@ item_count-few p net =
 
 pub number_of-few : (p : Problem) (t h : ℕ) → IsNetwork p → t < length p.tunnels → h < hops p t → number_of p (item.Entry t h) < 2 ^ 20
 number_of-few p t h net lt low = omega (arith, number_of-below p (item.Entry t h) (is_item-entry p t h lt low), item_count-few p net)
-
-pub first-few : (p : Problem) (t : ℕ) → IsNetwork p → t ≤ length p.tunnels → number_of p (item.Entry t 0) < 2 ^ 20
-first-few p t net le = omega (arith, sum_below-up t (length p.tunnels) (hops p) le, item_count-few p net)
 
 -- ---- items by number
 pub items-none : (p : Problem) → AreItems p 0 []

@@ -1,6 +1,7 @@
 -- The longest chains ahead, from one stage to the one before it.
 use Rattle.std.proofs.Common.{◌≡◌, ℕ, zero, suc, ◌+◌, ◌<◌, ◌≤◌, ◌⊎◌, max, nat_le, Bool, true, false, not, ◌&&◌, ◌==◌, if◌then◌else◌, refl, sym, ap₂, ◌∙◌, subst, inl, inr, arith, le-leb, eq-eqb, ne_eqb}
 use Rattle.std.proofs.lemmas.Bool.{lt-leb, and_right, cases_lt, cases_eq, cases_Bool}
+use Rattle.lists.proofs.Conditions.{counted_if, uncounted_if}
 use Rattle.rollout_rules.specs.Operations.{run_start}
 use Rattle.rollout_rules.specs.Release.{most_below}
 use Rattle.rollout_laws.proofs.Runs.{run_start-most, run_start-passes}
@@ -16,17 +17,11 @@ pub most-max : (n : ℕ) (f g : ℕ → ℕ) → most_below n (λ k. max (f k) (
 most-max zero f g = refl
 most-max (suc n) f g = omega (arith, most-max n f g)
 
-where-at : (b : Bool) (x : ℕ) → b ≡ true → (if b then x else 0) ≡ x
-where-at b x e = rw e refl
-
-where-off : (b : Bool) (x : ℕ) → b ≡ false → (if b then x else 0) ≡ 0
-where-off b x e = rw e refl
-
 pub most-one : (n v x : ℕ) → v < n → most_below n (λ k. if k == v then x else 0) ≡ x
 most-one zero v x lt = absurd (omega arith)
 most-one (suc n) v x lt = elim (cases_lt v n) as (λ c. most_below (suc n) (λ k. if k == v then x else 0) ≡ x) [
-  | inl below ↦ omega (arith, most-one n v x below, where-off (n == v) x (ne_eqb n v (λ e. omega (arith, e, below))))
-  | inr at ↦ omega (arith, most-none n (λ k. if k == v then x else 0) (λ k low. where-off (k == v) x (ne_eqb k v (λ e. omega (arith, e, low, at)))), where-at (n == v) x (eq-eqb n v (omega (arith, at, lt))))
+  | inl below ↦ omega (arith, most-one n v x below, uncounted_if (n == v) x (ne_eqb n v (λ e. omega (arith, e, below))))
+  | inr at ↦ omega (arith, most-none n (λ k. if k == v then x else 0) (λ k low. uncounted_if (k == v) x (ne_eqb k v (λ e. omega (arith, e, low, at)))), counted_if (n == v) x (eq-eqb n v (omega (arith, at, lt))))
 ]
 
 pub most-where : (b : Bool) (n : ℕ) (f : ℕ → ℕ) → most_below n (λ k. if b then f k else 0) ≡ (if b then most_below n f else 0)
@@ -167,7 +162,7 @@ longest-run last run counts number s =
         clash b p q = cc
 
     each : (u : ℕ) → (run s ≡ true) ⊎ (run s ≡ false) → (if counts u && (run_start run u == s + 1) then number u else 0) ≡ (if not (run s) then (if nat_le (s + 1) u && counts u && nat_le (run_start run u) (s + 1) then number u else 0) else 0)
-    each u (inl passes) = rw passes (where-off (counts u && (run_start run u == s + 1)) (number u) (and_right (counts u) (run_start run u == s + 1) (ne_eqb (run_start run u) (s + 1) (λ e. clash (run s) (run_start-stops run u s e) passes))))
+    each u (inl passes) = rw passes (uncounted_if (counts u && (run_start run u == s + 1)) (number u) (and_right (counts u) (run_start run u == s + 1) (ne_eqb (run_start run u) (s + 1) (λ e. clash (run s) (run_start-stops run u s e) passes))))
       where
         clash : (b : Bool) → b ≡ false → b ≡ true → ⊥
         clash b p q = cc

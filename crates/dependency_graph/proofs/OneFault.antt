@@ -1,5 +1,6 @@
 -- A start breaks one thing first.
-use Rattle.std.proofs.Common.{◌≡◌, ℕ, ◌-◌, Bool, true, false, refl, sym, ap, ◌∙◌, subst, arith}
+use Rattle.std.proofs.Common.{◌≡◌, ℕ, ◌-◌, true, refl, sym, ap, ◌∙◌, subst, arith}
+use Rattle.lists.proofs.Conditions.{not_both}
 use Rattle.rollout_rules.specs.Wan.{Problem, Plan, last_stage}
 use Rattle.rollout_rules.specs.Items.{item_count, item_at, all_items, capacity_of}
 use Rattle.rollout_rules.specs.Operations.{operations}
@@ -12,9 +13,6 @@ use Rattle.dependency_graph.specs.FirstFault.{FailsFirst, had_needs_behind, has_
 use Rattle.dependency_graph.specs.declared.start_fault.StartFault.{StartFault}
 use Rattle.dependency_graph.specs.declared.start_fault.StartFault.TheVariants as fault
 use Rattle.dependency_graph.proofs.FirstFaults.{fails-all, fails-once}
-
-clash : (b : Bool) → b ≡ true → b ≡ false → ⊥
-clash b yes' no' = cc
 
 module _ (p : Problem) (plan : Plan) (at : Places) where
   same-above : (n held count m held' count' : ℕ) → IsAbove p plan at n held count → IsAbove p plan at m held' count' → fault.Above n held count ≡ fault.Above m held' count'
@@ -44,10 +42,10 @@ module _ (p : Problem) (plan : Plan) (at : Places) where
 
   -- where something is told of what is settled, all of it exists; and of a room, it had its needs
   above-none : (n held count : ℕ) → IsAbove p plan at n held count → all_items p (legal.has_settled p plan at) ≡ true → ⊥
-  above-none n held count a exists = clash _ exists (fails-all (item_count p) n (λ k. legal.has_settled p plan at (item_at p k)) a.item)
+  above-none n held count a exists = not_both _ exists (fails-all (item_count p) n (λ k. legal.has_settled p plan at (item_at p k)) a.item)
 
   need-none : (n j : ℕ) → LacksNeeds p plan at n j → all_items p (legal.had_its_needs p plan at) ≡ true → ⊥
-  need-none n j a had = clash _ had (fails-all (item_count p) n (λ k. legal.had_its_needs p plan at (item_at p k)) a.item)
+  need-none n j a had = not_both _ had (fails-all (item_count p) n (λ k. legal.had_its_needs p plan at (item_at p k)) a.item)
 
   pub one-fault : (f g : StartFault) → (f ≡ fault.Memory → ⊥) → (g ≡ fault.Memory → ⊥) → IsFirstFault p plan at f → IsFirstFault p plan at g → f ≡ g
   one-fault (fault.Above n h c) (fault.Above m h' c') some some' a b = same-above n h c m h' c' a b

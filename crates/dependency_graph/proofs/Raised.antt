@@ -1,14 +1,11 @@
 -- Cells that are raised, one after another.
-use Rattle.std.proofs.Common.{◌≡◌, ℕ, zero, suc, ◌+◌, ◌-◌, ◌*◌, ◌<◌, ◌≤◌, Bool, true, false, ◌&&◌, ◌||◌, ◌==◌, if◌then◌else◌, List, [], ◌∷◌, length, length-set, set, slice_index, nat_le, nat_lt, le-ltb, inl, inr, refl, sym, ap, ap₂, ◌∙◌, subst, arith, eq-eqb, ne_eqb, le-leb, lt-ltb}
+use Rattle.std.proofs.Common.{◌≡◌, ℕ, zero, suc, ◌+◌, ◌-◌, ◌*◌, ◌<◌, ◌≤◌, Bool, true, false, ◌&&◌, ◌==◌, if◌then◌else◌, List, [], ◌∷◌, length, length-set, set, slice_index, nat_le, nat_lt, le-ltb, inl, inr, refl, sym, ap, ap₂, ◌∙◌, subst, arith, eq-eqb, ne_eqb, le-leb, lt-ltb}
 use Rattle.std.proofs.lemmas.Bool.{cases_Bool, cases_eq, cases_lt, lt-leb}
 use Rattle.std.proofs.lemmas.List.{get_or-set_same, get_or-set_other}
+use Rattle.lists.proofs.Conditions.{or_false_parts}
 use Rattle.rollout_rules.proofs.Below.{sum_below-zero, sum_below-but}
 use Rattle.dependency_graph.proofs.Changed.{place_in}
 use Rattle.dependency_graph.specs.Cells.{Cells, cell, between, AreRaised, only, among, has, AreOnce}
-
-or_none : (a b : Bool) → (a || b) ≡ false → (a ≡ false) × (b ≡ false)
-or_none false b e = (refl, e)
-or_none true b e = absurd (cc)
 
 -- ---- places of cells
 times-up : (q n k : ℕ) → q < n → (q + 1) * k ≤ n * k
@@ -190,8 +187,8 @@ among-ahead row amount n once lt =
 -- a row that doesn't have a number has it nowhere
 pub has-not : (row : List ℕ) (q : ℕ) → has row q ≡ false → (k : ℕ) → k < length row → slice_index row k ≡ q → ⊥
 has-not [] q none k lt e = omega (arith, lt)
-has-not (x ∷ row) q none zero lt e = let is = eq-eqb x q e in let a = (or_none (x == q) (has row q) none).0 in absurd (cc)
-has-not (x ∷ row) q none (suc k) lt e = has-not row q (or_none (x == q) (has row q) none).1 k (omega (arith, lt)) e
+has-not (x ∷ row) q none zero lt e = let is = eq-eqb x q e in let a = (or_false_parts (x == q) (has row q) none).0 in absurd (cc)
+has-not (x ∷ row) q none (suc k) lt e = has-not row q (or_false_parts (x == q) (has row q) none).1 k (omega (arith, lt)) e
 
 -- a row with each of its resources once has all of each one's amount
 pub among-all : (row : List ℕ) (amount : ℕ → ℕ) (q : ℕ) → AreOnce row → (has row q ≡ false → amount q ≡ 0) → among row amount (length row) q ≡ amount q

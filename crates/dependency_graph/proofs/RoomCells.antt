@@ -1,6 +1,6 @@
 -- Cells have the rooms, also across an item's Begin and its Done.
-use Rattle.std.proofs.Common.{◌≡◌, ℕ, zero, suc, ◌+◌, ◌-◌, ◌*◌, ◌^◌, ◌<◌, ◌≤◌, Bool, true, false, ◌||◌, if◌then◌else◌, List, length, slice_index, nat_le, nat_lt, inl, inr, refl, sym, ap, ◌∙◌, subst, arith, leb-true, le-leb, ltb-true, lt-ltb, le-ltb, mul-le-mul}
-use Rattle.std.proofs.lemmas.Bool.{cases_Bool, cases_eq, cases_lt, and_parts, or_cases, or_left, or_right}
+use Rattle.std.proofs.Common.{◌≡◌, ℕ, ◌+◌, ◌-◌, ◌*◌, ◌^◌, ◌<◌, ◌≤◌, Bool, true, false, ◌||◌, if◌then◌else◌, List, length, slice_index, nat_le, nat_lt, inl, inr, refl, sym, ap, ◌∙◌, subst, arith, leb-true, le-leb, ltb-true, lt-ltb, le-ltb, mul-le-mul}
+use Rattle.std.proofs.lemmas.Bool.{cases_Bool, cases_lt, and_parts, or_cases, or_left, or_right}
 use Rattle.rollout_rules.specs.declared.limits.TheConstants.{LARGEST_SCALE}
 use Rattle.rollout_rules.specs.Sums.{sum_below, all_below}
 use Rattle.rollout_rules.specs.Wan.{Problem, Plan, Rollout, hops, last_stage}
@@ -11,7 +11,7 @@ use Rattle.rollout_rules.specs.History.{Places, stand}
 use Rattle.rollout_rules.specs.Room.{least_stage, room, fits}
 use Rattle.rollout_rules.specs.declared.item.Item.{Item}
 use Rattle.rollout_rules.specs.declared.item.Item.TheVariants as item
-use Rattle.rollout_rules.proofs.Below.{all_below-at, all_below-from}
+use Rattle.rollout_rules.proofs.Below.{all_below-at, all_below-from, sum_below-at}
 use Rattle.rollout_rules.proofs.OverItems.{entry-is_item}
 use Rattle.rollout_laws.specs.Good.{IsGood}
 use Rattle.rollout_laws.proofs.Standing.{stand-most}
@@ -80,13 +80,6 @@ capacity-few p plan net valid (the_link l) here =
 capacity-few p plan net valid (the_table w) here =
     let few = net.switches.tables w (ltb-true w (length p.switches) here) in
     omega (arith, few)
-
-pub sum_below-at : (n : ℕ) (f : ℕ → ℕ) (k : ℕ) → k < n → f k ≤ sum_below n f
-sum_below-at zero f k lt = absurd (omega arith)
-sum_below-at (suc n) f k lt = elim (cases_eq k n) as (λ _. f k ≤ sum_below (suc n) f) [
-  | inl same ↦ subst (λ m. f m ≤ sum_below n f + f n) (sym same) (omega arith)
-  | inr other ↦ omega (arith, sum_below-at n f k (omega (arith, lt, other)))
-]
 
 pub sum_items-at : (p : Problem) (f : Item → ℕ) (i : Item) → is_item p i ≡ true → f i ≤ sum_items p f
 sum_items-at p f (item.Flow n) here = omega (arith, sum_below-at (length p.flows) (λ n. f (item.Flow n)) n (ltb-true n (length p.flows) here))

@@ -9,12 +9,12 @@ use Rattle.rollout_rules.specs.History.{Places, stand}
 use Rattle.rollout_rules.specs.Room.{share, room}
 use Rattle.rollout_rules.specs.declared.item.Item.{Item}
 use Rattle.rollout_rules.specs.declared.item.Item.TheVariants as item
-use Rattle.rollout_rules.proofs.Below.{sum_below-same, sum_below-plus, sum_below-swap}
+use Rattle.rollout_rules.proofs.Below.{sum_below-at, sum_below-plus, sum_below-same, sum_below-swap}
 use Rattle.rollout_rules.proofs.OverItems.{sum_items-mono}
 use Rattle.rollout_laws.proofs.Contents.{step-begins}
 use Rattle.rollout_laws.proofs.Standing.{stand-most}
 use Rattle.rollout_laws.proofs.Validity.{plan-is_valid}
-use Rattle.dependency_graph.proofs.RoomCells.{scale-few, valid-shape, sum_below-at}
+use Rattle.dependency_graph.proofs.RoomCells.{scale-few, valid-shape}
 
 capacity-small : (p : Problem) (plan : Plan) → IsNetwork p → is_valid_plan p plan ≡ true → (u : Resource) → is_resource p u ≡ true → capacity_of p plan u < 2 ^ 56
 capacity-small p plan net valid (the_link l) here =

@@ -6,17 +6,14 @@ use Rattle.rollout_rules.specs.Sums.{count_below, least_below}
 use Rattle.rollout_rules.specs.Wan.{Rollout, last_stage}
 use Rattle.rollout_rules.specs.Items.{item_count, item_at}
 use Rattle.rollout_rules.specs.Operations.{stand_after}
-use Rattle.rollout_rules.proofs.Below.{sum_below-but, sum_below-zero, least_below-top, least_below-at, least_below-from}
+use Rattle.rollout_rules.proofs.Below.{count_below-most, least_below-at, least_below-from, least_below-top, sum_below-but, sum_below-zero}
 use Rattle.dependency_graph.specs.Progress.{Counts}
 use Rattle.dependency_graph.specs.Fits.{least_stand}
 use Rattle.dependency_graph.specs.StageCounts.{ItemStages, IsLeast, standing, AreStageCounts, AreItemStages, AreStands, AreRestood}
 use Rattle.dependency_graph.proofs.Agreement.{least_below-same}
-use Rattle.dependency_graph.proofs.Standings.{one_if, one_small, set-at}
+use Rattle.dependency_graph.proofs.Standings.{one_if, set-at}
 
 -- ---- counts of the numbers below n that pass a test
-pub count-most : (n : ℕ) (test : ℕ → Bool) → count_below n test ≤ n
-count-most zero test = omega arith
-count-most (suc n) test = omega (arith, count-most n test, one_small (test n))
 
 count-some : (n : ℕ) (test : ℕ → Bool) (k : ℕ) → k < n → test k ≡ true → 1 ≤ count_below n test
 count-some zero test k lt passes = absurd (omega arith)
@@ -69,7 +66,7 @@ module _ (last : ℕ) (stages counts : List ℕ) (so : AreItemStages last stages
     pub moved-few : b < 2 ^ 32
     moved-few =
         let there = stood-goes a in
-        omega (arith, get_or-set_same (set counts was a) x b 0 there, moved-each x to, count-most (length stages) (λ k. slice_index (set stages i x) k == x), so.few)
+        omega (arith, get_or-set_same (set counts was a) x b 0 there, moved-each x to, count_below-most (length stages) (λ k. slice_index (set stages i x) k == x), so.few)
 
     moved-within : (k : ℕ) → k < length stages → slice_index (set stages i x) k ≤ last
     moved-within k lt = elim (cases_eq i k) as (λ _. slice_index (set stages i x) k ≤ last) [
@@ -143,7 +140,7 @@ standings-more last stages counts n b le so more = record {
 }
 
 pub standings-few : (last : ℕ) (stages counts : List ℕ) (n s : ℕ) → s ≤ last → AreStageCounts last stages n counts → slice_index counts s ≤ n
-standings-few last stages counts n s le so = omega (arith, so.each s le, count-most n (λ k. slice_index stages k == s))
+standings-few last stages counts n s le so = omega (arith, so.each s le, count_below-most n (λ k. slice_index stages k == s))
 
 -- ---- stages that are set one after another
 pub restood-more : (r : Rollout) (settled : List ℕ) (n x : ℕ) (at later : ItemStages) → n < item_count r.problem → x ≡ stand_after r.problem r.plan (item_at r.problem n) (slice_index settled n) → later ≡ record at { stages = set at.stages n x } → AreRestood r settled n at → AreRestood r settled (n + 1) later

@@ -1,32 +1,19 @@
 -- Rows of numbers that grow at the end, and are read.
-use Rattle.std.proofs.Common.{◌≡◌, ℕ, zero, suc, ◌+◌, ◌-◌, ◌<◌, List, [], ◌∷◌, ◌++◌, length, get_or, slice_index, slice_index_or, true, ◌==◌, refl, sym, ap, ap₂, ◌∙◌, subst, inl, inr, arith}
-use Rattle.std.proofs.lemmas.Bool.{cases_lt}
-use Rattle.std.proofs.lemmas.List.{get_or_append_left, get_or_push}
+use Rattle.std.proofs.Common.{◌≡◌, ℕ, zero, suc, ◌+◌, ◌-◌, ◌<◌, List, [], ◌∷◌, ◌++◌, length, get_or, slice_index, slice_index_or, true, ◌==◌, refl, sym, ap, ap₂, ◌∙◌, arith}
 use Rattle.rollout_rules.specs.Sums.{list_below}
 use Rattle.rollout_rules.specs.Wan.{Problem, Plan, tunnel_at, rate_at, mark_at, last_stage}
 use Rattle.rollout_rules.specs.Operations.{changes_behind}
 use Rattle.rollout_rules.specs.Release.{chain}
+use Rattle.rollout_rules.proofs.Rows.{list_below-at, list_below-length}
 use Rattle.rollout_rules.specs.declared.item.Item.TheVariants as item
 use Rattle.dependency_graph.specs.Chains.{AreAhead, longest_own, longest_departure, longest_arrival, is_removed, is_entered}
 use Rattle.dependency_graph.proofs.LongestFrom.{longest-end}
-use Rattle.dependency_graph.proofs.Elements.{length-push}
-
-pub length-below : {A : Type 0} (n : ℕ) (f : ℕ → A) → length (list_below n f) ≡ n
-length-below zero f = refl
-length-below (suc n) f = omega (arith, length-push (list_below n f) (f n), length-below n f)
-
-at-below : {A : Type 0} (n : ℕ) (f : ℕ → A) (k : ℕ) (d : A) → k < n → get_or (list_below n f) k d ≡ f k
-at-below zero f k d lt = absurd (omega arith)
-at-below (suc n) f k d lt = elim (cases_lt k n) as (λ c. get_or (list_below (suc n) f) k d ≡ f k) [
-  | inl below ↦ get_or_append_left (list_below n f) (f n ∷ []) d k (omega (arith, below, length-below n f)) ∙ at-below n f k d below
-  | inr above ↦ let at : n ≡ k = omega arith in subst (λ m. get_or (list_below n f ++ f n ∷ []) m d ≡ f m) at (get_or_push (list_below n f) (f n) d n (length-below n f))
-]
 
 pub inside-below : {A : Type 0} (n : ℕ) (f : ℕ → A) (xs : List A) (k : ℕ) → xs ≡ list_below n f → k < n → k < length xs
-inside-below n f xs k is lt = omega (arith, ap length is, length-below n f)
+inside-below n f xs k is lt = omega (arith, ap length is, list_below-length n f)
 
 pub read-below : {A : Type 0} (n : ℕ) (f : ℕ → A) (xs : List A) (k : ℕ) (d : A) → xs ≡ list_below n f → k < n → get_or xs k d ≡ f k
-read-below n f xs k d is lt = ap (λ ys. get_or ys k d) is ∙ at-below n f k d lt
+read-below n f xs k d is lt = ap (λ ys. get_or ys k d) is ∙ list_below-at n f k d lt
 
 pub push-below : {A : Type 0} (n : ℕ) (f : ℕ → A) (xs ys : List A) (x : A) → xs ≡ list_below n f → ys ≡ xs ++ x ∷ [] → x ≡ f n → ys ≡ list_below (n + 1) f
 push-below n f xs ys x is new here =
@@ -50,11 +37,11 @@ nothing-ahead p plan flows own departures arrivals n m nf mt a b c d = record {
 
 -- a number read from a list of rows, which stand from the last stage but one on down
 pub rows-long : (last n : ℕ) (f : ℕ → ℕ → ℕ) (rows : List (List ℕ)) (s : ℕ) → rows ≡ list_below last (λ k. list_below n (f (last - 1 - k))) → s < last → s < length rows
-rows-long last n f rows s is lt = omega (arith, ap length is, length-below last (λ k. list_below n (f (last - 1 - k))), lt)
+rows-long last n f rows s is lt = omega (arith, ap length is, list_below-length last (λ k. list_below n (f (last - 1 - k))), lt)
 
 row-of : (last n : ℕ) (f : ℕ → ℕ → ℕ) (rows : List (List ℕ)) (s : ℕ) → rows ≡ list_below last (λ k. list_below n (f (last - 1 - k))) → s < last → slice_index_or rows (length rows - 1 - s) [] ≡ list_below n (f s)
 row-of last n f rows s is lt =
-    let count : length rows ≡ last = ap length is ∙ length-below last (λ k. list_below n (f (last - 1 - k))) in
+    let count : length rows ≡ last = ap length is ∙ list_below-length last (λ k. list_below n (f (last - 1 - k))) in
     let turn : length rows - 1 - s < last = omega (arith, count, lt) in
     let back : last - 1 - (length rows - 1 - s) ≡ s = omega (arith, count, lt) in
     read-below last (λ k. list_below n (f (last - 1 - k))) rows (length rows - 1 - s) [] is turn ∙ ap (λ k. list_below n (f k)) back

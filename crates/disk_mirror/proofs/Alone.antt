@@ -1,8 +1,8 @@
 -- Calls of a disk that write nothing, one after the other.
-use Rattle.std.proofs.Common.{◌≡◌, inl, inr, ⊎_elim, arith, ℕ, List, Option, Some, None, refl, sym, ◌∙◌}
-use Rattle.disk_model.specs.Crashes.{IsDurable, Within}
+use Rattle.std.proofs.Common.{inl, inr, ⊎_elim, arith, refl, ◌∙◌}
 use Rattle.disk_model.specs.Effects.{WritesNothing}
 use Rattle.disk_model.specs.Traces.{DiskTrace}
+use Rattle.disk_model.proofs.Durable.{durable_still}
 use Rattle.disk_mirror.specs.Images.{IsLeftAlone}
 
 pub no_call : (old : DiskTrace) → IsLeftAlone old old
@@ -36,13 +36,5 @@ more_calls old mid new first second = record {
         (second.time.nothing_else t c (omega (arith, earlier, first.time.later)) left);
   };
 }
-
--- what was on the disk still is
-pub durable_still : (told told_new : Option (List ℕ)) (left left_new : List ℕ → Type 0) → told_new ≡ told → Within left_new left → IsDurable told left → IsDurable told_new left_new
-durable_still told None left left_new same within durable = tt
-durable_still None (Some all) left left_new same within durable = absurd (cc same)
-durable_still (Some old) (Some all) left left_new same within durable =
-    let is : all ≡ old = cc same in
-    λ c leaves. durable c (within c leaves) ∙ sym is
 
 pub ruleset alone = (no_call, one_call, more_calls, durable_still)

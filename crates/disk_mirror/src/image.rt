@@ -1,6 +1,7 @@
 ghost use Rattle.std.specs.Prelude.{◌≡◌, ◌<◌, ◌≤◌, [], length, IfOk, IfSome, OnOk};
 ghost use Rattle.disk_model.specs.Crashes.{IsDurable};
-ghost use Rattle.disk_mirror.specs.Images.{IsLeftAlone, Reads};
+ghost use Rattle.disk_model.specs.Whole.{Reads};
+ghost use Rattle.disk_mirror.specs.Images.{IsLeftAlone};
 
 use disk_model::Disk;
 use std::alloc::Global;

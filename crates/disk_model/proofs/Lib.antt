@@ -1,8 +1,13 @@
 pub mod Agreeing
+pub mod FirstBytes
 pub mod Parting
 pub mod Logged
 pub mod Passing
+pub mod Pieces
+pub mod Quiet
 pub mod Reaching
 pub mod Running
 pub mod Telling
 pub mod Tearing
+pub mod Durable
+pub mod Tears

@@ -3,7 +3,9 @@ pub mod Effects
 pub mod Logs
 pub mod Memory
 pub mod Moments
+pub mod Numbers
 pub mod Past
 pub mod Places
 pub mod Traces
+pub mod Whole
 pub mod Writes

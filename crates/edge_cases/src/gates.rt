@@ -1,9 +1,10 @@
 //! Ports that answer only while two threads hear at once.
 ghost use Rattle.std.specs.Prelude.{◌≡◌};
 
-use controller_run::{Limits, RolloutEnd, RolloutResult, run_rollout};
+use controller_run::{Limits, RolloutResult, RunEnd, RunOutcome, run_rollout};
 use disk_model::{Disk, MemoryDisk};
 use fixtures::{plan_of_document, two_flows};
+use intent_journal::Unopened;
 use lists::{Memory, Text};
 use lossy_link::{Gate, GatedPort, MemoryFleet};
 use order_policy::Policy;
@@ -69,7 +70,7 @@ fn rolled_out<R: Wait + Threads + Sync>(
     text: &str,
     crew: Workload,
     fleet: &mut MemoryFleet<GatedPort>,
-) -> Result<RolloutEnd, Fail> {
+) -> Result<RunOutcome, Fail> {
     let by_item: Box<dyn Fn(OpView) -> u64 + Send + Sync> = Box::new(
         alloc,
         |view: OpView| -> u64
@@ -88,10 +89,10 @@ fn rolled_by<R: Wait + Threads + Sync>(
     policy: &Policy,
     crew: Workload,
     fleet: &mut MemoryFleet<GatedPort>,
-) -> Result<RolloutEnd, Fail> {
+) -> Result<RunOutcome, Fail> {
     let plan = plan_of_document(alloc, text)?;
     let disk = MemoryDisk::new(alloc, Nums8::new(alloc), Turns::new(alloc));
-    Ok(answer_of(rolled_over(rt, alloc, plan, policy, crew, disk, fleet)))
+    outcome_of(rolled_over(rt, alloc, plan, policy, crew, disk, fleet))
 }
 
 // Over any disk and any fleet.
@@ -103,7 +104,7 @@ fn rolled_over<R: Wait + Threads + Sync, D: Disk + Drop + Send, F: Fleet>(
     crew: Workload,
     disk: D,
     fleet: &mut F,
-) -> RolloutResult<D>
+) -> Result<RolloutResult<D>, Unopened<D>>
 where
     F::Port: Drop + Send,
 {
@@ -115,11 +116,20 @@ where
     run_rollout(rt, alloc, plan, policy, limits, disk, fleet)
 }
 
-// The disk goes.
-fn answer_of<D: Drop>(outcome: RolloutResult<D>) -> RolloutEnd {
-    let RolloutResult { answer, disk } = outcome;
-    drop(disk);
-    answer
+// What the run has come to; the disk goes.
+fn outcome_of<D: Drop>(rolled: Result<RolloutResult<D>, Unopened<D>>) -> Result<RunOutcome, Fail> {
+    match rolled {
+        Ok(rolled) => {
+            let RolloutResult { disk, outcome } = rolled;
+            drop(disk);
+            Ok(outcome)
+        }
+        Err(unopened) => {
+            let Unopened { disk, cause } = unopened;
+            drop(disk);
+            Err(Fail::from(cause))
+        }
+    }
 }
 
 // How a rollout goes over ports of which the two of each of these pairs wait at a gate.
@@ -129,11 +139,11 @@ fn run_at_gates<R: Wait + Threads + Sync>(
     text: &str,
     crew: Workload,
     gates: &[[u32; 2]],
-) -> Result<RolloutEnd, Fail> {
+) -> Result<RunOutcome, Fail> {
     let mut fleet = MemoryFleet::new(alloc);
-    let answer = met_over(rt, alloc, text, crew, gates, &mut fleet);
+    let outcome = met_over(rt, alloc, text, crew, gates, &mut fleet);
     drop(fleet);
-    answer
+    outcome
 }
 
 fn met_over<R: Wait + Threads + Sync>(
@@ -143,7 +153,7 @@ fn met_over<R: Wait + Threads + Sync>(
     crew: Workload,
     gates: &[[u32; 2]],
     fleet: &mut MemoryFleet<GatedPort>,
-) -> Result<RolloutEnd, Fail> {
+) -> Result<RunOutcome, Fail> {
     for gate in gates {
         put_gate(alloc, fleet, *gate)?;
     }
@@ -151,18 +161,18 @@ fn met_over<R: Wait + Threads + Sync>(
 }
 
 // Whether a rollout without a journal has settled so many operations.
-fn has_finished(answer: RolloutEnd, count: u32) -> bool {
-    let has_finished = match answer {
-        RolloutEnd::Finished { operations, found } => operations == count && found == 0,
+fn has_finished(outcome: RunOutcome, count: u32) -> bool {
+    let has_finished = match outcome.end {
+        RunEnd::Finished => outcome.operations == count && outcome.found == 0,
         _ => false,
     };
-    drop(answer);
+    drop(outcome);
     has_finished
 }
 
-fn has_stopped(answer: RolloutEnd) -> bool {
-    let has_stopped = matches!(answer, RolloutEnd::Stopped(..));
-    drop(answer);
+fn has_stopped(outcome: RunOutcome) -> bool {
+    let has_stopped = matches!(outcome.end, RunEnd::Stopped(_));
+    drop(outcome);
     has_stopped
 }
 

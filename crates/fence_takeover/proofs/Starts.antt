@@ -1,23 +1,22 @@
 -- What comes of placing the journal of a takeover, and of its beginning.
-use Rattle.std.proofs.Common.{◌≡◌, ◌<◌, ℕ, Bool, true, false, List, [], length, Result, Ok, Err, refl, sym, ap, ap₂, subst, inr, ◌∙◌}
+use Rattle.std.proofs.Common.{◌≡◌, ℕ, Bool, true, List, [], length, Result, Ok, Err, refl, sym, ap, ap₂, subst, inr, ◌∙◌}
 use Rattle.std.specs.Prelude.{IfErr, IfOk, IsErrOf}
-use Rattle.rollout_rules.specs.History.{History, places_of, settled, started}
+use Rattle.rollout_rules.specs.History.{History, settled, started}
 use Rattle.rollout_rules.specs.Items.{item_count}
 use Rattle.rollout_rules.specs.Legal.{is_sound}
 use Rattle.rollout_rules.specs.Sums.{list_below}
 use Rattle.rollout_rules.specs.Wan.{Rollout}
-use Rattle.rollout_laws.proofs.Contents.{list_below-length}
+use Rattle.rollout_rules.proofs.Rows.{list_below-length}
 use Rattle.wan_edge.specs.Ports.{PortTrace}
 use Rattle.disk_mirror.specs.Openings.{IsTold, Opens, OpensWithin}
 use Rattle.disk_model.specs.Traces.{DiskTrace}
-use Rattle.dependency_graph.specs.FirstFault.{IsFirstFault, TellsSound}
+use Rattle.dependency_graph.specs.FirstFault.{TellsSound}
 use Rattle.dependency_graph.specs.Graph.{Followed}
 use Rattle.dependency_graph.specs.declared.start_fault.StartFault.{StartFault}
 use Rattle.dependency_graph.specs.declared.start_fault.StartFault.TheVariants as fault
 use Rattle.intent_journal.specs.declared.digest.Digest.{Digest}
 use Rattle.intent_journal.specs.declared.fault.JournalFault.{JournalFault}
 use Rattle.intent_journal.specs.declared.fault.JournalFault.TheVariants.{Memory}
-use Rattle.intent_journal.specs.Parts.{Kept}
 use Rattle.intent_journal.specs.Phases.{kept_of}
 use Rattle.intent_journal.specs.Placements.{placed_kept, settled_numbers}
 use Rattle.switch_ports.specs.Berths.{FleetPorts}
@@ -25,7 +24,7 @@ use Rattle.rollout_report.specs.Journals.{digest_for}
 use Rattle.rollback_service.specs.Placings.{HasPlaced, IsNotPlaced, MayPlace}
 use Rattle.rollback_service.proofs.Placings.{never-placed, not-placed, settled-start}
 use Rattle.held_service.specs.Noting.{noted_at}
-use Rattle.fence_takeover.specs.Fences.{Fences, IsFencedOff}
+use Rattle.fence_takeover.specs.Fences.{IsFencedOff}
 use Rattle.fence_takeover.specs.Starts.{number_in}
 use Rattle.fence_takeover.specs.declared.end.FenceEnd.{FenceEnd}
 use Rattle.fence_takeover.specs.Beginnings.{AnswerOf, Begins, BeginsAt, OpensAt, PlacesAt, taken_kept}

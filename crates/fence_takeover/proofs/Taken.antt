@@ -1,18 +1,18 @@
 -- What may be taken over of a pair, and of pairs in a row.
-use Rattle.std.proofs.Common.{◌≡◌, ℕ, ◌+◌, ◌<◌, ◌≤◌, ◌==◌, List, [], ◌∷◌, ◌++◌, Some, Option, refl, sym, ap, ap₂, subst, ◌∙◌, inl, inr, ne_eqb, eq-eqb, arith}
+use Rattle.std.proofs.Common.{◌≡◌, ℕ, ◌+◌, ◌<◌, ◌==◌, List, [], ◌∷◌, ◌++◌, Some, refl, sym, ap, ap₂, subst, ◌∙◌, inl, inr, ne_eqb, eq-eqb, arith}
 use Rattle.std.proofs.lemmas.Bool.{cases_lt, cond-false, cond-true}
 use Rattle.rollout_rules.specs.Agent.{pair_of}
 use Rattle.rollout_rules.specs.Items.{item_count}
 use Rattle.rollout_rules.specs.Sums.{list_below}
 use Rattle.rollout_rules.specs.Wan.{Plan, Problem}
 use Rattle.rollout_rules.specs.declared.held.Held.{Held}
-use Rattle.shared_book.proofs.HomeRows.{below-more}
 use Rattle.held_service.specs.HeldText.{operations_of}
 use Rattle.held_service.specs.Noting.{Notes, noted_at}
 use Rattle.fence_takeover.specs.Starts.{IsTaken, MayBeTaken, TakesOne, number_in}
 use Rattle.fence_takeover.specs.declared.end.FenceEnd.{FenceEnd}
 use Rattle.fence_takeover.specs.declared.end.FenceEnd.TheVariants as fence
-use Rattle.std.specs.Prelude.{Result, Ok, Err}
+use Rattle.std.specs.Prelude.{Ok, Err}
+use Rattle.rollout_rules.proofs.Rows.{list_below-more}
 
 module _ (migration item count : ℕ) (held : Held) where
   pub of_later : migration < held.migration → TakesOne migration item count (Some held) (Err (fence.Later item held.migration))
@@ -53,7 +53,7 @@ module _ (p : Problem) (plan : Plan) (migration : ℕ) (notes : Notes) where
   pub start-more : (count number : ℕ) (start start_now : List ℕ) → start ≡ list_below count (λ n. number_in migration (noted_at notes n)) → number ≡ number_in migration (noted_at notes count) → start_now ≡ start ++ number ∷ []
       → start_now ≡ list_below (count + 1) (λ n. number_in migration (noted_at notes n))
   start-more count number start start_now so_far one is =
-      is ∙ ap₂ (λ (xs : List ℕ) (x : ℕ). xs ++ x ∷ []) so_far one ∙ sym (below-more count (λ n. number_in migration (noted_at notes n)))
+      is ∙ ap₂ (λ (xs : List ℕ) (x : ℕ). xs ++ x ∷ []) so_far one ∙ sym (list_below-more count (λ n. number_in migration (noted_at notes n)))
 
   pub all-taken : (count : ℕ) (start : List ℕ) → count ≡ item_count p → start ≡ list_below count (λ n. number_in migration (noted_at notes n)) → MayAllBeTaken p plan migration notes count → IsTaken p plan migration notes start
   all-taken count start end start_is all = record {

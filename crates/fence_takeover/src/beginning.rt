@@ -6,6 +6,7 @@ ghost use Rattle.rollout_rules.specs.Wan.{Rollout};
 ghost use Rattle.rollout_report.specs.Journals.{digest_for};
 ghost use Rattle.switch_ports.specs.Berths.{ports_of};
 ghost use Rattle.wan_edge.specs.Streams.{Rose};
+ghost use Rattle.wan_edge.specs.Fleets.{GuestsStay};
 ghost use Rattle.fence_takeover.specs.declared.end.FenceEnd.TheVariants as fenced;
 ghost use Rattle.fence_takeover.specs.declared.begun.NotBegun.TheVariants as why;
 ghost use Rattle.fence_takeover.specs.Beginnings.{AnswerOf, Begins, BeginsAt, OpensAt, PlacesAt};
@@ -50,15 +51,12 @@ pub fn begin_takeover<F: Fleet + OneTerm, D: Openable>(
     disk: D,
 ) -> Begun<D>
     ensures begins { Begins result.answer F.Port.told D.told plan migration rounds room
-        (ports_of F.waiting F.kept F.lent F.named fleet.old)
-        (ports_of F.waiting F.kept F.lent F.named fleet.new) disk result.disk }
-    ensures guests { (F.coming fleet.new ≡ F.coming fleet.old)
-        × (F.served fleet.new ≡ F.served fleet.old)
-        × (F.visiting fleet.new ≡ F.visiting fleet.old) }
+        (ports_of (F.told fleet.old)) (ports_of (F.told fleet.new)) disk result.disk }
+    ensures guests { GuestsStay (F.told fleet.old) (F.told fleet.new) }
     ensures cause { (r : Rollout) (w : ℕ)
         → IsErrOf result.answer (why.Fence r (fenced.NoPort w))
-        → Rose (F.faults fleet.old) (F.faults fleet.new) }
-    ensures count { F.faults fleet.old ≤ F.faults fleet.new }
+        → Rose (F.told fleet.old).faults (F.told fleet.new).faults }
+    ensures count { (F.told fleet.old).faults ≤ (F.told fleet.new).faults }
 {
     match fence(alloc, fleet, &plan, migration, rounds) {
         Ok(start) => begin_at(alloc, plan, migration, start, room, disk),

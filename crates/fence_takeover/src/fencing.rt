@@ -1,6 +1,7 @@
-ghost use Rattle.std.specs.Prelude.{◌≡◌, ℕ, ◌≤◌, IsErrOf};
+ghost use Rattle.std.specs.Prelude.{ℕ, ◌≤◌, IsErrOf};
 ghost use Rattle.switch_ports.specs.Berths.{ports_of};
 ghost use Rattle.wan_edge.specs.Streams.{Rose};
+ghost use Rattle.wan_edge.specs.Fleets.{GuestsStay};
 ghost use Rattle.fence_takeover.specs.Fences.{Fences};
 
 use crate::FenceEnd;
@@ -39,15 +40,12 @@ pub fn fence<F: Fleet>(
     rounds: u32,
 ) -> Result<Ids, FenceEnd>
     ensures fences { Fences result F.Port.told plan.now.problem plan.now.plan migration rounds
-        (ports_of F.waiting F.kept F.lent F.named fleet.old)
-        (ports_of F.waiting F.kept F.lent F.named fleet.new) }
-    ensures guests { (F.coming fleet.new ≡ F.coming fleet.old)
-        × (F.served fleet.new ≡ F.served fleet.old)
-        × (F.visiting fleet.new ≡ F.visiting fleet.old) }
+        (ports_of (F.told fleet.old)) (ports_of (F.told fleet.new)) }
+    ensures guests { GuestsStay (F.told fleet.old) (F.told fleet.new) }
     ensures cause { (w : ℕ)
         → IsErrOf result (FenceEnd.NoPort w)
-        → Rose (F.faults fleet.old) (F.faults fleet.new) }
-    ensures count { F.faults fleet.old ≤ F.faults fleet.new }
+        → Rose (F.told fleet.old).faults (F.told fleet.new).faults }
+    ensures count { (F.told fleet.old).faults ≤ (F.told fleet.new).faults }
 {
     match held_pairs(alloc, plan, migration, rounds, fleet) {
         Ok(pairs) => taken_start(alloc, plan, migration, pairs.as_slice()),

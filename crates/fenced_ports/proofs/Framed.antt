@@ -1,17 +1,18 @@
 -- What commands in a row come to, each with a term in front.
-use Rattle.std.proofs.Common.{◌≡◌, ℕ, zero, suc, ◌+◌, ◌-◌, ◌≤◌, List, [], ◌∷◌, ◌++◌, length, take, drop, Option, Some, Result, Ok, Err, IsErrAnd, refl, sym, ap, subst, ◌∙◌, append_assoc, append-nil, arith}
+use Rattle.std.proofs.Common.{◌≡◌, ℕ, ◌+◌, ◌-◌, ◌≤◌, List, [], ◌∷◌, ◌++◌, length, take, drop, Option, Some, Result, Ok, Err, IsErrAnd, refl, sym, ap, subst, ◌∙◌, append_assoc, append-nil, arith}
 use Rattle.std.specs.Prelude.{OnErr}
 use Rattle.std.proofs.Math.Seq.{take-add}
 use Rattle.std.proofs.lemmas.List.{take_all}
 use Rattle.std.proofs.lemmas.List.Elements.{All-append, All-nil}
 use Rattle.std.proofs.lemmas.Grind.{flat_map-append}
-use Rattle.std.specs.List.{All, flat_map}
+use Rattle.std.specs.List.{flat_map}
 use Rattle.wan_edge.specs.Frames.{CommandFrame, IsCommand, Splits, command_bytes}
 use Rattle.wan_edge.specs.Ports.{AppendsFront}
 use Rattle.wan_edge.specs.Streams.{Appends}
 use Rattle.wan_edge.proofs.Chains.{Appends-nothing}
 use Rattle.wire_frames.specs.Reading.{Ends as EndsFrame, Gives, GoesOn, IsCommandFault, Reader}
 use Rattle.port_session.proofs.Chaining.{rest_on}
+use Rattle.switch_agent.proofs.Chains.{one}
 use Rattle.fenced_agent.specs.Frames.{fence_bytes}
 use Rattle.fenced_ports.specs.Framing.{Frames, Framing, Sends, SendsFront, with_term, with_terms}
 
@@ -25,10 +26,6 @@ pub one_added : (term : ℕ) (c : CommandFrame) (before mid now : List ℕ) → 
 one_added term c before mid now head is =
     is ∙ ap (λ (xs : List ℕ). xs ++ command_bytes c) head ∙ append_assoc before (fence_bytes (Some term)) (command_bytes c)
     ∙ ap (λ (xs : List ℕ). before ++ xs) (sym (append-nil (with_term term c)))
-
-one : (c : CommandFrame) → IsCommand c → All IsCommand (c ∷ [])
-one c fits zero d inside = fits
-one c fits (suc k) d inside = absurd (omega arith)
 
 module _ (term : ℕ) (kept piece out : List ℕ) (n : ℕ) (now : Reader) where
   -- all of the piece was taken, and it ends no command

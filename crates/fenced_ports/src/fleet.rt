@@ -57,21 +57,16 @@ impl<F: Fleet> Fleet for FencedFleet<F> {
 
     type Guest = F::Guest;
 
-    ghost waiting = { λ _. None };
-
-    ghost coming = { λ f. F.coming f.fleet };
-
-    ghost kept = { λ f. kept_in f.loans };
-
-    ghost served = { λ f. F.served f.fleet };
-
-    ghost lent = { λ f. F.lent f.fleet };
-
-    ghost named = { λ f. F.named f.fleet };
-
-    ghost visiting = { λ f. F.visiting f.fleet };
-
-    ghost faults = { λ f. F.faults f.fleet };
+    ghost told = { λ f. record {
+      waiting = None;
+      coming = (F.told f.fleet).coming;
+      kept = kept_in f.loans;
+      served = (F.told f.fleet).served;
+      lent = (F.told f.fleet).lent;
+      named = (F.told f.fleet).named;
+      visiting = (F.told f.fleet).visiting;
+      faults = (F.told f.fleet).faults;
+    } };
 
     #[tactic(auto, using(crate::proofs::Lending::gives_new))]
     fn port(&mut self, switch: u32, name: &str) -> Result<FencedPort<F::Port>, Failed> {

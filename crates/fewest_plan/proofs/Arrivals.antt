@@ -2,8 +2,8 @@
 use Rattle.std.proofs.Common.{◌≡◌, ℕ, zero, suc, ◌+◌, ◌-◌, ◌<◌, true, false, List, [], ◌∷◌, ◌++◌, length, Option, Some, None, option_map, refl, sym, ap, ap₂, ◌∙◌, inl, inr, subst, add-one, arith}
 use Rattle.std.proofs.lemmas.Bool.{cases_lt}
 use Rattle.std.proofs.lemmas.List.{length-replicate, get_or-replicate}
-use Rattle.rollout_rules.specs.Sums.{list_below}
 use Rattle.rollout_rules.specs.Wan.{Problem, Plan}
+use Rattle.rollout_rules.proofs.Rows.{list_below-more}
 use Rattle.plan_check.specs.First.{first_of, first_below, provided}
 use Rattle.plan_check.proofs.Firsts.{first_below_stops, first_below_none}
 use Rattle.plan_choose.specs.Choice.{Choice, where_valid}
@@ -21,9 +21,6 @@ at_first-are p d = record {
 none-below : {A : Type 0} (f : ℕ → Option A) (n : ℕ) → ((k : ℕ) → k < n → f k ≡ None) → first_below n f ≡ None
 none-below f zero e = refl
 none-below f (suc n) e = ap (λ o. first_of o (f n)) (none-below f n (λ k lt. e k (omega arith))) ∙ e n (omega arith)
-
-below-more : {A : Type 0} (n : ℕ) (f : ℕ → A) → list_below (n + 1) f ≡ list_below n f ++ f n ∷ []
-below-more n f = rw add-one refl
 
 first-more : {A : Type 0} (n : ℕ) (f : ℕ → Option A) → first_below n f ≡ None → f n ≡ None → first_below (n + 1) f ≡ None
 first-more n f none e = rw add-one (ap (λ o. first_of o (f n)) none ∙ e)
@@ -71,7 +68,7 @@ module _ (p : Problem) (d : ℕ) (order : List ℕ) where
         rows_are =
             later_is
             ∙ ap₂ (λ rs r. rs ++ r ∷ []) so.rows_are (row_is ∙ ap (row_after p d) after-is)
-            ∙ sym (below-more n (λ k. row_after p d (shares_after p d order (k + 1))));
+            ∙ sym (list_below-more n (λ k. row_after p d (shares_after p d order (k + 1))));
         none = first-more n (arrives p d order) so.none (not_arrived n after after-is e);
         are = are;
       }

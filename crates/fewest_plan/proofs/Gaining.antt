@@ -7,7 +7,8 @@ use Rattle.std.proofs.lemmas.List.{length-append, get_or_append_left, get_or-app
 use Rattle.rollout_rules.specs.Sums.{sum_below, list_below}
 use Rattle.rollout_rules.specs.Wan.{Problem, flow_at}
 use Rattle.rollout_rules.proofs.Below.{sum_below-same, sum_below-split, sum_below-zero, sum_below-but}
-use Rattle.plan_check.proofs.Rows.{list_below-length, list_below-at, list_below-from}
+use Rattle.rollout_rules.proofs.Rows.{list_below-length}
+use Rattle.plan_check.proofs.Rows.{list_below-at, list_below-from}
 use Rattle.plan_check.proofs.Shares.{AreSums}
 use Rattle.fewest_plan.specs.declared.gain.Gain.{Gain}
 use Rattle.fewest_plan.specs.Growth.{part_at, growth, growths, all_gains, gain_on, gains_in, gains_of, gain_at, no_gain, IsGain, AreGains, gained}

@@ -2,6 +2,7 @@
 use Rattle.std.proofs.Common.{◌≡◌, ℕ, zero, suc, ◌+◌, ◌-◌, ◌*◌, ◌<◌, ◌≤◌, max, Bool, true, false, List, length, slice_index, slice_set, ◌==◌, if◌then◌else◌, refl, sym, ap, ◌∙◌, inl, inr, arith, eq-eqb, ne_eqb}
 use Rattle.std.proofs.lemmas.Bool.{cases_eq, cases_lt}
 use Rattle.std.proofs.lemmas.List.{get_or-set_same, get_or-set_other}
+use Rattle.lists.proofs.Conditions.{counted_if, uncounted_if}
 use Rattle.rollout_rules.specs.Sums.{sum_below}
 use Rattle.rollout_rules.specs.Wan.{Problem, Tunnel, tunnel_at, tunnel_of, crosses, old_rate, new_rate}
 use Rattle.rollout_rules.specs.Network.{IsNetwork}
@@ -14,11 +15,6 @@ use Rattle.fewest_plan.specs.Growth.{gain, growth}
 use Rattle.fewest_plan.specs.Greedy.{rate_after, top}
 
 -- ---- the sum of one flow's tunnels, taken over all tunnels
-picked : (b : Bool) (x : ℕ) → b ≡ true → (if b then x else 0) ≡ x
-picked b x e = rw e refl
-
-dropped : (b : Bool) (x : ℕ) → b ≡ false → (if b then x else 0) ≡ 0
-dropped b x e = rw e refl
 
 module _ (p : Problem) (f : ℕ) (g : ℕ → ℕ) (net : IsNetwork p) (lt : f < length p.flows) where
   abbrev of_flow : ℕ → ℕ
@@ -29,11 +25,11 @@ module _ (p : Problem) (f : ℕ) (g : ℕ → ℕ) (net : IsNetwork p) (lt : f <
 
   own : in_row f ≡ sum_below (tunnels_of p f) (λ j. g (tunnel_of p f j))
   own = sum_below-same (tunnels_of p f) (λ j. of_flow (tunnel_of p f j)) (λ j. g (tunnel_of p f j))
-      (λ j few. picked ((tunnel_at p (tunnel_of p f j)).flow == f) (g (tunnel_of p f j)) (eq-eqb (tunnel_at p (tunnel_of p f j)).flow f (flow-tunnel_of p f j net lt few)))
+      (λ j few. counted_if ((tunnel_at p (tunnel_of p f j)).flow == f) (g (tunnel_of p f j)) (eq-eqb (tunnel_at p (tunnel_of p f j)).flow f (flow-tunnel_of p f j net lt few)))
 
   others : (h : ℕ) → h < length p.flows → (h ≡ f → ⊥) → in_row h ≡ 0
   others h inside other = sum_below-zero (tunnels_of p h) (λ j. of_flow (tunnel_of p h j))
-      (λ j few. dropped ((tunnel_at p (tunnel_of p h j)).flow == f) (g (tunnel_of p h j))
+      (λ j few. uncounted_if ((tunnel_at p (tunnel_of p h j)).flow == f) (g (tunnel_of p h j))
       (ne_eqb (tunnel_at p (tunnel_of p h j)).flow f (λ e. other (sym (flow-tunnel_of p h j net inside few) ∙ e))))
 
   sum-of_flow : sum_below (length p.tunnels) of_flow ≡ sum_below (tunnels_of p f) (λ j. g (tunnel_of p f j))

@@ -2,11 +2,12 @@
 use Rattle.std.proofs.Common.{◌≡◌, ℕ, ◌<◌, Bool, true, false, List, length, slice_index, Option, Some, None, unwrap_or, refl, ap, ap₂, ◌∙◌, arith}
 use Rattle.rollout_rules.specs.Sums.{list_below}
 use Rattle.rollout_rules.specs.Wan.{Problem}
+use Rattle.rollout_rules.proofs.Rows.{list_below-length}
 use Rattle.wan_model.specs.declared.side.Side.{Side}
 use Rattle.wan_model.specs.declared.side.Side.TheVariants.{Old, New}
 use Rattle.plan_check.specs.First.{first_below, provided}
 use Rattle.plan_check.proofs.Firsts.{first_below_some}
-use Rattle.plan_check.proofs.Rows.{list_below-length, list_below-at}
+use Rattle.plan_check.proofs.Rows.{list_below-at}
 use Rattle.fewest_plan.specs.Greedy.{IsOrder}
 use Rattle.fewest_plan.specs.Marked.{borne}
 use Rattle.fewest_plan.specs.Relief.{fullest, rank, ranks, has_rank, of_rank, by_loads, by_relief}

@@ -2,6 +2,8 @@
 use Rattle.std.proofs.Common.{◌≡◌, ◌⊎◌, ℕ, zero, suc, ◌+◌, ◌*◌, ◌<◌, ◌≤◌, min, Bool, true, false, not, ◌&&◌, ◌||◌, List, length, ◌==◌, if◌then◌else◌, Some, nat_le, refl, sym, ap, ◌∙◌, inl, inr, arith, leb-true, eqb-true, eq-eqb}
 use Rattle.std.proofs.lemmas.Bool.{cases_lt, and_parts}
 use Rattle.std.proofs.Math.Nat.{mul-le-mul_left, mul-le-mul_right, le_of_mul-le-mul_right}
+use Rattle.lists.proofs.Conditions.{not_both}
+use Rattle.lists.proofs.Numbers.{at_most_through}
 use Rattle.rollout_rules.specs.declared.limits.TheConstants.{MOST_STAGES, LARGEST_SCALE, MOST_HOPS}
 use Rattle.rollout_rules.specs.Sums.{sum_below, all_below}
 use Rattle.rollout_rules.specs.Wan.{Problem, Plan, tunnel_at, link_at, tunnel_of, old_rate, new_rate, crosses, stage_at, rate_at, last_stage, next_stage}
@@ -57,8 +59,6 @@ valid-kept p plan net valid =
     }
 
 -- ---- numbers
-through : (a b c : ℕ) → a ≤ b → b ≤ c → a ≤ c
-through a b c x y = omega arith
 
 joined : (a b c d : ℕ) → a ≡ b → b ≤ c → c ≡ d → a ≤ d
 joined a b c d x y z = omega arith
@@ -109,7 +109,7 @@ module _ (p : Problem) (plan : Plan) (marks : List Bool) (net : IsNetwork p) (is
       let least = least_crossed p marks f in
       let low = least-kept least (flow_total p (λ t. old_rate (tunnel_at p t)) f) (flow_total p (λ t. new_rate (tunnel_at p t)) f) plan.scale (flow_total p (rate_at plan s) f) (is.totals s f most inside) in
       let each = times-least (tunnels_of p f) least (λ j. rate_at plan s (tunnel_of p f j)) (λ j. often (tunnel_of p f j)) (λ j lt. least_below-at (tunnels_of p f) MOST_HOPS (λ i. crossed p marks (tunnel_of p f i)) j lt) in
-      through (kept_by p marks f * plan.scale) (least * flow_total p (rate_at plan s) f) (sum_below (tunnels_of p f) (λ j. rate_at plan s (tunnel_of p f j) * often (tunnel_of p f j))) low each
+      at_most_through (kept_by p marks f * plan.scale) (least * flow_total p (rate_at plan s) f) (sum_below (tunnels_of p f) (λ j. rate_at plan s (tunnel_of p f j) * often (tunnel_of p f j))) low each
 
   keeps : (s : ℕ) → s ≤ last_stage plan → kept p marks * plan.scale ≤ taken s
   keeps s most =
@@ -137,8 +137,8 @@ module _ (p : Problem) (plan : Plan) (marks : List Bool) (net : IsNetwork p) (is
 
     fills : (s r : ℕ) → s ≤ last_stage plan → r ≤ last_stage plan → sum_below (length p.tunnels) (λ u. greater_rate plan s u * often u) ≤ taken r
     fills s r most other =
-        through (sum_below (length p.tunnels) (λ u. greater_rate plan s u * often u)) (room p marks * plan.scale) (taken r) (steps s most)
-        (through (room p marks * plan.scale) (kept p marks * plan.scale) (taken r) tight (keeps r other))
+        at_most_through (sum_below (length p.tunnels) (λ u. greater_rate plan s u * often u)) (room p marks * plan.scale) (taken r) (steps s most)
+        (at_most_through (room p marks * plan.scale) (kept p marks * plan.scale) (taken r) tight (keeps r other))
 
     -- both ends of a step load them with as much as it may take, tunnel by tunnel
     begins : (s t : ℕ) → s ≤ last_stage plan → t < length p.tunnels → greater_rate plan s t * often t ≡ rate_at plan s t * often t
@@ -172,16 +172,13 @@ moves-parts : (a b : Bool) → (not a || b) ≡ false → (a ≡ true) × (b ≡
 moves-parts true b e = (refl, e)
 moves-parts false b e = cc
 
-true-false : (b : Bool) → b ≡ true → b ≡ false → ⊥
-true-false b t f = cc
-
 pub full-none : (p : Problem) (marks : List Bool) (l : ℕ) → IsNetwork p → stay_full p marks ≡ true → is_marked marks l ≡ true → rests p l ≡ false → (plan : Plan) → is_valid_plan p plan ≡ true → ⊥
 full-none p marks l net full mark moves plan valid =
     let there = all_below-fails (length p.tunnels) (rests_at p l) moves in
     let t = there.0 in
     let parts = moves-parts (crosses p t l) (old_rate (tunnel_at p t) == new_rate (tunnel_at p t)) there.2 in
     let same = keeps-rate p plan marks net (valid-kept p plan net valid) full t there.1 (crossed-some p marks t l mark parts.0) in
-    true-false (old_rate (tunnel_at p t) == new_rate (tunnel_at p t)) (eq-eqb (old_rate (tunnel_at p t)) (new_rate (tunnel_at p t)) same) parts.1
+    not_both (old_rate (tunnel_at p t) == new_rate (tunnel_at p t)) (eq-eqb (old_rate (tunnel_at p t)) (new_rate (tunnel_at p t)) same) parts.1
 
 -- ---- by the weights that are tried
 or-first : (a b c : Bool) → (a || b || c) ≡ true → (a ≡ true) ⊎ ((b ≡ true) ⊎ (c ≡ true))

@@ -1,6 +1,6 @@
 -- The flows of an order, tried one after another.
 use Rattle.std.proofs.Common.{◌≡◌, ℕ, zero, suc, ◌+◌, ◌-◌, ◌*◌, ◌^◌, ◌<◌, ◌≤◌, max, Bool, true, false, List, length, slice_index, slice_set, if◌then◌else◌, refl, sym, ap, ap₂, ◌∙◌, inl, inr, subst, add-one, arith}
-use Rattle.std.specs.Prelude.{◌/◌, Option, Some, None, unwrap_or}
+use Rattle.std.specs.Prelude.{◌/◌}
 use Rattle.std.proofs.Math.Nat.{mul-div-le, mul-le-mul_left}
 use Rattle.std.proofs.lemmas.Bool.{cases_eq}
 use Rattle.std.proofs.lemmas.Nat.{mul-le}
@@ -8,12 +8,14 @@ use Rattle.std.proofs.lemmas.List.{get_or-set_same, get_or-set_other, length-set
 use Rattle.rollout_rules.specs.declared.limits.TheConstants.{LARGEST_RATE, LARGEST_SCALE, LARGEST_CAPACITY, MOST_TUNNELS}
 use Rattle.rollout_rules.specs.Sums.{sum_below}
 use Rattle.rollout_rules.specs.Wan.{Problem, Tunnel, tunnel_at, link_at, crosses, old_rate, new_rate}
-use Rattle.rollout_rules.specs.Network.{IsNetwork, IsRate}
+use Rattle.rollout_rules.specs.Network.{IsNetwork}
 use Rattle.rollout_rules.proofs.Below.{sum_below-same, least_below-top, least_below-at}
+use Rattle.rollout_rules.proofs.Rows.{list_below-length}
 use Rattle.plan_check.specs.Parts.{GrownBy, rate_share}
 use Rattle.plan_check.proofs.Shares.{AreSums}
-use Rattle.plan_check.proofs.Rows.{list_below-length, list_below-at, list_below-from}
+use Rattle.plan_check.proofs.Rows.{list_below-at, list_below-from}
 use Rattle.scratch_plan.specs.Scratch.{blended}
+use Rattle.scratch_plan.proofs.Rates.{rate_within}
 use Rattle.fewest_plan.specs.declared.gain.Gain.{Gain}
 use Rattle.fewest_plan.specs.Growth.{gains_of, gain_at, gained, AreGains}
 use Rattle.fewest_plan.specs.Greedy.{rate_after, top, tops, lets, reach, far, moved, tried, step, AreShares}
@@ -35,9 +37,6 @@ reach-fits p d sums gains left i net are small lt =
     omega (arith, within g.growth ((link_at p g.link).capacity * d) ((link_at p g.link).capacity * d - slice_index sums g.link) (reach p d sums gains left) at (omega arith), capacity)
 
 -- ---- how large a top gets
-rate_most : (r : Option ℕ) → IsRate r → unwrap_or r 0 ≤ LARGEST_RATE
-rate_most None is = omega arith
-rate_most (Some n) is = omega (arith, is)
 
 pub blended-most : (d a : ℕ) (row : Tunnel) → a ≤ d → old_rate row ≤ LARGEST_RATE → new_rate row ≤ LARGEST_RATE → blended d a row ≤ d * LARGEST_RATE
 blended-most d a row le old new =
@@ -49,7 +48,7 @@ module _ (p : Problem) (d : ℕ) (net : IsNetwork p) where
   pub rate_after-most : (shares : List ℕ) (t : ℕ) → AreShares p d shares → t < length p.tunnels → rate_after p d shares t ≤ d * LARGEST_RATE
   rate_after-most shares t are lt =
       blended-most d (slice_index shares (tunnel_at p t).flow) (tunnel_at p t) (are.most (tunnel_at p t).flow (net.tunnels t lt).flow)
-      (rate_most (tunnel_at p t).old (net.tunnels t lt).old) (rate_most (tunnel_at p t).new (net.tunnels t lt).new)
+      (rate_within (tunnel_at p t).old (net.tunnels t lt).old) (rate_within (tunnel_at p t).new (net.tunnels t lt).new)
 
   share_most : (b : Bool) (x most : ℕ) → x ≤ most → (if b then x else 0) ≤ most
   share_most true x most le = le

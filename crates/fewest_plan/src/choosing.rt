@@ -1,5 +1,6 @@
 ghost use Rattle.std.specs.Prelude.{◌≡◌, ◌≤◌, Ok, Err, IfOk, IsTrue};
 ghost use Rattle.rollout_rules.specs.Valid.{is_valid_plan};
+ghost use Rattle.plan_check.specs.SplitLoads.{AreSplitLoads};
 ghost use Rattle.fewest_plan.specs.Fewest as spec;
 ghost use Rattle.fewest_plan.specs.Found.{Answers, IsFewest};
 ghost use Rattle.fewest_plan.specs.Stuck.{stuck_link};
@@ -7,8 +8,8 @@ ghost use Rattle.fewest_plan.specs.Stuck.{stuck_link};
 use crate::cause::{Cause, NotFound};
 use crate::rule::by_rule;
 use crate::stuck::stuck_link;
-use plan_check::least_slack;
-use plan_choose::{Chosen, Planned, plan_for};
+use plan_check::{SplitLoads, slack_over};
+use plan_choose::{Chosen, Planned, plan_over};
 use scratch_plan::NoPlan;
 use std::alloc::Global;
 use wan_model::{CheckedPlan, Problem};
@@ -33,18 +34,24 @@ fn fewest_for(alloc: Global, problem: &Problem) -> Result<Planned, Cause>
     ensures value { Answers result (spec.fewest problem.now) }
     ensures valid { IfOk result (λ found. IsTrue (is_valid_plan problem.now found.plan)) }
 {
-    match plan_for(alloc, problem) {
-        Ok(chosen) => beside(alloc, problem, chosen),
+    let loads = SplitLoads::of(alloc, problem)?;
+    match plan_over(alloc, problem, &loads) {
+        Ok(chosen) => beside(alloc, problem, &loads, chosen),
         Err(cause) => in_place(alloc, problem, cause),
     }
 }
 
 // The plan of the rule, where it may take the place of what is chosen.
-fn beside(alloc: Global, problem: &Problem, chosen: Planned) -> Result<Planned, Cause>
+fn beside(
+    alloc: Global,
+    problem: &Problem,
+    loads: &SplitLoads,
+    chosen: Planned,
+) -> Result<Planned, Cause>
+    requires { AreSplitLoads problem.now loads.now }
     ensures { Answers result (Ok (spec.beside problem.now chosen)) }
 {
-    let slack = least_slack(alloc, problem)?;
-    let room = room_beside(slack, chosen.rate_steps);
+    let room = room_beside(slack_over(problem, loads), chosen.rate_steps);
     let found = by_rule(alloc, problem, room)?;
     match found {
         Some(better) => Ok(better),

@@ -1,25 +1,8 @@
-ghost use Rattle.std.specs.Prelude.{◌≡◌, ℕ, ◌+◌, ◌*◌, ◌<◌, ◌≤◌, length, slice_index, if◌then◌else◌, IfOk};
+ghost use Rattle.std.specs.Prelude.{◌≡◌, ℕ, ◌+◌, ◌*◌, ◌<◌, ◌≤◌, length, slice_index, if◌then◌else◌};
 ghost use Rattle.rollout_rules.specs.declared.limits.TheConstants.{LARGEST_RATE, MOST_HOPS};
-ghost use Rattle.rollout_rules.specs.Network.{IsNetwork};
-ghost use Rattle.plan_check.specs.LeastSlack.{AreLoads};
 ghost use Rattle.fewest_plan.specs.Marked as spec;
 
-use lists::{Memory, Nums};
-use plan_check::loads;
-use std::alloc::Global;
 use wan_model::{Problem, Side};
-
-/// The loads of a split.
-pub(crate) fn loads_on(alloc: Global, problem: &Problem, side: Side) -> Result<Nums, Memory>
-    ensures loads { IfOk result (λ sums. AreLoads side problem.now sums) }
-    ensures network { IsNetwork problem.now }
-{
-    let mut rates = Nums::new(alloc);
-    for t in 0..problem.tunnels().len() {
-        rates.push(problem.rate_on(side, t).unwrap_or(0))?;
-    }
-    loads(alloc, problem, rates.as_slice())
-}
 
 /// What a flow loads the marked links with in a split.
 pub(crate) fn borne(problem: &Problem, marks: &[bool], side: Side, f: usize) -> u64

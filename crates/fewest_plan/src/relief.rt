@@ -9,8 +9,9 @@ ghost use Rattle.fewest_plan.specs.Greedy.{IsOrder};
 ghost use Rattle.fewest_plan.specs.Marked as marked;
 ghost use Rattle.fewest_plan.specs.Relief as spec;
 
-use crate::marked::{borne, loads_on, one_where};
+use crate::marked::{borne, one_where};
 use lists::{Ids, Marks, Memory, Nums};
+use plan_check::SplitLoads;
 use std::alloc::Global;
 use wan_model::{Problem, Side};
 
@@ -43,9 +44,8 @@ fn fullest(alloc: Global, problem: &Problem) -> Result<Marks, Memory>
     ensures value { IfOk result (λ marks. marks ≡ spec.fullest problem.now) }
     ensures network { IsNetwork problem.now }
 {
-    let old = loads_on(alloc, problem, Side::Old)?;
-    let new = loads_on(alloc, problem, Side::New)?;
-    fullest_by(alloc, problem, old.as_slice(), new.as_slice())
+    let loads = SplitLoads::of(alloc, problem)?;
+    fullest_by(alloc, problem, loads.old.as_slice(), loads.new.as_slice())
 }
 
 fn fullest_by(alloc: Global, problem: &Problem, old: &[u64], new: &[u64]) -> Result<Marks, Memory>

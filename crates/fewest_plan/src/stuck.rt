@@ -5,11 +5,12 @@ ghost use Rattle.wan_model.specs.declared.side.Side.TheVariants.{Old, New};
 ghost use Rattle.plan_check.specs.LeastSlack.{AreLoads};
 ghost use Rattle.fewest_plan.specs.Stuck as spec;
 
-use crate::marked::{count_crossed, loads_on};
+use crate::marked::count_crossed;
 use lists::{Marks, Memory};
+use plan_check::SplitLoads;
 use rollout_rules::MOST_HOPS;
 use std::alloc::Global;
-use wan_model::{Problem, Side};
+use wan_model::Problem;
 
 /// The links that have a weight of 1 in a test of a link; the others have none.
 #[derive(Clone, Copy, Debug, PartialEq, Eq)]
@@ -27,9 +28,8 @@ pub(crate) enum Weight {
 pub(crate) fn stuck_link(alloc: Global, problem: &Problem) -> Result<Option<u32>, Memory>
     ensures { IfOk result (λ link. link ≡ spec.stuck_link problem.now) }
 {
-    let old = loads_on(alloc, problem, Side::Old)?;
-    let new = loads_on(alloc, problem, Side::New)?;
-    first_stuck(alloc, problem, old.as_slice(), new.as_slice())
+    let loads = SplitLoads::of(alloc, problem)?;
+    first_stuck(alloc, problem, loads.old.as_slice(), loads.new.as_slice())
 }
 
 fn first_stuck(

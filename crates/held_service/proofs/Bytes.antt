@@ -1,12 +1,13 @@
 -- Bytes of questions and of answers, piece by piece.
-use Rattle.std.proofs.Common.{◌≡◌, ℕ, ◌+◌, ◌<◌, List, [], ◌∷◌, ◌++◌, length, take, Option, refl, sym, ap, ◌∙◌, subst, arith, append-nil, append_assoc, length-append}
+use Rattle.std.proofs.Common.{◌≡◌, ℕ, ◌+◌, List, [], ◌∷◌, ◌++◌, length, take, Option, refl, sym, ap, ◌∙◌, subst, arith, append-nil, append_assoc, length-append}
 use Rattle.std.proofs.lemmas.List.{take_all, take_at}
 use Rattle.std.proofs.lemmas.List.Elements.{All-append, All-cons, All-nil}
 use Rattle.std.proofs.lemmas.Grind.{flat_map-append}
 use Rattle.std.specs.List.{flat_map}
-use Rattle.wan_edge.specs.Frames.{AnswerFrame, HasOtherKind, IsAnswer, IsCutAnswer, Splits, answer_bytes, answer_kind, command_bytes}
+use Rattle.wan_edge.specs.Frames.{AnswerFrame, HasOtherKind, IsAnswer, Splits, answer_bytes, answer_kind, command_bytes}
 use Rattle.wan_edge.specs.Streams.{Appends}
 use Rattle.wan_edge.proofs.Chains.{Appends-chain, Appends-nothing}
+use Rattle.wan_edge.proofs.Sizes.{answer-length}
 use Rattle.wire_frames.specs.Reading.{Ends, GoesOn, IsAnswerFault, Reader}
 use Rattle.wire_frames.specs.declared.fault.FrameFault.{FrameFault}
 use Rattle.wire_frames.specs.declared.fault.FrameFault.TheVariants.{Count, Kind}
@@ -33,13 +34,6 @@ pub front-is : (frame out rest : List ℕ) (n : ℕ) → out ≡ frame ++ rest �
 front-is frame out rest n is long = ap (take n) is ∙ take_at frame rest n (sym long)
 
 -- ---- answers
-
-pub length-answer : (a : AnswerFrame) → length (answer_bytes a) ≡ 13
-unfolding answer_bytes
-length-answer a = refl
-
-pub cut-short : (kept : List ℕ) → IsCutAnswer kept → length kept < 13
-cut-short kept cut = omega (arith, ap (λ (bytes : List ℕ). length bytes) cut.begins, length-append kept cut.missing, cut.some, length-answer cut.frame)
 
 -- whole answers after others
 splits-on : (kept between xs ys rest : List ℕ) (earlier later : List AnswerFrame) → Splits answer_bytes IsAnswer (kept ++ xs) earlier between → Splits answer_bytes IsAnswer (between ++ ys) later rest → Splits answer_bytes IsAnswer (kept ++ (xs ++ ys)) (earlier ++ later) rest
@@ -107,7 +101,7 @@ module _ (kept piece : List ℕ) (one : length piece ≡ 1) (n : ℕ) where
   pub ends-long : (a : AnswerFrame) (now : Reader) → Ends answer_bytes IsAnswer IsAnswerFault kept piece n a now → length kept + 1 ≡ 13
   ends-long a now ends =
       let all : take n piece ≡ piece = take_all n piece (omega (arith, one, ends.some)) in
-      omega (arith, length-answer a, ap (λ (bytes : List ℕ). length bytes) ends.whole, length-append kept (take n piece), ap (λ (bytes : List ℕ). length bytes) all, one)
+      omega (arith, answer-length a, ap (λ (bytes : List ℕ). length bytes) ends.whole, length-append kept (take n piece), ap (λ (bytes : List ℕ). length bytes) all, one)
 
   pub ends-fresh : (a : AnswerFrame) (now : Reader) → Ends answer_bytes IsAnswer IsAnswerFault kept piece n a now → now.kept ≡ []
   ends-fresh a now ends = ap (λ (r : Reader). r.kept) ends.now_fresh

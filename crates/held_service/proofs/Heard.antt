@@ -8,6 +8,7 @@ use Rattle.wan_edge.specs.Streams.{Appends, Rose}
 use Rattle.wan_edge.specs.Switches.{Holdings}
 use Rattle.wan_edge.proofs.Chains.{Appends-nothing, goes_once, stays}
 use Rattle.wire_frames.specs.Reading.{Ends, GoesOn as ReadsOn, IsAnswerFault, Reader}
+use Rattle.port_session.proofs.Hearing.{cut_short}
 use Rattle.switch_ports.proofs.Stories.{goes_on_on}
 use Rattle.held_service.specs.Hearing.{Hears, HearsByte, HearsNothing, HearsOut, IsAlien, IsOwn, IsWhy, QuietBy, Reads, StopsHearing, TakesByte, lacking, named_at}
 use Rattle.held_service.specs.Noting.{Notes, with_answer, with_answers}
@@ -15,7 +16,7 @@ use Rattle.held_service.specs.declared.alien.Alien.{Alien}
 use Rattle.held_service.specs.declared.alien.Alien.TheVariants as alien
 use Rattle.held_service.specs.declared.not_told.NotTold.{NotTold}
 use Rattle.held_service.specs.declared.not_told.NotTold.TheVariants as cause
-use Rattle.held_service.proofs.Bytes.{cut-short, ends-fresh, ends-long, ends-whole, goes-longer, goes-whole, none-behind, other-behind, reads-none, reads-nothing, reads-on}
+use Rattle.held_service.proofs.Bytes.{ends-fresh, ends-long, ends-whole, goes-longer, goes-whole, none-behind, other-behind, reads-none, reads-nothing, reads-on}
 use Rattle.held_service.proofs.Noted.{with-append}
 
 -- ---- one byte
@@ -128,7 +129,7 @@ hears-no-more homes switch awaited kept notes port = record {
 
 -- the measure falls with each byte
 pub falls : (left left_now : ℕ) (kept kept_now : List ℕ) → 13 * left_now + length kept + 1 ≡ 13 * left + length kept_now → IsCutAnswer kept → IsCutAnswer kept_now → 0 < left → 13 * left_now - length kept_now < 13 * left - length kept
-falls left left_now kept kept_now nearer cut cut_now some = omega (arith, nearer, cut-short kept cut, cut-short kept_now cut_now, some)
+falls left left_now kept kept_now nearer cut cut_now some = omega (arith, nearer, cut_short kept cut, cut_short kept_now cut_now, some)
 
 -- a count that had risen no further before
 pub rose-on : (x y z : ℕ) → x ≤ y → Rose y z → Rose x z

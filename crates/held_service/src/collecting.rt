@@ -3,6 +3,7 @@ ghost use Rattle.std.specs.Prelude.{◌≡◌, ℕ, ◌≤◌, length, IfErr, If
 ghost use Rattle.rollout_rules.specs.Items.{item_count};
 ghost use Rattle.switch_ports.specs.Berths.{ports_of};
 ghost use Rattle.wan_edge.specs.Streams.{Rose};
+ghost use Rattle.wan_edge.specs.Fleets.{GuestsStay};
 ghost use Rattle.held_service.specs.Noting.{no_notes};
 ghost use Rattle.held_service.specs.Questions.{asked_homes};
 ghost use Rattle.held_service.specs.Visits.{Fails, TellsAll};
@@ -33,20 +34,16 @@ pub fn held_pairs<F: Fleet>(
 ) -> Result<Vec<Option<Held>>, NotTold>
     ensures ok { IfOk result
         (λ pairs. TellsAll F.Port.told plan.now.problem plan.now.plan migration rounds
-        (ports_of F.waiting F.kept F.lent F.named fleet.old)
-        (ports_of F.waiting F.kept F.lent F.named fleet.new) pairs.items) }
+        (ports_of (F.told fleet.old)) (ports_of (F.told fleet.new)) pairs.items) }
     ensures rows { IfOk result (λ pairs. length pairs.items ≡ item_count plan.now.problem) }
     ensures err { IfErr result
         (λ why. Fails F.Port.told plan.now.problem plan.now.plan migration rounds why
-        (ports_of F.waiting F.kept F.lent F.named fleet.old)
-        (ports_of F.waiting F.kept F.lent F.named fleet.new)) }
-    ensures guests { (F.coming fleet.new ≡ F.coming fleet.old)
-        × (F.served fleet.new ≡ F.served fleet.old)
-        × (F.visiting fleet.new ≡ F.visiting fleet.old) }
+        (ports_of (F.told fleet.old)) (ports_of (F.told fleet.new))) }
+    ensures guests { GuestsStay (F.told fleet.old) (F.told fleet.new) }
     ensures cause { (w : ℕ)
         → IsErrOf result (NotTold.NoPort w)
-        → Rose (F.faults fleet.old) (F.faults fleet.new) }
-    ensures count { F.faults fleet.old ≤ F.faults fleet.new }
+        → Rose (F.told fleet.old).faults (F.told fleet.new).faults }
+    ensures count { (F.told fleet.old).faults ≤ (F.told fleet.new).faults }
 {
     let index = Index::new(alloc, plan)?;
     let homes = asked_homes(alloc, plan, &index)?;
@@ -75,20 +72,16 @@ fn collect<F: Fleet>(
     requires homes { homes.now ≡ asked_homes plan.now.problem plan.now.plan }
     ensures ok { IfOk result
         (λ pairs. TellsAll F.Port.told plan.now.problem plan.now.plan migration rounds
-        (ports_of F.waiting F.kept F.lent F.named fleet.old)
-        (ports_of F.waiting F.kept F.lent F.named fleet.new) pairs.items) }
+        (ports_of (F.told fleet.old)) (ports_of (F.told fleet.new)) pairs.items) }
     ensures rows { IfOk result (λ pairs. length pairs.items ≡ item_count plan.now.problem) }
     ensures err { IfErr result
         (λ why. Fails F.Port.told plan.now.problem plan.now.plan migration rounds why
-        (ports_of F.waiting F.kept F.lent F.named fleet.old)
-        (ports_of F.waiting F.kept F.lent F.named fleet.new)) }
-    ensures guests { (F.coming fleet.new ≡ F.coming fleet.old)
-        × (F.served fleet.new ≡ F.served fleet.old)
-        × (F.visiting fleet.new ≡ F.visiting fleet.old) }
+        (ports_of (F.told fleet.old)) (ports_of (F.told fleet.new))) }
+    ensures guests { GuestsStay (F.told fleet.old) (F.told fleet.new) }
     ensures cause { (w : ℕ)
         → IsErrOf result (NotTold.NoPort w)
-        → Rose (F.faults fleet.old) (F.faults fleet.new) }
-    ensures count { F.faults fleet.old ≤ F.faults fleet.new }
+        → Rose (F.told fleet.old).faults (F.told fleet.new).faults }
+    ensures count { (F.told fleet.old).faults ≤ (F.told fleet.new).faults }
 {
     let mut row = no_notes(alloc, index.item_count())?;
     note_all(
@@ -113,20 +106,16 @@ fn note_all<F: Fleet>(
     requires none { notes.old ≡ no_notes (item_count plan.now.problem) }
     ensures ok { OnOk result
         (TellsAll F.Port.told plan.now.problem plan.now.plan migration rounds
-        (ports_of F.waiting F.kept F.lent F.named fleet.old)
-        (ports_of F.waiting F.kept F.lent F.named fleet.new) notes.new) }
+        (ports_of (F.told fleet.old)) (ports_of (F.told fleet.new)) notes.new) }
     ensures rows { OnOk result (length notes.new ≡ item_count plan.now.problem) }
     ensures err { IfErr result
         (λ why. Fails F.Port.told plan.now.problem plan.now.plan migration rounds why
-        (ports_of F.waiting F.kept F.lent F.named fleet.old)
-        (ports_of F.waiting F.kept F.lent F.named fleet.new)) }
-    ensures guests { (F.coming fleet.new ≡ F.coming fleet.old)
-        × (F.served fleet.new ≡ F.served fleet.old)
-        × (F.visiting fleet.new ≡ F.visiting fleet.old) }
+        (ports_of (F.told fleet.old)) (ports_of (F.told fleet.new))) }
+    ensures guests { GuestsStay (F.told fleet.old) (F.told fleet.new) }
     ensures cause { (w : ℕ)
         → IsErrOf result (NotTold.NoPort w)
-        → Rose (F.faults fleet.old) (F.faults fleet.new) }
-    ensures count { F.faults fleet.old ≤ F.faults fleet.new }
+        → Rose (F.told fleet.old).faults (F.told fleet.new).faults }
+    ensures count { (F.told fleet.old).faults ≤ (F.told fleet.new).faults }
 {
     let count = index.item_count();
     match ask_each(

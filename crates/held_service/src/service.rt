@@ -3,6 +3,7 @@ ghost use Rattle.std.specs.Prelude.{◌≡◌, ℕ, ◌≤◌, length, IfErr, If
 ghost use Rattle.rollout_rules.specs.Items.{item_count};
 ghost use Rattle.switch_ports.specs.Berths.{ports_of};
 ghost use Rattle.wan_edge.specs.Streams.{Rose};
+ghost use Rattle.wan_edge.specs.Fleets.{GuestsStay};
 ghost use Rattle.held_service.specs.HeldText.{AsksAll, held_text};
 ghost use Rattle.held_service.specs.Noting.{no_notes};
 ghost use Rattle.held_service.specs.Questions.{asked_homes};
@@ -35,15 +36,12 @@ pub fn held_text<F: Fleet>(
     fleet: &mut F,
 ) -> Result<Text, NotTold>
     ensures asks { AsksAll result F.Port.told plan.now.problem plan.now.plan rounds
-        (ports_of F.waiting F.kept F.lent F.named fleet.old)
-        (ports_of F.waiting F.kept F.lent F.named fleet.new) }
-    ensures guests { (F.coming fleet.new ≡ F.coming fleet.old)
-        × (F.served fleet.new ≡ F.served fleet.old)
-        × (F.visiting fleet.new ≡ F.visiting fleet.old) }
+        (ports_of (F.told fleet.old)) (ports_of (F.told fleet.new)) }
+    ensures guests { GuestsStay (F.told fleet.old) (F.told fleet.new) }
     ensures cause { (w : ℕ)
         → IsErrOf result (NotTold.NoPort w)
-        → Rose (F.faults fleet.old) (F.faults fleet.new) }
-    ensures count { F.faults fleet.old ≤ F.faults fleet.new }
+        → Rose (F.told fleet.old).faults (F.told fleet.new).faults }
+    ensures count { (F.told fleet.old).faults ≤ (F.told fleet.new).faults }
 {
     let index = Index::new(alloc, plan)?;
     let homes = asked_homes(alloc, plan, &index)?;
@@ -62,15 +60,12 @@ fn ask_and_tell<F: Fleet>(
     requires index { index.now ≡ plan.now }
     requires homes { homes.now ≡ asked_homes plan.now.problem plan.now.plan }
     ensures asks { AsksAll result F.Port.told plan.now.problem plan.now.plan rounds
-        (ports_of F.waiting F.kept F.lent F.named fleet.old)
-        (ports_of F.waiting F.kept F.lent F.named fleet.new) }
-    ensures guests { (F.coming fleet.new ≡ F.coming fleet.old)
-        × (F.served fleet.new ≡ F.served fleet.old)
-        × (F.visiting fleet.new ≡ F.visiting fleet.old) }
+        (ports_of (F.told fleet.old)) (ports_of (F.told fleet.new)) }
+    ensures guests { GuestsStay (F.told fleet.old) (F.told fleet.new) }
     ensures cause { (w : ℕ)
         → IsErrOf result (NotTold.NoPort w)
-        → Rose (F.faults fleet.old) (F.faults fleet.new) }
-    ensures count { F.faults fleet.old ≤ F.faults fleet.new }
+        → Rose (F.told fleet.old).faults (F.told fleet.new).faults }
+    ensures count { (F.told fleet.old).faults ≤ (F.told fleet.new).faults }
 {
     let mut row = no_notes(alloc, index.item_count())?;
     ask_noting(alloc, plan, index, homes, rounds, fleet, row.as_mut_slice())
@@ -98,15 +93,12 @@ fn ask_noting<F: Fleet>(
     requires homes { homes.now ≡ asked_homes plan.now.problem plan.now.plan }
     requires none { notes.old ≡ no_notes (item_count plan.now.problem) }
     ensures asks { AsksAll result F.Port.told plan.now.problem plan.now.plan rounds
-        (ports_of F.waiting F.kept F.lent F.named fleet.old)
-        (ports_of F.waiting F.kept F.lent F.named fleet.new) }
-    ensures guests { (F.coming fleet.new ≡ F.coming fleet.old)
-        × (F.served fleet.new ≡ F.served fleet.old)
-        × (F.visiting fleet.new ≡ F.visiting fleet.old) }
+        (ports_of (F.told fleet.old)) (ports_of (F.told fleet.new)) }
+    ensures guests { GuestsStay (F.told fleet.old) (F.told fleet.new) }
     ensures cause { (w : ℕ)
         → IsErrOf result (NotTold.NoPort w)
-        → Rose (F.faults fleet.old) (F.faults fleet.new) }
-    ensures count { F.faults fleet.old ≤ F.faults fleet.new }
+        → Rose (F.told fleet.old).faults (F.told fleet.new).faults }
+    ensures count { (F.told fleet.old).faults ≤ (F.told fleet.new).faults }
 {
     let count = index.item_count();
     match ask_each(alloc, fleet, plan.problem(), homes, count, 0, rounds, notes) {

@@ -2,6 +2,7 @@
 ghost use Rattle.std.specs.Prelude.{◌≡◌, ℕ, ◌<◌, ◌≤◌, length, true, IsErrOf};
 ghost use Rattle.switch_ports.specs.Berths.{ports_of};
 ghost use Rattle.wan_edge.specs.Streams.{Rose};
+ghost use Rattle.wan_edge.specs.Fleets.{GuestsStay};
 ghost use Rattle.held_service.specs.Noting.{no_notes};
 ghost use Rattle.held_service.specs.Talks.{EndsTalk};
 ghost use Rattle.held_service.specs.Visits.{AsksEach, AsksOne, Keeps, Visits};
@@ -29,15 +30,12 @@ pub(crate) fn ask_each<F: Fleet>(
     requires count { count ≡ length homes.now }
     requires none { notes.old ≡ no_notes (length homes.now) }
     ensures asks { AsksEach result F.Port.told problem.now homes.now migration rounds
-        (ports_of F.waiting F.kept F.lent F.named fleet.old) notes.new
-        (ports_of F.waiting F.kept F.lent F.named fleet.new) }
-    ensures guests { (F.coming fleet.new ≡ F.coming fleet.old)
-        × (F.served fleet.new ≡ F.served fleet.old)
-        × (F.visiting fleet.new ≡ F.visiting fleet.old) }
+        (ports_of (F.told fleet.old)) notes.new (ports_of (F.told fleet.new)) }
+    ensures guests { GuestsStay (F.told fleet.old) (F.told fleet.new) }
     ensures cause { (w : ℕ)
         → IsErrOf result (NotTold.NoPort w)
-        → Rose (F.faults fleet.old) (F.faults fleet.new) }
-    ensures count { F.faults fleet.old ≤ F.faults fleet.new }
+        → Rose (F.told fleet.old).faults (F.told fleet.new).faults }
+    ensures count { (F.told fleet.old).faults ≤ (F.told fleet.new).faults }
 {
     for switch in 0..problem.switches().len() as u32 {
         ask_one(
@@ -63,15 +61,12 @@ fn ask_one<F: Fleet>(
     requires rows { length notes.old ≡ length homes.now }
     requires inside { switch < length problem.now.switches }
     ensures asks { AsksOne result F.Port.told problem.now homes.now switch notes.old migration
-        rounds (ports_of F.waiting F.kept F.lent F.named fleet.old) notes.new
-        (ports_of F.waiting F.kept F.lent F.named fleet.new) }
-    ensures guests { (F.coming fleet.new ≡ F.coming fleet.old)
-        × (F.served fleet.new ≡ F.served fleet.old)
-        × (F.visiting fleet.new ≡ F.visiting fleet.old) }
+        rounds (ports_of (F.told fleet.old)) notes.new (ports_of (F.told fleet.new)) }
+    ensures guests { GuestsStay (F.told fleet.old) (F.told fleet.new) }
     ensures cause { (w : ℕ)
         → IsErrOf result (NotTold.NoPort w)
-        → Rose (F.faults fleet.old) (F.faults fleet.new) }
-    ensures count { F.faults fleet.old ≤ F.faults fleet.new }
+        → Rose (F.told fleet.old).faults (F.told fleet.new).faults }
+    ensures count { (F.told fleet.old).faults ≤ (F.told fleet.new).faults }
 {
     let items = items_at(alloc, homes, count, switch)?;
     let some = items.as_slice().len();
@@ -99,15 +94,12 @@ fn visit<F: Fleet>(
     requires rows { length notes.old ≡ length homes.now }
     requires inside { switch < length problem.now.switches }
     ensures visits { Visits result F.Port.told problem.now homes.now switch items.now notes.old
-        migration rounds (ports_of F.waiting F.kept F.lent F.named fleet.old) notes.new
-        (ports_of F.waiting F.kept F.lent F.named fleet.new) }
-    ensures guests { (F.coming fleet.new ≡ F.coming fleet.old)
-        × (F.served fleet.new ≡ F.served fleet.old)
-        × (F.visiting fleet.new ≡ F.visiting fleet.old) }
+        migration rounds (ports_of (F.told fleet.old)) notes.new (ports_of (F.told fleet.new)) }
+    ensures guests { GuestsStay (F.told fleet.old) (F.told fleet.new) }
     ensures cause { (w : ℕ)
         → IsErrOf result (NotTold.NoPort w)
-        → Rose (F.faults fleet.old) (F.faults fleet.new) }
-    ensures count { F.faults fleet.old ≤ F.faults fleet.new }
+        → Rose (F.told fleet.old).faults (F.told fleet.new).faults }
+    ensures count { (F.told fleet.old).faults ≤ (F.told fleet.new).faults }
 {
     match fleet.port(switch, problem.switch_name(switch as usize)) {
         Ok(port) => talk(
@@ -130,15 +122,12 @@ fn talk<F: Fleet>(
     notes: &mut [Option<Held>],
 ) -> Result<(), NotTold>
     requires rows { length notes.old ≡ length homes.now }
-    requires lent { F.lent fleet.old switch ≡ true }
+    requires lent { (F.told fleet.old).lent switch ≡ true }
     ensures keeps { Keeps F.Port.told switch
         (λ before now. EndsTalk result homes.now switch items.now notes.old migration rounds before
-        notes.new now) port (ports_of F.waiting F.kept F.lent F.named fleet.old)
-        (ports_of F.waiting F.kept F.lent F.named fleet.new) }
-    ensures guests { (F.coming fleet.new ≡ F.coming fleet.old)
-        × (F.served fleet.new ≡ F.served fleet.old)
-        × (F.visiting fleet.new ≡ F.visiting fleet.old) }
-    ensures count { F.faults fleet.old ≤ F.faults fleet.new }
+        notes.new now) port (ports_of (F.told fleet.old)) (ports_of (F.told fleet.new)) }
+    ensures guests { GuestsStay (F.told fleet.old) (F.told fleet.new) }
+    ensures count { (F.told fleet.old).faults ≤ (F.told fleet.new).faults }
 {
     let told = ask_port(
         alloc, &mut port, homes, switch, items, migration, rounds, notes,

@@ -65,21 +65,16 @@ impl<R: Net + Files<File = File> + Clock + Copy> Fleet for TcpFleet<R> {
 
     type Guest = TcpGuest<TcpStream>;
 
-    ghost waiting = { λ _. None };
-
-    ghost coming = { λ _. None };
-
-    ghost kept = { λ f. kept_in f.loans };
-
-    ghost served = { λ f. served_in f.visits };
-
-    ghost lent = { λ f. lent_in f.loans };
-
-    ghost named = { λ f. named_in f.loans };
-
-    ghost visiting = { λ f. visiting_in f.visits };
-
-    ghost faults = { λ f. f.faults };
+    ghost told = { λ f. record {
+      waiting = None;
+      coming = None;
+      kept = kept_in f.loans;
+      served = served_in f.visits;
+      lent = lent_in f.loans;
+      named = named_in f.loans;
+      visiting = visiting_in f.visits;
+      faults = f.faults;
+    } };
 
     fn port(&mut self, switch: u32, name: &str) -> Result<TcpPort<R>, Failed> {
         let answer = open_port(self.alloc, &self.rt, &mut self.switches, name, self.limit);

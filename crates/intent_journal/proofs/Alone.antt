@@ -1,7 +1,7 @@
 -- Where one slot alone is open, its part says what the image keeps.
 use Rattle.std.proofs.Common.{◌≡◌, ◌≢◌, ⊎_elim, ℕ, ◌-◌, ◌<◌, ◌≤◌, ◌==◌, ◌&&◌, Bool, true, false, List, ◌++◌, length, take, drop, Option, Some, None, if◌then◌else◌, sym, subst, ◌∙◌, ap, arith}
 use Rattle.std.proofs.lemmas.Bool.Decides.{nat_tests}
-use Rattle.intent_journal.specs.Numbers.{byte_at}
+use Rattle.disk_model.specs.Numbers.{byte_at}
 use Rattle.intent_journal.specs.Parts.{Kept, Slot, batches_of, is_whole, kept_in, size_of}
 use Rattle.intent_journal.specs.Images.{first_side, is_live, is_placed, journal_in, kept_at, live_part, open_journal, open_slot, second_side, slot_at}
 use Rattle.intent_journal.specs.States.{Home, IsAlone, Stands, with_more}
@@ -27,12 +27,12 @@ second_part image slot dead is live =
     ∙ ap (λ (s : Slot). if is_live s image then Some (kept_at s image) else None) is ∙ ap (λ (b : Bool). if b then Some (kept_at slot image) else None) live
 
 -- a slot whose gate isn't open is not live
-dead_slot : (image : List ℕ) (slot : Slot) → slot.gate ≢ open_slot → is_live slot image ≡ false
+pub dead_slot : (image : List ℕ) (slot : Slot) → slot.gate ≢ open_slot → is_live slot image ≡ false
 dead_slot image slot closed =
     let shut : (slot.gate == open_slot) ≡ false = grind (arith, nat_tests, closed) in
     ap (λ (b : Bool). b && (is_placed slot && is_whole slot (drop slot.start image))) shut
 
-live_slot : (image : List ℕ) (slot : Slot) → slot.gate ≡ open_slot → is_placed slot ≡ true → is_whole slot (drop slot.start image) ≡ true → is_live slot image ≡ true
+pub live_slot : (image : List ℕ) (slot : Slot) → slot.gate ≡ open_slot → is_placed slot ≡ true → is_whole slot (drop slot.start image) ≡ true → is_live slot image ≡ true
 live_slot image slot gate placed whole =
     let ajar : (slot.gate == open_slot) ≡ true = grind (arith, nat_tests, gate) in
     ap (λ (b : Bool). b && (is_placed slot && is_whole slot (drop slot.start image))) ajar

@@ -3,13 +3,13 @@ use Rattle.std.proofs.Common.{◌≡◌, ◌⊎◌, inl, inr, ◌==◌, ◌&&◌
 use Rattle.std.proofs.lemmas.Bool.{cases_Bool, eqb-true, ne_eqb}
 use Rattle.std.specs.Option.{option_map}
 use mathlib.Core.Logic.{⊎_elim}
+use Rattle.lists.proofs.Conditions.{and_both}
 use Rattle.rollout_rules.specs.declared.op.Entry.{Entry}
 use Rattle.intent_journal.specs.Entries.{entry_in}
 use Rattle.intent_journal.specs.Parts.{Kept, Slot, is_whole, kept_in, part_rows}
 use Rattle.intent_journal.specs.Images.{first_side, is_live, is_placed, keeps_nothing, kept_at, live_part, open_journal, open_slot, opened, second_side, slot_at}
 use Rattle.intent_journal.specs.Reading.{IsRead, Listed, is_empty, live_side, nothing_read, with_row, with_rows}
 use Rattle.intent_journal.proofs.Alone.{placed_start}
-use Rattle.intent_journal.proofs.Heads.{both}
 
 module _ (image : List ℕ) where
   abbrev first : Slot
@@ -57,8 +57,8 @@ module _ (image : List ℕ) where
 -- what the three tests of a live slot say
 pub live_tests : (slot : Slot) (image : List ℕ) → is_live slot image ≡ true → (slot.gate ≡ open_slot) × (is_placed slot ≡ true) × (is_whole slot (drop slot.start image) ≡ true)
 live_tests slot image live =
-    let outer = both (slot.gate == open_slot) (is_placed slot && is_whole slot (drop slot.start image)) live in
-    let inner = both (is_placed slot) (is_whole slot (drop slot.start image)) outer.1 in
+    let outer = and_both (slot.gate == open_slot) (is_placed slot && is_whole slot (drop slot.start image)) live in
+    let inner = and_both (is_placed slot) (is_whole slot (drop slot.start image)) outer.1 in
     (eqb-true _ _ outer.0, inner.0, inner.1)
 
 pub side_whole : (image : List ℕ) (side : ℕ) (slot : Slot) → live_side image ≡ Some side → slot ≡ slot_at side image → is_whole slot (drop slot.start image) ≡ true

@@ -5,7 +5,7 @@ use Rattle.std.proofs.lemmas.Bool.Decides.{nat_tests}
 use Rattle.disk_model.specs.Writes.{Torn, written}
 use Rattle.disk_model.proofs.Agreeing.{Torn-agrees}
 use Rattle.disk_model.proofs.Tearing.{length-written}
-use Rattle.intent_journal.specs.Numbers.{byte_at}
+use Rattle.disk_model.specs.Numbers.{byte_at}
 use Rattle.intent_journal.specs.Images.{blank_most, journal_in, keeps_nothing, live_part, open_journal, opened}
 use Rattle.intent_journal.specs.Makings.{IsBlank, IsBlankOrTorn, IsClear}
 use Rattle.intent_journal.specs.Phases.{IsBlankFound}

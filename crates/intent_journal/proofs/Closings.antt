@@ -9,8 +9,9 @@ use Rattle.disk_model.specs.Writes.{Torn, written}
 use Rattle.disk_model.proofs.Agreeing.{Torn-agrees}
 use Rattle.disk_model.proofs.Parting.{Torn-beyond, Torn-byte, Torn-drop}
 use Rattle.disk_model.proofs.Tearing.{Torn-written, length-written}
+use Rattle.disk_model.proofs.Tears.{torn_wider}
 use Rattle.intent_journal.specs.declared.found.Found.{Found}
-use Rattle.intent_journal.specs.Numbers.{byte_at}
+use Rattle.disk_model.specs.Numbers.{byte_at}
 use Rattle.intent_journal.specs.Parts.{Kept, batches_of, is_whole, kept_in, open_batch, size_of}
 use Rattle.intent_journal.specs.Images.{is_live, journal_in, kept_at, live_part, open_journal, open_slot, slot_at}
 use Rattle.intent_journal.specs.Phases.{IsFound, IsOld, end_of, home_of}
@@ -18,12 +19,8 @@ use Rattle.intent_journal.specs.Renewals.{IsClosed, IsCut, IsFilled}
 use Rattle.intent_journal.specs.States.{IsAtRest, with_more}
 use Rattle.intent_journal.proofs.Alone.{alone_keeps, alone_same, first_part, placed_start, second_part}
 use Rattle.intent_journal.proofs.Committing.{first_crash, rest_keeps, torn_rest}
-use Rattle.intent_journal.proofs.Fronts.{with_more-nothing}
-use Rattle.intent_journal.proofs.Gates.{agreed_slot, torn_front, torn_same, torn_wider, written_one}
-
--- how long an image is in which this part stands
-pub part_long : (start : ℕ) (image front tail : List ℕ) → drop start image ≡ front ++ tail → 0 < length tail → start + length front < length image
-part_long start image front tail part some = omega (arith, ap length part, length-append front tail, length-drop start image, some)
+use Rattle.intent_journal.proofs.Fronts.{part_long, with_more-nothing}
+use Rattle.intent_journal.proofs.Gates.{agreed_slot, torn_front, torn_same, written_one}
 
 -- the byte of a test that says no, and of one that says yes
 pub is_other : (a b : ℕ) → (a == b) ≡ false → a ≢ b

@@ -1,5 +1,5 @@
 -- What the two writes of an append leave, whole and torn.
-use Rattle.std.proofs.Common.{◌≡◌, inl, inr, ◌⊎◌, ⊎_elim, ℕ, ◌+◌, ◌-◌, ◌<◌, ◌≤◌, List, [], ◌∷◌, ◌++◌, length, take, drop, get_or, Option, Some, refl, sym, subst, ◌∙◌, ap, arith, length-append, length-drop}
+use Rattle.std.proofs.Common.{◌≡◌, inl, inr, ◌⊎◌, ⊎_elim, ℕ, ◌+◌, ◌-◌, ◌<◌, ◌≤◌, List, [], ◌∷◌, ◌++◌, length, take, drop, get_or, Option, Some, refl, sym, subst, ◌∙◌, ap, arith, length-append}
 use Rattle.std.proofs.lemmas.Bool.{cases_eq}
 use Rattle.std.proofs.lemmas.List.{append_assoc, take-take}
 use Rattle.disk_model.specs.Writes.{Torn, written}
@@ -10,7 +10,7 @@ use Rattle.intent_journal.specs.Images.{journal_in}
 use Rattle.intent_journal.specs.States.{Home, IsAlone, IsAtRest, IsBeforeOrAfter, IsBody, IsStaged, Stands, added, with_more}
 use Rattle.intent_journal.proofs.Alone.{alone_keeps, alone_same, placed_start}
 use Rattle.intent_journal.proofs.Batches.{batches_closed}
-use Rattle.intent_journal.proofs.Fronts.{Stands-more, length-longer, longer, with_more-nothing}
+use Rattle.intent_journal.proofs.Fronts.{Stands-more, length-longer, longer, part_long, with_more-nothing}
 
 -- a torn write after the slots leaves them
 torn_alone : (home : Home) (image new : List ℕ) (at n : ℕ) → IsAlone home image → 35 ≤ at → at ≤ length image → Torn at n image new → IsAlone home new
@@ -19,14 +19,9 @@ torn_alone home image new at n alone behind inside torn =
     sym (take-take 35 at new behind) ∙ ap (take 35) (torn.before inside) ∙ take-take 35 at image behind in
     alone_same home image alone new (omega (arith, behind, inside)) (omega (arith, behind, inside, torn.no_shorter)) same
 
--- how long an image is in which this part stands
-long_image : (start : ℕ) (image front tail : List ℕ) → drop start image ≡ front ++ tail → 0 < length tail → start + length front < length image
-long_image start image front tail part some =
-    omega (arith, ap length part, length-append front tail, length-drop start image, some)
-
 module _ (home : Home) (gate : ℕ) (image : List ℕ) (rest : IsAtRest home gate image) where
   rest_long : home.slot.start + length rest.front < length image
-  rest_long = long_image home.slot.start image rest.front (rest.mark ∷ rest.behind) rest.part (omega arith)
+  rest_long = part_long home.slot.start image rest.front (rest.mark ∷ rest.behind) rest.part (omega arith)
 
   -- what a journal at rest keeps
   pub rest_keeps : journal_in image ≡ Some rest.kept
@@ -90,7 +85,7 @@ module _ (home : Home) (gate : ℕ) (image : List ℕ) (rest : IsAtRest home gat
 
 module _ (home : Home) (gate : ℕ) (batch : List (List ℕ)) (body : List ℕ) (is_body : IsBody home gate batch body) (kept : Kept) (image : List ℕ) (stage : IsStaged home gate batch kept image) where
   stage_long : home.slot.start + length stage.front < length image
-  stage_long = long_image home.slot.start image stage.front (stage.mark ∷ (batch_body batch ++ 0 ∷ stage.more)) stage.part (omega arith)
+  stage_long = part_long home.slot.start image stage.front (stage.mark ∷ (batch_body batch ++ 0 ∷ stage.more)) stage.part (omega arith)
 
   room : 1 + length (batch_body batch) < size_of home.slot - length stage.front
   room = omega (arith, is_body.room, stage.at, ap length is_body.is, length-append (batch_body batch) (0 ∷ []))

@@ -3,7 +3,7 @@ use Rattle.std.proofs.Common.{◌≡◌, ℕ, ◌+◌, ◌*◌, ◌<◌, ◌≤�
 use Rattle.std.proofs.lemmas.List.{append_assoc}
 use Rattle.rollout_rules.specs.declared.op.Entry.{Entry}
 use Rattle.intent_journal.specs.declared.digest.Digest.{Digest}
-use Rattle.intent_journal.specs.Numbers.{bytes_4}
+use Rattle.disk_model.specs.Numbers.{bytes_4}
 use Rattle.intent_journal.specs.Entries.{entry_rows}
 use Rattle.intent_journal.specs.Parts.{Kept, batch_body, new_front, number_bytes, size_of}
 use Rattle.intent_journal.specs.Phases.{IsPlanned, Planned, kept_of, planned, slot_for}

@@ -1,9 +1,13 @@
 -- A batch after the front of a part joins the front.
-use Rattle.std.proofs.Common.{◌≡◌, ℕ, ◌+◌, ◌-◌, ◌<◌, ◌^◌, List, [], ◌∷◌, ◌++◌, length, take, sym, ◌∙◌, ap, arith, length-append}
+use Rattle.std.proofs.Common.{◌≡◌, ℕ, ◌+◌, ◌-◌, ◌<◌, ◌^◌, List, [], ◌∷◌, ◌++◌, length, drop, take, sym, ◌∙◌, ap, arith, length-append, length-drop}
 use Rattle.std.proofs.lemmas.List.{append_assoc, append-nil}
 use Rattle.intent_journal.specs.Parts.{Kept, Slot, batch_body, batches_of, is_whole, kept_in, open_batch, size_of}
 use Rattle.intent_journal.specs.States.{AreRows, Stands, with_more}
 use Rattle.intent_journal.proofs.Batches.{batches_open}
+
+-- how long an image is in which this part stands
+pub part_long : (start : ℕ) (image front tail : List ℕ) → drop start image ≡ front ++ tail → 0 < length tail → start + length front < length image
+part_long start image front tail part some = omega (arith, ap length part, length-append front tail, length-drop start image, some)
 
 -- nothing more
 pub with_more-nothing : (kept : Kept) → with_more kept [] ≡ kept

@@ -1,14 +1,13 @@
 -- One byte of an image that is written over, and the slots and parts that stand elsewhere.
-use Rattle.std.proofs.Common.{◌≡◌, ⊎_elim, ℕ, ◌-◌, ◌+◌, ◌<◌, ◌≤◌, List, [], ◌∷◌, ◌++◌, length, take, drop, get_or, replicate, sym, ◌∙◌, ap, arith, length-drop}
-use Rattle.std.proofs.lemmas.Bool.{cases_lt}
-use Rattle.std.proofs.lemmas.List.{drop-drop, drop_more, get_or-drop, length-take-le, take-append-drop, take-append-le, take-take}
+use Rattle.std.proofs.Common.{◌≡◌, ℕ, ◌+◌, ◌<◌, ◌≤◌, List, [], ◌∷◌, ◌++◌, length, take, drop, get_or, replicate, sym, ◌∙◌, ap, arith, length-drop}
+use Rattle.std.proofs.lemmas.List.{drop_more, get_or-drop, length-take-le, take-append-drop, take-append-le, take-take}
 use Rattle.std.specs.Int.{w64, from_be_bytes}
 use Rattle.disk_model.specs.Places.{AgreesOn}
 use Rattle.disk_model.specs.Writes.{Torn, written}
 use Rattle.disk_model.proofs.Agreeing.{same_range}
 use Rattle.disk_model.proofs.Parting.{Torn-byte}
 use Rattle.disk_model.proofs.Tearing.{drop-written}
-use Rattle.intent_journal.specs.Numbers.{byte_at, number_8}
+use Rattle.disk_model.specs.Numbers.{byte_at, number_8}
 use Rattle.intent_journal.specs.Images.{slot_at}
 
 -- the image in front of a byte, that byte and what stands after it
@@ -52,22 +51,6 @@ agreed_slot places side old new agrees long among =
         number_8-of (drop place new) (omega (arith, length-drop place new, agrees.no_shorter, long, before))
         ∙ ap (from_be_bytes w64) (same_range places old new place 8 agrees (omega (arith, long, before)) (λ i low high. among i (omega (arith, low, behind)) (omega (arith, high, before))))
         ∙ sym (number_8-of (drop place old) (omega (arith, length-drop place old, long, before)))
-
--- a write that is torn within a wider range
-pub torn_wider : (at n from k : ℕ) (old new : List ℕ) → from ≤ at → at + n ≤ from + k → Torn at n old new → Torn from k old new
-torn_wider at n from k old new low high torn = record {
-  no_shorter = torn.no_shorter;
-  no_longer = omega (arith, torn.no_longer, low, high);
-  before = λ inside. ⊎_elim
-      (λ reaches. sym (take-take from at new low) ∙ ap (take from) (torn.before (omega (arith, reaches))) ∙ take-take from at old low)
-      (λ shorter. sym (take-take from (length old) new inside) ∙ ap (take from) (torn.beyond (omega (arith, shorter))))
-      (cases_lt at (length old));
-  beyond = λ outside. torn.beyond (omega (arith, outside, low));
-  after =
-      let is : at + n + (from + k - (at + n)) ≡ from + k = omega (arith, high) in
-      ap (λ (i : ℕ). drop i new) (sym is) ∙ sym (drop-drop (from + k - (at + n)) (at + n) new) ∙ ap (drop (from + k - (at + n))) torn.after
-      ∙ drop-drop (from + k - (at + n)) (at + n) old ∙ ap (λ (i : ℕ). drop i old) is;
-}
 
 -- a torn write within an image, after its slots, leaves them
 pub torn_front : (at n : ℕ) (image c : List ℕ) → 35 ≤ at → at ≤ length image → Torn at n image c → take 35 c ≡ take 35 image

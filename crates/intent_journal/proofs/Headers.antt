@@ -2,7 +2,7 @@
 use Rattle.std.proofs.Common.{◌≡◌, ℕ, ◌+◌, ◌<◌, ◌≤◌, List, ◌++◌, length, take, drop, replicate, sym, ◌∙◌, ap, arith, length-drop}
 use Rattle.std.proofs.lemmas.List.{append_assoc, drop-append-le, get_or_append_left, length-take-le, take-append-drop, take-append-le}
 use Rattle.std.specs.Int.{w64, from_be_bytes}
-use Rattle.intent_journal.specs.Numbers.{byte_at, number_8}
+use Rattle.disk_model.specs.Numbers.{byte_at, number_8}
 use Rattle.intent_journal.specs.Images.{slot_at}
 
 -- a number within the front of the bytes is that of the front

@@ -1,9 +1,10 @@
 -- A part that was found whole stands on its head: what stands in front of its first gate says what it keeps, whatever follows.
-use Rattle.std.proofs.Common.{◌≡◌, ⊎_elim, ℕ, zero, suc, ◌+◌, ◌-◌, ◌*◌, ◌<◌, ◌≤◌, ◌&&◌, nat_lt, Bool, true, false, List, ◌∷◌, ◌++◌, length, take, drop, replicate, if◌then◌else◌, refl, sym, ◌∙◌, ap, arith, length-append, length-drop}
+use Rattle.std.proofs.Common.{◌≡◌, ⊎_elim, ℕ, zero, suc, ◌+◌, ◌-◌, ◌*◌, ◌<◌, ◌≤◌, ◌&&◌, nat_lt, Bool, true, List, ◌∷◌, ◌++◌, length, take, drop, replicate, if◌then◌else◌, refl, sym, ◌∙◌, ap, arith, length-append, length-drop}
 use Rattle.std.proofs.lemmas.Bool.{cases_Bool, lt-ltb, ltb-true}
 use Rattle.std.proofs.lemmas.List.{append_assoc, drop-append-le, drop-drop, drop_at, length-take-le, take-append-drop, take-append-le}
 use Rattle.std.specs.Int.{w32, from_be_bytes}
-use Rattle.intent_journal.specs.Numbers.{number_4}
+use Rattle.lists.proofs.Conditions.{and_both}
+use Rattle.disk_model.specs.Numbers.{number_4}
 use Rattle.intent_journal.specs.Parts.{Slot, batches_of, count_of, count_place, digest_in, first_gate, is_second, is_whole, kept_in, listed_in, migration_in, numbers, rows, size_of, start_count, starts_in}
 use Rattle.intent_journal.specs.States.{Stands, with_more}
 
@@ -116,11 +117,6 @@ module _ (slot : Slot) (front s t : List ℕ) (ends : length front ≡ first_gat
       ∙ ap (λ (l : List ℕ). batches_of (take (size_of slot - length front) l)) (drop_at front t (length front) refl) in
       λ k. record { digest = same_digest k; migration = same_migration k; starts = same_starts k; rows = same_rows k ++ behind k }
 
--- both tests of two that hold together
-pub both : (a b : Bool) → (a && b) ≡ true → (a ≡ true) × (b ≡ true)
-both true b holds = (refl, holds)
-both false b holds = absurd (cc holds)
-
 -- a part that was found whole
 pub Stands-found : (slot : Slot) (part : List ℕ) → is_whole slot part ≡ true → Stands slot (take (first_gate slot part) part) (listed_in slot part)
 Stands-found slot part whole =
@@ -128,7 +124,7 @@ Stands-found slot part whole =
     let front = take gate part in
     let rest = drop gate part in
     let is : front ++ rest ≡ part = take-append-drop gate part in
-    let tests = both (nat_lt (first_gate slot part) (size_of slot)) (nat_lt (first_gate slot part) (length part)) whole in
+    let tests = and_both (nat_lt (first_gate slot part) (size_of slot)) (nat_lt (first_gate slot part) (length part)) whole in
     let room : gate < size_of slot = ltb-true _ _ tests.0 in
     let within : gate < length part = ltb-true _ _ tests.1 in
     let long : length front ≡ gate = length-take-le gate part (omega (arith, within)) in

@@ -11,7 +11,7 @@ use Rattle.rollout_laws.proofs.Histories.{started_is_legal}
 use Rattle.intent_journal.specs.declared.digest.Digest.{Digest}
 use Rattle.intent_journal.specs.declared.fault.JournalFault.{JournalFault}
 use Rattle.intent_journal.specs.declared.fault.JournalFault.TheVariants.{BadStart, Disk, Illegal, Memory, NotJournal, OtherPlan}
-use Rattle.intent_journal.specs.Numbers.{byte_at}
+use Rattle.disk_model.specs.Numbers.{byte_at}
 use Rattle.intent_journal.specs.Parts.{Slot, digest_in, migration_in, part_rows}
 use Rattle.intent_journal.specs.Images.{open_journal, slot_at}
 use Rattle.intent_journal.specs.Reading.{IsRead, Listed, live_side, nothing_read, with_rows}

@@ -10,8 +10,9 @@ use Rattle.disk_model.specs.Writes.{Torn, written}
 use Rattle.disk_model.proofs.Agreeing.{Torn-agrees}
 use Rattle.disk_model.proofs.Parting.{Torn-beyond}
 use Rattle.disk_model.proofs.Tearing.{Torn-written, drop-written}
+use Rattle.disk_model.proofs.Tears.{torn_wider}
 use Rattle.intent_journal.specs.declared.found.Found.{Found}
-use Rattle.intent_journal.specs.Numbers.{byte_at, bytes_8, number_8}
+use Rattle.disk_model.specs.Numbers.{byte_at, bytes_8, number_8}
 use Rattle.intent_journal.specs.Parts.{is_second, new_front, size_of}
 use Rattle.intent_journal.specs.Images.{is_placed, journal_in}
 use Rattle.intent_journal.specs.Makings.{name_of}
@@ -19,9 +20,10 @@ use Rattle.intent_journal.specs.Phases.{IsOld, IsPlanned, Planned, end_of, home_
 use Rattle.intent_journal.specs.Renewals.{IsFilled, IsLaid, IsNamed, new_slot, new_start}
 use Rattle.intent_journal.specs.States.{IsAtRest}
 use Rattle.intent_journal.proofs.Alone.{alone_same, placed_start}
-use Rattle.intent_journal.proofs.Closings.{other_apart, part_long, side_small}
+use Rattle.intent_journal.proofs.Closings.{other_apart, side_small}
+use Rattle.intent_journal.proofs.Fronts.{part_long}
 use Rattle.intent_journal.proofs.Committing.{rest_keeps, torn_rest}
-use Rattle.intent_journal.proofs.Gates.{agreed_slot, torn_front, torn_wider}
+use Rattle.intent_journal.proofs.Gates.{agreed_slot, torn_front}
 use Rattle.intent_journal.proofs.NewParts.{Stands-new}
 
 -- a slot of the second format

@@ -11,7 +11,7 @@ use Rattle.intent_journal.specs.declared.fault.JournalFault.TheVariants.{BadStar
 use Rattle.intent_journal.specs.Faults.{IsMemory}
 use Rattle.intent_journal.specs.Images.{open_journal, slot_at}
 use Rattle.intent_journal.specs.Judging.{IsAlong, IsOfList, LeavesGraph, LeavesGraphOf, entries_at, part_entries, part_start, start_at}
-use Rattle.intent_journal.specs.Numbers.{byte_at}
+use Rattle.disk_model.specs.Numbers.{byte_at}
 use Rattle.intent_journal.specs.Parts.{Slot, digest_in, migration_in, part_rows}
 use Rattle.intent_journal.specs.Reading.{live_side, nothing_read, with_rows}
 use Rattle.intent_journal.specs.Verdicts.{IsRefusal, NoJournal, NoStart, NotLegal, OfAnother, Stands, Verdict, is_own, is_start, judged_at, judged_journal, judged_list, judged_part, judged_start, legal_count, with_history}

@@ -7,7 +7,6 @@ pub mod Clearings
 pub mod Closings
 pub mod Committing
 pub mod Drafts
-pub mod FirstBytes
 pub mod Fronts
 pub mod Gates
 pub mod Headers
@@ -23,9 +22,8 @@ pub mod Nothing
 pub mod NumbersRead
 pub mod Openings
 pub mod Passages
-pub mod Pieces
 pub mod Placings
-pub mod Quiet
+pub mod ReadFaults
 pub mod Readings
 pub mod Recoveries
 pub mod Renewed

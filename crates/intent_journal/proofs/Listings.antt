@@ -10,7 +10,7 @@ use Rattle.rollout_rules.specs.declared.op.Entry.{Entry}
 use Rattle.intent_journal.specs.declared.digest.Digest.{Digest}
 use Rattle.intent_journal.specs.Entries.{AllSmall, entry_rows}
 use Rattle.intent_journal.specs.Images.{blank_most, is_blank, journal_in, keeps_nothing, kept_at, live_part, open_journal, opened, rows_of_kept, slot_at}
-use Rattle.intent_journal.specs.Numbers.{byte_at}
+use Rattle.disk_model.specs.Numbers.{byte_at}
 use Rattle.intent_journal.specs.Parts.{Kept, Slot, digest_in, migration_in, part_rows}
 use Rattle.intent_journal.specs.Reading.{Listed, Lists, live_side, nothing_read, with_row, with_rows}
 use Rattle.intent_journal.specs.Verdicts.{Fresh, NoJournal, NoStart, NotLegal, OfAnother, Stands, is_own, is_start, judged_at, judged_journal, judged_list, judged_part, judged_start, legal_count, start_of, verdict}

@@ -9,7 +9,7 @@ use Rattle.disk_model.specs.Writes.{Torn, written}
 use Rattle.disk_model.proofs.Parting.{written-behind, written-drop}
 use Rattle.disk_model.proofs.Running.{LeavesOnly-durable, LeavesOnly-goes_on, Stepped-only}
 use Rattle.disk_model.proofs.Tearing.{Torn-written, drop-written}
-use Rattle.intent_journal.specs.Numbers.{byte_at, bytes_8, number_8}
+use Rattle.disk_model.specs.Numbers.{byte_at, bytes_8, number_8}
 use Rattle.intent_journal.specs.Parts.{new_front}
 use Rattle.intent_journal.specs.Images.{blank_most, first_start, is_placed, journal_in, keeps_nothing, live_part, open_journal, open_slot, opened, slot_at}
 use Rattle.intent_journal.specs.Makings.{IsBlank, IsBlankOrNew, IsClear, IsReady, first_home, name_of, slots_bytes}

@@ -2,7 +2,7 @@
 use Rattle.std.proofs.Common.{◌≡◌, ◌&&◌, nat_lt, Bool, true, ℕ, ◌+◌, ◌-◌, ◌*◌, ◌<◌, List, [], ◌∷◌, ◌++◌, length, take, drop, if◌then◌else◌, refl, sym, ◌∙◌, ap, arith, length-append}
 use Rattle.std.proofs.lemmas.Bool.{lt-ltb}
 use Rattle.std.proofs.lemmas.List.{append_assoc, drop-drop, drop_at, take_at}
-use Rattle.intent_journal.specs.Numbers.{bytes_4, number_4}
+use Rattle.disk_model.specs.Numbers.{bytes_4, number_4}
 use Rattle.intent_journal.specs.Parts.{Kept, Slot, batches_of, count_of, count_place, digest_in, first_gate, is_second, is_whole, joined, kept_in, migration_in, new_front, number_bytes, numbers, part_rows, rows, size_of, start_count, starts_in}
 use Rattle.intent_journal.specs.States.{AreSmall, CanBeKept, Stands, with_more}
 use Rattle.intent_journal.proofs.Batches.{length-bytes_4, length-joined, number_4-bytes_4, rows-joined}

@@ -1,7 +1,7 @@
 -- Numbers that are read one after the other.
 use Rattle.std.proofs.Common.{◌≡◌, ℕ, suc, ◌+◌, ◌-◌, ◌<◌, ◌≤◌, List, [], ◌∷◌, ◌++◌, drop, sym, ◌∙◌, ap, arith}
 use Rattle.std.proofs.lemmas.List.{append-nil, append_assoc}
-use Rattle.intent_journal.specs.Numbers.{number_4}
+use Rattle.disk_model.specs.Numbers.{number_4}
 use Rattle.intent_journal.specs.Parts.{numbers}
 
 -- the first of those that are left joins those that were read

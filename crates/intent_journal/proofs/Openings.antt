@@ -1,10 +1,11 @@
 -- A journal was opened, or none was.
-use Rattle.std.proofs.Common.{◌≡◌, inl, inr, ◌<◌, ◌≤◌, ℕ, List, [], Option, Some, None, IfSome, is_some, refl, sym, subst, ap, ◌∙◌, arith}
+use Rattle.std.proofs.Common.{◌≡◌, ◌≤◌, ℕ, List, [], Some, None, IfSome, is_some, refl, sym, subst, ap, ◌∙◌, arith}
+use Rattle.lists.proofs.Conditions.{some_same_is}
 use Rattle.rollout_rules.specs.Wan.{Rollout}
 use Rattle.rollout_rules.specs.History.{History, from_nothing}
 use Rattle.rollout_rules.specs.declared.op.Entry.{Entry}
+use Rattle.disk_model.specs.Whole.{IsQuiet}
 use Rattle.disk_model.specs.Traces.{DiskTrace}
-use Rattle.disk_model.specs.Crashes.{Within}
 use Rattle.disk_model.specs.Moments.{LeavesOnly}
 use Rattle.dependency_graph.specs.Graph.{Followed}
 use Rattle.wan_edge.specs.Streams.{KeepsTelling, Rose}
@@ -13,8 +14,8 @@ use Rattle.intent_journal.specs.declared.fault.JournalFault.{JournalFault}
 use Rattle.intent_journal.specs.declared.fault.JournalFault.TheVariants as fault
 use Rattle.intent_journal.specs.Openings.{IsLeft, IsOpenedFrom, IsOpenedOn, found_by, unbegun}
 use Rattle.intent_journal.specs.Recovered.{IsBroughtTo, IsCause, KeepsNow, MayStand, OnRefusal, kept_for}
-use Rattle.intent_journal.specs.Verdicts.{Fresh, NoJournal, NoStart, NotLegal, OfAnother, Stands, Verdict, verdict, with_history}
-use Rattle.intent_journal.specs.Whole.{Causes, IsQuiet}
+use Rattle.intent_journal.specs.Verdicts.{Fresh, NoJournal, NoStart, NotLegal, OfAnother, Stands, Verdict, verdict}
+use Rattle.intent_journal.specs.Whole.{Causes}
 use Rattle.intent_journal.proofs.Recoveries.{cause_rose, causes_either, no_refusal, not_refused, opened_run, quiet_since, read_run, refused_as, rose_later, still, tells_still, told_all, told_as, told_later}
 
 -- ---- a graph that was brought to what an image is
@@ -43,9 +44,6 @@ brought_found (OfAnother bytes migration) list old new empty is = absurd is
 brought_found NoStart list old new empty is = absurd is
 brought_found (NotLegal place) list old new empty is = absurd is
 
-pub some_is : {A : Type 0} (a b : A) → Some a ≡ Some b → a ≡ b
-some_is a b is = cc is
-
 pub none_some : {A : Type 0} (a : A) → None ≡ Some a → ⊥
 none_some a is = cc is
 
@@ -58,9 +56,9 @@ same_graph r found list new same entries history =
     (entries ∙ ap (λ (h : History). h.entries) (sym history), ap (λ (s : Rollout). followed s new.history) same ∙ ap (followed r) (sym history))
 
 pub found_brought : (v : Verdict) (r : Rollout) (list : List Entry) (new : Followed) → new.rollout ≡ r → list ≡ new.history.entries → found_by r v ≡ Some new.history → IsBroughtTo v list (unbegun r) new
-found_brought Fresh r list new same entries is = same_graph r (from_nothing r.problem []) list new same entries (some_is (from_nothing r.problem []) new.history is)
+found_brought Fresh r list new same entries is = same_graph r (from_nothing r.problem []) list new same entries (some_same_is (from_nothing r.problem []) new.history is)
 found_brought (Stands start list_is) r list new same entries is =
-    same_graph r (record { start = start; entries = list_is }) list new same entries (some_is (record { start = start; entries = list_is }) new.history is)
+    same_graph r (record { start = start; entries = list_is }) list new same entries (some_same_is (record { start = start; entries = list_is }) new.history is)
 found_brought (NoJournal first) r list new same entries is = absurd (none_some new.history is)
 found_brought (OfAnother bytes migration) r list new same entries is = absurd (none_some new.history is)
 found_brought NoStart r list new same entries is = absurd (none_some new.history is)

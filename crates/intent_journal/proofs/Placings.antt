@@ -9,7 +9,7 @@ use Rattle.disk_model.proofs.Running.{LeavesOnly-chain, LeavesOnly-weaker}
 use Rattle.intent_journal.specs.declared.fault.JournalFault.{JournalFault}
 use Rattle.intent_journal.specs.declared.fault.JournalFault.TheVariants.{BadStart, Disk, Illegal, Memory, NotJournal, OtherPlan}
 use Rattle.intent_journal.specs.declared.found.Found.{Found}
-use Rattle.intent_journal.specs.Numbers.{byte_at}
+use Rattle.disk_model.specs.Numbers.{byte_at}
 use Rattle.intent_journal.specs.Parts.{Kept}
 use Rattle.intent_journal.specs.Images.{is_blank, journal_in, kept_at, live_part, open_journal, slot_at}
 use Rattle.intent_journal.specs.Phases.{Holds, IsFound}

@@ -3,7 +3,7 @@ use Rattle.std.proofs.Common.{◌≡◌, ◌⊎◌, inl, inr, ⊎_elim, if◌the
 use Rattle.std.proofs.lemmas.List.{length-take-le}
 use Rattle.std.proofs.Math.Seq.{drop-cons}
 use Rattle.intent_journal.specs.declared.found.Found.{Found}
-use Rattle.intent_journal.specs.Numbers.{byte_at}
+use Rattle.disk_model.specs.Numbers.{byte_at}
 use Rattle.intent_journal.specs.Parts.{Slot, batches_of, kept_in, open_batch, size_of}
 use Rattle.intent_journal.specs.Images.{first_side, is_placed, open_journal, open_slot, second_side, slot_at}
 use Rattle.intent_journal.specs.Phases.{IsFound, home_of}

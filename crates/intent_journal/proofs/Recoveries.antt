@@ -6,6 +6,7 @@ use Rattle.std.specs.Result.{IsErrAnd}
 use Rattle.rollout_rules.specs.Wan.{Rollout}
 use Rattle.rollout_rules.specs.History.{no_start}
 use Rattle.rollout_rules.specs.declared.op.Entry.{Entry}
+use Rattle.disk_model.specs.Whole.{IsQuiet}
 use Rattle.disk_model.specs.Traces.{DiskTrace}
 use Rattle.disk_model.specs.Crashes.{IsDurable, Within}
 use Rattle.disk_model.specs.Moments.{LeavesOnly}
@@ -19,7 +20,7 @@ use Rattle.intent_journal.specs.Parts.{Kept, size_of}
 use Rattle.intent_journal.specs.Phases.{Holds, IsBlankOrMade, IsFound, IsOldOrNew, IsRenewed, Planned, end_of, home_of, kept_of}
 use Rattle.intent_journal.specs.Recovered.{IsBroughtTo, IsCause, KeepsNow, MayBeLeft, MayStand, OnRefusal, kept_for}
 use Rattle.intent_journal.specs.Verdicts.{Fresh, IsRefusal, NoJournal, NoStart, NotLegal, OfAnother, Stands, Verdict, judged_journal, verdict, with_history}
-use Rattle.intent_journal.specs.Whole.{Causes, IsQuiet}
+use Rattle.intent_journal.specs.Whole.{Causes}
 use Rattle.wan_edge.specs.Streams.{KeepsTelling, Rose}
 use Rattle.intent_journal.specs.declared.fault.JournalFault.{JournalFault}
 use Rattle.intent_journal.specs.declared.fault.JournalFault.TheVariants.{BadStart, Disk, Illegal, Memory, NotJournal, OtherPlan}

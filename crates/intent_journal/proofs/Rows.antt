@@ -4,7 +4,7 @@ use Rattle.std.proofs.lemmas.List.{append_assoc, append-nil, drop_at, take_all}
 use Rattle.rollout_rules.specs.declared.op.Op.{Op}
 use Rattle.rollout_rules.specs.declared.op.Entry.{Entry}
 use Rattle.rollout_rules.specs.declared.op.Entry.TheVariants.{Begin, Done}
-use Rattle.intent_journal.specs.Numbers.{bytes_4, number_4}
+use Rattle.disk_model.specs.Numbers.{bytes_4, number_4}
 use Rattle.intent_journal.specs.Parts.{joined}
 use Rattle.intent_journal.specs.Entries.{IsSmall, begin_kind, done_kind, entry_in, entry_rows, op_bytes, op_in, row_of}
 use Rattle.intent_journal.specs.States.{AreRows}

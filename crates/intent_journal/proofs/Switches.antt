@@ -8,7 +8,7 @@ use Rattle.disk_model.proofs.Agreeing.{Torn-agrees}
 use Rattle.disk_model.proofs.Parting.{Torn-beyond}
 use Rattle.disk_model.proofs.Tearing.{Torn-written}
 use Rattle.intent_journal.specs.declared.found.Found.{Found}
-use Rattle.intent_journal.specs.Numbers.{byte_at, number_8}
+use Rattle.disk_model.specs.Numbers.{byte_at, number_8}
 use Rattle.intent_journal.specs.Parts.{Kept, Slot, batches_of, is_second, is_whole, kept_in, new_front, open_batch, size_of}
 use Rattle.intent_journal.specs.Images.{first_side, is_live, is_placed, journal_in, kept_at, live_part, open_journal, open_slot, second_side, slot_at}
 use Rattle.intent_journal.specs.Phases.{IsFresh, IsOldOrNew, Planned, home_of}
@@ -16,9 +16,9 @@ use Rattle.intent_journal.specs.Renewals.{IsBoth, IsMoved, IsNamed, IsOpened, ne
 use Rattle.intent_journal.specs.States.{Home, IsAlone, IsAtRest, Stands, with_more}
 use Rattle.intent_journal.proofs.Alone.{alone_keeps, first_part, placed_start}
 use Rattle.intent_journal.proofs.Batches.{batches_closed}
-use Rattle.intent_journal.proofs.Closings.{keeps_no_more, other_apart, part_long, side_small}
+use Rattle.intent_journal.proofs.Closings.{keeps_no_more, other_apart, side_small}
 use Rattle.intent_journal.proofs.Committing.{rest_keeps}
-use Rattle.intent_journal.proofs.Fronts.{with_more-nothing}
+use Rattle.intent_journal.proofs.Fronts.{part_long, with_more-nothing}
 use Rattle.intent_journal.proofs.Gates.{agreed_slot, torn_same, written_one}
 
 -- a part with a closed gate after its front, in an open slot

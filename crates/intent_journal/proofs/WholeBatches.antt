@@ -4,14 +4,15 @@ use Rattle.std.proofs.lemmas.Bool.{cases_Bool, eqb-true, ltb-true}
 use Rattle.std.proofs.lemmas.List.{append_assoc, drop-drop, append-nil, drop-take, drop_at, length-take, length-take-le, take-append-drop}
 use Rattle.std.proofs.Math.Seq.{drop-cons, take-add, take-take, take-append-add}
 use mathlib.Core.Logic.{⊎_elim}
-use Rattle.intent_journal.specs.Numbers.{byte_at, number_4}
+use Rattle.lists.proofs.Conditions.{and_both}
+use Rattle.disk_model.specs.Numbers.{byte_at, number_4}
 use Rattle.intent_journal.specs.Entries.{entry_in}
 use Rattle.intent_journal.specs.Parts.{Kept, Slot, batches_of, count_of, count_place, first_gate, is_whole, kept_in, listed_in, open_batch, part_rows, rows, size_of}
 use Rattle.intent_journal.specs.Reading.{IsRead, Listed, Walks, batch_at, nothing_read, with_row, with_rows}
 use Rattle.intent_journal.specs.States.{Stands, with_more}
 use Rattle.intent_journal.proofs.Batches.{batches_step}
 use Rattle.intent_journal.proofs.Fronts.{with_more-nothing, with_more-twice}
-use Rattle.intent_journal.proofs.Heads.{Stands-found, both, number_4-front, rows-in}
+use Rattle.intent_journal.proofs.Heads.{Stands-found, number_4-front, rows-in}
 
 pub with_rows-append : (listed : Listed) (xs ys : List (List ℕ)) → with_rows listed (xs ++ ys) ≡ with_rows (with_rows listed xs) ys
 with_rows-append listed [] ys = refl
@@ -63,7 +64,7 @@ batch_found bytes gate n found =
     let rest = drop (gate + 1) bytes in
     ⊎_elim
     (λ yes.
-    let tests = both (byte_at gate bytes == open_batch) (nat_lt (4 + 9 * number_4 rest) (length rest)) yes in
+    let tests = and_both (byte_at gate bytes == open_batch) (nat_lt (4 + 9 * number_4 rest) (length rest)) yes in
     let is : Some (number_4 rest) ≡ Some n = sym (ap (λ (b : Bool). if b then Some (number_4 rest) else None) yes) ∙ found in
     (eqb-true _ _ tests.0, ltb-true _ _ tests.1, cc is))
     (λ no.
@@ -205,7 +206,7 @@ pub IsRead-walked : (slot : Slot) (part : List ℕ) (first gate : ℕ) (mid list
 IsRead-walked slot part first gate mid listed whole is began walk ends =
     let size = size_of slot in
     let inside = take size part in
-    let tests = both (nat_lt (first_gate slot part) size) (nat_lt (first_gate slot part) (length part)) whole in
+    let tests = and_both (nat_lt (first_gate slot part) size) (nat_lt (first_gate slot part) (length part)) whole in
     let early : first < size = omega (arith, is, ltb-true _ _ tests.0) in
     let long : length inside ≤ size = omega (arith, length-take size part) in
     let gate_in : gate < length inside = walk.within in

@@ -3,7 +3,7 @@ use Rattle.std.specs.Prelude.{⊤, ℕ, ◌<◌, ◌^◌, ◌==◌, List, [], �
 use Rattle.rollout_rules.specs.declared.op.Op.{Op}
 use Rattle.rollout_rules.specs.declared.op.Entry.{Entry}
 use Rattle.rollout_rules.specs.declared.op.Entry.TheVariants.{Begin, Done}
-use Rattle.intent_journal.specs.Numbers.{byte_at, bytes_4, number_4}
+use Rattle.disk_model.specs.Numbers.{byte_at, bytes_4, number_4}
 
 abbrev pub begin_kind : ℕ
 begin_kind = 1

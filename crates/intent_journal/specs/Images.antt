@@ -1,6 +1,6 @@
 -- The image of a journal: a gate, two slots, and the parts that they name. What the image keeps is what the first live part keeps.
 use Rattle.std.specs.Prelude.{ℕ, ◌+◌, ◌^◌, ◌==◌, ◌&&◌, ◌||◌, not, nat_le, nat_lt, Bool, false, List, [], ◌∷◌, length, drop, Option, Some, None, if◌then◌else◌}
-use Rattle.intent_journal.specs.Numbers.{byte_at, number_8}
+use Rattle.disk_model.specs.Numbers.{byte_at, number_8}
 use Rattle.intent_journal.specs.Parts.{Kept, Slot, is_whole, kept_in, size_of}
 
 -- the journal's gate where it is open, and a slot's

@@ -4,7 +4,6 @@ pub mod Faults
 pub mod Images
 pub mod Judging
 pub mod Makings
-pub mod Numbers
 pub mod Opened
 pub mod Openings
 pub mod Parts

@@ -1,6 +1,6 @@
 -- How an image stands between the writes that make a journal of it.
 use Rattle.std.specs.Prelude.{◌≡◌, ◌⊎◌, ℕ, ◌+◌, ◌^◌, ◌<◌, ◌≤◌, true, List, ◌∷◌, ◌++◌, length, drop, replicate, Some}
-use Rattle.intent_journal.specs.Numbers.{byte_at, bytes_8}
+use Rattle.disk_model.specs.Numbers.{byte_at, bytes_8}
 use Rattle.intent_journal.specs.Parts.{Kept, new_front}
 use Rattle.intent_journal.specs.Images.{blank_most, first_side, first_start, is_blank, is_placed, journal_in, keeps_nothing, live_part, open_slot, opened, second_side}
 use Rattle.intent_journal.specs.Phases.{Planned, slot_for}

@@ -2,7 +2,7 @@
 -- batches of further ones. Everything is read from the part's own bytes. An entry is seen as its nine bytes, so that lists of bytes
 -- that are no entries can be compared too.
 use Rattle.std.specs.Prelude.{ℕ, zero, suc, ◌+◌, ◌-◌, ◌*◌, ◌^◌, ◌==◌, ◌&&◌, nat_le, nat_lt, Bool, List, [], ◌∷◌, ◌++◌, length, take, drop, if◌then◌else◌}
-use Rattle.intent_journal.specs.Numbers.{bytes_4, number_4}
+use Rattle.disk_model.specs.Numbers.{bytes_4, number_4}
 
 -- where a part stands: the gate of the slot, the part's first byte, and the field of its size
 pub record Slot : Type 0 where

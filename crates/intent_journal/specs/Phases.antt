@@ -4,7 +4,7 @@ use Rattle.rollout_rules.specs.declared.op.Entry.{Entry}
 use Rattle.disk_model.specs.Crashes.{Only}
 use Rattle.intent_journal.specs.declared.digest.Digest.{Digest}
 use Rattle.intent_journal.specs.declared.found.Found.{Found}
-use Rattle.intent_journal.specs.Numbers.{byte_at}
+use Rattle.disk_model.specs.Numbers.{byte_at}
 use Rattle.intent_journal.specs.Entries.{entry_rows}
 use Rattle.intent_journal.specs.Parts.{Kept, Slot, batches_of, is_second, kept_in, new_front, open_batch, size_of}
 use Rattle.intent_journal.specs.Images.{first_side, is_blank, is_live, is_placed, journal_in, keeps_nothing, live_part, open_journal, open_slot, opened, second_side, slot_at}

@@ -9,7 +9,7 @@ use Rattle.dependency_graph.specs.Graph.{Followed}
 use Rattle.intent_journal.specs.declared.digest.Digest.{Digest}
 use Rattle.intent_journal.specs.declared.fault.JournalFault.{JournalFault}
 use Rattle.intent_journal.specs.declared.fault.JournalFault.TheVariants.{BadStart, Disk, Illegal, Memory, NotJournal, OtherPlan}
-use Rattle.intent_journal.specs.Numbers.{byte_at}
+use Rattle.disk_model.specs.Numbers.{byte_at}
 use Rattle.intent_journal.specs.Parts.{Kept}
 use Rattle.intent_journal.specs.Images.{is_blank, journal_in}
 use Rattle.intent_journal.specs.Phases.{IsBlankOrMade, IsFresh, IsOldOrNew, kept_of}

@@ -1,7 +1,7 @@
 -- What is read of an image: its live slot, the rows of that slot's part, and the gate after them.
 use Rattle.std.specs.Prelude.{◌≡◌, ℕ, ◌+◌, ◌-◌, ◌*◌, ◌<◌, ◌≤◌, ◌==◌, ◌&&◌, nat_lt, Bool, true, false, List, [], ◌∷◌, ◌++◌, length, take, drop, Option, Some, None, if◌then◌else◌}
 use Rattle.rollout_rules.specs.declared.op.Entry.{Entry}
-use Rattle.intent_journal.specs.Numbers.{byte_at, number_4}
+use Rattle.disk_model.specs.Numbers.{byte_at, number_4}
 use Rattle.intent_journal.specs.Entries.{entry_in}
 use Rattle.intent_journal.specs.Parts.{Slot, batches_of, kept_in, open_batch, part_rows, size_of}
 use Rattle.intent_journal.specs.Images.{first_side, is_live, list_of, second_side, slot_at}

@@ -1,7 +1,7 @@
 -- How a journal stands between the writes with which it is written anew.
 use Rattle.std.specs.Prelude.{◌≡◌, ◌≢◌, ◌⊎◌, ℕ, ◌+◌, ◌-◌, ◌≤◌, ◌==◌, nat_le, true, List, ◌∷◌, ◌++◌, length, take, drop, [], if◌then◌else◌}
 use Rattle.intent_journal.specs.declared.found.Found.{Found}
-use Rattle.intent_journal.specs.Numbers.{byte_at}
+use Rattle.disk_model.specs.Numbers.{byte_at}
 use Rattle.intent_journal.specs.Parts.{Kept, Slot, batches_of, new_front, open_batch, size_of}
 use Rattle.intent_journal.specs.Images.{first_side, first_start, is_placed, open_journal, open_slot, second_side, slot_at}
 use Rattle.intent_journal.specs.Phases.{Planned, end_of, home_of, slot_for}

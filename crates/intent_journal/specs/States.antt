@@ -2,7 +2,7 @@
 use Rattle.std.specs.Prelude.{◌≡◌, ◌≢◌, ◌⊎◌, ⊤, ℕ, ◌+◌, ◌-◌, ◌<◌, ◌^◌, true, List, [], ◌∷◌, ◌++◌, length, take, drop, Option, Some}
 use Rattle.std.specs.Option.{option_map}
 use Rattle.disk_model.specs.Crashes.{Only}
-use Rattle.intent_journal.specs.Numbers.{byte_at}
+use Rattle.disk_model.specs.Numbers.{byte_at}
 use Rattle.intent_journal.specs.Parts.{Kept, Slot, batch_body, batches_of, is_whole, kept_in, open_batch, size_of}
 use Rattle.intent_journal.specs.Images.{first_side, is_placed, journal_in, open_journal, open_slot, second_side, slot_at}
 

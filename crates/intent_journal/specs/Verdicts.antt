@@ -9,7 +9,7 @@ use Rattle.dependency_graph.specs.Graph.{Followed}
 use Rattle.intent_journal.specs.declared.digest.Digest.{Digest}
 use Rattle.intent_journal.specs.declared.fault.JournalFault.{JournalFault}
 use Rattle.intent_journal.specs.declared.fault.JournalFault.TheVariants.{BadStart, Disk, Illegal, Memory, NotJournal, OtherPlan}
-use Rattle.intent_journal.specs.Numbers.{byte_at}
+use Rattle.disk_model.specs.Numbers.{byte_at}
 use Rattle.intent_journal.specs.Parts.{Slot, digest_in, is_second, migration_in, part_rows, starts_in}
 use Rattle.intent_journal.specs.Images.{is_blank, open_journal, slot_at}
 use Rattle.intent_journal.specs.Reading.{Listed, live_side, nothing_read, with_rows}

@@ -3,10 +3,10 @@ ghost use Rattle.intent_journal.specs.Images as images;
 ghost use Rattle.intent_journal.specs.Parts.{is_whole};
 ghost use Rattle.intent_journal.specs.Phases as phases;
 
-use crate::bytes::byte_in;
 use crate::live::live_side;
 use crate::slot::{Slot, part_of};
 use crate::walking::read_list;
+use disk_model::bytes::byte_in;
 use lists::Memory;
 use std::alloc::Global;
 

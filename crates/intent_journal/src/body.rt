@@ -1,6 +1,6 @@
 ghost use Rattle.std.specs.Prelude.{◌≡◌, ◌+◌, ◌*◌, ◌<◌, ◌≤◌, ◌^◌, [], ◌∷◌, ◌++◌, length, vec_capacity};
 ghost use Rattle.intent_journal.specs.Entries.{entry_rows, op_bytes, row_of};
-ghost use Rattle.intent_journal.specs.Numbers.{bytes_4};
+ghost use Rattle.disk_model.specs.Numbers.{bytes_4};
 ghost use Rattle.intent_journal.specs.Parts.{batch_body};
 
 use rollout_rules::{Entry, Op};
@@ -46,7 +46,7 @@ fn parts(entry: &Entry) -> (u8, Op)
     }
 }
 
-#[tactic(auto, unfolding(crate::specs::Numbers::bytes_4))]
+#[tactic(auto, unfolding(disk_model::specs::Numbers::bytes_4))]
 fn number_bytes(number: u32) -> [u8; 4]
     ensures { result ≡ bytes_4 number }
 {

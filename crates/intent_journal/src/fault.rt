@@ -1,4 +1,5 @@
 use crate::digest::Digest;
+use disk_model::ReadFault;
 use lists::Memory as OutOfMemory;
 use wan_edge::Failed;
 
@@ -38,6 +39,20 @@ impl From<OutOfMemory> for JournalFault {
 
     fn from(_: OutOfMemory) -> Self {
         JournalFault::Memory
+    }
+}
+
+impl From<ReadFault> for JournalFault {
+    ghost use Rattle.std.specs.Prelude.{◌≡◌};
+    ghost use Rattle.intent_journal.specs.Whole.{fault_of_read};
+
+    ghost from_gives = { λ read given. given ≡ fault_of_read read };
+
+    fn from(read: ReadFault) -> Self {
+        match read {
+            ReadFault::Disk => JournalFault::Disk,
+            ReadFault::Memory => JournalFault::Memory,
+        }
     }
 }
 

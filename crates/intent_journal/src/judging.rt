@@ -4,7 +4,7 @@ ghost use Rattle.intent_journal.specs.Images as images;
 ghost use Rattle.intent_journal.specs.Images.{open_journal};
 ghost use Rattle.intent_journal.specs.declared.digest.Digest.{Digest};
 ghost use Rattle.intent_journal.specs.Judging.{BeforeList, IsJudged, IsJudgedPart, IsOfList, LeavesGraph, LeavesGraphOf, part_entries, part_start};
-ghost use Rattle.intent_journal.specs.Numbers as numbers;
+ghost use Rattle.disk_model.specs.Numbers as numbers;
 ghost use Rattle.intent_journal.specs.Parts.{digest_in, is_whole, migration_in};
 ghost use Rattle.intent_journal.specs.Phases.{IsFound};
 ghost use Rattle.intent_journal.specs.Reading as reading;
@@ -12,7 +12,6 @@ ghost use Rattle.intent_journal.specs.Reading.{IsRead};
 ghost use Rattle.intent_journal.specs.Verdicts.{IsRefusal, NotLegal, Stands, judged_journal, judged_list, judged_part, with_history};
 ghost use Rattle.intent_journal.specs.Verdicts as verdicts;
 
-use crate::bytes::{byte_in, up_to};
 use crate::digest::Digest;
 use crate::fault::JournalFault;
 use crate::following::follow_all;
@@ -24,6 +23,7 @@ use crate::slot::{OPEN_SLOT, Slot, part_of};
 use crate::starting::{is_nothing, is_start, start_of};
 use crate::walking::{OPEN_BATCH, read_list};
 use dependency_graph::Graph;
+use disk_model::bytes::{byte_in, up_to};
 use rollout_rules::EntryList;
 use std::alloc::Global;
 

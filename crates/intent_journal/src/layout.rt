@@ -14,7 +14,7 @@ pub(crate) const FIRST_START: u64 = 35;
 const SECOND: u64 = 1 << 62;
 
 /// The bytes of a slot after its gate: where its part starts, and its size in the second format.
-#[tactic(auto, unfolding(crate::specs::Numbers::bytes_8))]
+#[tactic(auto, unfolding(disk_model::specs::Numbers::bytes_8))]
 pub(crate) fn name_bytes(start: u64, size: u64) -> [u8; 16]
     requires { size ≤ 1000000000 }
     ensures { result ≡ name_of start size }

@@ -24,13 +24,11 @@
 mod appending;
 mod blank;
 mod body;
-mod bytes;
 mod closing;
 mod digest;
 mod fault;
 mod following;
 mod found;
-mod image;
 mod journal;
 mod judging;
 pub mod laws;

@@ -3,7 +3,7 @@ ghost use Rattle.intent_journal.specs.Entries.{entry_in};
 ghost use Rattle.intent_journal.specs.Parts.{rows};
 ghost use Rattle.intent_journal.specs.Reading.{is_empty, nothing_read, with_row, with_rows};
 
-use crate::bytes::{byte_in, from_place, number_of_4, up_to};
+use disk_model::bytes::{byte_in, from_place, number_of_4, up_to};
 use lists::Memory;
 use rollout_rules::{Entry, EntryList, Op};
 use std::alloc::Global;

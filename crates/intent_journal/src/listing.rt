@@ -1,16 +1,16 @@
 //! The list that an image stands for, without a journal that is opened.
 ghost use Rattle.std.specs.Prelude.{◌≡◌, Some, true, IfOk, IfSome};
 ghost use Rattle.intent_journal.specs.Images.{open_journal};
-ghost use Rattle.intent_journal.specs.Numbers as numbers;
+ghost use Rattle.disk_model.specs.Numbers as numbers;
 ghost use Rattle.intent_journal.specs.Reading as reading;
 ghost use Rattle.intent_journal.specs.Reading.{Lists};
 
-use crate::bytes::byte_in;
 use crate::layout::OPEN_JOURNAL;
 use crate::listed::Listed;
 use crate::live::live_side;
 use crate::slot::{Slot, part_of};
 use crate::walking::read_list;
+use disk_model::bytes::byte_in;
 use lists::Memory;
 use rollout_rules::EntryList;
 use std::alloc::Global;

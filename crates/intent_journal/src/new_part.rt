@@ -1,6 +1,6 @@
 ghost use Rattle.std.specs.Prelude.{◌≡◌, ◌+◌, ◌*◌, ◌<◌, ◌≤◌, ◌^◌, [], ◌∷◌, ◌++◌, length, IfOk};
 ghost use Rattle.intent_journal.specs.Entries.{entry_rows};
-ghost use Rattle.intent_journal.specs.Numbers.{bytes_4};
+ghost use Rattle.disk_model.specs.Numbers.{bytes_4};
 ghost use Rattle.intent_journal.specs.Parts.{batch_body, number_bytes};
 ghost use Rattle.intent_journal.specs.Phases.{IsPlanned, kept_of};
 ghost use Rattle.intent_journal.specs.States.{AreSmall};
@@ -84,7 +84,7 @@ fn list_bytes(alloc: Global, entries: &[Entry]) -> Result<Vec<u8>, Memory>
 }
 
 // What stands in front of the count: the digest, the migration and the numbers of the start.
-#[tactic(auto, unfolding(crate::specs::Numbers::bytes_4))]
+#[tactic(auto, unfolding(disk_model::specs::Numbers::bytes_4))]
 fn head_bytes(alloc: Global, digest: &Digest, starts: &[u32]) -> Result<Vec<u8>, Memory>
     requires { length starts.now < 2 ^ 32 }
     ensures head { IfOk result

@@ -1,8 +1,8 @@
 ghost use Rattle.std.specs.Prelude.{◌≡◌, ◌≤◌, ◌^◌};
 ghost use Rattle.intent_journal.specs.Parts as parts;
 
-use crate::bytes::{from_place, number_of_4};
 use crate::slot::Slot;
+use disk_model::bytes::{from_place, number_of_4};
 
 // How many bytes a part's digest has.
 const DIGEST: usize = 32;

@@ -4,7 +4,7 @@ ghost use Rattle.rollout_rules.specs.Items.{item_count};
 ghost use Rattle.disk_model.specs.Crashes.{Within};
 ghost use Rattle.disk_model.specs.Moments.{LeavesOnly};
 ghost use Rattle.intent_journal.specs.Images.{blank_most, is_blank, open_journal, second_side};
-ghost use Rattle.intent_journal.specs.Numbers.{byte_at};
+ghost use Rattle.disk_model.specs.Numbers.{byte_at};
 ghost use Rattle.intent_journal.specs.Phases.{Holds, IsFound, end_of};
 ghost use Rattle.intent_journal.specs.Reading as reading;
 ghost use Rattle.intent_journal.specs.Recovered.{OnRefusal};
@@ -13,11 +13,9 @@ ghost use Rattle.intent_journal.specs.Faults.{IsMemory};
 ghost use Rattle.wan_edge.specs.Streams.{KeepsTelling};
 
 use crate::blank::{self, is_cleared};
-use crate::bytes::byte_in;
 use crate::digest::Digest;
 use crate::fault::JournalFault;
 use crate::found::{Found, LATEST_START};
-use crate::image::read_image;
 use crate::judging::found_at;
 use crate::layout::OPEN_JOURNAL;
 use crate::live::live_side;
@@ -28,7 +26,8 @@ use crate::renewing::renew;
 use crate::slot::{Slot, part_of};
 use crate::walking::read_list;
 use dependency_graph::Graph;
-use disk_model::Disk;
+use disk_model::bytes::byte_in;
+use disk_model::{Disk, read_synced};
 use lists::Memory as OutOfMemory;
 use std::alloc::Global;
 use wan_model::item_count;
@@ -37,7 +36,7 @@ use wan_model::item_count;
 /// its start, and the empty list. A crash at any moment leaves what stood or the new journal; where the
 /// image was blank, a blank one; and where that was a journal with the empty list but for its gate,
 /// perhaps that journal. An image that is neither is refused, and then nothing was written.
-#[tactic(auto, using(crate::proofs::Placings::cause_of_reading, crate::proofs::Placings::cause_of_memory, crate::proofs::Placings::cause_later))]
+#[tactic(auto, using(crate::proofs::Placings::cause_of_memory, crate::proofs::Placings::cause_later))]
 pub fn place<D: Disk>(
     alloc: Global,
     disk: &mut D,
@@ -65,9 +64,9 @@ pub fn place<D: Disk>(
         × Within (D.told disk.new).may_leave (D.told disk.old).may_leave)) }
     ensures count { (D.told disk.old).faults ≤ (D.told disk.new).faults }
 {
-    let image = read_image(alloc, disk)?;
+    let image = read_synced(alloc, disk)?;
     let part = settled_part(alloc, digest, graph)?;
-    write_over(alloc, disk, &image, &part)
+    write_over(alloc, disk, image.as_slice(), &part)
 }
 
 // The part of a journal that begins where this graph is settled.

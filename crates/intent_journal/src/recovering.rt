@@ -18,7 +18,6 @@ use crate::blank::{is_blank, is_cleared};
 use crate::digest::Digest;
 use crate::fault::{JournalFault, Unopened};
 use crate::found::LATEST_START;
-use crate::image::read_image;
 use crate::journal::Journal;
 use crate::judging::judge;
 use crate::making::make;
@@ -26,7 +25,7 @@ use crate::preparing::prepare;
 use crate::renewing::{Rest, renew};
 use crate::starting::zeros;
 use dependency_graph::Graph;
-use disk_model::Disk;
+use disk_model::{Disk, read_synced};
 use rollout_rules::EntryList;
 use std::alloc::Global;
 use wan_model::item_count;
@@ -116,7 +115,7 @@ fn open<D: Disk>(
         (λ cause. IfSome (D.told disk.old).bytes
         (λ image. LeavesGraphOf image cause graph.old graph.new)) }
 {
-    let image = read_image(alloc, disk)?;
+    let image = read_synced(alloc, disk)?;
     open_read(alloc, disk, image.as_slice(), digest, graph)
 }
 

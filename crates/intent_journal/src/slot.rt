@@ -2,7 +2,7 @@ ghost use Rattle.std.specs.Prelude.{◌≡◌, ◌≤◌, ◌==◌, drop};
 ghost use Rattle.intent_journal.specs.Images as images;
 ghost use Rattle.intent_journal.specs.Parts as parts;
 
-use crate::bytes::{byte_in, from_place, number_of_8};
+use disk_model::bytes::{byte_in, from_place, number_of_8};
 use std::marker::Model;
 
 pub(crate) const OPEN_SLOT: u8 = 0x53;

@@ -4,10 +4,10 @@ ghost use Rattle.dependency_graph.specs.FirstFault.{TellsSound};
 ghost use Rattle.intent_journal.specs.Parts as parts;
 ghost use Rattle.intent_journal.specs.Verdicts as verdicts;
 
-use crate::bytes::{from_place, number_of_4};
 use crate::part::start_count;
 use crate::slot::Slot;
 use dependency_graph::{StartFault, checked_plan_is_valid, sound};
+use disk_model::bytes::{from_place, number_of_4};
 use lists::Memory;
 use std::alloc::{AllocError, Global};
 use wan_model::{CheckedPlan, item_count};

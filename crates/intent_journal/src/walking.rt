@@ -3,10 +3,10 @@ ghost use Rattle.intent_journal.specs.Parts as parts;
 ghost use Rattle.intent_journal.specs.Reading as reading;
 ghost use Rattle.intent_journal.specs.Reading.{IsRead, Walks, entries_from, whole_list};
 
-use crate::bytes::{byte_in, from_place, number_of_4, up_to};
 use crate::listed::Listed;
 use crate::part::{count_place, entry_count, first_gate};
 use crate::slot::Slot;
+use disk_model::bytes::{byte_in, from_place, number_of_4, up_to};
 use lists::Memory;
 use rollout_rules::EntryList;
 use std::alloc::Global;

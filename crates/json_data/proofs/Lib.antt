@@ -8,3 +8,4 @@ mod Found
 mod PlainBytes
 mod PlainTail
 mod PlainGrammar
+pub mod Lengths

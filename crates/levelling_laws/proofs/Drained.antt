@@ -22,7 +22,9 @@ use Rattle.shared_book.proofs.Going.{front_is_legal, next_may_be}
 use Rattle.shared_book.proofs.Lists.{list-is_legal}
 use Rattle.rollback_plan.specs.Levels.{HoldsFrom}
 use Rattle.rollback_plan.proofs.Views.{views-are_views}
-use Rattle.levelling_laws.proofs.Shared.{empty-none, ends-begin_nothing, one-list, two-parts}
+use Rattle.shared_book.proofs.Stops.{no_entries}
+use Rattle.shared_book.proofs.Alike.{dones_then_the_rest, same_entries-is}
+use Rattle.levelling_laws.proofs.Shared.{ends-begin_nothing}
 
 -- no operation of any item is begun in a list
 abbrev pub BeginsNone : List Entry → Type 0
@@ -41,16 +43,16 @@ module _ (p : Problem) (plan : Plan) (net : IsNetwork p) (valid : is_valid_plan 
       let later = with_entries h done in
       let parts = and_parts (items_rise 0 (dones_ahead es) && may_follow p plan h es) (same_entries (behind_dones es) (release p plan policy later)) batch in
       let follows = (and_parts (items_rise 0 (dones_ahead es)) (may_follow p plan h es) parts.0).1 in
-      let split = two-parts es in
+      let split = dones_then_the_rest es in
       let ended = front_follows p plan h done (behind_dones es) (subst (λ xs. may_follow p plan h xs ≡ true) split follows) in
       let legal' = is_legal-append p plan h done legal ended in
-      let none : behind_dones es ≡ [] = one-list (behind_dones es) (release p plan policy later) parts.1 ∙ none-released later legal' in
+      let none : behind_dones es ≡ [] = same_entries-is (behind_dones es) (release p plan policy later) parts.1 ∙ none-released later legal' in
       let behind : begins_in (behind_dones es) n ≡ 0 = ap (λ (xs : List Entry). begins_in xs n) none in
       let both : begins_in es n ≡ begins_in done n + begins_in (behind_dones es) n = ap (λ (xs : List Entry). begins_in xs n) split ∙ begins_in-append done (behind_dones es) n in
       omega (arith, both, behind, ends-begin_nothing (dones_ahead es) n)
 
 none-begins_none : (es : List Entry) → is_empty es ≡ true → BeginsNone es
-none-begins_none es none n = ap (λ (xs : List Entry). begins_in xs n) (empty-none es none)
+none-begins_none es none n = ap (λ (xs : List Entry). begins_in xs n) (no_entries es none)
 
 -- what a note adds to the list is of the entries that come with it
 segment-begins_none : (es : List Entry) (said : What) → BeginsNone es → BeginsNone (segment_of said es)

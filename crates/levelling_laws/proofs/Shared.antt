@@ -1,6 +1,6 @@
 -- A shared history under a policy that holds from a stage on: nothing is begun past it, nor past what was begun at first.
-use Rattle.std.proofs.Common.{◌≡◌, ℕ, ◌+◌, ◌<◌, ◌≤◌, true, false, not, ◌&&◌, ◌==◌, List, [], ◌∷◌, ◌++◌, refl, sym, ap, ap₂, ◌∙◌, subst, arith, append_assoc, append-nil, eqb-true, le_refl}
-use Rattle.std.proofs.lemmas.Bool.{and_parts, both_ways}
+use Rattle.std.proofs.Common.{◌≡◌, ℕ, ◌<◌, ◌≤◌, true, not, ◌&&◌, List, [], ◌∷◌, ◌++◌, refl, sym, ap, ◌∙◌, subst, arith, append_assoc, append-nil, le_refl}
+use Rattle.std.proofs.lemmas.Bool.{and_parts}
 use Rattle.rollout_rules.specs.Wan.{Problem, Plan, last_stage}
 use Rattle.rollout_rules.specs.Network.{IsNetwork}
 use Rattle.rollout_rules.specs.Items.{item_at, item_count}
@@ -12,11 +12,10 @@ use Rattle.rollout_rules.specs.Release.{next_op, view_of, is_held_back, release}
 use Rattle.rollout_rules.specs.declared.op.Op.{Op}
 use Rattle.rollout_rules.specs.declared.op.OpView.{OpView}
 use Rattle.rollout_rules.specs.declared.op.Entry.{Entry}
-use Rattle.rollout_rules.specs.declared.op.Entry.TheVariants.{Begin, Done}
 use Rattle.rollout_laws.specs.Waiting.{NothingFlies}
 use Rattle.rollout_laws.proofs.Histories.{with_none, with_both, begun-with, front_follows, is_legal-append}
 use Rattle.rollout_laws.proofs.Released.{held-none}
-use Rattle.shared_book.specs.Batches.{same_op, same_entry, same_entries, dones_ahead, behind_dones, ends, items_rise, is_batch}
+use Rattle.shared_book.specs.Batches.{same_entries, dones_ahead, behind_dones, ends, items_rise, is_batch}
 use Rattle.shared_book.specs.Notes.{is_stopped}
 use Rattle.shared_book.specs.Histories.{Opening, segment_of, added, history_of}
 use Rattle.shared_book.specs.Legal.{is_empty, is_turn, may_say, may_go_on, is_legal_shared}
@@ -30,32 +29,10 @@ use Rattle.rollback_plan.specs.Turns.{BegunSoFar, HasComeSoFar, comes_to}
 use Rattle.rollback_plan.proofs.Ceilings.{ceiling-most, begun-up_to_ceiling, ceiling-least}
 use Rattle.rollback_plan.proofs.Coming.{begun-so_far, come-so_far, comes-above, finished-so_far}
 use Rattle.rollback_plan.proofs.Levelling.{finished-levelled, release-to, held-levelled}
+use Rattle.shared_book.proofs.Stops.{no_entries}
+use Rattle.shared_book.proofs.Alike.{dones_then_the_rest, same_entries-is}
 
 -- ---- lists of entries that are the same
-one-op : (a b : Op) → same_op a b ≡ true → a ≡ b
-one-op a b same =
-    let parts = and_parts (a.item == b.item) (a.number == b.number) same in
-    λ k. record { item = eqb-true a.item b.item parts.0 k; number = eqb-true a.number b.number parts.1 k }
-
-one-entry : (a b : Entry) → same_entry a b ≡ true → a ≡ b
-one-entry (Begin a) (Begin b) same = ap Begin (one-op a b same)
-one-entry (Begin a) (Done b) same = absurd (both_ways false refl same)
-one-entry (Done a) (Begin b) same = absurd (both_ways false refl same)
-one-entry (Done a) (Done b) same = ap Done (one-op a b same)
-
-pub one-list : (es fs : List Entry) → same_entries es fs ≡ true → es ≡ fs
-one-list [] [] same = refl
-one-list [] (f ∷ fs) same = absurd (both_ways false refl same)
-one-list (e ∷ es) [] same = absurd (both_ways false refl same)
-one-list (e ∷ es) (f ∷ fs) same =
-    let parts = and_parts (same_entry e f) (same_entries es fs) same in
-    ap₂ (λ (x : Entry) (xs : List Entry). x ∷ xs) (one-entry e f parts.0) (one-list es fs parts.1)
-
--- a list is its Dones ahead, and what comes after them; these begin nothing
-pub two-parts : (es : List Entry) → es ≡ ends (dones_ahead es) ++ behind_dones es
-two-parts [] = refl
-two-parts (Begin op ∷ es) = refl
-two-parts (Done op ∷ es) = ap (λ (xs : List Entry). Done op ∷ xs) (two-parts es)
 
 pub ends-begin_nothing : (ops : List Op) (n : ℕ) → begins_in (ends ops) n ≡ 0
 ends-begin_nothing [] n = refl
@@ -70,18 +47,13 @@ module _ (p : Problem) (plan : Plan) (s : ℕ) (most : s ≤ last_stage plan) (n
       let later = with_entries h done in
       let parts = and_parts (items_rise 0 (dones_ahead es) && may_follow p plan h es) (same_entries (behind_dones es) (release p plan policy later)) batch in
       let follows = (and_parts (items_rise 0 (dones_ahead es)) (may_follow p plan h es) parts.0).1 in
-      let split = two-parts es in
+      let split = dones_then_the_rest es in
       let ended = front_follows p plan h done (behind_dones es) (subst (λ xs. may_follow p plan h xs ≡ true) split follows) in
       let legal' = is_legal-append p plan h done legal ended in
       let still : BegunTo p b later = λ n lt. omega (arith, up n lt, begun-with h done n, ends-begin_nothing (dones_ahead es) n) in
       let whole : with_entries later (release p plan policy later) ≡ with_entries h es =
-      ap (with_entries later) (sym (one-list (behind_dones es) (release p plan policy later) parts.1)) ∙ with_both h done (behind_dones es) ∙ ap (with_entries h) (sym split) in
+      ap (with_entries later) (sym (same_entries-is (behind_dones es) (release p plan policy later) parts.1)) ∙ with_both h done (behind_dones es) ∙ ap (with_entries h) (sym split) in
       subst (λ g. BegunTo p b g) whole (release-to p plan s most net valid policy holds b above later legal' still)
-
--- no entries begin nothing
-pub empty-none : (es : List Entry) → is_empty es ≡ true → es ≡ []
-empty-none [] e = refl
-empty-none (x ∷ es) e = absurd (both_ways false refl e)
 
 module _ (o : Opening) (s : ℕ) (most : s ≤ last_stage o.rollout.plan) (net : IsNetwork o.rollout.problem) (valid : is_valid_plan o.rollout.problem o.rollout.plan ≡ true) (holds : HoldsFrom s o.policy) where
   abbrev p : Problem
@@ -96,7 +68,7 @@ module _ (o : Opening) (s : ℕ) (most : s ≤ last_stage o.rollout.plan) (net :
     To h = BegunTo p b h
 
     nothing-to : (h : History) (es : List Entry) → To h → is_empty es ≡ true → To (with_entries h es)
-    nothing-to h es up none = subst To (sym (with_none h) ∙ ap (with_entries h) (sym (empty-none es none))) up
+    nothing-to h es up none = subst To (sym (with_none h) ∙ ap (with_entries h) (sym (no_entries es none))) up
 
     -- the entries that come with a note lead no further
     note-to : (ws : List Written) (seat : ℕ) (es : List Entry) (said : What) → is_legal p plan (history_of o ws) ≡ true → To (history_of o ws) → may_say o ws seat es said ≡ true → To (with_entries (history_of o ws) es)

@@ -7,10 +7,11 @@ use Rattle.std.proofs.lemmas.List.Elements.{All-cons, All-head, All-nil, All-tai
 use Rattle.wan_edge.specs.Frames.{CommandFrame, IsCommand, Splits, answer_bytes, command_bytes}
 use Rattle.wan_edge.specs.Ports.{IsOffered, MovesByRule}
 use Rattle.wan_edge.specs.Switches.{Holdings, after_command, after_commands, answer_to}
+use Rattle.wan_edge.proofs.Commands.{after_commands-append}
 use Rattle.lossy_link.specs.Faithful.{AreAnswered, AreFirstAnswered, bytes_to}
 use Rattle.lossy_link.specs.Incoming.{GivesNext, HasCommands, Stream, TakesBehind, TakesMore}
 use Rattle.lossy_link.specs.WayBack.{Back, with_due}
-use Rattle.lossy_link.proofs.Taking.{after-append, bytes_to-append}
+use Rattle.lossy_link.proofs.Taking.{bytes_to-append}
 
 back_of : List ℕ → List ℕ → Back
 back_of heard due = record { heard = heard; due = due }
@@ -37,7 +38,7 @@ answered_on held held_then held_now back back_then back_now c held_is back_is cs
     let spelled : mine ++ bytes ≡ bytes_to held (cs ++ c ∷ [])
     = ap (λ (xs : List ℕ). mine ++ xs) (sym (append-nil bytes) ∙ ap (λ (h : Holdings). bytes_to h (c ∷ [])) so.carried_out) ∙ sym (bytes_to-append held cs (c ∷ [])) in
     record {
-      carried_out = held_is ∙ ap (λ (h : Holdings). after_command h c) so.carried_out ∙ sym (after-append held cs (c ∷ []));
+      carried_out = held_is ∙ ap (λ (h : Holdings). after_command h c) so.carried_out ∙ sym (after_commands-append held cs (c ∷ []));
       answered = back_is ∙ ap (λ (b : Back). with_due b bytes) so.answered ∙ due-append back mine bytes ∙ ap (with_due back) spelled;
     }
 
@@ -80,7 +81,7 @@ module _ (before now : Stream) (c : CommandFrame) (gives : GivesNext before now 
         at_most_one = omega arith;
         later = rest.commands;
         parts = refl;
-        carried_out = is ∙ ap (λ (h : Holdings). after_command h c) behind.so.carried_out ∙ sym (after-append held behind.commands (c ∷ []));
+        carried_out = is ∙ ap (λ (h : Holdings). after_command h c) behind.so.carried_out ∙ sym (after_commands-append held behind.commands (c ∷ []));
         answered = back_is ∙ behind.so.answered;
       }
       at (suc (suc k)) few is = absurd (omega arith)

@@ -6,6 +6,7 @@ use Rattle.std.proofs.lemmas.Bool.Decides.{nat_tests}
 use mathlib.Core.List.{IsPrefix}
 use prog.Atomic.{either}
 use Rattle.logbook.specs.Pages.{Cell, Nib, cell, keeps, no_nib, step, Moves, Goes}
+use Rattle.lists.proofs.Conditions.{or_false_parts}
 use Rattle.lossy_link.specs.declared.gate.crossing.Crossing.{Crossing}
 use Rattle.lossy_link.specs.Gates.{Inside, IsGate, Crosses, after_crossing, after_crossings, after_word, are_both, half_word, have_met, inside_at, is_inside, meet_in, nobody, word_by, word_of}
 
@@ -21,14 +22,10 @@ meet_last : (i : Inside) (cs : List Crossing) (c : Crossing) → meet_in i (cs +
 meet_last i [] c = refl
 meet_last i (d ∷ cs) c = ap (λ (b : Bool). are_both i || b) (meet_last (after_crossing i d) cs c) ∙ or_assoc (are_both i) (meet_in (after_crossing i d) cs) (are_both (after_crossing (after_crossings (after_crossing i d) cs) c))
 
-or_false : (a b : Bool) → (a || b) ≡ false → (a ≡ false) × (b ≡ false)
-or_false true b e = absurd (cc e)
-or_false false b e = (refl, e)
-
 -- as long as they have not met, both are not inside
 not_both : (i : Inside) (cs : List Crossing) → meet_in i cs ≡ false → are_both (after_crossings i cs) ≡ false
 not_both i [] e = e
-not_both i (c ∷ cs) e = not_both (after_crossing i c) cs (or_false (are_both i) (meet_in (after_crossing i c) cs) e).1
+not_both i (c ∷ cs) e = not_both (after_crossing i c) cs (or_false_parts (are_both i) (meet_in (after_crossing i c) cs) e).1
 
 -- by cases: who is inside, and who crosses
 crosses_so : (met first second by enters : Bool) → (met ≡ false → (first && second) ≡ false)

@@ -7,6 +7,7 @@ use Rattle.std.proofs.lemmas.List.Elements.{All-take}
 use Rattle.wan_edge.specs.Frames.{CommandFrame, IsCommand, Splits, command_bytes}
 use Rattle.wan_edge.specs.Ports.{AllAnswered, AnswersHeld, AnswersInOrder, AppendsFront, IsHonestStep, MovesByRule}
 use Rattle.wan_edge.specs.Switches.{Holdings, after_commands, holding_nothing}
+use Rattle.wan_edge.proofs.Commands.{after_commands-append}
 use Rattle.switch_agent.specs.Items.{Items, holding}
 use Rattle.lossy_link.specs.Faithful.{AreAnswered, AreFirstAnswered, IsFaithful, bytes_to}
 use Rattle.lossy_link.specs.Incoming.{Came, HasCommands, Stream, TakesBehind, offered_of}
@@ -14,7 +15,7 @@ use Rattle.lossy_link.specs.WayBack.{Back, after_hearing}
 use Rattle.lossy_link.proofs.Behind.{none_behind, whole}
 use Rattle.lossy_link.proofs.Ordered.{answers_held, one_split}
 use Rattle.lossy_link.proofs.Sending.{honest_step, no_commands}
-use Rattle.lossy_link.proofs.Taking.{after-append, bytes_to-append, moves_not, no_pairs}
+use Rattle.lossy_link.proofs.Taking.{bytes_to-append, moves_not, no_pairs}
 use Rattle.lossy_link.proofs.Answering.{front_of, moves_front, none_answered, parts_of}
 
 -- what a port keeps that is up
@@ -161,7 +162,7 @@ module _ (stream middle now : Stream) (from : List ℕ) (items items_now : Items
         all = all;
         holds =
             so.carried_out ∙ ap (λ (h : Holdings). after_commands h (so.first ++ so.unanswered)) is.holds
-            ∙ sym (after-append holding_nothing is.commands (so.first ++ so.unanswered))
+            ∙ sym (after_commands-append holding_nothing is.commands (so.first ++ so.unanswered))
             ∙ ap (after_commands holding_nothing) (sym (append_assoc is.commands so.first so.unanswered));
         came =
             bytes_to-append holding_nothing is.commands so.first

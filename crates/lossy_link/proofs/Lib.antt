@@ -7,7 +7,6 @@ pub mod Gates
 pub mod Keeping
 pub mod Noises
 pub mod Ordered
-pub mod Pairs
 pub mod Readings
 pub mod Sending
 pub mod Silent

@@ -5,11 +5,12 @@ use Rattle.std.proofs.lemmas.List.{append-nil}
 use Rattle.std.proofs.lemmas.List.Elements.{All-cons, All-head, All-nil, All-tail}
 use Rattle.rollout_rules.specs.Agent.{is_at_most, is_next_command}
 use Rattle.rollout_rules.specs.declared.held.Held.{Held}
+use Rattle.rollout_rules.proofs.Pairs.{after-more, at_most-refl, at_most-trans}
 use Rattle.wan_edge.specs.Frames.{AnswerFrame, CommandFrame, IsAnswer, IsCommand, IsCutCommand, answer_bytes, command_bytes}
 use Rattle.wan_edge.specs.Ports.{AnswersHeld, BeginsNoCommand}
 use Rattle.wan_edge.specs.Switches.{Holdings, after_command, after_commands, answer_to, answers_to, pair_asked, pair_given}
+use Rattle.wan_edge.proofs.Sizes.{answer-length}
 use Rattle.wire_frames.proofs.OneSpelling.{one_answer, one_command}
-use Rattle.lossy_link.proofs.Pairs.{after-more, at_most-refl, at_most-trans}
 
 -- ---- pairs only grow
 
@@ -36,15 +37,11 @@ pub record Continues (all front : List AnswerFrame) : Type 0 where
   pub others : List AnswerFrame
   pub parts : all ≡ front ++ others
 
-length-answer_bytes : (a : AnswerFrame) → length (answer_bytes a) ≡ 13
-unfolding answer_bytes
-length-answer_bytes a = refl
-
 -- whole answers at the front of a row of answers are the first of the row
 pub front_answers : (front all : List AnswerFrame) (rest more : List ℕ) → All IsAnswer front → All IsAnswer all → flat_map answer_bytes all ≡ (flat_map answer_bytes front ++ rest) ++ more → Continues all front
 front_answers [] all rest more front_fit all_fit e = record { others = all; parts = refl }
 front_answers (a ∷ front) [] rest more front_fit all_fit e =
-    absurd (omega (arith, ap length e, length-append (flat_map answer_bytes (a ∷ front) ++ rest) more, length-append (flat_map answer_bytes (a ∷ front)) rest, length-append (answer_bytes a) (flat_map answer_bytes front), length-answer_bytes a))
+    absurd (omega (arith, ap length e, length-append (flat_map answer_bytes (a ∷ front) ++ rest) more, length-append (flat_map answer_bytes (a ∷ front)) rest, length-append (answer_bytes a) (flat_map answer_bytes front), answer-length a))
 front_answers (a ∷ front) (b ∷ all) rest more front_fit all_fit e =
     let regrouped : answer_bytes b ++ flat_map answer_bytes all ≡ answer_bytes a ++ ((flat_map answer_bytes front ++ rest) ++ more)
     = e ∙ ap (λ (xs : List ℕ). xs ++ more) (append_assoc (answer_bytes a) (flat_map answer_bytes front) rest) ∙ append_assoc (answer_bytes a) (flat_map answer_bytes front ++ rest) more in

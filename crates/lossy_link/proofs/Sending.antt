@@ -1,14 +1,14 @@
 -- What sending one command more comes to.
 use Rattle.std.proofs.Common.{◌≡◌, ℕ, Bool, false, Some, List, [], ◌∷◌, ◌++◌, replicate, refl, sym, ap, subst, ◌∙◌}
 use Rattle.std.proofs.lemmas.List.Elements.{All-append, All-nil}
-use Rattle.wan_edge.specs.Frames.{CommandFrame, IsCommand, command_bytes, command_head}
-use Rattle.wan_edge.specs.Ports.{AnswersHeld, BeginsNoCommand, IsHonestStep, IsOffered, MovesByRule}
+use Rattle.wan_edge.specs.Frames.{CommandFrame, IsCommand}
+use Rattle.wan_edge.specs.Ports.{AnswersHeld, IsHonestStep, IsOffered, MovesByRule}
 use Rattle.wan_edge.specs.Switches.{Holdings, after_commands}
+use Rattle.wan_edge.proofs.Commands.{after_commands-append, nothing_begins_no_command}
 use Rattle.lossy_link.specs.Incoming.{GivesNext, HasCommands, IsTaken, Stream, TakesMore, offered_of}
 use Rattle.lossy_link.specs.Scripted.{AreSent}
 use Rattle.lossy_link.specs.Traffic.{Traffic, after_sending, after_sendings}
 use Rattle.lossy_link.proofs.Behind.{is_offered}
-use Rattle.lossy_link.proofs.Taking.{after-append}
 use Rattle.lossy_link.proofs.Traffics.{each_replicate}
 
 after_sendings-append : (t : Traffic) (xs ys : List CommandFrame) → after_sendings t (xs ++ ys) ≡ after_sendings (after_sendings t xs) ys
@@ -24,7 +24,7 @@ pub moves_more : (offered : List ℕ) (a b d : Holdings) (n : ℕ) (c : CommandF
 moves_more offered a b d n c is_offered is moved = record {
   delivered = moved.delivered ++ replicate n c;
   each_offered = All-append (IsOffered offered) moved.delivered (replicate n c) moved.each_offered (each_replicate (IsOffered offered) n c is_offered);
-  moved = is ∙ ap (λ (h : Holdings). after_commands h (replicate n c)) moved.moved ∙ sym (after-append a moved.delivered (replicate n c));
+  moved = is ∙ ap (λ (h : Holdings). after_commands h (replicate n c)) moved.moved ∙ sym (after_commands-append a moved.delivered (replicate n c));
 }
 
 module _ (before now : Stream) (c : CommandFrame) (gives : GivesNext before now c) (offered : List ℕ) (offered_is : offered_of now ≡ offered) where
@@ -35,12 +35,8 @@ module _ (before now : Stream) (c : CommandFrame) (gives : GivesNext before now 
 
 -- ---- what a scripted port keeps
 
-pub empty_begins_none : BeginsNoCommand []
-unfolding command_bytes command_head
-empty_begins_none c behind fits e = cc
-
 pub no_commands : HasCommands [] []
-no_commands = record { rest = []; whole = record { fit = All-nil IsCommand; parts = refl }; no_more = empty_begins_none }
+no_commands = record { rest = []; whole = record { fit = All-nil IsCommand; parts = refl }; no_more = nothing_begins_no_command }
 
 pub fresh_taken : (stream : Stream) → stream ≡ (record { taken = []; pending = [] }) → IsTaken stream false
 fresh_taken stream is = record {

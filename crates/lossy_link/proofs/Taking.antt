@@ -1,15 +1,16 @@
 -- What begins no further command, and what commands one after the other add up to.
-use Rattle.std.proofs.Common.{◌≡◌, ℕ, Bool, true, false, List, [], ◌∷◌, ◌++◌, length, get_or, refl, sym, ap, subst, ◌∙◌, arith}
+use Rattle.std.proofs.Common.{◌≡◌, ℕ, Bool, true, false, List, [], ◌++◌, length, get_or, refl, sym, ap, subst, ◌∙◌, arith}
 use Rattle.std.specs.List.{flat_map}
 use Rattle.std.proofs.lemmas.Grind.{flat_map-append}
 use Rattle.std.proofs.lemmas.List.{get_or_at}
 use Rattle.std.proofs.lemmas.List.Elements.{All-nil}
-use Rattle.wan_edge.specs.Frames.{AnswerFrame, CommandFrame, IsCutCommand, answer_bytes, command_bytes, command_head}
+use Rattle.wan_edge.specs.Frames.{CommandFrame, IsCutCommand, answer_bytes, command_bytes, command_head}
 use Rattle.wan_edge.specs.Ports.{BeginsNoCommand, IsOffered, MovesByRule}
-use Rattle.wan_edge.specs.Switches.{Holdings, after_command, after_commands, answer_to, answers_to, holding_nothing}
+use Rattle.wan_edge.specs.Switches.{Holdings, after_commands, answers_to, holding_nothing}
 use Rattle.wire_frames.specs.Reading.{IsCommandFault}
 use Rattle.wire_frames.specs.declared.fault.FrameFault.{FrameFault}
 use Rattle.wire_frames.specs.declared.fault.FrameFault.TheVariants.{Count, Kind}
+use Rattle.switch_agent.proofs.Chains.{answers_to-append}
 use Rattle.lossy_link.specs.Faithful.{bytes_to}
 use Rattle.lossy_link.specs.Incoming.{GoesOnAs}
 use Rattle.lossy_link.proofs.Ordered.{HasPairs, cut_begins_none}
@@ -29,16 +30,8 @@ pub goes_on_begins_none : (live : Bool) (kept rest : List ℕ) → GoesOnAs live
 goes_on_begins_none true kept rest on = cut_begins_none rest (subst IsCutCommand (sym on.0) on.1)
 goes_on_begins_none false kept rest on = fault_begins_none rest on.0 on.1
 
-pub after-append : (held : Holdings) (xs ys : List CommandFrame) → after_commands held (xs ++ ys) ≡ after_commands (after_commands held xs) ys
-after-append held [] ys = refl
-after-append held (x ∷ xs) ys = after-append (after_command held x) xs ys
-
-answers-append : (held : Holdings) (xs ys : List CommandFrame) → answers_to held (xs ++ ys) ≡ answers_to held xs ++ answers_to (after_commands held xs) ys
-answers-append held [] ys = refl
-answers-append held (x ∷ xs) ys = ap (λ (answers : List AnswerFrame). answer_to held x ∷ answers) (answers-append (after_command held x) xs ys)
-
 pub bytes_to-append : (held : Holdings) (xs ys : List CommandFrame) → bytes_to held (xs ++ ys) ≡ bytes_to held xs ++ bytes_to (after_commands held xs) ys
-bytes_to-append held xs ys = ap (flat_map answer_bytes) (answers-append held xs ys) ∙ flat_map-append answer_bytes (answers_to held xs) (answers_to (after_commands held xs) ys)
+bytes_to-append held xs ys = ap (flat_map answer_bytes) (answers_to-append held xs ys) ∙ flat_map-append answer_bytes (answers_to held xs) (answers_to (after_commands held xs) ys)
 
 pub no_pairs : HasPairs holding_nothing
 no_pairs = record { migrations = λ item. omega arith; numbers = λ item. omega arith }

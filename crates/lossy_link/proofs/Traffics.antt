@@ -6,6 +6,7 @@ use Rattle.std.proofs.Math.Seq.{take-add}
 use Rattle.std.proofs.lemmas.Grind.{flat_map-append}
 use Rattle.std.proofs.lemmas.List.{append-nil, drop-drop, replicate-append-replicate, take-append-drop, take-append-le, take_all, take_more}
 use Rattle.std.proofs.lemmas.List.Elements.{All-append, All-cons, All-filter, All-head, All-map, All-nil, All-tail, All-take, filter-append}
+use Rattle.rollout_rules.proofs.Pairs.{at_most-trans}
 use Rattle.wan_edge.specs.Frames.{AnswerFrame, CommandFrame, IsAnswer, answer_bytes}
 use Rattle.wan_edge.specs.Ports.{AnswersHeld}
 use Rattle.wan_edge.specs.Switches.{Holdings, after_command, after_commands, pair_given}
@@ -13,7 +14,6 @@ use Rattle.lossy_link.specs.Traffic.{IsAnswered, SaysAtMost, arriving, is_late, 
 use Rattle.lossy_link.specs.WayBack.{Back, after_hearing, with_due}
 use Rattle.lossy_link.specs.declared.waiting.Waiting.{Waiting}
 use Rattle.lossy_link.proofs.Ordered.{IsBelow, front_answers, front_of_all, pairs_grow}
-use Rattle.lossy_link.proofs.Pairs.{at_most-trans}
 
 -- one delivery more
 pub after-replicate : (held : Holdings) (n : ℕ) (c : CommandFrame) → after_command (after_commands held (replicate n c)) c ≡ after_commands held (replicate (n + 1) c)

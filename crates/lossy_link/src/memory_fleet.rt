@@ -140,21 +140,16 @@ impl<P: Port + Drop> Fleet for MemoryFleet<P> {
 
     type Guest = MemoryGuest;
 
-    ghost waiting = { λ f. Some (waiting_at f.places) };
-
-    ghost coming = { λ f. Some f.guests.coming };
-
-    ghost kept = { λ f. kept_at f.places };
-
-    ghost served = { λ f. f.guests.served };
-
-    ghost lent = { λ f. lent_at f.places };
-
-    ghost named = { λ f. name_at f.names };
-
-    ghost visiting = { λ f. f.guests.visiting };
-
-    ghost faults = { λ f. f.faults };
+    ghost told = { λ f. record {
+      waiting = Some (waiting_at f.places);
+      coming = Some f.guests.coming;
+      kept = kept_at f.places;
+      served = f.guests.served;
+      lent = lent_at f.places;
+      named = name_at f.names;
+      visiting = f.guests.visiting;
+      faults = f.faults;
+    } };
 
     /// Gives the port that waits for the switch, or fails exactly where none does, or the switch isn't called
     /// so.

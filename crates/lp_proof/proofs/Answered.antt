@@ -1,7 +1,8 @@
 -- What each way to an answer comes to.
-use Rattle.std.proofs.Common.{◌≡◌, ℕ, ◌-◌, ◌<◌, ◌≤◌, Bool, true, false, if◌then◌else◌, inl, inr, sym, ap, ◌∙◌, subst, arith, lt-ltb, le-ltb, eq-eqb, nat_lt, not, ◌&&◌}
+use Rattle.std.proofs.Common.{◌≡◌, ℕ, ◌-◌, ◌<◌, ◌≤◌, true, false, if◌then◌else◌, inl, inr, sym, ◌∙◌, subst, arith, lt-ltb, le-ltb, eq-eqb, nat_lt, not, ◌&&◌}
 use Rattle.std.specs.Prelude.{◌==◌}
 use Rattle.std.proofs.lemmas.Bool.{and_from, cases_eq, ne_eqb, or_left, or_right, not_from_false}
+use Rattle.lists.proofs.Conditions.{if_false, if_true}
 use Rattle.rollout_rules.specs.Wan.{Problem}
 use Rattle.scratch_plan.specs.Frame.{has_equal_rates}
 use Rattle.fraction_lp.specs.Dictionary.{end_of, IsEndUnlessMemory}
@@ -17,33 +18,27 @@ use Rattle.lp_proof.proofs.Built.{IsBuilt, built-parts}
 
 -- ---- which way
 
-chosen : {A : Type 0} (b : Bool) (x y : A) → b ≡ true → (if b then x else y) ≡ x
-chosen b x y e = ap (λ (c : Bool). if c then x else y) e
-
-passed : {A : Type 0} (b : Bool) (x y : A) → b ≡ false → (if b then x else y) ≡ y
-passed b x y e = ap (λ (c : Bool). if c then x else y) e
-
 pub least-plain : (p : Problem) (q : ℕ) → q < 2 → least_of p q ≡ Shown Plain
-least-plain p q lt = chosen (nat_lt q 2) (Shown Plain) (if q == 2 then by_link p else by_program p q) (lt-ltb q 2 lt)
+least-plain p q lt = if_true (nat_lt q 2) (Shown Plain) (if q == 2 then by_link p else by_program p q) (lt-ltb q 2 lt)
 
 pub least-link : (p : Problem) (q : ℕ) → q ≡ 2 → least_of p q ≡ by_link p
 least-link p q e =
-    passed (nat_lt q 2) (Shown Plain) (if q == 2 then by_link p else by_program p q) (le-ltb q 2 (omega arith))
-    ∙ chosen (q == 2) (by_link p) (by_program p q) (eq-eqb q 2 e)
+    if_false (nat_lt q 2) (Shown Plain) (if q == 2 then by_link p else by_program p q) (le-ltb q 2 (omega arith))
+    ∙ if_true (q == 2) (by_link p) (by_program p q) (eq-eqb q 2 e)
 
 pub least-program : (p : Problem) (q : ℕ) → 3 ≤ q → least_of p q ≡ by_program p q
 least-program p q some =
-    passed (nat_lt q 2) (Shown Plain) (if q == 2 then by_link p else by_program p q) (le-ltb q 2 (omega arith))
-    ∙ passed (q == 2) (by_link p) (by_program p q) (ne_eqb q 2 (λ (e : q ≡ 2). omega arith))
+    if_false (nat_lt q 2) (Shown Plain) (if q == 2 then by_link p else by_program p q) (le-ltb q 2 (omega arith))
+    ∙ if_false (q == 2) (by_link p) (by_program p q) (ne_eqb q 2 (λ (e : q ≡ 2). omega arith))
 
 module _ (p : Problem) (q : ℕ) where
   pub program-wide : is_built p q ≡ false → by_program p q ≡ Wide
   unfolding by_program
-  program-wide e = passed (is_built p q) (by_end p q (end_of (move_program p (q - 1)))) Wide e
+  program-wide e = if_false (is_built p q) (by_end p q (end_of (move_program p (q - 1)))) Wide e
 
   pub program-ends : is_built p q ≡ true → by_program p q ≡ by_end p q (end_of (move_program p (q - 1)))
   unfolding by_program
-  program-ends e = chosen (is_built p q) (by_end p q (end_of (move_program p (q - 1)))) Wide e
+  program-ends e = if_true (is_built p q) (by_end p q (end_of (move_program p (q - 1)))) Wide e
 
 pub plain-worth : (p : Problem) (q : ℕ) → q < 2 → (q == 0) ≡ has_equal_rates p → is_plain p q ≡ true
 plain-worth p q lt still = elim (cases_eq q 0) as (λ c. is_plain p q ≡ true) [

@@ -4,6 +4,8 @@ use Rattle.std.specs.Prelude.{All, ◌==◌}
 use Rattle.std.proofs.lemmas.Bool.{cases_lt, cases_eq, ne_eqb}
 use Rattle.std.proofs.lemmas.List.{length-map, get_or_append_left, get_or-append-add, get_or_push, get_or-map}
 use Rattle.std.proofs.lemmas.List.Elements.{All-map}
+use Rattle.lists.proofs.Conditions.{counted_if}
+use Rattle.lists.proofs.Numbers.{at_most_through}
 use Rattle.rollout_rules.specs.Sums.{count_below}
 use Rattle.rollout_rules.specs.Wan.{Problem, Plan, tunnel_at, link_at, tunnel_of, old_rate, new_rate, rate_at}
 use Rattle.rollout_rules.specs.Network.{IsNetwork}
@@ -135,9 +137,6 @@ module _ (p : Problem) (plan : Plan) (q : ℕ) where
 
 -- ---- the numbers are moves
 
-as_used : (b : Bool) (x : ℕ) → b ≡ true → (if b then x else 0) ≡ x
-as_used b x e = ap (λ (c : Bool). if c then x else 0) e
-
 at_most_used : (b : Bool) (x : ℕ) → (if b then x else 0) ≤ x
 at_most_used true x = omega arith
 at_most_used false x = omega arith
@@ -163,9 +162,6 @@ times-max k a b n h =
 turned : (c s n : ℕ) → n ≤ c * s → n ≤ s * c
 turned c s n h = omega arith
 
-chained : (a b c : ℕ) → a ≤ b → b ≤ c → a ≤ c
-chained a b c p q = omega arith
-
 le_first : (x m a b : ℕ) → x ≡ a → m ≡ max a b → x ≤ m
 le_first x m a b e f = omega arith
 
@@ -188,7 +184,7 @@ module _ (p : Problem) (plan : Plan) (q : ℕ) (net : IsNetwork p) (within : Mov
 
   -- the top of a used tunnel is the larger of its rates before and after the step
   top-level : (s t : ℕ) → used_at p t ≡ true → top_in q (numbers p plan q) s t ≡ max (level p plan s t) (level p plan (s + 1) t)
-  top-level s t used = as_used (used_at p t) (number_of p plan q (rate_blocks q + s) t) used ∙ top-number s t
+  top-level s t used = counted_if (used_at p t) (number_of p plan q (rate_blocks q + s) t) used ∙ top-number s t
 
   top-most : (s t : ℕ) → top_in q (numbers p plan q) s t ≤ max (level p plan s t) (level p plan (s + 1) t)
   top-most s t =
@@ -205,7 +201,7 @@ module _ (p : Problem) (plan : Plan) (q : ℕ) (net : IsNetwork p) (within : Mov
   between : (a t : ℕ) → 0 < a → a < q → t < length p.tunnels → (b : Bool) → used_at p t ≡ b → numbers p plan q (a - 1) t ≡ level p plan a t
   between a t some low lt true used =
       let back : a - 1 + 1 ≡ a = omega arith in
-      as_used (used_at p t) (number_of p plan q (a - 1) t) used ∙ rate-number (a - 1) t (omega arith) ∙ ap (λ k. level p plan k t) back
+      counted_if (used_at p t) (number_of p plan q (a - 1) t) used ∙ rate-number (a - 1) t (omega arith) ∙ ap (λ k. level p plan k t) back
   between a t some low lt false idle =
       let inside : stand_at p plan a < length plan.stages = omega (arith, stand-most p plan a, within.count) in
       unused p plan q (a - 1) t idle ∙ sym (rest (stand_at p plan a) t inside lt idle)
@@ -248,7 +244,7 @@ module _ (p : Problem) (plan : Plan) (q : ℕ) (net : IsNetwork p) (within : Mov
       subst (λ n. top_in q (numbers p plan q) s t ≤ max (rate_at plan x t) n) (sym (stand-next p plan s t lt)) (top-most s t)) in
       let fits : load p (greater_rate plan x) l ≤ (link_at p l).capacity * plan.scale = within.links x l (stand-most p plan s) inside in
       turned (link_at p l).capacity plan.scale (load p (top_in q (numbers p plan q) s) l)
-      (chained (load p (top_in q (numbers p plan q) s) l) (load p (greater_rate plan x) l) ((link_at p l).capacity * plan.scale) less fits)
+      (at_most_through (load p (top_in q (numbers p plan q) s) l) (load p (greater_rate plan x) l) ((link_at p l).capacity * plan.scale) less fits)
 
   -- a flow's total at a rate stage is its total where the plan stands
   total-level : (a f : ℕ) → a ≤ q → f < length p.flows → flow_total p (rate_in p q plan.scale (numbers p plan q) a) f ≡ flow_total p (rate_at plan (stand_at p plan a)) f

@@ -4,8 +4,9 @@ ghost use Rattle.std.specs.Prelude.{◌≡◌};
 use crate::rollout;
 use crate::slow_port::SlowPort;
 use anyhow::{Result, bail};
-use controller_run::{Limits, RolloutEnd, RolloutResult, run_rollout};
+use controller_run::{Limits, RolloutResult, RunEnd, RunOutcome, run_rollout};
 use disk_model::{Disk, MemoryDisk};
+use intent_journal::Unopened;
 use lists::Text;
 use lossy_link::{FaithfulPort, MemoryFleet};
 use order_policy::Policy;
@@ -32,10 +33,10 @@ pub(crate) struct Workload {
     pub pace: Pace,
 }
 
-/// What the rollout was told, and how many calls the disk had.
+/// What the run has come to, and how many calls the disk had.
 #[derive(Drop)]
 struct Rolled {
-    answer: RolloutEnd,
+    outcome: RunOutcome,
     calls: u64,
 }
 
@@ -55,11 +56,10 @@ pub(crate) fn measure<R: Threads + Wait + Sync + Clock + AllocGlobal + Print>(
 
 fn print<R: Print>(rt: &R, rolled: &Rolled) -> Result<()> {
     let calls = rolled.calls;
-    match &rolled.answer {
-        RolloutEnd::Finished { operations, .. } => {
-            println!(rt; "operations {operations}, calls {calls}")?
-        }
-        RolloutEnd::Stopped(..) => println!(rt; "stopped, calls {calls}")?,
+    let operations = rolled.outcome.operations;
+    match rolled.outcome.end {
+        RunEnd::Finished => println!(rt; "operations {operations}, calls {calls}")?,
+        RunEnd::Stopped(_) => println!(rt; "stopped, calls {calls}")?,
         _ => bail!("neither finished nor stopped"),
     }
     Ok(())
@@ -126,7 +126,7 @@ fn rolled_with<R: Threads + Wait + Sync, P: Port + Drop + Send>(
             let mut fleet = fleet;
             let rolled = rolled_over(rt, alloc, plan, policy, crew, &mut fleet);
             drop(fleet);
-            Ok(rolled)
+            rolled
         }
         Err(error) => {
             drop(plan);
@@ -142,16 +142,24 @@ fn rolled_over<R: Threads + Wait + Sync, P: Port + Drop + Send>(
     policy: &Policy,
     crew: Workload,
     fleet: &mut MemoryFleet<P>,
-) -> Rolled {
+) -> Result<Rolled> {
     let disk = MemoryDisk::new(alloc, Nums8::new(alloc), Turns::new(alloc));
     rolled_of(outcome_over(rt, alloc, plan, policy, crew, disk, fleet))
 }
 
-fn rolled_of(outcome: RolloutResult<MemoryDisk>) -> Rolled {
-    let RolloutResult { disk, answer } = outcome;
-    Rolled {
-        answer,
-        calls: disk.calls(),
+fn rolled_of(rolled: Result<RolloutResult<MemoryDisk>, Unopened<MemoryDisk>>) -> Result<Rolled> {
+    match rolled {
+        Ok(rolled) => {
+            let RolloutResult { disk, outcome } = rolled;
+            Ok(Rolled {
+                outcome,
+                calls: disk.calls(),
+            })
+        }
+        Err(unopened) => {
+            drop(unopened);
+            bail!("no journal was opened")
+        }
     }
 }
 
@@ -198,7 +206,7 @@ fn outcome_over<R: Threads + Wait + Sync, D: Disk + Drop + Send, F: Fleet>(
     crew: Workload,
     disk: D,
     fleet: &mut F,
-) -> RolloutResult<D>
+) -> Result<RolloutResult<D>, Unopened<D>>
 where
     F::Port: Drop + Send,
 {

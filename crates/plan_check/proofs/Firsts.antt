@@ -1,6 +1,7 @@
 -- When there is a first answer, and that a plan breaks no clause exactly where it is valid.
-use Rattle.std.proofs.Common.{◌≡◌, ℕ, zero, suc, ◌*◌, ◌-◌, ◌<◌, Bool, true, false, not, ◌&&◌, Option, Some, None, is_some, unwrap_or, length, refl, ◌⊎◌, sym, ap, ◌∙◌, inl, inr, arith, nat_le, ◌==◌, if◌then◌else◌}
+use Rattle.std.proofs.Common.{◌≡◌, ℕ, zero, suc, ◌*◌, ◌<◌, Bool, true, false, not, ◌&&◌, Option, Some, None, is_some, unwrap_or, length, refl, ◌⊎◌, sym, ap, ◌∙◌, inl, inr, arith, nat_le, ◌==◌, if◌then◌else◌}
 use Rattle.std.proofs.lemmas.Bool.{cases_eq}
+use Rattle.lists.proofs.Conditions.{and_regrouped}
 use Rattle.rollout_rules.specs.declared.item.Spot.{Spot}
 use Rattle.rollout_rules.specs.declared.item.Spot.TheVariants as spot
 use Rattle.rollout_rules.specs.declared.limits.TheConstants.{MOST_STAGES, LARGEST_SCALE}
@@ -23,7 +24,7 @@ first_below_stops f (suc n) i a h none is = elim (cases_eq i n) as (λ _. first_
 ]
 
 -- where there is none, none of them answers; and a first one is one of them
-first_of_parts : {A : Type 0} (a b : Option A) → first_of a b ≡ None → (a ≡ None) × (b ≡ None)
+pub first_of_parts : {A : Type 0} (a b : Option A) → first_of a b ≡ None → (a ≡ None) × (b ≡ None)
 first_of_parts None b e = (refl, e)
 first_of_parts (Some x) b e = cc
 
@@ -69,10 +70,6 @@ below : {A : Type 0} (n : ℕ) (f : ℕ → Option A) (test : ℕ → Bool) → 
 below zero f test each = refl
 below (suc n) f test each = first (first_below n f) (f n) (all_below n test) (test n) (below n f test each) (each n)
 
-and_assoc : (a b c : Bool) → (a && (b && c)) ≡ ((a && b) && c)
-and_assoc true b c = refl
-and_assoc false b c = refl
-
 -- ---- the clauses one by one
 within : (n most : ℕ) → nothing (outside n most) ≡ (nat_le 1 n && nat_le n most)
 within n most = one (nat_le 1 n && nat_le n most) (breaks 0 0 spot.Whole n (if n == 0 then 1 else most))
@@ -104,7 +101,7 @@ module _ (p : Problem) (plan : Plan) where
       let most = nat_le (length plan.stages) MOST_STAGES in
       first (first_of (outside plan.scale LARGEST_SCALE) (outside (length plan.stages) MOST_STAGES)) (first_below (length plan.stages) (not_full p plan))
       (scale && least && most) (all_below (length plan.stages) full)
-      (first (outside plan.scale LARGEST_SCALE) (outside (length plan.stages) MOST_STAGES) scale (least && most) (within plan.scale LARGEST_SCALE) (within (length plan.stages) MOST_STAGES) ∙ and_assoc scale least most)
+      (first (outside plan.scale LARGEST_SCALE) (outside (length plan.stages) MOST_STAGES) scale (least && most) (within plan.scale LARGEST_SCALE) (within (length plan.stages) MOST_STAGES) ∙ and_regrouped scale least most)
       are_full
 
   old : nothing (off_side p plan 1 0 Old) ≡ begins_at_old p plan

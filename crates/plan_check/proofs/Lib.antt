@@ -1,6 +1,6 @@
-pub mod Below
 pub mod Firsts
 pub mod LeastSlack
 pub mod LinkSums
 pub mod Rows
 pub mod Shares
+pub mod Passes

@@ -6,12 +6,13 @@ use Rattle.rollout_rules.specs.Wan.{Problem, tunnel_at, crosses}
 use Rattle.rollout_rules.specs.Items.{load}
 use Rattle.rollout_rules.specs.Network.{IsNetwork, IsRate}
 use Rattle.rollout_rules.proofs.Below.{sum_below-same}
+use Rattle.rollout_rules.proofs.Rows.{list_below-length}
 use Rattle.wan_model.specs.declared.side.Side.{Side}
 use Rattle.wan_model.specs.declared.side.Side.TheVariants.{Old, New}
 use Rattle.wan_model.specs.Sides.{rate_on}
 use Rattle.plan_check.specs.Parts.{rate_share}
 use Rattle.plan_check.specs.LeastSlack.{AreLoads}
-use Rattle.plan_check.proofs.Rows.{list_below-length, list_below-at, list_below-from}
+use Rattle.plan_check.proofs.Rows.{list_below-at, list_below-from}
 use Rattle.plan_check.proofs.Shares.{AreSums}
 
 -- rates within the limit of a plan's add up to no more than so many times that

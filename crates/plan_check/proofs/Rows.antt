@@ -1,12 +1,9 @@
 -- Lists of what a function gives for each number below a bound.
-use Rattle.std.proofs.Common.{◌≡◌, ℕ, zero, suc, ◌+◌, ◌<◌, List, [], ◌∷◌, ◌++◌, length, length-append, slice_index, sym, refl, ◌∙◌, subst, inl, inr, arith}
+use Rattle.std.proofs.Common.{◌≡◌, ℕ, zero, suc, ◌<◌, List, [], ◌∷◌, ◌++◌, length, slice_index, sym, ◌∙◌, subst, inl, inr, arith}
 use Rattle.std.proofs.lemmas.Bool.{cases_lt}
 use Rattle.std.proofs.lemmas.List.{get_or_append_left, get_or_push, ext_get_or}
 use Rattle.rollout_rules.specs.Sums.{list_below}
-
-pub list_below-length : (n : ℕ) (f : ℕ → ℕ) → length (list_below n f) ≡ n
-list_below-length zero f = refl
-list_below-length (suc n) f = omega (arith, length-append (list_below n f) (f n ∷ []), list_below-length n f)
+use Rattle.rollout_rules.proofs.Rows.{list_below-length}
 
 pub list_below-at : (n : ℕ) (f : ℕ → ℕ) (k : ℕ) → k < n → slice_index (list_below n f) k ≡ f k
 list_below-at zero f k lt = absurd (omega arith)

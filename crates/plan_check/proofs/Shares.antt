@@ -24,14 +24,14 @@ AreSums_more old new rows n share so by = record {
 }
 
 -- the same growth in other words
-GrownBy_as : (old new : List ℕ) (f g : ℕ → ℕ) (m n : ℕ) → GrownBy old new f m → ((k : ℕ) → f k ≡ g k) → m ≤ n → GrownBy old new g n
+pub GrownBy_as : (old new : List ℕ) (f g : ℕ → ℕ) (m n : ℕ) → GrownBy old new f m → ((k : ℕ) → f k ≡ g k) → m ≤ n → GrownBy old new g n
 GrownBy_as old new f g m n by same le = record {
   count = by.count;
   each = λ k lt. omega (arith, by.each k lt, same k);
   few = λ k lt. omega (arith, by.few k lt);
 }
 
-few_times : (a b : ℕ) → a ≤ 17 → b < 2 ^ 64 → a * b ≤ largest_share
+pub few_times : (a b : ℕ) → a ≤ 17 → b < 2 ^ 64 → a * b ≤ largest_share
 few_times a b few small = grind arith
 
 -- where a row has no number twice, it adds the amount once to each number that it has
@@ -61,11 +61,11 @@ links_once p path along is g h gl hl e =
     is.once g h (omega (arith, is.between)) (omega (arith, is.between)) (sym (is.from g gl) ∙ ap (λ l. (link_at p l).from) e ∙ is.from h hl)
 
 -- an amount that is taken where two tests pass, of which the second does, or does not
-taken : (a b : Bool) (n : ℕ) → b ≡ true → (if a then n else 0) ≡ (if a && b then n else 0)
+pub taken : (a b : Bool) (n : ℕ) → b ≡ true → (if a then n else 0) ≡ (if a && b then n else 0)
 taken true b n passes = rw passes refl
 taken false b n passes = refl
 
-left : (a b : Bool) (n : ℕ) → b ≡ false → (if a && b then n else 0) ≡ 0
+pub left : (a b : Bool) (n : ℕ) → b ≡ false → (if a && b then n else 0) ≡ 0
 left true b n fails = rw fails refl
 left false b n fails = refl
 

@@ -3,7 +3,8 @@
 //!
 //! [`check_plan`] answers Ok exactly for the valid plans, and else the first broken clause, with what
 //! stands there and what is wanted; [`loads`] and [`least_slack`] answer what the rules say, and want of
-//! memory is the only other answer of each. The clauses P0 to P5 have a module each and are tested in
+//! memory is the only other answer of each. The loads of both splits are kept together ([`SplitLoads`]),
+//! for whoever asks more than one thing of them. The clauses P0 to P5 have a module each and are tested in
 //! this order. The work at a stage is the sum of the tunnels' lengths, the links and the switches: loads
 //! are running sums over tunnels.
 #![tactic(auto)]
@@ -16,6 +17,7 @@ mod fault;
 mod link_loads;
 mod shape;
 mod slack;
+mod split_loads;
 mod steps;
 mod sums;
 mod totals;
@@ -25,4 +27,5 @@ pub use broken::Broken;
 pub use check::check_plan;
 pub use fault::PlanFault;
 pub use link_loads::loads;
-pub use slack::least_slack;
+pub use slack::{least_slack, slack_over};
+pub use split_loads::SplitLoads;

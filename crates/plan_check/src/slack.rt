@@ -3,31 +3,28 @@ ghost use Rattle.rollout_rules.specs.Slack.{has_slack};
 ghost use Rattle.wan_model.specs.declared.side.Side.TheVariants.{Old, New};
 ghost use Rattle.plan_check.specs.LeastSlack.{AreLoads};
 ghost use Rattle.plan_check.specs.LeastSlack as spec;
+ghost use Rattle.plan_check.specs.SplitLoads.{AreSplitLoads};
 
-use crate::link_loads::loads;
-use lists::{Memory, Nums};
+use crate::split_loads::SplitLoads;
+use lists::Memory;
 use std::alloc::Global;
-use wan_model::{Problem, Side};
+use wan_model::Problem;
 
 /// The least k from 2 to 64 for which a share 1/k of every link is free in the old and in the new split
 /// (SWAN's slack), or None where there is none. Time: 63 times the links, and the tunnels once a split.
 pub fn least_slack(alloc: Global, problem: &Problem) -> Result<Option<u64>, Memory>
     ensures { IfOk result (λ k. k ≡ spec.least_slack problem.now) }
 {
-    let old = loads_on(alloc, problem, Side::Old)?;
-    let new = loads_on(alloc, problem, Side::New)?;
-    Ok(least_over(problem, old.as_slice(), new.as_slice()))
+    let loads = SplitLoads::of(alloc, problem)?;
+    Ok(slack_over(problem, &loads))
 }
 
-// The loads of a split.
-fn loads_on(alloc: Global, problem: &Problem, side: Side) -> Result<Nums, Memory>
-    ensures { IfOk result (λ sums. AreLoads side problem.now sums) }
+/// The same over its loads. Time: 63 times the links.
+pub fn slack_over(problem: &Problem, loads: &SplitLoads) -> Option<u64>
+    requires { AreSplitLoads problem.now loads.now }
+    ensures { result ≡ spec.least_slack problem.now }
 {
-    let mut rates = Nums::new(alloc);
-    for t in 0..problem.tunnels().len() {
-        rates.push(problem.rate_on(side, t).unwrap_or(0))?;
-    }
-    loads(alloc, problem, rates.as_slice())
+    least_over(problem, loads.old.as_slice(), loads.new.as_slice())
 }
 
 fn least_over(problem: &Problem, old: &[u64], new: &[u64]) -> Option<u64>

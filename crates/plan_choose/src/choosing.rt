@@ -1,6 +1,7 @@
 ghost use Rattle.std.specs.Prelude.{◌≡◌, Some, None, IsTrue, IfOk};
 ghost use Rattle.rollout_rules.specs.Valid.{is_valid_plan};
 ghost use Rattle.plan_check.specs.LeastSlack as slack;
+ghost use Rattle.plan_check.specs.SplitLoads.{AreSplitLoads};
 ghost use Rattle.scratch_plan.specs.Refusals.{refusal, Answers};
 ghost use Rattle.plan_choose.specs.Choice as spec;
 ghost use Rattle.plan_choose.specs.Chosen.{IsChosen};
@@ -10,8 +11,8 @@ use crate::planned::Planned;
 use crate::steps::{fewer_steps, most_tried};
 use crate::validity::where_valid;
 use lists::Memory;
-use plan_check::least_slack;
-use scratch_plan::{NoPlan, frame, has_equal_rates, refused, scratch, still};
+use plan_check::{SplitLoads, slack_over};
+use scratch_plan::{NoPlan, frame, has_equal_rates, refused_over, scratch_over, still};
 use std::alloc::Global;
 use wan_model::{CheckedPlan, Plan, Problem};
 
@@ -36,12 +37,23 @@ pub fn plan_for(alloc: Global, problem: &Problem) -> Result<Planned, NoPlan>
     ensures value { Answers result (spec.chosen problem.now) }
     ensures valid { IfOk result (λ found. IsTrue (is_valid_plan problem.now found.plan)) }
 {
-    refused(alloc, problem)?;
-    best_plan(alloc, problem)
+    let loads = SplitLoads::of(alloc, problem)?;
+    plan_over(alloc, problem, &loads)
 }
 
-fn best_plan(alloc: Global, problem: &Problem) -> Result<Planned, NoPlan>
-    requires { refusal problem.now ≡ None }
+/// The same over its loads.
+pub fn plan_over(alloc: Global, problem: &Problem, loads: &SplitLoads) -> Result<Planned, NoPlan>
+    requires { AreSplitLoads problem.now loads.now }
+    ensures value { Answers result (spec.chosen problem.now) }
+    ensures valid { IfOk result (λ found. IsTrue (is_valid_plan problem.now found.plan)) }
+{
+    refused_over(alloc, problem, loads)?;
+    best_plan(alloc, problem, loads)
+}
+
+fn best_plan(alloc: Global, problem: &Problem, loads: &SplitLoads) -> Result<Planned, NoPlan>
+    requires loads { AreSplitLoads problem.now loads.now }
+    requires fits { refusal problem.now ≡ None }
     ensures value { Answers result (spec.best_choice problem.now) }
     ensures valid { IfOk result (λ found. IsTrue (is_valid_plan problem.now found.plan)) }
 {
@@ -57,7 +69,7 @@ fn best_plan(alloc: Global, problem: &Problem) -> Result<Planned, NoPlan>
             rate_steps: 1,
         });
     }
-    moving_plan(alloc, problem)
+    moving_plan(alloc, problem, loads)
 }
 
 // The plan of one rate step, where it is valid.
@@ -70,25 +82,33 @@ fn direct_plan(alloc: Global, problem: &Problem) -> Result<Option<Plan>, Memory>
 }
 
 // By fewer steps than scratch takes, else from scratch.
-fn moving_plan(alloc: Global, problem: &Problem) -> Result<Planned, NoPlan>
-    requires { refusal problem.now ≡ None }
+fn moving_plan(alloc: Global, problem: &Problem, loads: &SplitLoads) -> Result<Planned, NoPlan>
+    requires loads { AreSplitLoads problem.now loads.now }
+    requires fits { refusal problem.now ≡ None }
     ensures value { Answers result (spec.moving_choice problem.now (spec.fewer_steps problem.now)) }
     ensures valid { IfOk result (λ found. IsTrue (is_valid_plan problem.now found.plan)) }
 {
-    let most = most_tried(least_slack(alloc, problem)?);
-    if let Some(planned) = fewer_steps(alloc, problem, most)? {
+    let least = slack_over(problem, loads);
+    if let Some(planned) = fewer_steps(alloc, problem, most_tried(least))? {
         return Ok(planned);
     }
-    plan_from_scratch(alloc, problem)
+    plan_from_scratch(alloc, problem, loads, least)
 }
 
-fn plan_from_scratch(alloc: Global, problem: &Problem) -> Result<Planned, NoPlan>
-    requires { refusal problem.now ≡ None }
+fn plan_from_scratch(
+    alloc: Global,
+    problem: &Problem,
+    loads: &SplitLoads,
+    least: Option<u64>,
+) -> Result<Planned, NoPlan>
+    requires loads { AreSplitLoads problem.now loads.now }
+    requires least { least ≡ slack.least_slack problem.now }
+    requires fits { refusal problem.now ≡ None }
     ensures value { Answers result
         (spec.scratch_choice problem.now (slack.least_slack problem.now)) }
     ensures valid { IfOk result (λ found. IsTrue (is_valid_plan problem.now found.plan)) }
 {
-    let plan = scratch(alloc, problem)?;
+    let plan = scratch_over(alloc, problem, loads, least)?;
     let rate_steps = plan.scale;
     Ok(Planned { plan, rate_steps })
 }

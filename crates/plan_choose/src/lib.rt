@@ -13,6 +13,6 @@ mod steps;
 mod validity;
 pub mod worked;
 
-pub use choosing::{choose, plan_for};
+pub use choosing::{choose, plan_for, plan_over};
 pub use chosen::{Chosen, Unplanned};
 pub use planned::Planned;

@@ -1,14 +1,14 @@
 -- What stands in the rows of sums.
-use Rattle.std.proofs.Common.{◌≡◌, ℕ, ◌+◌, ◌<◌, ◌≤◌, max, min, Bool, true, false, ◌&&◌, ◌||◌, List, [], length, get_or, ◌==◌, if◌then◌else◌, refl, sym, ap, subst, ◌∙◌, arith}
+use Rattle.std.proofs.Common.{◌≡◌, ℕ, ◌+◌, ◌<◌, ◌≤◌, max, Bool, true, false, ◌&&◌, ◌||◌, List, [], length, get_or, ◌==◌, if◌then◌else◌, refl, sym, ap, subst, ◌∙◌, arith}
 use Rattle.rollout_rules.specs.Sums.{sum_below, list_below}
-use Rattle.rollout_rules.specs.Wan.{Problem, Plan, rate_at, mark_at, switch_of, hops, width_of, crosses, last_stage, next_stage}
+use Rattle.rollout_rules.specs.Wan.{Problem, Plan, rate_at, mark_at, switch_of, hops, width_of, crosses, last_stage}
 use Rattle.rollout_rules.specs.Items.{the_link, the_table, load, entries_at}
 use Rattle.rollout_rules.specs.Network.{IsNetwork}
 use Rattle.rollout_rules.specs.Valid.{is_valid_plan, step_total}
 use Rattle.rollout_rules.proofs.Below.{sum_below-same}
 use Rattle.rollout_rules.proofs.Totals.{step_total-load, step_total-entries_at}
-use Rattle.rollout_laws.proofs.Contents.{list_below-length, list_below-at}
-use Rattle.wan_model.specs.Shaped.{IsShaped}
+use Rattle.rollout_rules.proofs.Rows.{list_below-length}
+use Rattle.rollout_laws.proofs.Contents.{list_below-at}
 use Rattle.wan_model.proofs.Shapes.{valid-IsShaped}
 use Rattle.plan_texts.specs.Loads.{stage_total}
 use Rattle.plan_texts.specs.Rows.{IsChecked, AreLong, larger_at, either_at, ahead_of, link_rows, table_rows, cell}

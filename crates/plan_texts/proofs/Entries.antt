@@ -1,5 +1,5 @@
 -- Running sums over tunnels of the widths of entries.
-use Rattle.std.proofs.Common.{◌≡◌, ℕ, ◌+◌, ◌*◌, ◌^◌, ◌<◌, ◌≤◌, Bool, true, false, ◌&&◌, List, length, ◌==◌, if◌then◌else◌, refl, ap, ◌∙◌, arith}
+use Rattle.std.proofs.Common.{◌≡◌, ℕ, ◌*◌, ◌^◌, ◌<◌, ◌≤◌, Bool, true, false, ◌&&◌, List, length, ◌==◌, if◌then◌else◌, refl, ap, ◌∙◌, arith}
 use Rattle.rollout_rules.specs.Sums.{sum_below, list_below}
 use Rattle.rollout_rules.specs.Wan.{Problem, tunnel_at, switch_of, hops, width_of}
 use Rattle.rollout_rules.specs.Items.{entries_at}
@@ -7,38 +7,19 @@ use Rattle.rollout_rules.specs.Network.{IsNetwork}
 use Rattle.rollout_rules.proofs.Below.{sum_below-zero, sum_below-same}
 use Rattle.plan_check.specs.Parts.{GrownBy, added, largest_share}
 use Rattle.plan_check.proofs.Rows.{list_below-from}
-use Rattle.plan_check.proofs.Shares.{AreSums}
+use Rattle.plan_check.proofs.Shares.{AreSums, GrownBy_as, few_times, left, taken}
 use Rattle.plan_texts.specs.Rows.{entry_share}
-
--- the same growth in other words
-grown-as : (old new : List ℕ) (f g : ℕ → ℕ) (m n : ℕ) → GrownBy old new f m → ((k : ℕ) → f k ≡ g k) → m ≤ n → GrownBy old new g n
-grown-as old new f g m n by same le = record {
-  count = by.count;
-  each = λ k lt. omega (arith, by.each k lt, same k);
-  few = λ k lt. omega (arith, by.few k lt);
-}
-
-few-times : (a b : ℕ) → a ≤ 17 → b < 2 ^ 64 → a * b ≤ largest_share
-few-times a b few small = grind arith
-
-taken : (a b : Bool) (n : ℕ) → b ≡ true → (if a then n else 0) ≡ (if a && b then n else 0)
-taken true b n passes = rw passes refl
-taken false b n passes = refl
-
-left : (a b : Bool) (n : ℕ) → b ≡ false → (if a && b then n else 0) ≡ 0
-left true b n fails = rw fails refl
-left false b n fails = refl
 
 -- a tunnel that is there adds its width to the table of each switch on its path
 pub entry-grown : (p : Problem) (there : ℕ → Bool) (t : ℕ) (old new row : List ℕ) (amount : ℕ) → IsNetwork p → t < length p.tunnels → there t ≡ true → row ≡ (tunnel_at p t).path → amount ≡ width_of p t → amount < 2 ^ 64 → GrownBy old new (added row amount) (length row * amount) → GrownBy old new (entry_share p there t) largest_share
 entry-grown p there t old new row amount net inside here is wide small by =
     let few : length row ≤ 17 = omega (arith, ap length is, (net.tunnels t inside).path.most) in
-    grown-as old new (added row amount) (entry_share p there t) (length row * amount) largest_share by
+    GrownBy_as old new (added row amount) (entry_share p there t) (length row * amount) largest_share by
     (λ k.
     ap (λ r. added r amount k) is
     ∙ ap (λ a. added (tunnel_at p t).path a k) wide
     ∙ sum_below-same (hops p t) (λ h. if switch_of p t h == k then width_of p t else 0) (λ h. if (switch_of p t h == k) && there t then width_of p t else 0) (λ h lt. taken (switch_of p t h == k) (there t) (width_of p t) here))
-    (few-times (length row) amount few small)
+    (few_times (length row) amount few small)
 
 -- and one that isn't adds nothing
 pub entry-stays : (p : Problem) (there : ℕ → Bool) (t : ℕ) (sums : List ℕ) → there t ≡ false → GrownBy sums sums (entry_share p there t) largest_share

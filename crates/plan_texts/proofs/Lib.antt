@@ -4,6 +4,5 @@ pub mod Lines
 pub mod Greatest
 pub mod Between
 pub mod Pushes
-mod Called
 pub mod Needs
 pub mod Told

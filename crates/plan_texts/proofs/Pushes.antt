@@ -1,19 +1,17 @@
 -- What was pushed, piece by piece and row by row.
-use Rattle.std.proofs.Common.{◌≡◌, ℕ, suc, ◌+◌, List, [], ◌++◌, sym, ap, ap₂, subst, ◌∙◌, arith}
+use Rattle.std.proofs.Common.{◌≡◌, ℕ, ◌+◌, List, [], ◌++◌, sym, ap, ap₂, subst, ◌∙◌}
 use Rattle.std.specs.List.{flat_map}
 use Rattle.std.proofs.lemmas.List.{flat_map_more}
 use Rattle.std.proofs.lemmas.List.Concat.{flat_map-append}
+use Rattle.lists.proofs.Numbers.{one_more}
 use Rattle.rollout_rules.specs.Sums.{list_below}
 use Rattle.rollout_rules.specs.Wan.{Problem, Plan}
 use Rattle.rollout_rules.specs.Items.{Resource}
 use Rattle.plan_texts.specs.Loads.{step_text, step_texts, load_line, load_lines}
 
-next : (n : ℕ) → suc n ≡ n + 1
-next n = omega arith
-
 -- one row more, and one row of rows
 row-more : {X : Type 0} (f : X → List ℕ) (g : ℕ → X) (n : ℕ) → flat_map f (list_below n g) ++ f (g n) ≡ flat_map f (list_below (n + 1) g)
-row-more f g n = flat_map_more f [] (list_below n g) (g n) ∙ ap (λ k. flat_map f (list_below k g)) (next n)
+row-more f g n = flat_map_more f [] (list_below n g) (g n) ∙ ap (λ k. flat_map f (list_below k g)) (one_more n)
 
 rows-more : {X Y : Type 0} (h : Y → List ℕ) (f : X → List Y) (g : ℕ → X) (n : ℕ)
     → flat_map h (flat_map f (list_below n g)) ++ flat_map h (f (g n)) ≡ flat_map h (flat_map f (list_below (n + 1) g))
@@ -21,7 +19,7 @@ rows-more h f g n =
     let rows = flat_map f (list_below n g) in
     sym (flat_map-append h rows (f (g n)))
     ∙ ap (λ ys. flat_map h ys) (flat_map_more f [] (list_below n g) (g n))
-    ∙ ap (λ k. flat_map h (flat_map f (list_below k g))) (next n)
+    ∙ ap (λ k. flat_map h (flat_map f (list_below k g))) (one_more n)
 
 -- An object that is pushed into, by what it says of pushes.
 module _ {S : Type 0} (R : S → List ℕ → S → Type 0) where
@@ -67,8 +65,8 @@ module _ {S : Type 0} (R : S → List ℕ → S → Type 0) where
 
     pub step-pushed : {s t u : S} (taken most : ℕ → ℕ) (n a b : ℕ) → a ≡ taken n → b ≡ most n → R s (step_texts taken most n) t → R t (step_text a b) u → R s (step_texts taken most (n + 1)) u
     step-pushed taken most n a b ea eb was told =
-        said_so (ap (λ k. step_texts taken most k) (next n)) (both was (said_so (ap₂ step_text ea eb) told))
+        said_so (ap (λ k. step_texts taken most k) (one_more n)) (both was (said_so (ap₂ step_text ea eb) told))
 
     pub line-pushed : {s t u : S} (p : Problem) (plan : Plan) (resource : ℕ → Resource) (n : ℕ) → R s (load_lines p plan resource n) t → R t (load_line p plan (resource n)) u
         → R s (load_lines p plan resource (n + 1)) u
-    line-pushed p plan resource n was told = said_so (ap (λ k. load_lines p plan resource k) (next n)) (both was told)
+    line-pushed p plan resource n was told = said_so (ap (λ k. load_lines p plan resource k) (one_more n)) (both was told)

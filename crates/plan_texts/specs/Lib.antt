@@ -3,5 +3,4 @@ pub mod Rows
 pub mod Needs
 pub mod Explain
 pub mod Told
-pub mod Named
 pub mod LookedUp

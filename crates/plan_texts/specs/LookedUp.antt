@@ -1,7 +1,7 @@
 -- What is looked up of a plan before a text of it is pushed.
 use Rattle.std.specs.Prelude.{◌≡◌}
 use Rattle.rollout_rules.specs.Wan.{Problem, Plan, Rollout}
-use Rattle.plan_texts.specs.Named.{AreNamesOf}
+use Rattle.wan_text.specs.Named.{AreNamesOf}
 use Rattle.plan_texts.specs.Rows.{link_rows, table_rows}
 use Rattle.plan_texts.specs.declared.load_rows.LoadRows.{LoadRows}
 use Rattle.plan_texts.specs.declared.lookup.Lookup.{Lookup}

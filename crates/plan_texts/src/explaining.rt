@@ -71,7 +71,8 @@ fn op_count(plan: &CheckedPlan, index: &Index) -> u64
 fn push_items<P: Pieces>(text: &mut P, plan: &CheckedPlan, lookup: &Lookup)
     requires { IsLookupOf lookup.now plan.now }
     ensures { P.pushes text.old
-        (spec.lines_of_items plan.now.problem plan.now.plan (item_count plan.now.problem)) text.new }
+        (spec.lines_of_items plan.now.problem plan.now.plan (item_count plan.now.problem))
+        text.new }
 {
     for number in 0..lookup.index.item_count() {
         push_item(text, plan, lookup, number);

@@ -1,17 +1,17 @@
 //! The link that is fullest in a step.
 ghost use Rattle.std.specs.Prelude.{◌≡◌, ℕ, ◌+◌, ◌*◌, ◌++◌, ◌<◌, ◌≤◌, ◌^◌, length, nat_lt, IfSome};
 ghost use Rattle.rollout_rules.specs.Wan.{last_stage};
-ghost use Rattle.plan_texts.specs.Named.{AreNamesOf};
+ghost use Rattle.wan_text.specs.Named.{AreNamesOf};
 ghost use Rattle.plan_texts.specs.Loads as spec;
 ghost use Rattle.plan_texts.specs.Rows.{AreLong, IsChecked, cell, link_rows};
 
-use crate::names::Names;
 use crate::pieces::{push_link, push_number};
 use crate::rows::{Rows, read};
 use crate::sums::Sums;
 use lists::Many;
 use text_writer::Pieces;
 use wan_model::{Plan, Problem};
+use wan_text::Names;
 
 /// Adds the last line: the first link of which the greatest share may be taken in a step, how much that
 /// is of what there is, and the first step of that link in which it is so much.

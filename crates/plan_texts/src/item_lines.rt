@@ -3,17 +3,17 @@ ghost use Rattle.std.specs.Prelude.{◌≡◌, ◌++◌, ◌<◌, length, IsTrue
 ghost use Rattle.rollout_rules.specs.Wan as wan;
 ghost use Rattle.rollout_rules.specs.Items.{is_item, item_count};
 ghost use Rattle.rollout_rules.specs.declared.item.Item.TheVariants as variants;
-ghost use Rattle.plan_texts.specs.Named.{AreNamesOf};
+ghost use Rattle.wan_text.specs.Named.{AreNamesOf};
 ghost use Rattle.plan_texts.specs.Explain as spec;
 ghost use Rattle.plan_texts.specs.LookedUp.{IsLookupOf};
 
 use crate::lookup::Lookup;
-use crate::names::Names;
 use crate::op_lines::push_operations;
 use crate::pieces::{push_number, push_switch};
 use rollout_rules::Item;
 use text_writer::Pieces;
 use wan_model::{CheckedPlan, Problem, home_of_item};
+use wan_text::Names;
 
 /// Adds the line of the item with a number, and those of its operations.
 pub(crate) fn push_item<P: Pieces>(text: &mut P, plan: &CheckedPlan, lookup: &Lookup, number: u32)

@@ -17,7 +17,6 @@ pub mod laws;
 mod load_lines;
 mod load_rows;
 mod lookup;
-mod names;
 mod need_texts;
 mod op_lines;
 mod pieces;

@@ -1,6 +1,6 @@
 ghost use Rattle.std.specs.Prelude.{◌≡◌, ◌+◌, ◌++◌, ◌<◌, length};
 ghost use Rattle.rollout_rules.specs.Items.{the_link, the_table};
-ghost use Rattle.plan_texts.specs.Named.{AreNamesOf};
+ghost use Rattle.wan_text.specs.Named.{AreNamesOf};
 ghost use Rattle.plan_texts.specs.Loads as spec;
 ghost use Rattle.plan_texts.specs.Loads.{load_line, load_lines, loads_text};
 ghost use Rattle.plan_texts.specs.LookedUp.{AreLoadsIn, AreLoadsOf};
@@ -8,12 +8,12 @@ ghost use Rattle.plan_texts.specs.Rows.{AreLong, IsChecked, cell, link_rows, tab
 
 use crate::fullest::{push_fullest, room_of};
 use crate::load_rows::LoadRows;
-use crate::names::Names;
 use crate::pieces::{push_link, push_number, push_switch};
 use crate::rows::{Rows, read};
 use dependency_graph::checked_plan_is_valid;
 use text_writer::Pieces;
 use wan_model::{CheckedPlan, Plan, Problem};
+use wan_text::Names;
 
 /// Pushes the loads of a plan: its steps and scale; of each link, and of each table, how much is taken at each
 /// stage and, in parentheses between, at most in the step; and the link that is fullest in a step. Links
@@ -131,7 +131,8 @@ fn push_totals<P: Pieces>(text: &mut P, rows: &Rows, place: usize, steps: usize,
     requires taken { AreLong rows.now.taken (steps + 1) place }
     requires most { AreLong rows.now.most (steps + 1) place }
     ensures { P.pushes text.old
-        (spec.totals_text capacity steps (cell rows.now.taken place) (cell rows.now.most place)) text.new }
+        (spec.totals_text capacity steps (cell rows.now.taken place) (cell rows.now.most place))
+        text.new }
 {
     push_capacity(text, capacity);
     push_steps(text, rows, place, steps);

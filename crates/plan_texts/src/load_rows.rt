@@ -4,12 +4,12 @@ ghost use Rattle.rollout_rules.specs.Wan as wan;
 ghost use Rattle.plan_texts.specs.LookedUp.{AreLoadsIn, AreLoadsOf};
 ghost use Rattle.plan_texts.specs.Rows.{IsChecked};
 
-use crate::names::Names;
 use crate::rows::{Rows, all_links, all_tables};
 use dependency_graph::checked_plan_is_valid;
 use lists::Memory;
 use std::alloc::Global;
 use wan_model::{CheckedPlan, Plan, Problem};
+use wan_text::Names;
 
 /// The names of a plan's problem, and what is taken of its links and tables, stage by stage.
 #[derive(Drop)]

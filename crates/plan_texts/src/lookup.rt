@@ -2,11 +2,11 @@
 ghost use Rattle.std.specs.Prelude.{IfOk};
 ghost use Rattle.plan_texts.specs.LookedUp.{IsLookupOf};
 
-use crate::names::Names;
 use dependency_graph::{Chains, Index};
 use lists::Memory;
 use std::alloc::Global;
 use wan_model::CheckedPlan;
+use wan_text::Names;
 
 /// The names of a plan's problem, its items by number, and the longest chain from each of their operations on.
 #[derive(Drop)]

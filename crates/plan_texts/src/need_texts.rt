@@ -25,7 +25,8 @@ pub(crate) fn push_needs<P: Pieces>(
     requires item { IsTrue (is_item plan.now.problem item) }
     requires stage { s < last_stage plan.now.plan }
     ensures { P.pushes text.old
-        (spec.needs_text plan.now.problem (needs_of plan.now.problem plan.now.plan item s)) text.new }
+        (spec.needs_text plan.now.problem (needs_of plan.now.problem plan.now.plan item s))
+        text.new }
 {
     match item {
         Item::Flow(flow) => push_carriers(text, plan, index, flow as usize, s),
@@ -54,7 +55,8 @@ fn push_carrier<P: Pieces>(text: &mut P, plan: &CheckedPlan, index: &Index, tunn
     requires tunnel { tunnel < length plan.now.problem.tunnels }
     requires stage { s ≤ last_stage plan.now.plan }
     ensures { P.pushes text.old
-        (spec.needs_text plan.now.problem (carrier_needs plan.now.problem plan.now.plan s tunnel)) text.new }
+        (spec.needs_text plan.now.problem (carrier_needs plan.now.problem plan.now.plan s tunnel))
+        text.new }
 {
     if plan.rate(s, tunnel) == 0 {
         return;

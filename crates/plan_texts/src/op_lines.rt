@@ -59,7 +59,8 @@ fn push_step<P: Pieces>(text: &mut P, plan: &CheckedPlan, lookup: &Lookup, step:
     requires item { IsTrue (is_item plan.now.problem step.item) }
     requires stage { step.stage < last_stage plan.now.plan }
     ensures { P.pushes text.old
-        (spec.step_line plan.now.problem plan.now.plan step.number step.item step.before step.stage) text.new }
+        (spec.step_line plan.now.problem plan.now.plan step.number step.item step.before step.stage)
+        text.new }
 {
     let number = step.before as u64 + 1;
     let next = step.stage as u64 + 1;
@@ -131,7 +132,8 @@ fn push_contents<P: Pieces>(text: &mut P, plan: &CheckedPlan, flow: usize, s: us
     requires flow { flow < length plan.now.problem.flows }
     requires stage { s ≤ last_stage plan.now.plan }
     ensures { P.pushes text.old
-        (spec.contents_text (content plan.now.problem plan.now.plan (variants.Flow flow) s)) text.new }
+        (spec.contents_text (content plan.now.problem plan.now.plan (variants.Flow flow) s))
+        text.new }
 {
     for j in 0..plan.tunnel_count(flow) {
         let rate = plan.rate(s, plan.tunnel_of(flow, j));

@@ -2,13 +2,13 @@
 ghost use Rattle.std.specs.Prelude.{◌≡◌};
 ghost use Rattle.rollout_rules.specs.Wan as wan;
 ghost use Rattle.rollout_rules.specs.Wan.{link_at};
-ghost use Rattle.plan_texts.specs.Named.{AreNamesOf};
+ghost use Rattle.wan_text.specs.Named.{AreNamesOf};
 ghost use Rattle.wan_text.specs.Names.{link_text, switch_text};
 
-use crate::names::Names;
 use itoa::{Buffer, Integer};
 use text_writer::Pieces;
 use wan_model::Problem;
+use wan_text::Names;
 
 /// Pushes a number.
 pub(crate) fn push_number<P: Pieces, I: Integer>(text: &mut P, number: I)

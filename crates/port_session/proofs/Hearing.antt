@@ -5,11 +5,12 @@ use Rattle.std.proofs.lemmas.List.Elements.{All-append}
 use Rattle.std.specs.Bool.{OnTrue}
 use Rattle.std.specs.List.{flat_map}
 use Rattle.std.specs.Prelude.{IsTrue}
-use Rattle.wan_edge.specs.Frames.{Answer, AnswerFrame, CommandFrame, IsCutAnswer, answer_bytes}
+use Rattle.wan_edge.specs.Frames.{Answer, AnswerFrame, IsCutAnswer, answer_bytes}
 use Rattle.wan_edge.specs.Ports.{GoesOn, Hears, IsHonestStep, IsOffered, IsOneMore, IsPromptState, IsUnready, MovesByRule, NothingToCome, PortTrace, Steps}
-use Rattle.wan_edge.specs.Streams.{Appends, KeepsTelling, Rose}
-use Rattle.wan_edge.specs.Switches.{Holdings, after_command, after_commands}
+use Rattle.wan_edge.specs.Streams.{Appends, KeepsTelling}
+use Rattle.wan_edge.specs.Switches.{Holdings, after_commands}
 use Rattle.wan_edge.proofs.Chains.{Appends-chain, Appends-nothing}
+use Rattle.wan_edge.proofs.Commands.{after_commands-append}
 use Rattle.port_session.specs.Reading.{ReadsAnswers, Reckoning, Stream}
 use Rattle.port_session.specs.Sessions.{EndsAnswer, HearsAnswers, IsHeard, Listening, listening, missing, uncounted}
 use Rattle.port_session.specs.declared.fault.SessionFault.{SessionFault}
@@ -41,7 +42,7 @@ unfolding answer_bytes
 length-answers [] = refl
 length-answers (a ∷ later) = omega (arith, length-append (answer_bytes a) (flat_map answer_bytes later), length-answers later)
 
-cut_short : (kept : List ℕ) → IsCutAnswer kept → length kept < 13
+pub cut_short : (kept : List ℕ) → IsCutAnswer kept → length kept < 13
 unfolding answer_bytes
 cut_short kept cut = omega (arith, ap length cut.begins, length-append kept cut.missing, cut.some)
 
@@ -93,10 +94,6 @@ one_ended migration a b hears some = record {
   whole = hears.reads.whole;
   some = some;
 }
-
-after_commands-append : (held : Holdings) (xs ys : List CommandFrame) → after_commands held (xs ++ ys) ≡ after_commands (after_commands held xs) ys
-after_commands-append held [] ys = refl
-after_commands-append held (x ∷ xs) ys = after_commands-append (after_command held x) xs ys
 
 moves_on : (offered : List ℕ) (a b c : Holdings) → MovesByRule offered a b → MovesByRule offered b c → MovesByRule offered a c
 moves_on offered a b c first second = record {
@@ -152,11 +149,6 @@ module _ (a b c : PortTrace) where
     by_rule = rule_on on.told on.honest unsent_first unsent on.by_rule step.by_rule;
     in_order = order_on on.prompt on.start step.in_order;
   }
-
--- a count that rose from a later moment on rose from an earlier one
-pub rose_on : (a b c : ℕ) → a ≤ b → Rose b c → Rose a c
-rose_on a b c le (inl rose) = inl (omega (arith, le, rose))
-rose_on a b c le (inr top) = inr top
 
 -- ---- how hearing ends
 module _ (migration : ℕ) (a b : PortTrace) (s t : Stream) (xs ys : List Answer) (hears : HearsAnswers migration (listening a.heard s xs) None (listening b.heard t ys)) (quiet : b.quiet ≡ a.quiet) (live : IsTrue t.live) where

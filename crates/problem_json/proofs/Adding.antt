@@ -1,6 +1,6 @@
 -- Elements added one by one.
 use Rattle.std.proofs.Common.{◌≡◌, ℕ, zero, suc, ◌+◌, ◌<◌, ◌≤◌, Bool, true, List, [], ◌∷◌, ◌++◌, map, length, take, get_or, Result, Ok, Err, refl, ap, sym, ◌∙◌, arith}
-use Rattle.std.proofs.lemmas.List.{take_more, take_all, map_push, length_push}
+use Rattle.std.proofs.lemmas.List.{take_more, take_all, map_push}
 use Rattle.rollout_rules.specs.Sums.{list_below}
 use Rattle.serde_json.specs.Data.{Data}
 use Rattle.serde_json.specs.Events.{items_len}
@@ -55,7 +55,3 @@ map-below g xs d = ap (map g) (sym (take_all (length xs) xs (omega arith))) ∙ 
 pub items_len-items_of : (ds : List Data) → items_len (items_of ds) ≡ length ds
 items_len-items_of [] = refl
 items_len-items_of (d ∷ ds) = ap suc (items_len-items_of ds)
-
-pub length-list_below : {A : Type 0} (n : ℕ) (f : ℕ → A) → length (list_below n f) ≡ n
-length-list_below zero f = refl
-length-list_below (suc n) f = length_push (list_below n f) (f n) ∙ omega (arith, length-list_below n f)

@@ -1,12 +1,12 @@
 -- What is written for a problem is read as that problem.
-use Rattle.std.proofs.Common.{◌≡◌, ℕ, suc, ◌+◌, ◌<◌, ◌≤◌, List, [], ◌∷◌, ◌++◌, length, map, take, is_none, Some, option_map, option_and_then, ◌==◌, Result, Ok, IsUtf8, codes, sym, ap, ap₂, ◌∙◌, arith}
+use Rattle.std.proofs.Common.{◌≡◌, ℕ, suc, ◌+◌, ◌<◌, ◌≤◌, List, length, map, take, is_none, Some, option_map, option_and_then, ◌==◌, Result, Ok, IsUtf8, codes, ap, ◌∙◌, arith}
 use Rattle.std.proofs.lemmas.Bool.{le-leb}
-use Rattle.std.proofs.lemmas.List.{take_more, take_all, length-take-le, length-map}
+use Rattle.std.proofs.lemmas.List.{length-take-le, length-map}
 use Rattle.rollout_rules.specs.Sums.{sum_below, list_below}
-use Rattle.rollout_rules.specs.Wan.{Problem, Plan, Flow, Link, Switch, Tunnel, no_switch, no_link, no_flow, switch_at, link_at, flow_at, tunnel_of}
+use Rattle.rollout_rules.specs.Wan.{Problem, Plan, no_switch, no_link, switch_at, link_at, flow_at, tunnel_of}
 use Rattle.rollout_rules.specs.Network.{IsNetwork}
 use Rattle.rollout_rules.specs.declared.limits.TheConstants.{MOST_SWITCHES, MOST_LINKS, MOST_FLOWS, MOST_TUNNELS, MOST_TUNNELS_OF_FLOW}
-use Rattle.rollout_rules.specs.Building.{find_flow, with_flow}
+use Rattle.rollout_rules.specs.Building.{find_flow}
 use Rattle.rollout_rules.proofs.Below.{sum_below-up}
 use Rattle.rollout_rules.proofs.Tunnels.{tunnels_of}
 use Rattle.serde_json.specs.Data.{Data}
@@ -14,6 +14,7 @@ use Rattle.serde_json.specs.Events.{items_len}
 use Rattle.serde_json.specs.Find.{get}
 use Rattle.serde_json.specs.Read.{read}
 use Rattle.serde_json.specs.View.{items_of}
+use Rattle.rollout_rules.proofs.Rows.{list_below-length}
 use Rattle.problem_json.specs.GrammarResults.{◌>>=◌, add_each}
 use Rattle.problem_json.specs.GrammarValues.{member_in, list_in, list_of, name_of}
 use Rattle.problem_json.specs.GrammarNetwork.{with_one_switch, with_one_link, with_one_tunnel, with_one_flow}
@@ -26,7 +27,7 @@ use Rattle.problem_json.specs.declared.place.Place.{Place}
 use Rattle.problem_json.specs.declared.place.Part.TheVariants as part
 use Rattle.problem_json.specs.declared.key.Key.TheVariants as key
 use Rattle.problem_json.specs.Writing.{switch_data, link_data, tunnel_data, flow_data, problem_data, document_data, HoldsProblem}
-use Rattle.problem_json.proofs.Adding.{goes_on, held-true, add_each-below, map-below, items_len-items_of, length-list_below}
+use Rattle.problem_json.proofs.Adding.{goes_on, held-true, add_each-below, map-below, items_len-items_of}
 use Rattle.problem_json.proofs.ReadValues.{name_in-string, list_in-list}
 use Rattle.wan_model.specs.Fronts.{switched, linked, flowed, begun}
 use Rattle.wan_model.proofs.Lookups.{flow_is_new}
@@ -45,7 +46,7 @@ module _ (p : Problem) (net : IsNetwork p) where
       let name = (flow_at p f).name in
       let tunnel : ℕ → Data = λ j. tunnel_data p (tunnel_of p f j) in
       let written = list_below (tunnels_of p f) tunnel in
-      let len : length written ≡ tunnels_of p f = length-list_below (tunnels_of p f) tunnel in
+      let len : length written ≡ tunnels_of p f = list_below-length (tunnels_of p f) tunnel in
       let count : items_len (items_of written) ≡ tunnels_of p f = items_len-items_of written ∙ len in
       let sum = sum_below f (tunnels_of p) in
       let up : sum + tunnels_of p f ≤ length p.tunnels = omega (arith, net.flows.all, sum_below-up (suc f) (length p.flows) (tunnels_of p) lt) in
@@ -80,7 +81,7 @@ module _ (p : Problem) (net : IsNetwork p) where
   unfolding with_list list_of member_in
   flows_are_read object =
       let written = list_below (length p.flows) (flow_data p) in
-      goes_on _ (items_of written) _ (list_in-list _ MOST_FLOWS written (omega (arith, net.flows.count, length-list_below (length p.flows) (flow_data p))))
+      goes_on _ (items_of written) _ (list_in-list _ MOST_FLOWS written (omega (arith, net.flows.count, list_below-length (length p.flows) (flow_data p))))
       ∙ add_each-below with_one_flow (flow_data p) (flowed p) (length p.flows) one_flow_more
       ∙ ap Ok (flows_end p net)
 

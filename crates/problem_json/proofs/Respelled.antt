@@ -1,8 +1,9 @@
 -- What is written for a fraction is read as that fraction.
-use Rattle.std.proofs.Common.{◌≡◌, ℕ, zero, suc, ◌+◌, ◌-◌, ◌*◌, ◌/◌, ◌%◌, ◌^◌, ◌<◌, ◌≤◌, Bool, true, false, ◌&&◌, ℤ, pos, negsuc, neg_ℤ, nat_abs, int_lt, nat_le, nat_lt, List, [], ◌∷◌, ◌++◌, codes, decimal, Option, Some, None, if◌then◌else◌, refl, sym, ap, ◌∙◌, arith, le-leb, lt-ltb, eq-eqb}
+use Rattle.std.proofs.Common.{◌≡◌, ℕ, zero, suc, ◌+◌, ◌-◌, ◌*◌, ◌/◌, ◌%◌, ◌^◌, ◌<◌, ◌≤◌, Bool, true, false, ℤ, pos, negsuc, nat_abs, int_lt, nat_le, nat_lt, List, [], ◌∷◌, ◌++◌, codes, decimal, Some, None, if◌then◌else◌, refl, sym, ap, ◌∙◌, arith, le-leb, lt-ltb}
 use Rattle.std.specs.Prelude.{◌==◌}
 use Rattle.std.proofs.lemmas.Bool.{and_from, ne_eqb}
 use Rattle.std.proofs.lemmas.Fmt.{decimal_by_steps_wide}
+use Rattle.lists.proofs.Conditions.{if_false, if_true}
 use Rattle.fraction_lp.specs.Divisors.{gcd}
 use Rattle.fraction_lp.specs.Ratio.{Ratio, ratio, ratio-parts, reduced_facts, new_ratio}
 use Rattle.problem_json.specs.GrammarFractions.{is_digit, grown, with_digit, top_with, bottom_with, spelled_on, spelled_from, signed, reduced_of, fraction_spelled, fraction_of_text}
@@ -15,12 +16,6 @@ use Rattle.problem_json.proofs.Spelled.{reduced_is}
 spelled-behind : (s : Spelling) (xs ys : List ℕ) → spelled_from s (xs ++ ys) ≡ spelled_from (spelled_from s xs) ys
 spelled-behind s [] ys = refl
 spelled-behind s (x ∷ xs) ys = spelled-behind (spelled_on s x) xs ys
-
-if_false : {A : Type 0} (b : Bool) (x y : A) → b ≡ false → (if b then x else y) ≡ y
-if_false b x y e = ap (λ (c : Bool). if c then x else y) e
-
-if_true : {A : Type 0} (b : Bool) (x y : A) → b ≡ true → (if b then x else y) ≡ x
-if_true b x y e = ap (λ (c : Bool). if c then x else y) e
 
 -- ---- digits
 

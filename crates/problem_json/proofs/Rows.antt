@@ -8,8 +8,9 @@ use Rattle.json.specs.Print.{escape_byte}
 use Rattle.serde_json.specs.Data.{Data, Members, no_members, member, string}
 use Rattle.serde_json.specs.View.{items_of}
 use Rattle.serde_json.specs.Written.{comma_if, compact_text, items_text, members_text}
-use Rattle.problem_json.specs.Writing.{number_data, list_data, name_data, quoted_flow, quoted_name}
-use Rattle.problem_json.proofs.Adding.{length-list_below}
+use Rattle.rollout_rules.proofs.Rows.{list_below-length}
+use Rattle.problem_json.specs.Writing.{number_data, list_data, name_data}
+use Rattle.wan_text.specs.Named.{quoted_flow, quoted_name}
 
 -- the text of the elements from number k on, with the closing bracket
 abbrev pub text_from : ℕ → List Data → List ℕ
@@ -111,11 +112,11 @@ drop-front (suc n) (x ∷ xs) ys le = drop-front n xs ys (omega arith)
 one_behind : (f : ℕ → Data) (n k : ℕ) → (k < n) ⊎ (k ≡ n) → (k < n → drop k (list_below n f) ≡ f k ∷ drop (k + 1) (list_below n f))
     → drop k (list_below n f ++ f n ∷ []) ≡ f k ∷ drop (k + 1) (list_below n f ++ f n ∷ [])
 one_behind f n k (inl below) so =
-    let len : length (list_below n f) ≡ n = length-list_below n f in
+    let len : length (list_below n f) ≡ n = list_below-length n f in
     drop-front k (list_below n f) (f n ∷ []) (omega (arith, len)) ∙ ap (λ xs. xs ++ f n ∷ []) (so below)
     ∙ ap (λ xs. f k ∷ xs) (sym (drop-front (k + 1) (list_below n f) (f n ∷ []) (omega (arith, len))))
 one_behind f n k (inr same) so =
-    let len : length (list_below n f) ≡ n = length-list_below n f in
+    let len : length (list_below n f) ≡ n = list_below-length n f in
     let all : length (list_below n f ++ f n ∷ []) ≡ suc n = length_push (list_below n f) (f n) ∙ omega (arith, len) in
     let none : drop (k + 1) (list_below n f ++ f n ∷ []) ≡ [] = drop_all (k + 1) (list_below n f ++ f n ∷ []) (omega (arith, all)) in
     let front : drop k (list_below n f) ≡ [] = drop_all k (list_below n f) (omega (arith, len)) in

@@ -1,7 +1,7 @@
 -- A reader's answer after a step of the grammar: the fault of the step, or what the next step says.
-use Rattle.std.proofs.Common.{◌≡◌, suc, ◌+◌, Result, Ok, ap, sym, subst, ◌∙◌, arith}
+use Rattle.std.proofs.Common.{◌≡◌, Result, Ok, ap, sym, subst, ◌∙◌}
 use Rattle.serde_json.specs.Data.{Data, Items, no_items, item}
-use Rattle.serde_json.specs.Events.{items_len}
+use Rattle.json_data.proofs.Lengths.{items_len-item, items_len-none}
 use Rattle.problem_json.specs.GrammarResults.{◌>>=◌, add_each, Refuses}
 use Rattle.problem_json.specs.declared.fault.InputFault.{InputFault}
 use Rattle.problem_json.specs.declared.fault.InputFault.TheVariants.{NotJson, Missing, WrongKind, NotWhole, TooMany, TooLarge, NameTwice, UnknownSwitch, LinkTwice, NoSuchLink, SwitchTwice, EndsDiffer, ShortPath, Memory, BadEvent, BadFormat, WidthZero, BadProof}
@@ -44,12 +44,6 @@ add_each-next f left rest d a b all is adds one = sym (ap (λ g. g >>= λ c. add
 -- where none is left, all are added
 pub add_each-over : {A : Type 0} (f : Data → A → Result A InputFault) (left : Items) (a : A) (all : Result A InputFault) → left ≡ no_items → add_each f left a ≡ all → all ≡ Ok a
 add_each-over f left a all is adds = sym adds ∙ ap (λ ds. add_each f ds a) is
-
-pub items_len-item : (left rest : Items) (d : Data) → left ≡ item d rest → items_len left ≡ items_len rest + 1
-items_len-item left rest d is = let one : suc (items_len rest) ≡ items_len rest + 1 = omega arith in ap items_len is ∙ one
-
-pub items_len-none : (left : Items) → left ≡ no_items → items_len left ≡ 0
-items_len-none left is = ap items_len is
 
 -- these, and how long a list is
 pub ruleset steps = (Refuses-step, Refuses-next, Refuses-at, add_each-next, add_each-over, items_len-item, items_len-none)

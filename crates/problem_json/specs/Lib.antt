@@ -14,7 +14,6 @@ pub mod GrammarFractions
 pub mod GrammarLeast
 pub mod WithinLimits
 pub mod Writing
-pub mod WritingNames
 pub mod WritingLeast
 pub mod WithinClaims
 pub mod WritingScripts

@@ -25,14 +25,6 @@ list_data ds = array (items_of ds)
 abbrev pub switch_data : Switch → Data
 switch_data s = object (member (codes "name") (string s.name) (member (codes "table") (number_data s.table) no_members))
 
--- the name of a switch between quotes
-abbrev pub quoted_name : Switch → List ℕ
-quoted_name s = compact_text (string s.name)
-
--- the name of a flow between quotes
-abbrev pub quoted_flow : Flow → List ℕ
-quoted_flow f = compact_text (string f.name)
-
 -- the name of the switch with a number
 abbrev pub name_data : Problem → ℕ → Data
 name_data p w = string (switch_at p w).name

@@ -25,6 +25,10 @@ claim_data steps Plain = object (member (codes "steps") (number_data steps) no_m
 claim_data steps (Link l) = object (member (codes "link") (number_data l) (member (codes "steps") (number_data steps) no_members))
 claim_data steps (Rows ys) = object (member (codes "rows") (list_data (map fraction_data ys)) (member (codes "steps") (number_data steps) no_members))
 
+-- its piece of the text
+abbrev pub claim_text : Claim → List ℕ
+claim_text claim = compact_text (claim_data claim.steps claim.proof)
+
 unfoldable pub claimed_data : Problem → Plan → Claim → Data
 claimed_data p plan claim =
     object (member (codes "least") (claim_data claim.steps claim.proof)

@@ -4,13 +4,12 @@
 //! [`read_document`], [`read_claimed`] and [`read_script`] answer a value exactly where the grammar does, and
 //! else the fault of the first place that it refuses. [`write_problem`], [`write_plan`], [`write_document`],
 //! [`write_claimed`] and [`write_scripted`] give the one canonical text, which the grammar reads again, and
-//! [`push_document`] pushes it piece by piece, by the problem's [`Names`].
+//! [`push_document`] and [`push_claimed`] push it piece by piece, by the problem's [`Names`].
 #![tactic(auto)]
 
 mod claim;
 mod fault;
 mod key;
-mod names;
 mod place;
 mod read;
 mod spelling;
@@ -19,10 +18,10 @@ mod writing;
 pub use claim::{Claim, Claimed};
 pub use fault::InputFault;
 pub use key::Key;
-pub use names::Names;
 pub use place::{Part, Place};
 pub use read::{Document, Scripted, read_claimed, read_document, read_problem, read_script};
 pub use writing::{
-    a_plan_that_is_read_is_within, push_document, write_claimed, write_document, write_plan,
-    write_problem, write_scripted, written_problem_is_read,
+    a_plan_that_is_read_is_within, claim_piece, push_claimed, push_document, push_plan,
+    push_problem, write_claimed, write_document, write_plan, write_problem, write_scripted,
+    written_problem_is_read,
 };

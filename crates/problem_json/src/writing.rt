@@ -6,26 +6,26 @@ mod room;
 mod round_trip;
 mod script;
 
-ghost use Rattle.std.specs.Prelude.{◌≡◌, ◌≤◌, length, IfOk, OnOk, Ok, Some};
+ghost use Rattle.std.specs.Prelude.{◌≡◌, ◌≤◌, length, IfOk, Ok, Some};
 ghost use Rattle.rollout_rules.specs.Network.{IsNetwork};
 ghost use Rattle.rollout_rules.specs.declared.limits.TheConstants.{MOST_ACTS};
 ghost use Rattle.problem_json.specs.Grammar.{problem_in};
 ghost use Rattle.problem_json.specs.GrammarDocuments.{plan_in, document_in, scripted_in};
 ghost use Rattle.problem_json.specs.WithinLimits.{IsPlanWithin};
 ghost use Rattle.problem_json.specs.Writing.{problem_text, plan_text, document_text, HoldsProblem, IsPlanOfWords};
-ghost use Rattle.problem_json.specs.WritingNames.{AreNamesOf};
+ghost use Rattle.wan_text.specs.Named.{AreNamesOf};
 ghost use Rattle.problem_json.specs.GrammarLeast.{claimed_in};
 ghost use Rattle.problem_json.specs.WithinClaims.{IsClaimWithin};
-ghost use Rattle.problem_json.specs.WritingLeast.{claimed_text};
+ghost use Rattle.problem_json.specs.WritingLeast.{claim_text, claimed_text};
+ghost use Rattle.problem_json.specs.declared.claim.Claim as claim_spec;
 ghost use Rattle.problem_json.specs.WritingScripts.{scripted_text, AreActsWithin};
 
 use crate::claim::Claim;
-use crate::names::Names;
 use least::push_claim;
 use lists::{Memory, Text};
 use pieces::utf8_text;
-use plan::push_plan;
-use problem::push_problem;
+pub use plan::push_plan;
+pub use problem::push_problem;
 use rollout_rules::Act;
 use room::{plan_bytes, problem_bytes, script_bytes};
 pub use round_trip::{
@@ -35,6 +35,7 @@ use script::push_script;
 use std::alloc::Global;
 use text_writer::{Pieces, WholeText};
 use wan_model::{Plan, Problem};
+use wan_text::Names;
 
 /// The text of a problem: JSON (RFC 8259) without blanks, the keys of each object in the order of their
 /// bytes, and no line feed at the end. A tunnel's rate is null where the tunnel isn't installed. It fails
@@ -106,34 +107,44 @@ pub fn write_claimed(
 {
     let names = Names::of(alloc, problem)?;
     let bytes = problem_bytes(problem).saturating_add(plan_bytes(plan));
+    let said = claim_piece(alloc, claim)?;
     let mut text = WholeText::with_capacity(alloc, bytes)?;
-    push_claimed(alloc, &mut text, &names, problem, plan, claim)?;
+    push_claimed(&mut text, &names, problem, plan, said.as_str());
     Ok(utf8_text(text.finish()?))
 }
 
-/// Pushes the same text. An Err is lack of memory for a fraction.
-fn push_claimed<P: Pieces>(
-    alloc: Global,
+/// What is said of fewer rate steps, as it stands in that text: the memory for its fractions is taken here. An Err is
+/// want of it.
+pub fn claim_piece(alloc: Global, claim: &Claim) -> Result<Text, Memory>
+    ensures { IfOk result (λ said. said ≡ claim_text claim.now) }
+{
+    let mut text = WholeText::with_capacity(alloc, 0)?;
+    push_claim(alloc, &mut text, claim.steps, &claim.proof)?;
+    text.finish()
+}
+
+/// Pushes the same text, by the names of the problem and the piece of what is said. It takes no memory.
+pub fn push_claimed<P: Pieces>(
     text: &mut P,
     names: &Names,
     problem: &Problem,
     plan: &Plan,
-    claim: &Claim,
-) -> Result<(), Memory>
+    said: &str,
+)
     requires { AreNamesOf names.now problem.now }
-    ensures text { OnOk result
-        (P.pushes text.old (claimed_text problem.now plan.now claim.now) text.new) }
-    ensures network { OnOk result (IsNetwork problem.now) }
-    ensures words { OnOk result (IsPlanOfWords plan.now) }
+    ensures text { (claim : claim_spec.Claim)
+        → said.now ≡ claim_text claim
+        → P.pushes text.old (claimed_text problem.now plan.now claim) text.new }
+    ensures network { IsNetwork problem.now }
+    ensures words { IsPlanOfWords plan.now }
 {
     text.push_str(r#"{"least":"#);
-    push_claim(alloc, text, claim.steps, &claim.proof)?;
+    text.push_str(said);
     text.push_str(r#","plan":"#);
     push_plan(text, plan);
     text.push_str(r#","problem":"#);
     push_problem(text, names, problem);
     text.push_str("}");
-    Ok(())
 }
 
 /// The text of a problem with a plan for it and a script, likewise: the key `script` stands last, a list of

@@ -8,9 +8,11 @@ use Rattle.rollout_rules.specs.Legal.{is_legal}
 use Rattle.rollout_rules.specs.Slack.{old_load}
 use Rattle.rollout_rules.specs.History.{History, Places, places_of}
 use Rattle.rollout_rules.specs.Safe.{IsSafe}
+use Rattle.rollout_rules.proofs.Rows.{list_below-length}
 use Rattle.rollout_laws.proofs.Safety.{legal-safe}
-use Rattle.plan_check.proofs.Firsts.{first_below_none}
-use Rattle.wan_model.proofs.Rated.{list_below-length, list_below-at}
+use Rattle.plan_check.proofs.Firsts.{first_below_none, first_of_parts}
+use Rattle.wan_model.proofs.Rated.{list_below-at}
+use Rattle.plan_check.proofs.Passes.{unless_passed}
 use Rattle.retarget_plan.specs.Aiming.{KeepsCapacities, StandsAt, IsAimed, aimed_capacity, aimed_capacities, aimed_rate, aimed_rates, aimed_problem, capacity_times, large_aimed, partly_or_large_aimed, why_not_aimed}
 use Rattle.retarget_plan.specs.Left.{is_whole, divisor_of, factor_of, left_rates, left_rate, left_capacities, left_with, remade, scaled_capacity}
 use Rattle.retarget_plan.specs.Leaving.{first_flying, first_partly, partly_at, first_large, AreRows, IsLeftUnless}
@@ -18,7 +20,7 @@ use Rattle.retarget_plan.specs.Standing.{GoesOnFrom, OldSideFits}
 use Rattle.retarget_plan.specs.declared.aim.Aim.{Aim}
 use Rattle.retarget_plan.specs.declared.unleft.Unleft.{Unleft}
 use Rattle.retarget_plan.specs.declared.unleft.Unleft.TheVariants.{Partly}
-use Rattle.retarget_plan.proofs.Found.{cause-first, first-parts, passed, passes}
+use Rattle.retarget_plan.proofs.Found.{cause-first, passed}
 use Rattle.retarget_plan.proofs.Goings.{left-goes_on}
 use Rattle.retarget_plan.proofs.Looked.{scale-is}
 use Rattle.retarget_plan.proofs.OldSides.{old_side-fits}
@@ -43,9 +45,9 @@ module _ (p : Problem) (plan : Plan) (h : History) (aim : Aim) (net : IsNetwork 
 
   whole : why_not_aimed p plan h aim ≡ None → (t : ℕ) → t < length p.tunnels → is_whole p plan at t ≡ true
   whole none t lt =
-      let behind = (first-parts (first_flying p h) (partly_or_large_aimed p plan at aim) none).1 in
-      let part = (first-parts (first_partly p plan at) (large_aimed p plan at aim) behind).0 in
-      passes (is_whole p plan at t) (Partly t) (first_below_none (partly_at p plan at) (length p.tunnels) t lt part)
+      let behind = (first_of_parts (first_flying p h) (partly_or_large_aimed p plan at aim) none).1 in
+      let part = (first_of_parts (first_partly p plan at) (large_aimed p plan at aim) behind).0 in
+      unless_passed (is_whole p plan at t) (Partly t) (first_below_none (partly_at p plan at) (length p.tunnels) t lt part)
 
   goes : why_not_aimed p plan h aim ≡ None → GoesOnFrom p plan at d q0
   goes none = left-goes_on p plan at (aimed_rates p plan at aim) (scale-is p plan valid).some safe (λ t lt. omega (arith, (net.tunnels t lt).path.least)) (whole none)

@@ -1,16 +1,12 @@
 -- What a valid plan of such a problem begins with.
-use Rattle.std.proofs.Common.{◌≡◌, ℕ, ◌*◌, ◌<◌, Bool, true, false, ◌&&◌, ◌==◌, length, is_some, refl, sym, ap, ◌∙◌, arith, eqb-true}
+use Rattle.std.proofs.Common.{◌≡◌, ℕ, ◌*◌, ◌<◌, true, ◌&&◌, ◌==◌, length, is_some, ap, ◌∙◌, arith, eqb-true}
 use Rattle.std.proofs.lemmas.Bool.{and_parts}
 use Rattle.rollout_rules.specs.Wan.{Problem, Plan, tunnel_at, old_rate, rate_at, mark_at}
 use Rattle.rollout_rules.specs.History.{Places}
 use Rattle.rollout_rules.specs.Valid.{is_valid_plan, has_shape, begins_at_old, ends_at_new, fits_each_step, carries_what_flows, keeps_totals, same_mark}
 use Rattle.rollout_rules.proofs.Below.{all_below-at}
+use Rattle.rollout_rules.proofs.Alike.{same_mark-is}
 use Rattle.retarget_plan.specs.Standing.{GoesOnFrom, BeginsWithSettled}
-
-same-mark : (a b : Bool) → same_mark a b ≡ true → a ≡ b
-same-mark true b e = sym e
-same-mark false true e = cc
-same-mark false false e = refl
 
 pub begins-old : (q : Problem) (on : Plan) → is_valid_plan q on ≡ true → begins_at_old q on ≡ true
 begins-old q on valid =
@@ -34,5 +30,5 @@ module _ (p : Problem) (plan : Plan) (at : Places) (d : ℕ) (q : Problem) (goes
     rates = λ t lt.
         let first : rate_at on 0 t ≡ on.scale * old_rate (tunnel_at q t) = eqb-true (rate_at on 0 t) (on.scale * old_rate (tunnel_at q t)) (and_parts _ _ (at-old t lt)).0 in
         ap (λ (n : ℕ). d * n) first ∙ swapped d on.scale (old_rate (tunnel_at q t)) ∙ ap (λ (n : ℕ). on.scale * n) (goes.rates t lt);
-    marks = λ t h lt hop. same-mark (mark_at on 0 t) (is_some (tunnel_at q t).old) (and_parts _ _ (at-old t lt)).1 ∙ goes.marks t h lt hop;
+    marks = λ t h lt hop. same_mark-is (mark_at on 0 t) (is_some (tunnel_at q t).old) (and_parts _ _ (at-old t lt)).1 ∙ goes.marks t h lt hop;
   }

@@ -6,8 +6,9 @@ use Rattle.rollout_rules.specs.Wan.{Problem, Rollout}
 use Rattle.rollout_rules.specs.Network.{IsRate}
 use Rattle.rollout_rules.specs.History.{History, places_of}
 use Rattle.plan_check.specs.First.{first_of, first_below, unless, provided}
-use Rattle.plan_check.proofs.Firsts.{first_below_none}
+use Rattle.plan_check.proofs.Firsts.{first_below_none, first_of_parts}
 use Rattle.wan_model.specs.Rates.{rate_in, AreRates}
+use Rattle.plan_check.proofs.Passes.{unless_passed}
 use Rattle.retarget_plan.specs.Copies.{AreCapacities}
 use Rattle.retarget_plan.specs.Left.{left_problem}
 use Rattle.retarget_plan.specs.Leaving.{first_flying, partly_or_large, large_capacity, large_rate, first_capacity, first_rate, first_of_old, first_large, AreRows, IsCause, IsLeftUnless, IsLeft}
@@ -34,10 +35,6 @@ pub none-where_not : {A : Type 0} (b : Bool) (a : A) → b ≡ false → provide
 none-where_not false a e = refl
 none-where_not true a e = cc
 
-pub passes : {A : Type 0} (b : Bool) (a : A) → unless b a ≡ None → b ≡ true
-passes true a e = refl
-passes false a e = cc
-
 -- ---- the first of several
 
 pub none-next : {A : Type 0} (f : ℕ → Option A) (n : ℕ) → first_below n f ≡ None → f n ≡ None → first_below (n + 1) f ≡ None
@@ -47,10 +44,6 @@ none-next f n before this =
 
 pub none-all : {A : Type 0} (f : ℕ → Option A) (n m : ℕ) → n ≡ m → first_below n f ≡ None → None ≡ first_below m f
 none-all f n m all before = sym (subst (λ (k : ℕ). first_below k f ≡ None) all before)
-
-pub first-parts : {A : Type 0} (a b : Option A) → first_of a b ≡ None → (a ≡ None) × (b ≡ None)
-first-parts None b e = (refl, e)
-first-parts (Some x) b e = cc
 
 pub first-is : {A : Type 0} (a b : Option A) (x : A) → Some x ≡ a → Some x ≡ first_of a b
 first-is {A = A} a b x is = subst (λ (c : Option A). Some x ≡ first_of c b) is refl
@@ -87,7 +80,7 @@ module _ (r g : Rollout) (h : History) (own : r ≡ g) where
 
 within-limit : (row : Row) (rates : List (Option ℕ)) (t : ℕ) → first_rate row rates ≡ None → t < length rates → IsRate (rate_in rates t)
 within-limit row rates t none lt =
-    let small = leb-true (unwrap_or (rate_in rates t) 0) LARGEST_RATE (passes (nat_le (unwrap_or (rate_in rates t) 0) LARGEST_RATE) (TooLarge row t (unwrap_or (rate_in rates t) 0)) (first_below_none (large_rate row rates) (length rates) t lt none)) in
+    let small = leb-true (unwrap_or (rate_in rates t) 0) LARGEST_RATE (unless_passed (nat_le (unwrap_or (rate_in rates t) 0) LARGEST_RATE) (TooLarge row t (unwrap_or (rate_in rates t) 0)) (first_below_none (large_rate row rates) (length rates) t lt none)) in
     by_rate (rate_in rates t) small
   where
     by_rate : (r : Option ℕ) → unwrap_or r 0 ≤ LARGEST_RATE → IsRate r
@@ -96,17 +89,17 @@ within-limit row rates t none lt =
 
 module _ (p : Problem) (capacities : List ℕ) (old new : List (Option ℕ)) (rows : AreRows p capacities old new) (small : None ≡ first_large capacities old new) where
   parts : (first_of_old capacities old ≡ None) × (first_rate NewRates new ≡ None)
-  parts = first-parts (first_of_old capacities old) (first_rate NewRates new) (sym small)
+  parts = first_of_parts (first_of_old capacities old) (first_rate NewRates new) (sym small)
 
   olds : (first_capacity capacities ≡ None) × (first_rate OldRates old ≡ None)
-  olds = first-parts (first_capacity capacities) (first_rate OldRates old) parts.0
+  olds = first_of_parts (first_capacity capacities) (first_rate OldRates old) parts.0
 
   pub capacities-are : AreCapacities p capacities
   capacities-are = record {
     count = rows.for_links;
     within = λ l lt.
         leb-true (slice_index capacities l) LARGEST_CAPACITY
-        (passes (nat_le (slice_index capacities l) LARGEST_CAPACITY) (TooLarge Capacities l (slice_index capacities l))
+        (unless_passed (nat_le (slice_index capacities l) LARGEST_CAPACITY) (TooLarge Capacities l (slice_index capacities l))
         (first_below_none (large_capacity capacities) (length capacities) l (omega (arith, lt, rows.for_links)) olds.0));
   }
 

@@ -2,6 +2,7 @@
 use Rattle.std.proofs.Common.{◌≡◌, ℕ, ◌*◌, ◌<◌, ◌⊎◌, Bool, true, false, List, length, Option, Some, None, is_some, unwrap_or, if◌then◌else◌, inl, inr, refl, sym, ap, ◌∙◌, arith}
 use Rattle.std.specs.Prelude.{◌/◌}
 use Rattle.std.proofs.lemmas.Bool.{cases_Bool, cases_lt}
+use Rattle.lists.proofs.Conditions.{not_both}
 use Rattle.rollout_rules.specs.Wan.{Problem, Plan, Tunnel, link_at, tunnel_at, hops, old_rate}
 use Rattle.rollout_rules.specs.History.{Places}
 use Rattle.rollout_rules.specs.Safe.{settled_rate, settled_mark, IsSafe}
@@ -18,9 +19,6 @@ same-mark : (a b : Bool) → same_mark a b ≡ true → b ≡ a
 same-mark true b e = e
 same-mark false true e = cc
 same-mark false false e = refl
-
-clash : (b : Bool) → b ≡ true → b ≡ false → ⊥
-clash b e q = cc
 
 -- a rate that is told where a mark stands
 rate-there : (mark : Bool) (n : ℕ) → mark ≡ true → unwrap_or (if mark then Some n else None) 0 ≡ n
@@ -75,7 +73,7 @@ module _ (p : Problem) (plan : Plan) (at : Places) (new : List (Option ℕ)) (so
           ∙ each-units (length p.tunnels) plan.scale (settled_rate p plan at) t lt
       by_mark (inr gone) =
           let none : settled_rate p plan at t ≡ 0 = elim (cases_lt 0 (settled_rate p plan at t)) as (λ _. settled_rate p plan at t ≡ 0) [
-            | inl flows ↦ absurd (clash (settled_mark p plan at t 0) (carried t lt flows) gone)
+            | inl flows ↦ absurd (not_both (settled_mark p plan at t 0) (carried t lt flows) gone)
             | inr least ↦ omega (arith, least)
           ] in
           ap (λ (n : ℕ). d * n) (rate-gone (settled_mark p plan at t 0) (settled_rate p plan at t / d) gone)

@@ -6,15 +6,15 @@ use Rattle.rollout_rules.specs.Valid.{is_valid_plan}
 use Rattle.rollout_rules.specs.Legal.{is_legal}
 use Rattle.rollout_rules.specs.History.{History, Places, places_of}
 use Rattle.rollout_rules.specs.Safe.{IsSafe}
+use Rattle.rollout_rules.proofs.Rows.{list_below-length}
 use Rattle.rollout_laws.proofs.Safety.{legal-safe}
-use Rattle.plan_check.proofs.Firsts.{first_below_none}
-use Rattle.wan_model.proofs.Rated.{list_below-length}
+use Rattle.plan_check.proofs.Firsts.{first_below_none, first_of_parts}
+use Rattle.plan_check.proofs.Passes.{unless_passed}
 use Rattle.retarget_plan.specs.Left.{is_whole, divisor_of, left_rates, left_rate, left_capacities, left_targets, left_problem, remade, scaled_capacity, scaled_target, factor_of}
 use Rattle.retarget_plan.specs.Leaving.{first_flying, first_partly, partly_at, large_left, partly_or_large, why_not_left, first_large, AreRows, IsLeftUnless, IsLeft}
 use Rattle.retarget_plan.specs.Standing.{GoesOnFrom, OldSideFits}
 use Rattle.retarget_plan.specs.declared.unleft.Unleft.{Unleft}
 use Rattle.retarget_plan.specs.declared.unleft.Unleft.TheVariants.{Partly}
-use Rattle.retarget_plan.proofs.Found.{first-parts, passes}
 use Rattle.retarget_plan.proofs.Goings.{left-goes_on}
 use Rattle.retarget_plan.proofs.Looked.{scale-is}
 use Rattle.retarget_plan.proofs.OldSides.{old_side-fits}
@@ -28,9 +28,9 @@ module _ (p : Problem) (plan : Plan) (h : History) (net : IsNetwork p) (valid : 
 
   whole : why_not_left p plan h ≡ None → (t : ℕ) → t < length p.tunnels → is_whole p plan at t ≡ true
   whole none t lt =
-      let behind = (first-parts (first_flying p h) (partly_or_large p plan at) none).1 in
-      let part = (first-parts (first_partly p plan at) (large_left p plan at) behind).0 in
-      passes (is_whole p plan at t) (Partly t) (first_below_none (partly_at p plan at) (length p.tunnels) t lt part)
+      let behind = (first_of_parts (first_flying p h) (partly_or_large p plan at) none).1 in
+      let part = (first_of_parts (first_partly p plan at) (large_left p plan at) behind).0 in
+      unless_passed (is_whole p plan at t) (Partly t) (first_below_none (partly_at p plan at) (length p.tunnels) t lt part)
 
   goes : why_not_left p plan h ≡ None → GoesOnFrom p plan at (divisor_of p plan at) (left_problem p plan at)
   goes none = left-goes_on p plan at (left_targets p plan at) (scale-is p plan valid).some safe (λ t lt. omega (arith, (net.tunnels t lt).path.least)) (whole none)

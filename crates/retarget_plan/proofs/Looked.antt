@@ -7,22 +7,15 @@ use Rattle.rollout_rules.specs.Wan.{Problem, Plan, Rollout, tunnel_at, hops, rat
 use Rattle.rollout_rules.specs.Items.{item_at, item_count, number_of}
 use Rattle.rollout_rules.specs.History.{History, Places, places_of, stand}
 use Rattle.rollout_rules.specs.Safe.{settled_rate, settled_mark}
-use Rattle.rollout_rules.specs.Valid.{is_valid_plan, has_shape, begins_at_old, ends_at_new, fits_each_step, carries_what_flows, keeps_totals, same_mark}
+use Rattle.rollout_rules.specs.Valid.{is_valid_plan, same_mark}
 use Rattle.rollout_rules.specs.declared.item.Item.{Item}
 use Rattle.rollout_rules.specs.declared.item.Item.TheVariants as item
 use Rattle.rollout_rules.proofs.Numbers.{number_of-below, item_at-number_of}
 use Rattle.rollout_rules.proofs.OverItems.{is_item-flow, is_item-entry}
 use Rattle.rollout_laws.proofs.Standing.{stand-most}
+use Rattle.dependency_graph.proofs.RoomCells.{valid-shape}
 
 -- ---- the scale of a valid plan
-
-shape-of : (p : Problem) (plan : Plan) → is_valid_plan p plan ≡ true → has_shape p plan ≡ true
-shape-of p plan valid =
-    let a = and_parts (has_shape p plan && begins_at_old p plan && ends_at_new p plan && fits_each_step p plan && carries_what_flows p plan) (keeps_totals p plan) valid in
-    let b = and_parts (has_shape p plan && begins_at_old p plan && ends_at_new p plan && fits_each_step p plan) (carries_what_flows p plan) a.0 in
-    let c = and_parts (has_shape p plan && begins_at_old p plan && ends_at_new p plan) (fits_each_step p plan) b.0 in
-    let d = and_parts (has_shape p plan && begins_at_old p plan) (ends_at_new p plan) c.0 in
-    (and_parts (has_shape p plan) (begins_at_old p plan) d.0).0
 
 -- it is between 1 and its limit
 pub record IsScale (scale : ℕ) : Type 0 where
@@ -33,7 +26,7 @@ pub scale-is : (p : Problem) (plan : Plan) → is_valid_plan p plan ≡ true →
 scale-is p plan valid =
     let scale = nat_le 1 plan.scale && nat_le plan.scale LARGEST_SCALE in
     let rows = all_below (length plan.stages) (λ s. (length (stage_at plan s).rates == length p.tunnels) && (length (stage_at plan s).installed == length p.tunnels)) in
-    let a = and_parts (scale && nat_le 1 (length plan.stages) && nat_le (length plan.stages) MOST_STAGES) rows (shape-of p plan valid) in
+    let a = and_parts (scale && nat_le 1 (length plan.stages) && nat_le (length plan.stages) MOST_STAGES) rows (valid-shape p plan valid) in
     let b = and_parts (scale && nat_le 1 (length plan.stages)) (nat_le (length plan.stages) MOST_STAGES) a.0 in
     let c = and_parts scale (nat_le 1 (length plan.stages)) b.0 in
     let d = and_parts (nat_le 1 plan.scale) (nat_le plan.scale LARGEST_SCALE) c.0 in

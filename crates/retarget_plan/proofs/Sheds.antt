@@ -12,18 +12,16 @@ use Rattle.rollout_rules.proofs.Below.{sum_below-same, sum_below-mono, all_below
 use Rattle.rollout_rules.proofs.OverItems.{all_resources-from}
 use Rattle.rollout_rules.proofs.Totals.{step_total-load, step_total-entries_at}
 use Rattle.rollout_rules.proofs.Tunnels.{tunnel_of-below}
+use Rattle.rollout_rules.proofs.Rows.{list_below-length}
+use Rattle.rollout_rules.proofs.Alike.{same_mark-from}
+use Rattle.rollout_laws.proofs.Contents.{if-mono}
 use Rattle.wan_model.specs.Rates.{AreRates}
-use Rattle.wan_model.proofs.Rated.{list_below-length, list_below-at, rated-count, rated-at, rated-is_network}
+use Rattle.wan_model.proofs.Rated.{list_below-at, rated-count, rated-at, rated-is_network}
 use Rattle.retarget_plan.specs.Standing.{OldSideFits}
 use Rattle.retarget_plan.specs.Shedding.{shed_rate, shed, OnlyGivesWay, one_step}
 
 both-stages : (test : ℕ → Bool) → test 0 ≡ true → test 1 ≡ true → all_below 2 test ≡ true
 both-stages test first second = and_from (all_below 1 test) (test 1) (and_from (all_below 0 test) (test 0) refl first) second
-
-mark-same : (a b : Bool) → a ≡ b → same_mark a b ≡ true
-mark-same true b e = sym e
-mark-same false true e = cc
-mark-same false false e = refl
 
 -- a tunnel that isn't there has no rate
 none-there : (r : Option ℕ) → is_some r ≡ false → unwrap_or r 0 ≡ 0
@@ -35,10 +33,6 @@ low-between x a b e = and_from (nat_le (min a b) x) (nat_le x (max a b)) (le-leb
 
 high-between : (x a b : ℕ) → x ≡ b → (nat_le (min a b) x && nat_le x (max a b)) ≡ true
 high-between x a b e = and_from (nat_le (min a b) x) (nat_le x (max a b)) (le-leb (min a b) x (omega (arith, e))) (le-leb x (max a b) (omega (arith, e)))
-
-if-mono : (a : Bool) (m n : ℕ) → m ≤ n → (if a then m else 0) ≤ (if a then n else 0)
-if-mono true m n le = le
-if-mono false m n le = omega arith
 
 either-same : (a b c : Bool) → a ≡ c → b ≡ c → (a || b) ≡ c
 either-same true b c first second = first
@@ -78,13 +72,13 @@ module _ (q : Problem) where
   begins = all_below-from n (λ t. (rate_at plan 0 t == plan.scale * old_rate (tunnel_at q t)) && same_mark (mark_at plan 0 t) (is_some (tunnel_at q t).old)) (λ t lt.
       let rate : rate_at plan 0 t ≡ plan.scale * old_rate (tunnel_at q t) = old-rates t lt ∙ sym (one-time (old_rate (tunnel_at q t))) in
       and_from (rate_at plan 0 t == plan.scale * old_rate (tunnel_at q t)) (same_mark (mark_at plan 0 t) (is_some (tunnel_at q t).old))
-      (eq-eqb (rate_at plan 0 t) (plan.scale * old_rate (tunnel_at q t)) rate) (mark-same (mark_at plan 0 t) (is_some (tunnel_at q t).old) (old-marks t lt)))
+      (eq-eqb (rate_at plan 0 t) (plan.scale * old_rate (tunnel_at q t)) rate) (same_mark-from (mark_at plan 0 t) (is_some (tunnel_at q t).old) (old-marks t lt)))
 
   ends : ends_at_new q plan ≡ true
   ends = all_below-from n (λ t. (rate_at plan 1 t == plan.scale * new_rate (tunnel_at q t)) && same_mark (mark_at plan 1 t) (is_some (tunnel_at q t).new)) (λ t lt.
       let rate : rate_at plan 1 t ≡ plan.scale * new_rate (tunnel_at q t) = new-rates t lt ∙ sym (one-time (new_rate (tunnel_at q t))) in
       and_from (rate_at plan 1 t == plan.scale * new_rate (tunnel_at q t)) (same_mark (mark_at plan 1 t) (is_some (tunnel_at q t).new))
-      (eq-eqb (rate_at plan 1 t) (plan.scale * new_rate (tunnel_at q t)) rate) (mark-same (mark_at plan 1 t) (is_some (tunnel_at q t).new) (new-marks t lt)))
+      (eq-eqb (rate_at plan 1 t) (plan.scale * new_rate (tunnel_at q t)) rate) (same_mark-from (mark_at plan 1 t) (is_some (tunnel_at q t).new) (new-marks t lt)))
 
   module _ (net : IsNetwork q) where
     -- each flow has its old total at first, and then its new one

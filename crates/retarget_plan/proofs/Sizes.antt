@@ -3,7 +3,8 @@ use Rattle.std.proofs.Common.{◌≡◌, ℕ, ◌<◌, ◌≤◌, List, length, 
 use Rattle.rollout_rules.specs.declared.limits.TheConstants.{LARGEST_CAPACITY}
 use Rattle.rollout_rules.specs.Wan.{Problem, Link, no_link, link_at, tunnel_at}
 use Rattle.rollout_rules.specs.Network.{IsNetwork, IsPath, IsWidth, IsTunnel}
-use Rattle.wan_model.proofs.Rated.{list_below-length, list_below-at}
+use Rattle.rollout_rules.proofs.Rows.{list_below-length}
+use Rattle.wan_model.proofs.Rated.{list_below-at}
 use Rattle.retarget_plan.specs.Left.{sized, with_capacities}
 
 module _ (p : Problem) (capacities : List ℕ) where

@@ -1,14 +1,5 @@
 -- What is read of words by the first of them and those after it.
-use Rattle.std.proofs.Common.{◌≡◌, ℕ, suc, ◌≤◌, ◌-◌, List, [], ◌∷◌, length, map, get_or, take, take_all, drop, String, Global, string_bytes, Result, Ok, Err, IfOk, sym, ap, subst, ◌∙◌, arith}
-
--- what holds of what was read holds where it was read
-pub at_ok : {A E : Type 0} (read : Result A E) (value : A) (P : A → Type 0) → read ≡ Ok value → P value → IfOk read P
-at_ok (Ok all) value P is holds = subst P (sym (cc is)) holds
-at_ok (Err why) value P is holds = absurd (cc is)
-
-pub of_ok : {A E : Type 0} (read : Result A E) (value : A) (P : A → Type 0) → read ≡ Ok value → IfOk read P → P value
-of_ok (Ok all) value P is holds = subst P (cc is) holds
-of_ok (Err why) value P is holds = absurd (cc is)
+use Rattle.std.proofs.Common.{◌≡◌, ℕ, suc, ◌≤◌, ◌-◌, List, [], ◌∷◌, length, map, get_or, take, take_all, drop, String, Global, string_bytes, sym, ap, ◌∙◌, arith}
 
 module _ {A : Type 0} (read : List (List ℕ) → A) (at : List ℕ → List (List ℕ) → A) (by_first : (word : List ℕ) (rest : List (List ℕ)) → read (word ∷ rest) ≡ at word rest) where
   pub first-read : (words : List (String Global)) (word other : String Global) → 1 ≤ length words → word ≡ get_or words 0 other

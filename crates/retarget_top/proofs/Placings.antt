@@ -1,11 +1,10 @@
 -- What is placed of a rollout of which nothing is settled.
-use Rattle.std.proofs.Common.{◌≡◌, ◌+◌, ℕ, [], List, Result, Ok, Err, IfOk, IfErr, inl, inr, refl, sym, ap, ◌∙◌, subst}
+use Rattle.std.proofs.Common.{◌≡◌, ◌+◌, ℕ, List, Result, Ok, Err, IfOk, IfErr, inl, inr, refl, sym, ap, ◌∙◌, subst}
 use Rattle.disk_model.specs.Traces.{DiskTrace}
 use Rattle.dependency_graph.specs.Graph.{Followed}
 use Rattle.intent_journal.specs.declared.digest.Digest.{Digest}
 use Rattle.intent_journal.specs.Openings.{unbegun}
 use Rattle.intent_journal.specs.Placements.{placed_kept}
-use Rattle.rollout_rules.specs.History.{from_nothing}
 use Rattle.rollout_rules.specs.Wan.{Rollout}
 use Rattle.rollout_report.specs.Journals.{digest_for}
 use Rattle.rollout_report.specs.declared.known.KnownPlan.{KnownPlan}
@@ -20,9 +19,6 @@ use Rattle.wan_edge.specs.Streams.{AppendsPart, Rose, SinkTrace}
 use Rattle.retarget_top.specs.Retargets.{IsUnwritten, Places, WritesAndPlaces, WritesNext, kept_next, next_text}
 use Rattle.retarget_top.specs.declared.ending.RetargetEnding.{RetargetEnding}
 use Rattle.retarget_top.specs.declared.ending.RetargetEnding.TheVariants.{Ended}
-
-pub unbegun-empty : (r : Rollout) (graph : Followed) → graph ≡ unbegun r → graph.history ≡ from_nothing graph.rollout.problem []
-unbegun-empty r graph is = ap (λ (x : Followed). x.history) is ∙ sym (ap (λ (x : Followed). from_nothing x.rollout.problem []) is)
 
 pub unbegun-placed : {D : Type 0} (trace : D → DiskTrace) (r : Rollout) (migration : ℕ) (known : KnownPlan) (disk disk_now : D) (ending : RetargetEnding) (sink sink_now : SinkTrace) → known.graph ≡ unbegun r
     → known.digest ≡ digest_for r (migration + 1) → WritesNext trace known disk disk_now ending sink sink_now → WritesAndPlaces trace (next_text r) (kept_next r migration) disk disk_now ending sink sink_now

@@ -2,12 +2,13 @@
 use Rattle.std.specs.Prelude.{◌≡◌, ◌⊎◌, ◌+◌, ℕ, List, [], ◌∷◌, ◌++◌, Result, Ok, Err, IfErr, IfOk, IfSome}
 use Rattle.rollout_rules.specs.Wan.{Problem, Rollout}
 use Rattle.rollout_rules.specs.Network.{IsNetwork}
+use Rattle.disk_model.specs.Whole.{IsQuiet}
 use Rattle.disk_model.specs.Traces.{DiskTrace}
 use Rattle.disk_mirror.specs.Openings.{IsTold, Opens, OpensWithin}
 use Rattle.intent_journal.specs.Openings.{unbegun}
 use Rattle.intent_journal.specs.Parts.{Kept}
 use Rattle.intent_journal.specs.Placements.{placed_kept}
-use Rattle.intent_journal.specs.Whole.{Causes, IsQuiet}
+use Rattle.intent_journal.specs.Whole.{Causes}
 use Rattle.intent_journal.specs.declared.fault.JournalFault.{JournalFault}
 use Rattle.fewest_plan.specs.declared.cause.NotFound.{NotFound}
 use Rattle.plan_choose.specs.declared.chosen.Chosen.{Chosen}

@@ -8,6 +8,7 @@ use Rattle.rollout_rules.specs.History.{History, begun}
 use Rattle.rollout_rules.specs.Release.{most_below}
 use Rattle.rollout_rules.specs.Legal.{is_legal}
 use Rattle.rollout_rules.specs.declared.item.Item.{Item}
+use Rattle.rollout_rules.proofs.Below.{most_below-within}
 use Rattle.rollout_laws.proofs.Histories.{is_counted}
 use Rattle.rollout_laws.proofs.Standing.{changes-up, stand-passes, stand-left, stand-before}
 use Rattle.rollback_plan.specs.Levels.{leads_to, ceiling, BegunUpTo}
@@ -19,10 +20,6 @@ most_below-at (suc n) f k lt = elim (cases_lt k n) as (λ c. f k ≤ most_below 
   | inl below ↦ omega (arith, most_below-at n f k below)
   | inr above ↦ let at : k ≡ n = omega arith in rw at (omega arith)
 ]
-
-pub most_below-within : (n : ℕ) (f : ℕ → ℕ) (b : ℕ) → ((k : ℕ) → k < n → f k ≤ b) → most_below n f ≤ b
-most_below-within zero f b all = omega arith
-most_below-within (suc n) f b all = omega (arith, most_below-within n f b (λ k lt. all k (omega arith)), all n (omega arith))
 
 pub most-next : (n : ℕ) (f : ℕ → ℕ) (most lead next : ℕ) → most ≡ most_below n f → lead ≡ f n → next ≡ max most lead → next ≡ most_below (n + 1) f
 most-next n f most lead next so this is =

@@ -7,7 +7,7 @@ use Rattle.rollout_rules.specs.Wan.{Problem, Plan, last_stage}
 use Rattle.rollout_rules.specs.Network.{IsNetwork}
 use Rattle.rollout_rules.specs.Items.{item_count, item_at, number_of, content}
 use Rattle.rollout_rules.specs.Operations.{changes_to, operations, stand_after, content_after}
-use Rattle.rollout_rules.specs.History.{History, Places, with_entries, begins_in, dones_in, begun, settled, places_of, stand}
+use Rattle.rollout_rules.specs.History.{History, Places, with_entries, begins_in, begun, settled, places_of, stand}
 use Rattle.rollout_rules.specs.Room.{least_stage}
 use Rattle.rollout_rules.specs.Valid.{is_valid_plan}
 use Rattle.rollout_rules.specs.Legal.{may_begin, is_legal, is_finished}
@@ -20,12 +20,12 @@ use Rattle.rollout_rules.proofs.Below.{all_below-at, all_below-from}
 use Rattle.rollout_rules.proofs.Numbers.{item_at-number_of, number_of-item_at, number_of-below, is_item-item_at}
 use Rattle.rollout_rules.proofs.OverItems.{least_items-is}
 use Rattle.rollout_laws.specs.Waiting.{NothingFlies}
-use Rattle.rollout_laws.specs.Batches.{BeginsNext, BeginsUnheld, EndsAnswered}
+use Rattle.rollout_laws.specs.Batches.{BeginsUnheld, EndsAnswered}
 use Rattle.rollout_laws.proofs.Histories.{with_both, begun-with, settled-with, is_counted, is_legal-append}
 use Rattle.rollout_laws.proofs.Standing.{changes-up, stand-passes, stand-past, stand-before, content-kept}
 use Rattle.rollout_laws.proofs.Rooms.{least_stage-at}
 use Rattle.rollout_laws.proofs.Released.{none-held}
-use Rattle.rollout_laws.proofs.Rounds.{dones_follow, release_follows, release_begins_unheld, release_begins_next, dones_are_answered}
+use Rattle.rollout_laws.proofs.Rounds.{begins_settle_nothing, dones_are_answered, dones_follow, release_begins_next, release_begins_unheld, release_follows}
 use Rattle.rollout_laws.proofs.Stuck.{least-begins}
 use Rattle.rollout_laws.proofs.Validity.{plan-is_valid}
 use Rattle.order_policy.specs.Answers.{last_rank}
@@ -58,11 +58,6 @@ dones-begin_nothing : (h : History) (answers : List Op) (es : List Entry) (n : �
 dones-begin_nothing h answers [] n all = refl
 dones-begin_nothing h answers (Begin op ∷ es) n all = absurd (All-head (EndsAnswered h answers) (Begin op) es all)
 dones-begin_nothing h answers (Done op ∷ es) n all = dones-begin_nothing h answers es n (All-tail (EndsAnswered h answers) (Done op) es all)
-
-begins-settle_nothing : (h : History) (es : List Entry) (n : ℕ) → All (BeginsNext h) es → dones_in es n ≡ 0
-begins-settle_nothing h [] n all = refl
-begins-settle_nothing h (Begin op ∷ es) n all = begins-settle_nothing h es n (All-tail (BeginsNext h) (Begin op) es all)
-begins-settle_nothing h (Done op ∷ es) n all = absurd (All-head (BeginsNext h) (Done op) es all)
 
 module _ (p : Problem) (plan : Plan) (s : ℕ) (most : s ≤ last_stage plan) where
   -- an item that stands before the stage has its next operation up to there
@@ -97,7 +92,7 @@ module _ (p : Problem) (plan : Plan) (s : ℕ) (most : s ≤ last_stage plan) wh
             let free : is_held_back policy (view_of p plan h n) ≡ false = subst (λ m. is_held_back policy (view_of p plan h m) ≡ false) there.1 there.2 in
             let next = next-up_to h n lt (unheld-before h legal n lt free) in
             let after = (is_counted p plan (with_entries h es) (is_legal-append p plan h es legal (release_follows p plan policy h)) n).one_flies in
-            let none = begins-settle_nothing h es n (release_begins_next p plan policy h) in
+            let none = begins_settle_nothing h es n (release_begins_next p plan policy h) in
             omega (arith, above n lt, next, after, none, settled-with h es n)
 
         pub release-to : BegunTo p b (with_entries h es)

@@ -5,7 +5,7 @@ use Rattle.rollout_rules.specs.Wan.{Problem, Plan}
 use Rattle.rollout_rules.specs.Items.{item_count, item_at}
 use Rattle.rollout_rules.specs.Operations.{operations}
 use Rattle.rollout_rules.specs.History.{History}
-use Rattle.rollout_laws.proofs.Contents.{list_below-length}
+use Rattle.rollout_rules.proofs.Rows.{list_below-length}
 use Rattle.rollback_plan.specs.Turning.{back_problem}
 use Rattle.rollback_plan.specs.Turns.{comes_to, turn_start}
 use Rattle.rollback_plan.proofs.Alike.{count-turned}

@@ -1,32 +1,30 @@
 -- What levelling comes to, by how its run ended.
-use Rattle.std.proofs.Common.{◌≡◌, ◌≤◌, ℕ, true, List, refl, sym, subst, ap, ◌∙◌, inl, arith}
+use Rattle.std.proofs.Common.{◌≡◌, ◌≤◌, ℕ, true, List, length, refl, sym, subst, ap, ◌∙◌, inl, arith}
 use Rattle.rollout_rules.specs.Wan.{Rollout, last_stage}
 use Rattle.rollout_rules.specs.History.{History}
 use Rattle.rollout_rules.specs.Legal.{is_legal}
 use Rattle.rollout_rules.specs.Network.{IsNetwork}
 use Rattle.rollout_rules.specs.Valid.{is_valid_plan}
+use Rattle.rollout_rules.specs.declared.op.OpView.{OpView}
 use Rattle.disk_model.specs.Traces.{DiskTrace}
 use Rattle.intent_journal.specs.Openings.{IsOpenedFrom}
 use Rattle.intent_journal.specs.declared.digest.Digest.{Digest}
 use Rattle.wan_edge.specs.Ports.{PortTrace}
 use Rattle.rollout_book.specs.JournaledRounds.{Journaled, IsNewBook, graph_of}
-use Rattle.shared_book.specs.Histories.{Opening}
-use Rattle.shared_book.specs.Images.{StaysOpened}
 use Rattle.shared_book.specs.Opened.{opening_of}
 use Rattle.shared_book.proofs.Staying.{stays_alone}
 use Rattle.switch_ports.specs.Berths.{FleetPorts}
-use Rattle.rollout_report.specs.Journals.{digest_for}
-use Rattle.controller_run.specs.Ran.{EndsRun}
 use Rattle.controller_run.specs.declared.end.RunEnd.{RunEnd}
 use Rattle.controller_run.specs.declared.end.RunEnd.TheVariants as run
-use Rattle.controller_run.specs.RolloutEnds.{HasRun}
-use Rattle.controller_run.specs.declared.rollout_end.RolloutEnd.TheVariants as answer
+use Rattle.controller_run.specs.RolloutEnds.{HasRun, outcome_behind}
+use Rattle.controller_run.specs.declared.outcome.RunOutcome.{RunOutcome}
+use Rattle.controller_run.proofs.RolloutEnds.{end-behind, run-from}
 use Rattle.rollback_plan.specs.Levels.{levelling}
 use Rattle.rollback_plan.specs.Turns.{may_turn}
 use Rattle.rollback_plan.proofs.Ceilings.{ceiling-most}
 use Rattle.rollback_plan.proofs.Turned.{turn-numbers}
 use Rattle.rollback_plan.proofs.TurnStages.{turns-at_ceiling, turns-somewhere}
-use Rattle.rollback_service.specs.Levellings.{HasLevelled, HasRunAt, HasRunLevelling, IsStartBack, MayStart, TurnsFrom, ceiling_of, level_for, start_of}
+use Rattle.rollback_service.specs.Levellings.{HasLevelled, HasRunAt, HasRunLevelling, IsStartBack, LacksPort, MayStart, TurnsFrom, ceiling_of, level_at, level_for, start_of}
 use Rattle.rollback_service.specs.declared.answer.LevelAnswer.{LevelAnswer}
 use Rattle.rollback_service.specs.declared.answer.LevelAnswer.TheVariants as level
 use Rattle.rollback_service.specs.declared.origin.BackFrom.{BackFrom}
@@ -58,65 +56,60 @@ module _ (r : Rollout) (h : History) (legal : is_legal r.problem r.plan h ≡ tr
 
 -- ---- by the end of the run
 
--- what is answered of the book that a run has left is what is answered of the rollout that was opened
-pub level-behind : {D P : Type 0} (tell : P → PortTrace) (homes : List ℕ) (opened closed : Journaled D) (before now : FleetPorts P) (ran : Type 0) (start : List ℕ) (end : RunEnd)
-    → (ran → closed.rollout ≡ opened.rollout) → EndsRun tell homes opened closed before now ran end → level_for closed.rollout start end ≡ level_for opened.rollout start end
-level-behind tell homes opened closed before now ran start run.Finished same ends = ap (λ (r : Rollout). level.Level r start) (same ends)
-level-behind tell homes opened closed before now ran start run.Held same ends = ap (λ (r : Rollout). level.Level r start) (same ends)
-level-behind tell homes opened closed before now ran start (run.Stopped halt) same ends = ap (λ (r : Rollout). level.Stopped r halt) (same ends)
-level-behind tell homes opened closed before now ran start (run.NoPort switch) same ends = ap (λ (b : Journaled _). level.NoPort b.rollout switch) ends.0
-level-behind tell homes opened closed before now ran start run.Memory same ends = refl
-
 -- no port is missing but where the run says so
-pub level-no_port : (r : Rollout) (start : List ℕ) (end : RunEnd) (other : Rollout) (switch : ℕ) → level_for r start end ≡ level.NoPort other switch → end ≡ run.NoPort switch
-level-no_port r start run.Finished other switch is = absurd (cc is)
-level-no_port r start run.Held other switch is = absurd (cc is)
-level-no_port r start (run.Stopped halt) other switch is = absurd (cc is)
-level-no_port r start (run.NoPort first) other switch is = cc is
-level-no_port r start run.Memory other switch is = absurd (cc is)
+pub lacks-port : (end : RunEnd) (o : RunOutcome) (start : List ℕ) (switch : ℕ) → LacksPort (level_at end o start) switch → o.end ≡ run.NoPort switch
+lacks-port run.Finished o start switch lacks = absurd lacks
+lacks-port run.Held o start switch lacks = absurd lacks
+lacks-port (run.Stopped halt) o start switch lacks = lacks
+lacks-port (run.NoPort first) o start switch lacks = lacks
+lacks-port run.Memory o start switch lacks = lacks
 
 -- the way back may begin after a level
-start-for : (r : Rollout) (start : List ℕ) (end : RunEnd) → IsStartBack r start → MayStart (level_for r start end)
-start-for r start run.Finished may = may
-start-for r start run.Held may = may
-start-for r start (run.Stopped halt) may = tt
-start-for r start (run.NoPort switch) may = tt
-start-for r start run.Memory may = tt
+start-for : (end : RunEnd) (o : RunOutcome) (start : List ℕ) → IsStartBack o.plan start → MayStart (level_at end o start)
+start-for run.Finished o start may = may
+start-for run.Held o start may = may
+start-for (run.Stopped halt) o start may = tt
+start-for (run.NoPort switch) o start may = tt
+start-for run.Memory o start may = tt
 
 pub start-is : {D P : Type 0} (trace : D → DiskTrace) (tell : P → PortTrace) (origin : BackFrom) (migration rounds : ℕ) (book : Journaled D) (before now : FleetPorts P) (disk : D) (a : LevelAnswer)
     → IsNetwork book.rollout.problem → is_valid_plan book.rollout.problem book.rollout.plan ≡ true → IsNewBook trace book → HasRunLevelling trace tell origin migration rounds book before now disk a → MayStart a
 start-is trace tell origin migration rounds book before now disk a net valid new ran =
     let start = start_of book.rollout book.history ran.stage in
-    subst MayStart (sym ran.at.under.tells) (start-for book.rollout start ran.at.under.has.end (starts-back book.rollout book.history new.legal net valid origin ran.stage ran.turns))
+    let o = ran.at.under.run in
+    let plan : o.plan ≡ book.rollout = ap (λ (x : RunOutcome). x.plan) ran.at.under.has.tells in
+    subst MayStart (sym ran.at.under.tells)
+    (start-for o.end o start (subst (λ (r : Rollout). IsStartBack r start) (sym plan) (starts-back book.rollout book.history new.legal net valid origin ran.stage ran.turns)))
 
--- a disk that wasn't called stands as it did
-pub never-stays : {D : Type 0} (trace : D → DiskTrace) (o : Opening) (opened : Journaled D) (disk : D) → disk ≡ opened.disk → StaysOpened trace o (trace opened.disk) disk
-never-stays {D = D} trace o opened disk back = subst (λ (d : D). StaysOpened trace o (trace opened.disk) d) (sym back) (stays_alone trace o opened.disk)
+-- without memory for a run nothing was begun
+pub never-has : {D P : Type 0} (trace : D → DiskTrace) (tell : P → PortTrace) (policy : OpView → ℕ) (migration rounds : ℕ) (opened : Journaled D) (before : FleetPorts P) (disk : D) (o : RunOutcome)
+    → IsNewBook trace opened → disk ≡ opened.disk → o ≡ outcome_behind opened run.Memory → HasRun trace tell policy migration rounds opened before before disk o
+never-has trace tell policy migration rounds opened before disk o new back is =
+    run-from trace tell policy migration rounds opened opened before before disk run.Memory o (new.count ∙ ap length new.list)
+    (record { same = refl; ports = inl refl }) is back (stays_alone trace (opening_of opened policy) opened.disk)
 
--- without memory for the policy, or to find out how far, nothing was begun
-pub never-at : {D P : Type 0} (trace : D → DiskTrace) (tell : P → PortTrace) (stage : ℕ) (start : List ℕ) (migration rounds : ℕ) (opened : Journaled D) (before : FleetPorts P) (disk : D)
-    → disk ≡ opened.disk → HasRunAt trace tell stage start migration rounds opened before before disk level.Memory
-never-at trace tell stage start migration rounds opened before disk back = record {
+-- without memory for the policy, or to find out how far, it isn't level
+pub never-at : {D P : Type 0} (trace : D → DiskTrace) (tell : P → PortTrace) (stage : ℕ) (start : List ℕ) (migration rounds : ℕ) (opened : Journaled D) (before : FleetPorts P) (disk : D) (o : RunOutcome)
+    → IsNewBook trace opened → disk ≡ opened.disk → o ≡ outcome_behind opened run.Memory → HasRunAt trace tell stage start migration rounds opened before before disk (level.Unlevel o)
+never-at trace tell stage start migration rounds opened before disk o new back is = record {
   policy = levelling stage;
   levels = λ view small. refl;
   under = record {
-    run = answer.Memory;
-    has = record {
-      end = run.Memory;
-      closed = opened;
-      ran = record { same = refl; ports = inl refl };
-      tells = refl;
-      back = back;
-      stays = never-stays trace (opening_of opened (levelling stage)) opened disk back;
-    };
-    tells = refl;
+    run = o;
+    has = never-has trace tell (levelling stage) migration rounds opened before disk o new back is;
+    tells = subst (λ (x : RunOutcome). level.Unlevel x ≡ level_for x start) (sym is) refl;
   };
 }
 
-pub never-levelled : {D P : Type 0} (trace : D → DiskTrace) (tell : P → PortTrace) (origin : BackFrom) (migration rounds : ℕ) (opened : Journaled D) (before : FleetPorts P) (disk : D)
-    → ((stage : ℕ) × TurnsFrom origin opened.rollout opened.history stage) → disk ≡ opened.disk → HasRunLevelling trace tell origin migration rounds opened before before disk level.Memory
-never-levelled trace tell origin migration rounds opened before disk some back =
-    record { stage = some.0; turns = some.1; at = never-at trace tell some.0 (start_of opened.rollout opened.history some.0) migration rounds opened before disk back }
+pub never-levelled : {D P : Type 0} (trace : D → DiskTrace) (tell : P → PortTrace) (origin : BackFrom) (migration rounds : ℕ) (opened : Journaled D) (before : FleetPorts P) (disk : D) (o : RunOutcome)
+    → ((stage : ℕ) × TurnsFrom origin opened.rollout opened.history stage) → IsNewBook trace opened → disk ≡ opened.disk → o ≡ outcome_behind opened run.Memory
+    → HasRunLevelling trace tell origin migration rounds opened before before disk (level.Unlevel o)
+never-levelled trace tell origin migration rounds opened before disk o some new back is =
+    record { stage = some.0; turns = some.1; at = never-at trace tell some.0 (start_of opened.rollout opened.history some.0) migration rounds opened before disk o new back is }
+
+-- and it isn't for want of a port
+pub never-lacks : {D : Type 0} (opened : Journaled D) (o : RunOutcome) (switch : ℕ) → o ≡ outcome_behind opened run.Memory → LacksPort (level.Unlevel o) switch → ⊥
+never-lacks opened o switch is lacks = let no : run.Memory ≡ run.NoPort switch = sym (end-behind opened run.Memory o is) ∙ lacks in cc
 
 -- where it is levelled at the stage that was found
 pub levelled-so : {D P : Type 0} (trace : D → DiskTrace) (tell : P → PortTrace) (origin : BackFrom) (stage : ℕ) (start : List ℕ) (migration rounds : ℕ) (opened : Journaled D) (before now : FleetPorts P) (disk : D) (a : LevelAnswer)
@@ -125,26 +118,22 @@ pub levelled-so : {D P : Type 0} (trace : D → DiskTrace) (tell : P → PortTra
 levelled-so trace tell origin stage start migration rounds opened before now disk a turns is at =
     record { stage = stage; turns = turns; at = subst (λ (xs : List ℕ). HasRunAt trace tell stage xs migration rounds opened before now disk a) is at }
 
--- the migration by which a plan's journal is known
-pub known-migration : (r : Rollout) (migration : ℕ) → (digest_for r migration).migration ≡ migration
-unfolding digest_for
-known-migration r migration = refl
-
 -- an opening and a levelling of what was opened
 pub levelled-from : {D P : Type 0} (trace : D → DiskTrace) (tell : P → PortTrace) (origin : BackFrom) (r : Rollout) (digest : Digest) (migration rounds : ℕ) (disk : D) (book : Journaled D) (before now : FleetPorts P) (disk_now : D) (a : LevelAnswer)
     → digest.migration ≡ migration → IsOpenedFrom trace r digest disk (graph_of book) book.entries book.disk → IsNewBook trace book
     → HasRunLevelling trace tell origin migration rounds book before now disk_now a
     → HasLevelled trace tell origin r digest rounds disk before now disk_now a
-levelled-from trace tell origin r digest migration rounds disk book before now disk_now a number opened new ran =
-    let start = start_of book.rollout book.history ran.stage in
-    let both : (has : HasRun trace tell ran.at.policy digest.migration rounds book before now disk_now ran.at.under.run) × (a ≡ level_for book.rollout start has.end)
-    = subst (λ (m : ℕ). (has : HasRun trace tell ran.at.policy m rounds book before now disk_now ran.at.under.run) × (a ≡ level_for book.rollout start has.end)) (sym number) (ran.at.under.has, ran.at.under.tells) in
-    record {
-      policy = ran.at.policy;
-      run = ran.at.under.run;
-      rolled = record { book = book; opened = opened; new = new; run = both.0 };
-      stage = ran.stage;
-      turns = ran.turns;
-      levels = ran.at.levels;
-      tells = both.1;
-    }
+levelled-from trace tell origin r digest migration rounds disk book before now disk_now a number opened new ran = record {
+  policy = ran.at.policy;
+  run = ran.at.under.run;
+  rolled = record {
+    book = book;
+    opened = opened;
+    new = new;
+    run = subst (λ (m : ℕ). HasRun trace tell ran.at.policy m rounds book before now disk_now ran.at.under.run) (sym number) ran.at.under.has;
+  };
+  stage = ran.stage;
+  turns = ran.turns;
+  levels = ran.at.levels;
+  tells = ran.at.under.tells;
+}

@@ -14,7 +14,7 @@ use Rattle.switch_ports.specs.Berths.{FleetPorts}
 use Rattle.controller_run.specs.declared.end.RunEnd.{RunEnd}
 use Rattle.controller_run.specs.declared.end.RunEnd.TheVariants as run
 use Rattle.controller_run.specs.RolloutEnds.{HasRolled, HasRun}
-use Rattle.controller_run.specs.declared.rollout_end.RolloutEnd.{RolloutEnd}
+use Rattle.controller_run.specs.declared.outcome.RunOutcome.{RunOutcome}
 use Rattle.rollback_plan.specs.Levels.{ceiling, levelling}
 use Rattle.rollback_plan.specs.Turning.{back_plan, back_problem}
 use Rattle.rollback_plan.specs.Turns.{TurnsFirstAt, turn_start}
@@ -45,26 +45,32 @@ pub record IsStartBack (r : Rollout) (start : List ℕ) : Type 0 where
 abbrev pub LevelsBy : ℕ → (OpView → ℕ) → Type 0
 LevelsBy s policy = (view : OpView) → is_view view ≡ true → policy view ≡ levelling s view
 
--- The answer after a run that ended so, under the policy that levels a rollout where its way back begins so: it is level where the run finished, and where the policy holds back the rest.
-abbrev pub level_for : Rollout → List ℕ → RunEnd → LevelAnswer
-level_for r start run.Finished = level.Level r start
-level_for r start run.Held = level.Level r start
-level_for r start (run.Stopped halt) = level.Stopped r halt
-level_for r start (run.NoPort switch) = level.NoPort r switch
-level_for r start run.Memory = level.Memory
+-- The answer after a run that has come to this, under the policy that levels a rollout where its way back begins so: it is level where the run finished, and where the policy holds back the rest.
+abbrev pub level_at : RunEnd → RunOutcome → List ℕ → LevelAnswer
+level_at run.Finished outcome start = level.Level outcome.plan start
+level_at run.Held outcome start = level.Level outcome.plan start
+level_at (run.Stopped halt) outcome start = level.Unlevel outcome
+level_at (run.NoPort switch) outcome start = level.Unlevel outcome
+level_at run.Memory outcome start = level.Unlevel outcome
+
+abbrev pub level_for : RunOutcome → List ℕ → LevelAnswer
+level_for outcome start = level_at outcome.end outcome start
 
 -- the way back may begin where it does after a level
 abbrev pub MayStart : LevelAnswer → Type 0
 MayStart (level.Level r start) = IsStartBack r start
-MayStart (level.Stopped r halt) = ⊤
-MayStart (level.NoPort r switch) = ⊤
-MayStart level.Memory = ⊤
+MayStart (level.Unlevel outcome) = ⊤
+
+-- it isn't level since the fleet had no port for this switch
+abbrev pub LacksPort : LevelAnswer → ℕ → Type 0
+LacksPort (level.Level r start) switch = ⊥
+LacksPort (level.Unlevel outcome) switch = outcome.end ≡ run.NoPort switch
 
 -- A book was run from its opening on under this policy, and closed; the answer is the one for this start.
 pub record HasRunUnder {D P : Type 0} (trace : D → DiskTrace) (tell : P → PortTrace) (policy : OpView → ℕ) (migration rounds : ℕ) (opened : Journaled D) (start : List ℕ) (before now : FleetPorts P) (disk : D) (answer : LevelAnswer) : Type 0 where
-  pub run : RolloutEnd
+  pub run : RunOutcome
   pub has : HasRun trace tell policy migration rounds opened before now disk run
-  pub tells : answer ≡ level_for opened.rollout start has.end
+  pub tells : answer ≡ level_for run start
 
 -- the same under a policy that levels at this stage
 pub record HasRunAt {D P : Type 0} (trace : D → DiskTrace) (tell : P → PortTrace) (stage : ℕ) (start : List ℕ) (migration rounds : ℕ) (opened : Journaled D) (before now : FleetPorts P) (disk : D) (answer : LevelAnswer) : Type 0 where
@@ -81,9 +87,9 @@ pub record HasRunLevelling {D P : Type 0} (trace : D → DiskTrace) (tell : P �
 -- The book of a rollout was opened on this disk, and run as that of a rollout is, under a policy that levels at the stage at which what was found is levelled before it goes back.
 pub record HasLevelled {D P : Type 0} (trace : D → DiskTrace) (tell : P → PortTrace) (origin : BackFrom) (r : Rollout) (digest : Digest) (rounds : ℕ) (disk : D) (before now : FleetPorts P) (levelled : D) (answer : LevelAnswer) : Type 0 where
   pub policy : OpView → ℕ
-  pub run : RolloutEnd
+  pub run : RunOutcome
   pub rolled : HasRolled trace tell r digest policy rounds disk before now levelled run
   pub stage : ℕ
   pub turns : TurnsFrom origin rolled.book.rollout rolled.book.history stage
   pub levels : LevelsBy stage policy
-  pub tells : answer ≡ level_for rolled.book.rollout (start_of rolled.book.rollout rolled.book.history stage) rolled.run.end
+  pub tells : answer ≡ level_for run (start_of rolled.book.rollout rolled.book.history stage)

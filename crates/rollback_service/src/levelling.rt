@@ -1,24 +1,25 @@
 //! A rollout is levelled: at the stage to which it has come, or at the first one at which it may turn.
 ghost use Rattle.std.specs.Prelude.{◌≡◌, ◌≤◌, ℕ, IfErr, IfOk, IfSome, IsTrue};
-ghost use Rattle.rollout_rules.specs.Wan.{Rollout};
 ghost use Rattle.rollout_rules.specs.Network.{IsNetwork};
 ghost use Rattle.rollout_rules.specs.Valid.{is_valid_plan};
 ghost use Rattle.intent_journal.specs.Openings.{IsLeft};
 ghost use Rattle.order_policy.specs.Answers.{rank_by};
 ghost use Rattle.wan_edge.specs.Streams.{Rose};
+ghost use Rattle.wan_edge.specs.Fleets.{GuestsStay};
 ghost use Rattle.rollout_book.specs.JournaledRounds.{IsNewBook};
 ghost use Rattle.rollout_book.specs.Lists.{IsKeptList};
 ghost use Rattle.shared_book.specs.Opened.{IsOpened, opening_of};
 ghost use Rattle.switch_ports.specs.Berths.{ports_of};
 ghost use Rattle.rollout_report.specs.Journals.{digest_for};
 ghost use Rattle.rollback_plan.specs.Levels as levels;
-ghost use Rattle.rollback_service.specs.Levellings.{HasLevelled, HasRunAt, HasRunLevelling, HasRunUnder, MayStart, level_for};
+ghost use Rattle.rollback_service.specs.Levellings.{HasLevelled, HasRunAt, HasRunLevelling, HasRunUnder, LacksPort, MayStart};
 
 use crate::answer::{LevelAnswer, answer_behind};
 use crate::opening::open_rounds;
 use crate::origin::BackFrom;
 use crate::turn::{Turn, turn_of};
-use controller_run::{Limits, RunEnd, run};
+use crate::unrun::unrun;
+use controller_run::{Limits, RolloutResult, run_book};
 use dependency_graph::checked_plan_is_valid;
 use disk_model::Disk;
 use intent_journal::Unopened;
@@ -58,22 +59,19 @@ where
     F::Port: Drop + Send,
     ensures levelled { IfOk result
         (λ levelled. HasLevelled D.told F.Port.told origin plan
-        (digest_for plan limits.migration) limits.rounds disk
-        (ports_of F.waiting F.kept F.lent F.named fleet.old)
-        (ports_of F.waiting F.kept F.lent F.named fleet.new) levelled.disk levelled.answer) }
+        (digest_for plan limits.migration) limits.rounds disk (ports_of (F.told fleet.old))
+        (ports_of (F.told fleet.new)) levelled.disk levelled.answer) }
     ensures start { IfOk result (λ levelled. MayStart levelled.answer) }
     ensures left { IfErr result
         (λ unopened. IsLeft D.told plan (digest_for plan limits.migration) disk unopened.cause
         unopened.disk) }
     ensures untouched { IfErr result (λ _. fleet.new ≡ fleet.old) }
-    ensures guests { (F.coming fleet.new ≡ F.coming fleet.old)
-        × (F.served fleet.new ≡ F.served fleet.old)
-        × (F.visiting fleet.new ≡ F.visiting fleet.old) }
+    ensures guests { GuestsStay (F.told fleet.old) (F.told fleet.new) }
     ensures no_port { IfOk result
-        (λ levelled. (r : Rollout) (switch : ℕ)
-        → levelled.answer ≡ LevelAnswer.NoPort r switch
-        → Rose (F.faults fleet.old) (F.faults fleet.new)) }
-    ensures count { F.faults fleet.old ≤ F.faults fleet.new }
+        (λ levelled. (switch : ℕ)
+        → LacksPort levelled.answer switch
+        → Rose (F.told fleet.old).faults (F.told fleet.new).faults) }
+    ensures count { (F.told fleet.old).faults ≤ (F.told fleet.new).faults }
 {
     checked_plan_is_valid(&plan);
     match open_rounds(alloc, plan, limits.migration, disk) {
@@ -95,15 +93,13 @@ where
     F::Port: Drop + Send,
     requires { IsNewBook D.told chronicle }
     ensures levelled { HasRunLevelling D.told F.Port.told origin limits.migration limits.rounds
-        chronicle (ports_of F.waiting F.kept F.lent F.named fleet.old)
-        (ports_of F.waiting F.kept F.lent F.named fleet.new) result.disk result.answer }
-    ensures guests { (F.coming fleet.new ≡ F.coming fleet.old)
-        × (F.served fleet.new ≡ F.served fleet.old)
-        × (F.visiting fleet.new ≡ F.visiting fleet.old) }
-    ensures no_port { (r : Rollout) (switch : ℕ)
-        → result.answer ≡ LevelAnswer.NoPort r switch
-        → Rose (F.faults fleet.old) (F.faults fleet.new) }
-    ensures count { F.faults fleet.old ≤ F.faults fleet.new }
+        chronicle (ports_of (F.told fleet.old)) (ports_of (F.told fleet.new)) result.disk
+        result.answer }
+    ensures guests { GuestsStay (F.told fleet.old) (F.told fleet.new) }
+    ensures no_port { (switch : ℕ)
+        → LacksPort result.answer switch
+        → Rose (F.told fleet.old).faults (F.told fleet.new).faults }
+    ensures count { (F.told fleet.old).faults ≤ (F.told fleet.new).faults }
 {
     plan_is_valid(&chronicle);
     match turn_of(alloc, chronicle.graph(), origin) {
@@ -112,11 +108,10 @@ where
             level_at(rt, alloc, chronicle, stage, start, fleet, limits)
         }
         Err(_) => {
-            let (graph, disk) = chronicle.into_parts();
-            drop(graph);
+            let RolloutResult { disk, outcome } = unrun(chronicle);
             Levelled {
                 disk,
-                answer: LevelAnswer::Memory,
+                answer: LevelAnswer::Unlevel(outcome),
             }
         }
     }
@@ -147,15 +142,12 @@ where
     F::Port: Drop + Send,
     requires { IsNewBook D.told chronicle }
     ensures run { HasRunAt D.told F.Port.told stage start limits.migration limits.rounds chronicle
-        (ports_of F.waiting F.kept F.lent F.named fleet.old)
-        (ports_of F.waiting F.kept F.lent F.named fleet.new) result.disk result.answer }
-    ensures guests { (F.coming fleet.new ≡ F.coming fleet.old)
-        × (F.served fleet.new ≡ F.served fleet.old)
-        × (F.visiting fleet.new ≡ F.visiting fleet.old) }
-    ensures no_port { (r : Rollout) (switch : ℕ)
-        → result.answer ≡ LevelAnswer.NoPort r switch
-        → Rose (F.faults fleet.old) (F.faults fleet.new) }
-    ensures count { F.faults fleet.old ≤ F.faults fleet.new }
+        (ports_of (F.told fleet.old)) (ports_of (F.told fleet.new)) result.disk result.answer }
+    ensures guests { GuestsStay (F.told fleet.old) (F.told fleet.new) }
+    ensures no_port { (switch : ℕ)
+        → LacksPort result.answer switch
+        → Rose (F.told fleet.old).faults (F.told fleet.new).faults }
+    ensures count { (F.told fleet.old).faults ≤ (F.told fleet.new).faults }
 {
     match Box::new(
         alloc,
@@ -173,11 +165,10 @@ where
             level_under(rt, alloc, book, start, fleet, limits)
         }
         Err(_) => {
-            let (graph, disk) = chronicle.into_parts();
-            drop(graph);
+            let RolloutResult { disk, outcome } = unrun(chronicle);
             Levelled {
                 disk,
-                answer: LevelAnswer::Memory,
+                answer: LevelAnswer::Unlevel(outcome),
             }
         }
     }
@@ -200,29 +191,17 @@ where
         (IsKeptList book.chronicle.history.start book.chronicle.entries
         (D.told book.chronicle.disk).may_leave) }
     ensures run { HasRunUnder D.told F.Port.told (rank_by book.entry.policy.now.answers)
-        limits.migration limits.rounds book.entry.chronicle start
-        (ports_of F.waiting F.kept F.lent F.named fleet.old)
-        (ports_of F.waiting F.kept F.lent F.named fleet.new) result.disk result.answer }
-    ensures guests { (F.coming fleet.new ≡ F.coming fleet.old)
-        × (F.served fleet.new ≡ F.served fleet.old)
-        × (F.visiting fleet.new ≡ F.visiting fleet.old) }
-    ensures no_port { (r : Rollout) (switch : ℕ)
-        → result.answer ≡ LevelAnswer.NoPort r switch
-        → Rose (F.faults fleet.old) (F.faults fleet.new) }
-    ensures count { F.faults fleet.old ≤ F.faults fleet.new }
+        limits.migration limits.rounds book.entry.chronicle start (ports_of (F.told fleet.old))
+        (ports_of (F.told fleet.new)) result.disk result.answer }
+    ensures guests { GuestsStay (F.told fleet.old) (F.told fleet.new) }
+    ensures no_port { (switch : ℕ)
+        → LacksPort result.answer switch
+        → Rose (F.told fleet.old).faults (F.told fleet.new).faults }
+    ensures count { (F.told fleet.old).faults ≤ (F.told fleet.new).faults }
 {
-    let (book, end) = run(rt, alloc, book, fleet, limits);
-    outcome_of(book, start, end)
-}
-
-// What a run comes to that ended so and left this book, under the policy that levels where the way back begins so.
-fn outcome_of<D: Disk>(book: Book<'_, D>, start: Ids, end: RunEnd) -> Levelled<D>
-    ensures disk { result.disk ≡ book.entry.chronicle.disk }
-    ensures answer { result.answer ≡ level_for book.entry.chronicle.rollout start end }
-{
-    let (graph, disk) = book.into_parts();
+    let RolloutResult { disk, outcome } = run_book(rt, alloc, book, fleet, limits);
     Levelled {
         disk,
-        answer: answer_behind(graph, start, end),
+        answer: answer_behind(outcome, start),
     }
 }

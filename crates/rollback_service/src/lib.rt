@@ -17,9 +17,10 @@ mod opening;
 mod origin;
 mod placing;
 mod turn;
+mod unrun;
 
 pub use answer::LevelAnswer;
-pub use draining::{Drained, run_draining};
+pub use draining::run_draining;
 pub use levelling::{Levelled, run_levelling};
 pub use origin::BackFrom;
 pub use placing::{Placed, place_back, place_known, with_start};

@@ -1,5 +1,6 @@
 -- What an opening finds is the list of the journal, and the book is the one of it.
 use Rattle.std.proofs.Common.{◌≡◌, ℕ, List, [], Option, Some, None, IfSome, Result, Ok, Err, IfErr, IfOk, sym, subst, ap, ◌∙◌}
+use Rattle.lists.proofs.Conditions.{some_same_is}
 use Rattle.rollout_rules.specs.Wan.{Rollout}
 use Rattle.rollout_rules.specs.History.{History, from_nothing, no_start}
 use Rattle.rollout_rules.specs.declared.op.Entry.{Entry}
@@ -9,7 +10,7 @@ use Rattle.intent_journal.specs.Phases.{kept_of}
 use Rattle.intent_journal.specs.Openings.{found_by}
 use Rattle.intent_journal.specs.Recovered.{KeepsNow, kept_for}
 use Rattle.intent_journal.specs.Verdicts.{Fresh, NoJournal, NoStart, NotLegal, OfAnother, Stands, Verdict, verdict}
-use Rattle.intent_journal.proofs.Openings.{none_some, some_is}
+use Rattle.intent_journal.proofs.Openings.{none_some}
 use Rattle.wan_edge.specs.Streams.{KeepsTelling}
 use Rattle.rollout_book.specs.Lists.{IsKeptList}
 
@@ -21,7 +22,7 @@ untold (Some now) P tells = absurd (cc tells)
 module _ (r : Rollout) (digest : Digest) (list : List Entry) (h : History) (entries : list ≡ h.entries) (told : Option (List ℕ)) (left : List ℕ → Type 0) where
   kept-by : (v : Verdict) → found_by r v ≡ Some h → (keeps : KeepsNow (kept_for r digest v) told left) → IsKeptList h.start list left keeps.now
   kept-by Fresh is keeps =
-      let history = some_is (from_nothing r.problem []) h is in
+      let history = some_same_is (from_nothing r.problem []) h is in
       record {
         only = keeps.durable;
         has = record {
@@ -32,7 +33,7 @@ module _ (r : Rollout) (digest : Digest) (list : List Entry) (h : History) (entr
         };
       }
   kept-by (Stands start list_is) is keeps =
-      let history = some_is (record { start = start; entries = list_is }) h is in
+      let history = some_same_is (record { start = start; entries = list_is }) h is in
       record {
         only = keeps.durable;
         has = record {

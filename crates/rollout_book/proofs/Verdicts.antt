@@ -13,7 +13,7 @@ use Rattle.rollout_rules.specs.Legal.{is_legal, is_sound, may_add, may_follow}
 use Rattle.rollout_rules.specs.declared.op.Entry.{Entry}
 use Rattle.intent_journal.specs.declared.digest.Digest.{Digest}
 use Rattle.intent_journal.specs.Images.{is_blank, is_live, journal_in, kept_at, live_part, open_journal, slot_at, first_side, second_side, rows_of_kept}
-use Rattle.intent_journal.specs.Numbers.{byte_at, number_4}
+use Rattle.disk_model.specs.Numbers.{byte_at, number_4}
 use Rattle.intent_journal.specs.Parts.{Kept, Slot, digest_in, is_second, kept_in, migration_in, numbers, part_rows, start_count, starts_in}
 use Rattle.intent_journal.specs.Reading.{Listed, Lists, live_side, nothing_read, with_rows}
 use Rattle.intent_journal.specs.Verdicts.{Fresh, NoJournal, NoStart, NotLegal, OfAnother, Stands, Verdict, is_own, is_start, judged_at, judged_journal, judged_list, judged_part, judged_start, legal_count, start_of, verdict}

@@ -11,10 +11,11 @@ use Rattle.rollout_rules.specs.Agent.{first_pair, Holding, nothing_held}
 use Rattle.rollout_rules.specs.World.{World, pair_at, first_world, are_first_pairs, held_of, now, after_events}
 use Rattle.rollout_rules.specs.declared.held.Held.{Held}
 use Rattle.rollout_rules.specs.declared.event.Event.{Event}
+use Rattle.rollout_rules.proofs.Rows.{list_below-length}
 use Rattle.rollout_laws.specs.Kept.{IsKept}
 use Rattle.rollout_laws.specs.SafeWorlds.{applied, pairs_held}
 use Rattle.rollout_laws.proofs.Within.{held-sound}
-use Rattle.rollout_laws.proofs.Contents.{list_below-length, list_below-at}
+use Rattle.rollout_laws.proofs.Contents.{list_below-at}
 use Rattle.rollout_laws.proofs.Pairs.{number-same}
 use Rattle.rollout_laws.proofs.Keeping.{first_pairs-from, held-first_pair, held-start}
 use Rattle.rollout_laws.proofs.Worlds.{every_world_is_kept}

@@ -1,5 +1,5 @@
 -- What an item takes goes by its content alone, and is larger where rates and marks are.
-use Rattle.std.proofs.Common.{◌≡◌, ℕ, zero, suc, ◌<◌, ◌≤◌, Bool, true, false, ◌&&◌, if◌then◌else◌, [], ◌∷◌, length, get_or, inl, inr, sym, refl, ap, ◌∙◌, arith, length-append, ◌==◌}
+use Rattle.std.proofs.Common.{◌≡◌, ℕ, zero, suc, ◌<◌, ◌≤◌, Bool, true, false, ◌&&◌, if◌then◌else◌, [], ◌∷◌, get_or, inl, inr, sym, refl, ap, ◌∙◌, arith, ◌==◌}
 use Rattle.std.proofs.lemmas.Bool.{cases_lt, or_left, or_right}
 use Rattle.std.proofs.lemmas.List.{get_or_append_left, get_or_push}
 use Rattle.rollout_rules.specs.Sums.{list_below}
@@ -8,11 +8,7 @@ use Rattle.rollout_rules.specs.Items.{Resource, the_link, the_table, takes, cont
 use Rattle.rollout_rules.specs.declared.item.Item.{Item}
 use Rattle.rollout_rules.specs.declared.item.Item.TheVariants as item
 use Rattle.rollout_rules.proofs.Below.{sum_below-mono}
-
--- a list by numbers has so many elements, and each at its number
-pub list_below-length : {A : Type 0} (n : ℕ) (f : ℕ → A) → length (list_below n f) ≡ n
-list_below-length zero f = refl
-list_below-length (suc n) f = omega (arith, length-append (list_below n f) (f n ∷ []), list_below-length n f)
+use Rattle.rollout_rules.proofs.Rows.{list_below-length}
 
 pub list_below-at : {A : Type 0} (n : ℕ) (f : ℕ → A) (d : A) (k : ℕ) → k < n → get_or (list_below n f) k d ≡ f k
 list_below-at zero f d k lt = absurd (omega arith)
@@ -30,7 +26,7 @@ there-mono : (a b : Bool) (width : ℕ) → (a ≡ true → b ≡ true) → (if 
 there-mono true b width up = rw (up refl) (omega arith)
 there-mono false b width up = omega arith
 
-if-mono : (a : Bool) (m n : ℕ) → m ≤ n → (if a then m else 0) ≤ (if a then n else 0)
+pub if-mono : (a : Bool) (m n : ℕ) → m ≤ n → (if a then m else 0) ≤ (if a then n else 0)
 if-mono true m n le = le
 if-mono false m n le = omega arith
 

@@ -14,14 +14,15 @@ use Rattle.rollout_rules.specs.World.{World, no_op, holding_of, pair_at, held_of
 use Rattle.rollout_rules.specs.declared.held.Held.{Held}
 use Rattle.rollout_rules.specs.declared.held.Given.{Given}
 use Rattle.rollout_rules.specs.declared.op.Op.{Op}
+use Rattle.rollout_rules.proofs.Pairs.{IsNextCommand, after-more, at_most-from, at_most-refl, at_most-trans, next_command-is, next_is_more}
 use Rattle.rollout_rules.specs.declared.event.Event.TheVariants as event
 use Rattle.rollout_laws.specs.Kept.{IsBegun, IsEarlierPair, IsHeldRight, IsKept, IsCommand}
 use Rattle.rollout_laws.specs.SafeWorlds.{with_answer, IsApplied}
 use Rattle.rollout_laws.proofs.Histories.{is_counted}
-use Rattle.rollout_laws.proofs.Pairs.{at_most-refl, at_most-trans, at_most-from, next_command-is, next_is_more, IsNextCommand, after-more, after-late, after-next, number-same, number-other}
+use Rattle.rollout_laws.proofs.Pairs.{after-late, after-next, number-same, number-other}
 
 -- what is at most the pair held is passed over, and answered with what is held
-passed_over : (w : World) (n : ℕ) (asked : Held) (content : List ℕ) → is_at_most asked (held_of w n).held ≡ true → received w n asked content ≡ with_answer w n
+pub passed_over : (w : World) (n : ℕ) (asked : Held) (content : List ℕ) → is_at_most asked (held_of w n).held ≡ true → received w n asked content ≡ with_answer w n
 passed_over w n asked content late =
     ap (λ v. record w { held = slice_set w.held n v; given = w.given ++ record { item = n; held = v.held } ∷ [] }) (after-late (held_of w n) asked content late)
     ∙ ap (λ h. record w { held = h; given = w.given ++ record { item = n; held = (held_of w n).held } ∷ [] }) (set-get_or w.held n nothing_held)

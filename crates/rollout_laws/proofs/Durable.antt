@@ -10,9 +10,9 @@ use Rattle.rollout_rules.specs.Agent.{pair_of, is_at_most, Holding, nothing_held
 use Rattle.rollout_rules.specs.World.{World, no_op, holding_of, held_of, is_writing, allows, happens, after_event, after_events}
 use Rattle.rollout_rules.specs.declared.op.Entry.{Entry}
 use Rattle.rollout_rules.specs.declared.event.Event.{Event}
+use Rattle.rollout_rules.proofs.Pairs.{after-more, at_most-refl, at_most-trans}
 use Rattle.rollout_rules.specs.declared.event.Event.TheVariants as event
 use Rattle.rollout_laws.specs.SafeWorlds.{IsBeginningOf, HasFrom}
-use Rattle.rollout_laws.proofs.Pairs.{at_most-refl, at_most-trans, after-more}
 
 itself : (h : History) → IsBeginningOf h h
 itself h = record { start = refl; entries = ([], append-nil h.entries) }

@@ -1,6 +1,5 @@
 -- Where all operations are settled, each item is at its target.
-use Rattle.std.proofs.Common.{◌≡◌, ℕ, zero, suc, ◌*◌, ◌<◌, true, [], ◌∷◌, ◌++◌, ◌==◌, if◌then◌else◌, length, is_some, refl, sym, ap, ap₂, ◌∙◌, arith, eqb-true, ltb-true, le_of_eq}
-use Rattle.rollout_rules.specs.Sums.{list_below}
+use Rattle.std.proofs.Common.{◌≡◌, ℕ, ◌*◌, ◌<◌, true, [], ◌∷◌, ◌==◌, if◌then◌else◌, length, is_some, sym, ap, ◌∙◌, eqb-true, ltb-true, le_of_eq}
 use Rattle.rollout_rules.specs.Wan.{Problem, Plan, flow_at, tunnel_at, tunnel_of, hops, new_rate, rate_at, mark_at, last_stage}
 use Rattle.rollout_rules.specs.Network.{IsNetwork}
 use Rattle.rollout_rules.specs.Items.{is_item, item_count, number_of, item_at, content}
@@ -15,13 +14,10 @@ use Rattle.rollout_rules.proofs.Below.{all_below-at}
 use Rattle.rollout_rules.proofs.Numbers.{item_at-number_of, number_of-below}
 use Rattle.rollout_rules.proofs.Tunnels.{tunnel_of-below}
 use Rattle.rollout_rules.proofs.OverItems.{is_item-flow, is_item-entry, entry-is_item}
+use Rattle.rollout_rules.proofs.Rows.{list_below-same}
 use Rattle.rollout_laws.specs.Target.{target}
 use Rattle.rollout_laws.proofs.Standing.{stand-last}
 use Rattle.rollout_laws.proofs.Validity.{IsValid, plan-is_valid}
-
-list_below-same : (n : ℕ) (f g : ℕ → ℕ) → ((k : ℕ) → k < n → f k ≡ g k) → list_below n f ≡ list_below n g
-list_below-same zero f g same = refl
-list_below-same (suc n) f g same = ap₂ (λ xs x. xs ++ x ∷ []) (list_below-same n f g (λ k lt. same k (omega arith))) (same n (omega arith))
 
 module _ (p : Problem) (plan : Plan) (h : History) where
   finished-settled : is_finished p plan h ≡ true → (i : Item) → is_item p i ≡ true → settled h (number_of p i) ≡ operations p plan i

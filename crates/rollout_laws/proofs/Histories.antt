@@ -3,6 +3,7 @@ use Rattle.std.proofs.Common.{◌≡◌, ℕ, ◌+◌, ◌<◌, ◌≤◌, Bool,
 use Rattle.std.proofs.lemmas.Bool.{and_parts, and_from, cases_eq, not-true, eqb-false}
 use Rattle.std.proofs.lemmas.List.Elements.{Contains-append_left, Contains-push}
 use Rattle.std.specs.List.{Contains}
+use Rattle.lists.proofs.Conditions.{and_regrouped_back}
 use Rattle.rollout_rules.specs.Wan.{Problem, Plan}
 use Rattle.rollout_rules.specs.Items.{item_count, item_at}
 use Rattle.rollout_rules.specs.Operations.{operations}
@@ -15,10 +16,6 @@ use Rattle.rollout_rules.specs.declared.op.Entry.{Entry}
 use Rattle.rollout_rules.specs.declared.op.Entry.TheVariants.{Begin, Done}
 use Rattle.rollout_rules.proofs.Below.{all_below-at}
 use Rattle.rollout_rules.proofs.Numbers.{number_of-item_at}
-
-and_assoc : (a b c : Bool) → ((a && b) && c) ≡ (a && (b && c))
-and_assoc true b c = refl
-and_assoc false b c = refl
 
 -- a history that goes on by no entry, and by two lists in a row
 pub with_none : (h : History) → with_entries h [] ≡ h
@@ -129,7 +126,7 @@ module _ (p : Problem) (plan : Plan) where
   may_follow-append h [] ys = ap (λ g. may_follow p plan g ys) (sym (with_none h))
   may_follow-append h (x ∷ xs) ys =
       ap (λ b. may_add p plan h x && b) (may_follow-append (with_entries h (x ∷ [])) xs ys ∙ ap (λ g. may_follow p plan (with_entries h (x ∷ [])) xs && may_follow p plan g ys) (with_both h (x ∷ []) xs))
-      ∙ sym (and_assoc (may_add p plan h x) _ _)
+      ∙ sym (and_regrouped_back (may_add p plan h x) _ _)
 
   pub front_follows : (h : History) (xs ys : List Entry) → may_follow p plan h (xs ++ ys) ≡ true → may_follow p plan h xs ≡ true
   front_follows h xs ys e = (and_parts _ _ (sym (may_follow-append h xs ys) ∙ e)).0

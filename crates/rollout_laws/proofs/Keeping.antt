@@ -18,26 +18,28 @@ use Rattle.rollout_rules.specs.declared.op.Op.{Op}
 use Rattle.rollout_rules.specs.declared.op.Entry.{Entry}
 use Rattle.rollout_rules.specs.declared.event.Event.TheVariants as event
 use Rattle.rollout_rules.proofs.Below.{all_below-at, all_below-from}
+use Rattle.rollout_rules.proofs.Rows.{list_below-length}
+use Rattle.rollout_rules.proofs.Pairs.{at_most-refl}
 use Rattle.rollout_laws.specs.Kept.{IsBegun, IsEarlierPair, IsHeldRight, HasAnswer, IsKept}
 use Rattle.rollout_laws.specs.SafeWorlds.{MayBeHeldAtFirst}
 use Rattle.rollout_laws.proofs.Histories.{begun-with, take_follows, started_is_legal, is_legal-append}
-use Rattle.rollout_laws.proofs.Contents.{list_below-length, list_below-at}
-use Rattle.rollout_laws.proofs.Pairs.{at_most-refl, number-same, number-answered}
+use Rattle.rollout_laws.proofs.Contents.{list_below-at}
+use Rattle.rollout_laws.proofs.Pairs.{number-same, number-answered}
 use Rattle.rollout_laws.proofs.Answers.{all_answered-more, all_answered-take, settled-applied}
 
 -- a history that goes on has begun no less
-begun-more : (h : History) (es : List Entry) (op : Op) → IsBegun h op → IsBegun (with_entries h es) op
+pub begun-more : (h : History) (es : List Entry) (op : Op) → IsBegun h op → IsBegun (with_entries h es) op
 begun-more h es op was =
     let high = was.high in
     record { low = was.low; high = omega (arith, high, begun-with h es op.item) }
 
 -- each operation in flight is begun
-flying_is_begun : (h : History) (n : ℕ) → flies h n ≡ true → IsBegun h (next_op h n)
+pub flying_is_begun : (h : History) (n : ℕ) → flies h n ≡ true → IsBegun h (next_op h n)
 flying_is_begun h n flying =
     let count = eqb-true (begun h n) (settled h n + 1) flying in
     record { low = omega arith; high = omega (arith, count) }
 
-in_flight_is_begun : (p : Problem) (h : History) → All (IsBegun h) (in_flight p h)
+pub in_flight_is_begun : (p : Problem) (h : History) → All (IsBegun h) (in_flight p h)
 in_flight_is_begun p h =
     All-map (IsBegun h) (next_op h) (filter (flies h) (list_below (item_count p) (λ n. n)))
     (All-weaker (λ n. flies h n ≡ true) (λ n. IsBegun h (next_op h n)) (flying_is_begun h) _ (filter_passes (flies h) (list_below (item_count p) (λ n. n))))

@@ -110,7 +110,7 @@ begun_all_answered h migration handed (Begin op ∷ es) all = begun_all_answered
 begun_all_answered h migration handed (Done op ∷ es) all = absurd (All-head (BeginsNext h) (Done op) es all)
 
 -- a list of Begins settles nothing
-begins_settle_nothing : (h : History) (es : List Entry) (n : ℕ) → All (BeginsNext h) es → dones_in es n ≡ 0
+pub begins_settle_nothing : (h : History) (es : List Entry) (n : ℕ) → All (BeginsNext h) es → dones_in es n ≡ 0
 begins_settle_nothing h [] n all = refl
 begins_settle_nothing h (Begin op ∷ es) n all = begins_settle_nothing h es n (All-tail (BeginsNext h) (Begin op) es all)
 begins_settle_nothing h (Done op ∷ es) n all = absurd (All-head (BeginsNext h) (Done op) es all)

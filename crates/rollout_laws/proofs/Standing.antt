@@ -1,20 +1,13 @@
 -- Where an item stands once so many of its operations are settled.
-use Rattle.std.proofs.Common.{◌≡◌, ℕ, zero, suc, ◌+◌, ◌<◌, ◌≤◌, true, List, [], ◌∷◌, inl, inr, refl, ap, ap₂, ◌∙◌, subst, arith, le-leb, leb-true, eqb-true, nat_le, nat_eq}
-use Rattle.std.proofs.lemmas.Bool.{and_parts, cases_Bool, cases_lt, cases_order, not-false}
+use Rattle.std.proofs.Common.{◌≡◌, ℕ, zero, suc, ◌+◌, ◌<◌, ◌≤◌, inl, inr, refl, ap, ◌∙◌, subst, arith, le-leb, leb-true, nat_le}
+use Rattle.std.proofs.lemmas.Bool.{cases_Bool, cases_lt, cases_order, not-false}
 use Rattle.rollout_rules.specs.Sums.{same_numbers}
 use Rattle.rollout_rules.specs.Wan.{Problem, Plan, last_stage}
 use Rattle.rollout_rules.specs.Items.{content}
 use Rattle.rollout_rules.specs.Operations.{changes_behind, changes_to, operations, stand_after}
 use Rattle.rollout_rules.specs.declared.item.Item.{Item}
 use Rattle.rollout_rules.proofs.Below.{sum_below-up, last_to-most, last_to-passes, last_to-is_last}
-
-same_numbers-true : (xs ys : List ℕ) → same_numbers xs ys ≡ true → xs ≡ ys
-same_numbers-true [] [] e = refl
-same_numbers-true [] (y ∷ ys) e = cc
-same_numbers-true (x ∷ xs) [] e = cc
-same_numbers-true (x ∷ xs) (y ∷ ys) e =
-    let both = and_parts (nat_eq x y) (same_numbers xs ys) e in
-    ap₂ (λ z zs. z ∷ zs) (eqb-true x y both.0) (same_numbers-true xs ys both.1)
+use Rattle.rollout_rules.proofs.Alike.{same_numbers-is}
 
 module _ (p : Problem) (plan : Plan) (i : Item) where
   pub changes-up : (a b : ℕ) → a ≤ b → changes_to p plan i a ≤ changes_to p plan i b
@@ -30,7 +23,7 @@ module _ (p : Problem) (plan : Plan) (i : Item) where
   content-stays b few = elim (cases_Bool (changes_behind p plan i b)) as (λ c. content p plan i b ≡ content p plan i (suc b)) [
     | inl changes ↦ let one : changes_to p plan i (suc b) ≡ changes_to p plan i b + 1 = rw changes refl in absurd (omega arith)
     | inr stays ↦
-        same_numbers-true (content p plan i b) (content p plan i (b + 1)) (not-false (same_numbers (content p plan i b) (content p plan i (b + 1))) stays)
+        same_numbers-is (content p plan i b) (content p plan i (b + 1)) (not-false (same_numbers (content p plan i b) (content p plan i (b + 1))) stays)
         ∙ ap (content p plan i) (omega arith)
   ]
 

@@ -1,6 +1,7 @@
 -- The entries of a tunnel that carries traffic stand, and none of them is being removed.
-use Rattle.std.proofs.Common.{◌≡◌, ℕ, zero, suc, ◌+◌, ◌<◌, ◌≤◌, Bool, true, false, ◌||◌, ◌==◌, length, inl, inr, sym, ◌∙◌, subst, arith, le_refl, le_trans, leb-true, eqb-true, nat_le, nat_eq}
+use Rattle.std.proofs.Common.{◌≡◌, ℕ, zero, suc, ◌+◌, ◌<◌, ◌≤◌, true, false, ◌||◌, ◌==◌, length, inl, inr, sym, ◌∙◌, subst, arith, le_refl, le_trans, leb-true, eqb-true, nat_le, nat_eq}
 use Rattle.std.proofs.lemmas.Bool.{cases_Bool, cases_lt, or_cases}
+use Rattle.lists.proofs.Conditions.{not_both}
 use Rattle.rollout_rules.specs.Wan.{Problem, Plan, tunnel_at, flow_at, hops, rate_at, mark_at, last_stage, next_stage}
 use Rattle.rollout_rules.specs.Network.{IsNetwork}
 use Rattle.rollout_rules.specs.Items.{is_item, content}
@@ -17,9 +18,6 @@ use Rattle.rollout_laws.proofs.Standing.{stand-most, stand-up, stand-left, stand
 use Rattle.rollout_laws.proofs.Contents.{content-rate, content-mark}
 use Rattle.rollout_laws.proofs.Runs.{run_start-most, run_start-passes}
 use Rattle.rollout_laws.proofs.Validity.{IsValid, carried-installed}
-
-clash : (b : Bool) → b ≡ true → b ≡ false → ⊥
-clash b e q = cc
 
 -- the stages from which on a tunnel is installed until it carries traffic, reached by an entry
 record IsInstalledSince (p : Problem) (plan : Plan) (at : Places) (t h x : ℕ) : Type 0 where
@@ -90,14 +88,14 @@ module _ (p : Problem) (plan : Plan) (net : IsNetwork p) (valid : IsValid p plan
   not-removed : (x : ℕ) → stand p plan at flow ≤ x → x ≤ last_stage plan → 0 < rate_at plan x t → IsInstalledSince p plan at t h x → (n : ℕ) → at.settled entry ≤ n → n ≤ begun_at at entry → mark_at plan (stand_after p plan entry n) t ≡ false → ⊥
   not-removed x flow_to most some since n settled begun gone = elim (cases_lt x (stand_after p plan entry n)) as (λ c. ⊥) [
     | inl past ↦ removed n settled begun gone past
-    | inr within ↦ clash (mark_at plan (stand_after p plan entry n) t) (since.installed (stand_after p plan entry n) (le_trans since.reached (stand-up p plan entry (at.settled entry) n settled)) within) gone
+    | inr within ↦ not_both (mark_at plan (stand_after p plan entry n) t) (since.installed (stand_after p plan entry n) (le_trans since.reached (stand-up p plan entry (at.settled entry) n settled)) within) gone
   ]
     where
       here : mark_at plan x t ≡ true
       here = since.installed x since.before (le_refl x)
 
       removed : (n : ℕ) → at.settled entry ≤ n → n ≤ begun_at at entry → mark_at plan (stand_after p plan entry n) t ≡ false → x < stand_after p plan entry n → ⊥
-      removed zero settled begun gone past = clash (mark_at plan x t) here (content-mark p plan t h x (stand_after p plan entry 0) (content-kept p plan entry 0 x (omega arith) (omega (arith, past))) ∙ gone)
+      removed zero settled begun gone past = not_both (mark_at plan x t) here (content-mark p plan t h x (stand_after p plan entry 0) (content-kept p plan entry 0 x (omega arith) (omega (arith, past))) ∙ gone)
       removed (suc n) settled begun gone past =
           let v = stand_after p plan entry n in
           let y = stand_after p plan entry (suc n) in
@@ -107,7 +105,7 @@ module _ (p : Problem) (plan : Plan) (net : IsNetwork p) (valid : IsValid p plan
           let same : (s : ℕ) → v < s → s ≤ y → mark_at plan s t ≡ false = λ s from to.
           content-mark p plan t h s y (subst (λ m. s ≤ stand_after p plan entry m → content p plan entry s ≡ content p plan entry (stand_after p plan entry m)) e (content-past p plan entry n s from) to) ∙ gone in
           elim (cases_lt v x) as (λ c. ⊥) [
-            | inl before ↦ clash (mark_at plan x t) here (same x before (omega (arith, past)))
+            | inl before ↦ not_both (mark_at plan x t) here (same x before (omega (arith, past)))
             | inr from ↦ idle v from (stand-left p plan entry n left) (same (v + 1) (omega arith) moves) (good.needs entry entry_is n begun)
           ]
         where
@@ -115,9 +113,9 @@ module _ (p : Problem) (plan : Plan) (net : IsNetwork p) (valid : IsValid p plan
           idle v from lt gone' met = elim (cases_lt 0 (rate_at plan v t)) as (λ c. ⊥) [
             | inl carries ↦
                 let behind : next_stage plan v ≡ v + 1 = omega arith in
-                clash (mark_at plan (v + 1) t) (subst (λ s. mark_at plan s t ≡ true) behind (carried-installed p plan valid v t (omega (arith, lt)) row carries).behind) gone'
+                not_both (mark_at plan (v + 1) t) (subst (λ s. mark_at plan s t ≡ true) behind (carried-installed p plan valid v t (omega (arith, lt)) row carries).behind) gone'
             | inr none ↦ elim (or_cases (mark_at plan (v + 1) t) (nat_le (idle_since plan t v) (stand p plan at flow)) met) as (λ c. ⊥) [
-              | inl stays ↦ clash (mark_at plan (v + 1) t) stays gone'
+              | inl stays ↦ not_both (mark_at plan (v + 1) t) stays gone'
               | inr left ↦ elim (cases_lt x v) as (λ c. ⊥) [
                 | inl earlier ↦
                     let zero = eqb-true (rate_at plan x t) 0 (run_start-passes (λ s. rate_at plan s t == 0) v x (le_trans (leb-true (idle_since plan t v) (stand p plan at flow) left) flow_to) earlier) in

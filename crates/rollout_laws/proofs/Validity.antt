@@ -1,18 +1,14 @@
 -- What a valid plan gives, stage by stage.
-use Rattle.std.proofs.Common.{◌≡◌, ℕ, ◌+◌, ◌-◌, ◌*◌, ◌<◌, ◌≤◌, Bool, true, false, ◌&&◌, length, inl, inr, refl, sym, arith, leb-true, eqb-true, nat_le, is_some, ◌==◌}
+use Rattle.std.proofs.Common.{◌≡◌, ℕ, ◌+◌, ◌-◌, ◌*◌, ◌<◌, ◌≤◌, true, ◌&&◌, length, inl, inr, arith, leb-true, eqb-true, nat_le, is_some, ◌==◌}
 use Rattle.std.proofs.lemmas.Bool.{and_parts, or_cases}
 use Rattle.rollout_rules.specs.declared.limits.TheConstants.{MOST_STAGES, LARGEST_SCALE}
 use Rattle.rollout_rules.specs.Wan.{Problem, Plan, tunnel_at, new_rate, rate_at, mark_at, stage_at, last_stage, next_stage}
 use Rattle.rollout_rules.specs.Sums.{all_below}
 use Rattle.rollout_rules.specs.Items.{Resource, is_resource, capacity_of}
-use Rattle.rollout_rules.specs.Valid.{is_valid_plan, has_shape, begins_at_old, ends_at_new, fits_each_step, carries_what_flows, keeps_totals, same_mark, step_total, is_carried_at}
+use Rattle.rollout_rules.specs.Valid.{is_valid_plan, has_shape, begins_at_old, ends_at_new, fits_each_step, carries_what_flows, keeps_totals, step_total, is_carried_at}
 use Rattle.rollout_rules.proofs.Below.{all_below-at}
 use Rattle.rollout_rules.proofs.OverItems.{all_resources-at}
-
-same_mark-true : (a b : Bool) → same_mark a b ≡ true → a ≡ b
-same_mark-true true b e = sym e
-same_mark-true false true e = cc
-same_mark-true false false e = refl
+use Rattle.rollout_rules.proofs.Alike.{same_mark-is}
 
 pub record IsValid (p : Problem) (plan : Plan) : Type 0 where
   pub stages : last_stage plan + 1 ≡ length plan.stages
@@ -43,7 +39,7 @@ plan-is_valid p plan valid =
       step = λ s most r here. leb-true (step_total p plan s r) (capacity_of p plan r) (all_resources-at p (λ q. nat_le (step_total p plan s q) (capacity_of p plan q)) (all_below-at (length plan.stages) _ c.1 s (omega arith)) r here);
       carried = λ s t most lt. all_below-at (length p.tunnels) (is_carried_at plan s) (all_below-at (length plan.stages) _ b.1 s (omega arith)) t lt;
       new_rates = λ t lt. eqb-true _ _ (and_parts _ _ (all_below-at (length p.tunnels) _ d.1 t lt)).0;
-      new_marks = λ t lt. same_mark-true _ _ (and_parts _ _ (all_below-at (length p.tunnels) _ d.1 t lt)).1;
+      new_marks = λ t lt. same_mark-is _ _ (and_parts _ _ (all_below-at (length p.tunnels) _ d.1 t lt)).1;
     }
 
 -- a tunnel that carries traffic at a stage is installed there, at the stage before and at the one behind

@@ -1,7 +1,8 @@
 -- Lines one after the other, and lists that begin with others.
-use Rattle.std.proofs.Common.{◌≡◌, ℕ, List, [], ◌∷◌, ◌++◌, ◌==◌, ◌&&◌, Bool, true, false, refl, sym, subst, ap, ◌∙◌, append_assoc}
+use Rattle.std.proofs.Common.{◌≡◌, ℕ, List, [], ◌∷◌, ◌++◌, ◌==◌, Bool, true, refl, sym, subst, ap, ◌∙◌, append_assoc}
 use Rattle.std.proofs.lemmas.List.{append-nil}
 use Rattle.std.proofs.lemmas.Bool.{eqb-true}
+use Rattle.lists.proofs.Conditions.{and_both}
 use Rattle.rollout_rules.specs.declared.op.Entry.{Entry}
 use Rattle.rollout_rules.specs.declared.op.Op.{Op}
 use Rattle.rollout_rules.specs.declared.op.Entry.TheVariants.{Begin, Done}
@@ -16,14 +17,9 @@ line_off ms whole text now entry left later is wrote so_far =
 pub no_line_left : (ms : ℕ) (whole text : List ℕ) (left : List Entry) → left ≡ [] → text ++ lines_at ms left ≡ whole → text ≡ whole
 no_line_left ms whole text left none so_far = sym (append-nil text) ∙ ap (λ l. text ++ lines_at ms l) (sym none) ∙ so_far
 
--- two numbers that are one each make one operation
-both_true : (a b : Bool) → (a && b) ≡ true → (a ≡ true) × (b ≡ true)
-both_true true b is = (refl, is)
-both_true false b is = absurd (cc is)
-
 same_op : (a b : Op) → is_same_op a b ≡ true → a ≡ b
 same_op a b is =
-    let both = both_true (a.item == b.item) (a.number == b.number) is in
+    let both = and_both (a.item == b.item) (a.number == b.number) is in
     let item : a.item ≡ b.item = eqb-true a.item b.item both.0 in
     let number : a.number ≡ b.number = eqb-true a.number b.number both.1 in
     λ i. record { item = item i; number = number i }

@@ -1,5 +1,5 @@
 -- The two writes of an append go on from where the journal stood.
-use Rattle.std.proofs.Common.{◌≡◌, ◌⊎◌, inl, inr, ℕ, ◌+◌, ◌-◌, ◌<◌, ◌≤◌, List, [], ◌∷◌, ◌++◌, length, take, sym, ◌∙◌, ap, arith}
+use Rattle.std.proofs.Common.{◌≡◌, ◌⊎◌, inl, inr, ℕ, ◌+◌, ◌<◌, ◌≤◌, List, ◌∷◌, ◌++◌, length, take, sym, ◌∙◌, ap, arith}
 use Rattle.std.proofs.lemmas.Bool.{cases_eq}
 use Rattle.std.proofs.lemmas.List.{take-take}
 use Rattle.disk_model.specs.Writes.{Torn, written}
@@ -7,12 +7,12 @@ use Rattle.disk_model.proofs.Tearing.{Torn-written}
 use Rattle.intent_journal.specs.Parts.{batch_body, open_batch}
 use Rattle.intent_journal.specs.States.{Home, IsAtRest, IsBody}
 use Rattle.intent_journal.proofs.Committing.{opened_rest, staged, torn_rest, torn_stage}
+use Rattle.intent_journal.proofs.Fronts.{part_long}
 use Rattle.rollout_report.specs.Watching.{HasGoneOn, Moment}
-use Rattle.rollout_report.proofs.Judged.{long_image}
 
 module _ (home : Home) (now : Moment) (rest : IsAtRest home now.gate now.image) where
   inside : now.gate < length now.image
-  inside = omega (arith, rest.at, long_image home.slot.start now.image rest.front (rest.mark ∷ rest.behind) rest.part (omega arith))
+  inside = omega (arith, rest.at, part_long home.slot.start now.image rest.front (rest.mark ∷ rest.behind) rest.part (omega arith))
 
   -- a write after the gate leaves what is before it
   before_gate : (n : ℕ) (image : List ℕ) → Torn (now.gate + 1) n now.image image → take now.gate image ≡ take now.gate now.image

@@ -1,5 +1,5 @@
 -- No peak over a legal history is above its capacity.
-use Rattle.std.proofs.Common.{◌≡◌, ℕ, zero, suc, ◌+◌, ◌*◌, ◌<◌, ◌≤◌, ◌⊎◌, Bool, true, false, ◌||◌, max, length, drop, inl, inr, refl, sym, subst, arith}
+use Rattle.std.proofs.Common.{◌≡◌, ℕ, ◌+◌, ◌*◌, ◌<◌, ◌≤◌, ◌⊎◌, Bool, true, false, ◌||◌, max, length, drop, inl, inr, refl, sym, subst, arith}
 use Rattle.std.proofs.lemmas.Bool.{cases_lt}
 use Rattle.std.proofs.lemmas.List.{take-append-drop}
 use Rattle.rollout_rules.specs.Wan.{Problem, Plan, link_at, switch_at}
@@ -8,14 +8,10 @@ use Rattle.rollout_rules.specs.Valid.{is_valid_plan}
 use Rattle.rollout_rules.specs.Legal.{is_legal}
 use Rattle.rollout_rules.specs.History.{History, with_entries, places_of}
 use Rattle.rollout_rules.specs.Safe.{settled_rate, next_rate, settled_mark, next_mark, IsSafe}
-use Rattle.rollout_rules.specs.Release.{most_below}
+use Rattle.rollout_rules.proofs.Below.{most_below-within}
 use Rattle.rollout_laws.proofs.Histories.{front_is_legal}
 use Rattle.rollout_laws.proofs.Safety.{legal-safe}
 use Rattle.rollout_report.specs.Peaks.{larger_rate, either_there, link_sum, table_sum, link_peak, table_peak, front}
-
-pub most_below-within : (n : ℕ) (f : ℕ → ℕ) (b : ℕ) → ((k : ℕ) → k < n → f k ≤ b) → most_below n f ≤ b
-most_below-within zero f b all = omega arith
-most_below-within (suc n) f b all = omega (arith, most_below-within n f b (λ k lt. all k (omega arith)), all n (omega arith))
 
 larger-is : (a b : ℕ) → (max a b ≡ a) ⊎ (max a b ≡ b)
 larger-is a b = elim (cases_lt a b) as (λ c. (max a b ≡ a) ⊎ (max a b ≡ b)) [ inl lt ↦ inr (omega arith) | inr le ↦ inl (omega arith) ]

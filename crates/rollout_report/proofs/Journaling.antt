@@ -9,13 +9,14 @@ use Rattle.rollout_rules.specs.Items.{item_count}
 use Rattle.rollout_rules.specs.History.{History, dones_in, from_nothing, settled, started}
 use Rattle.rollout_rules.specs.Legal.{is_sound}
 use Rattle.rollout_rules.specs.declared.op.Entry.{Entry}
-use Rattle.rollout_laws.proofs.Contents.{list_below-at, list_below-length}
+use Rattle.rollout_rules.proofs.Rows.{list_below-length}
+use Rattle.rollout_laws.proofs.Contents.{list_below-at}
 use Rattle.dependency_graph.specs.Graph.{Followed}
 use Rattle.intent_journal.specs.declared.digest.Digest.{Digest}
 use Rattle.intent_journal.specs.declared.fault.JournalFault.{JournalFault}
 use Rattle.intent_journal.specs.declared.fault.JournalFault.TheVariants.{BadStart, Disk, Illegal, Memory, NotJournal, OtherPlan}
 use Rattle.intent_journal.specs.Images.{is_blank, open_journal, slot_at}
-use Rattle.intent_journal.specs.Numbers.{byte_at}
+use Rattle.disk_model.specs.Numbers.{byte_at}
 use Rattle.intent_journal.specs.Openings.{found_by}
 use Rattle.intent_journal.specs.Parts.{Slot, digest_in, migration_in, part_rows}
 use Rattle.intent_journal.specs.Reading.{Listed, live_side, nothing_read, with_rows}

@@ -1,21 +1,23 @@
 -- A journal at rest is judged by what it keeps.
-use Rattle.std.proofs.Common.{◌≡◌, ◌≢◌, ⊎_elim, ℕ, ◌+◌, ◌-◌, ◌<◌, ◌==◌, ◌&&◌, Bool, true, false, List, [], ◌∷◌, ◌++◌, length, drop, Option, Some, None, if◌then◌else◌, refl, sym, subst, ◌∙◌, ap, arith, length-append, length-drop}
+use Rattle.std.proofs.Common.{◌≡◌, ◌≢◌, ⊎_elim, ℕ, ◌+◌, ◌-◌, ◌<◌, ◌==◌, ◌&&◌, Bool, true, false, List, ◌∷◌, length, drop, Option, Some, None, if◌then◌else◌, refl, sym, subst, ◌∙◌, ap, arith}
 use Rattle.std.specs.Prelude.{bytes_eq, ◌||◌, nat_le, not}
 use Rattle.std.proofs.lemmas.Bool.Decides.{nat_tests}
+use Rattle.lists.proofs.Conditions.{and_with_false}
 use Rattle.rollout_rules.specs.Wan.{Rollout}
 use Rattle.rollout_rules.specs.History.{no_start}
 use Rattle.intent_journal.specs.declared.digest.Digest.{Digest}
-use Rattle.intent_journal.specs.Numbers.{byte_at}
+use Rattle.disk_model.specs.Numbers.{byte_at}
 use Rattle.intent_journal.specs.Parts.{Kept, Slot, is_second, is_whole, kept_in, size_of}
-use Rattle.intent_journal.specs.Images.{blank_most, first_side, is_blank, is_live, is_placed, keeps_nothing, live_part, open_journal, open_slot, opened, second_side, slot_at}
+use Rattle.intent_journal.specs.Images.{blank_most, first_side, is_blank, is_live, keeps_nothing, live_part, open_journal, open_slot, opened, second_side, slot_at}
 use Rattle.intent_journal.specs.Reading.{live_side}
 use Rattle.intent_journal.specs.States.{Home, IsAtRest, with_more}
 use Rattle.intent_journal.specs.Verdicts.{OfAnother, Verdict, judged_part, judged_start, verdict}
-use Rattle.intent_journal.proofs.Alone.{placed_start}
+use Rattle.intent_journal.proofs.Alone.{dead_slot, live_slot, placed_start}
 use Rattle.intent_journal.proofs.Batches.{batches_closed}
 use Rattle.intent_journal.proofs.Fronts.{with_more-nothing}
 use Rattle.intent_journal.proofs.Judgements.{judged_side}
 use Rattle.intent_journal.proofs.Recoveries.{verdict_journal}
+use Rattle.intent_journal.proofs.Fronts.{part_long}
 
 -- the verdict on a part of this slot that keeps this
 abbrev pub judged_kept : Rollout → Digest → Slot → Kept → Verdict
@@ -24,23 +26,7 @@ judged_kept r digest slot kept =
     then judged_start r (if is_second slot then kept.starts else no_start r.problem) kept.rows
     else OfAnother kept.digest kept.migration
 
--- how long an image is in which this part stands
-pub long_image : (start : ℕ) (image front tail : List ℕ) → drop start image ≡ front ++ tail → 0 < length tail → start + length front < length image
-long_image start image front tail part some =
-    omega (arith, ap length part, length-append front tail, length-drop start image, some)
-
 -- ---- the live side
-
-dead_slot : (image : List ℕ) (slot : Slot) → slot.gate ≢ open_slot → is_live slot image ≡ false
-dead_slot image slot closed =
-    let shut : (slot.gate == open_slot) ≡ false = grind (arith, nat_tests, closed) in
-    ap (λ (b : Bool). b && (is_placed slot && is_whole slot (drop slot.start image))) shut
-
-live_slot : (image : List ℕ) (slot : Slot) → slot.gate ≡ open_slot → is_placed slot ≡ true → is_whole slot (drop slot.start image) ≡ true → is_live slot image ≡ true
-live_slot image slot gate placed whole =
-    let ajar : (slot.gate == open_slot) ≡ true = grind (arith, nat_tests, gate) in
-    ap (λ (b : Bool). b && (is_placed slot && is_whole slot (drop slot.start image))) ajar
-    ∙ ap (λ (b : Bool). b && is_whole slot (drop slot.start image)) placed ∙ whole
 
 first_live : (image : List ℕ) (slot : Slot) → slot_at first_side image ≡ slot → is_live slot image ≡ true → live_side image ≡ Some first_side
 first_live image slot is live =
@@ -54,16 +40,12 @@ second_live image slot dead is live =
 
 -- ---- an image that is no blank one
 
-and_no : (b : Bool) → (b && false) ≡ false
-and_no true = refl
-and_no false = refl
-
 no_blank : (short few nought ajar nothing : Bool) → short ≡ false → nought ≡ false → ajar ≡ true → (short || (few && (nought || (not ajar && nothing)))) ≡ false
 no_blank short few nought ajar nothing long not_0 open_gate =
     ap (λ (b : Bool). b || (few && (nought || (not ajar && nothing)))) long
     ∙ ap (λ (b : Bool). few && (b || (not ajar && nothing))) not_0
     ∙ ap (λ (b : Bool). few && (not b && nothing)) open_gate
-    ∙ and_no few
+    ∙ and_with_false few
 
 made : (image : List ℕ) → 1 < length image → byte_at 0 image ≡ open_journal → is_blank image ≡ false
 made image long journal =
@@ -76,7 +58,7 @@ made image long journal =
 
 module _ (home : Home) (gate : ℕ) (image : List ℕ) (rest : IsAtRest home gate image) where
   long : home.slot.start + length rest.front < length image
-  long = long_image home.slot.start image rest.front (rest.mark ∷ rest.behind) rest.part (omega arith)
+  long = part_long home.slot.start image rest.front (rest.mark ∷ rest.behind) rest.part (omega arith)
 
   kept_is : kept_in home.slot (drop home.slot.start image) ≡ rest.kept
   kept_is =

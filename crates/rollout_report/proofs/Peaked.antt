@@ -4,7 +4,8 @@ use Rattle.std.proofs.lemmas.List.{ext_get_or}
 use Rattle.rollout_rules.specs.Sums.{list_below}
 use Rattle.rollout_rules.specs.Wan.{Rollout}
 use Rattle.rollout_rules.specs.History.{History}
-use Rattle.rollout_laws.proofs.Contents.{list_below-length, list_below-at}
+use Rattle.rollout_rules.proofs.Rows.{list_below-length}
+use Rattle.rollout_laws.proofs.Contents.{list_below-at}
 use Rattle.rollout_report.specs.Peaks.{link_peak, table_peak, peaks_of}
 use Rattle.rollout_report.specs.Passing.{Passing, IsPast}
 

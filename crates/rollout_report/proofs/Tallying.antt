@@ -1,5 +1,5 @@
 -- Operations are counted by stages, item by item.
-use Rattle.std.proofs.Common.{◌≡◌, ℕ, zero, suc, ◌+◌, ◌<◌, ◌≤◌, Bool, true, false, ◌==◌, if◌then◌else◌, List, [], ◌++◌, length, get_or, inl, inr, refl, sym, ap, ap₂, ◌∙◌, subst, arith}
+use Rattle.std.proofs.Common.{◌≡◌, ℕ, zero, suc, ◌+◌, ◌<◌, ◌≤◌, Bool, ◌==◌, if◌then◌else◌, List, [], ◌++◌, length, get_or, inl, inr, refl, sym, ap, ap₂, ◌∙◌, subst, arith}
 use Rattle.std.specs.Prelude.{replicate}
 use Rattle.std.proofs.lemmas.Bool.{cases_lt}
 use Rattle.std.proofs.lemmas.List.{get_or_past}
@@ -8,7 +8,7 @@ use Rattle.rollout_rules.specs.Wan.{Problem, Plan, last_stage}
 use Rattle.rollout_rules.specs.Items.{item_count, item_at}
 use Rattle.rollout_rules.specs.Operations.{changes_behind}
 use Rattle.rollout_rules.specs.History.{History, settled, begun}
-use Rattle.rollout_rules.proofs.Below.{sum_below-same}
+use Rattle.rollout_rules.proofs.Below.{count_below-most, sum_below-same}
 use Rattle.rollout_report.specs.Counts.{Counted, AreCountsOf}
 use Rattle.rollout_report.specs.Report.{settled_of_all, flying_of_all, stage_line, stage_lines, settled_to}
 use Rattle.rollout_report.specs.Tallies.{StageLists, settles_to, AreStageCounts, IsCounted, lines_of}
@@ -44,27 +44,19 @@ one_counted p plan counts n before after was more = record {
   settled = λ s lt. more.settled s lt ∙ ap (λ x. x + (if settles_to p plan (item_at p n) (get_or counts n 0) s then 1 else 0)) (was.settled s lt) ∙ sym (count-more n (λ k. settles_to p plan (item_at p k) (get_or counts k 0) s));
 }
 
-one_most : (b : Bool) → (if b then 1 else 0) ≤ 1
-one_most true = omega arith
-one_most false = omega arith
-
-count-most : (n : ℕ) (test : ℕ → Bool) → count_below n test ≤ n
-count-most zero test = omega arith
-count-most (suc n) test = omega (arith, count-most n test, one_most (test n))
-
 past_end : (xs : List ℕ) (k : ℕ) → length xs ≤ k → get_or xs k 0 ≡ 0
 past_end xs k le = get_or_past xs k 0 le
 
 module _ (p : Problem) (plan : Plan) (counts : List ℕ) (n : ℕ) (stages : StageLists) (are : AreStageCounts p plan counts n stages) (s : ℕ) where
   pub all-most : get_or stages.all s 0 ≤ n
   all-most = elim (cases_lt s (last_stage plan)) as (λ c. get_or stages.all s 0 ≤ n) [
-    | inl lt ↦ omega (arith, are.all s lt, count-most n (λ k. changes_behind p plan (item_at p k) s))
+    | inl lt ↦ omega (arith, are.all s lt, count_below-most n (λ k. changes_behind p plan (item_at p k) s))
     | inr le ↦ omega (arith, past_end stages.all s (omega (arith, le, are.all_stages)))
   ]
 
   pub settled-most : get_or stages.settled s 0 ≤ n
   settled-most = elim (cases_lt s (last_stage plan)) as (λ c. get_or stages.settled s 0 ≤ n) [
-    | inl lt ↦ omega (arith, are.settled s lt, count-most n (λ k. settles_to p plan (item_at p k) (get_or counts k 0) s))
+    | inl lt ↦ omega (arith, are.settled s lt, count_below-most n (λ k. settles_to p plan (item_at p k) (get_or counts k 0) s))
     | inr le ↦ omega (arith, past_end stages.settled s (omega (arith, le, are.settled_stages)))
   ]
 

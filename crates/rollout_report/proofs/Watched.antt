@@ -4,16 +4,17 @@ use Rattle.std.proofs.lemmas.Bool.{cases_lt}
 use Rattle.std.proofs.lemmas.List.{append_assoc, drop-append-le, drop-take, drop_more, get_or-drop, get_or-take, get_or_append_left, get_or_at, get_or_push, length-take-le, take-append-drop, take-take, take_at, take_more_same}
 use Rattle.rollout_rules.specs.Wan.{Rollout}
 use Rattle.intent_journal.specs.declared.digest.Digest.{Digest}
-use Rattle.intent_journal.specs.Numbers.{byte_at}
+use Rattle.disk_model.specs.Numbers.{byte_at}
 use Rattle.intent_journal.specs.Parts.{open_batch}
 use Rattle.intent_journal.specs.States.{Home, IsAtRest}
 use Rattle.intent_journal.specs.Verdicts.{Verdict, verdict}
 use Rattle.intent_journal.proofs.Alone.{alone_same, placed_start}
 use Rattle.intent_journal.proofs.Committing.{rest_keeps}
+use Rattle.intent_journal.proofs.Fronts.{part_long}
 use Rattle.rollout_report.specs.Journals.{digest_for, journal_report, told_by}
 use Rattle.rollout_report.specs.Kept.{AreOneJournal}
 use Rattle.rollout_report.specs.Watching.{AreMoments, AreReadFrom, Follow, HasGoneOn, HeldOnce, Moment}
-use Rattle.rollout_report.proofs.Judged.{long_image, rest_judged}
+use Rattle.rollout_report.proofs.Judged.{rest_judged}
 
 -- ---- bytes and fronts
 
@@ -47,7 +48,7 @@ told_alike r migration one other is = ap (λ (v : Verdict). told_by r (digest_fo
 
 module _ (home : Home) (gate : ℕ) (image bytes : List ℕ) (has : HasFront home gate image bytes) where
   inside : gate < length image
-  inside = omega (arith, has.rest.at, long_image home.slot.start image has.rest.front (has.rest.mark ∷ has.rest.behind) has.rest.part (omega arith))
+  inside = omega (arith, has.rest.at, part_long home.slot.start image has.rest.front (has.rest.mark ∷ has.rest.behind) has.rest.part (omega arith))
 
   far : 35 ≤ gate
   far = omega (arith, has.rest.at, placed_start home.slot has.rest.alone.placed)
@@ -164,7 +165,7 @@ module _ (home : Home) (now : Moment) (seen : List ℕ) (is : IsUpToDate home no
 from_here : (home : Home) (now : Moment) (later : List Moment) (seen bytes : List ℕ) (at : ℕ) → at ≡ length seen → IsUpToDate home now seen → Follow home now later → AreReadFrom at (now ∷ later) bytes
     → HeldOnce (AreOneJournal (seen ++ bytes)) (now ∷ later)
 from_here home now later seen [] at is_at is follow read =
-    let inside = long_image home.slot.start now.image is.rest.front (is.rest.mark ∷ is.rest.behind) is.rest.part (omega arith) in
+    let inside = part_long home.slot.start now.image is.rest.front (is.rest.mark ∷ is.rest.behind) is.rest.part (omega arith) in
     inl (one_journal home now.gate now.image (seen ++ []) (has_front home now seen is [] (omega (arith, read.0, inside, is.rest.at, is_at))))
 from_here home now [] seen (byte ∷ bytes) at is_at is follow read = absurd read.2
 from_here home now (next ∷ later) seen (byte ∷ bytes) at is_at is follow read =

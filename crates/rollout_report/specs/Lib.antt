@@ -10,3 +10,4 @@ pub mod Watching
 pub mod Report
 pub mod Tallies
 pub mod Journals
+pub mod Hashed

@@ -1,7 +1,7 @@
 -- A journal that is read while its controller appends to it. The reader takes byte after byte, in order of offset and without a lock, so that what it has
 -- read is of many moments: each byte is the one that stood there when it was read.
 use Rattle.std.specs.Prelude.{◌≡◌, ◌⊎◌, ⊤, ℕ, ◌+◌, ◌<◌, ◌≤◌, List, [], ◌∷◌, length, take}
-use Rattle.intent_journal.specs.Numbers.{byte_at}
+use Rattle.disk_model.specs.Numbers.{byte_at}
 use Rattle.intent_journal.specs.States.{Home, IsAtRest}
 
 -- what stood on the disk at a moment, and the gate after the list for which it stands

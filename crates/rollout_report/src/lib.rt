@@ -19,6 +19,7 @@ mod counts;
 mod course;
 mod ends;
 mod fills;
+mod hashed_text;
 mod history;
 mod journaled;
 mod known;

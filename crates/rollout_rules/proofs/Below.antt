@@ -1,7 +1,8 @@
 -- The laws of sums, tests and extremes over the numbers below a bound.
-use Rattle.std.proofs.Common.{◌≡◌, ℕ, zero, suc, ◌+◌, ◌<◌, ◌≤◌, ◌⊎◌, Bool, true, false, inl, inr, sym, refl, ap, ◌∙◌, arith}
-use Rattle.std.proofs.lemmas.Bool.{and_parts, and_from, cases_Bool, cases_lt, cases_order}
-use Rattle.rollout_rules.specs.Sums.{sum_below, all_below, least_below, last_to}
+use Rattle.std.proofs.Common.{Bool, ap, arith, false, inl, inr, refl, subst, suc, sym, true, zero, ℕ, ◌&&◌, ◌*◌, ◌+◌, ◌<◌, ◌∙◌, ◌≡◌, ◌≤◌, ◌⊎◌}
+use Rattle.std.proofs.lemmas.Bool.{and_from, and_left, and_parts, and_right, cases_Bool, cases_eq, cases_lt, cases_order}
+use Rattle.rollout_rules.specs.Sums.{all_below, count_below, last_to, least_below, sum_below}
+use Rattle.rollout_rules.specs.Release.{most_below}
 
 -- ---- sums
 pub sum_below-same : (n : ℕ) (f g : ℕ → ℕ) → ((k : ℕ) → k < n → f k ≡ g k) → sum_below n f ≡ sum_below n g
@@ -129,3 +130,32 @@ last_to-is_last (suc n) test s le passes = elim (cases_Bool (test (n + 1))) as (
   where
     clash : (b : Bool) → b ≡ false → b ≡ true → ⊥
     clash b p q = cc
+
+pub sum_below-most : (n m : ℕ) (f : ℕ → ℕ) → ((k : ℕ) → k < n → f k ≤ m) → sum_below n f ≤ n * m
+sum_below-most zero m f le = omega arith
+sum_below-most (suc n) m f le = omega (arith, sum_below-most n m f (λ k lt. le k (omega arith)), le n (omega arith), suc_times)
+  where
+    suc_times : suc n * m ≡ n * m + m
+    suc_times = grind arith
+
+pub all_below_stops : (test : ℕ → Bool) (n i : ℕ) → i < n → test i ≡ false → all_below n test ≡ false
+all_below_stops test zero i h e = absurd (omega arith)
+all_below_stops test (suc n) i h e = elim (cases_eq i n) as (λ _. (all_below n test && test n) ≡ false) [
+  | inl same ↦ and_right (all_below n test) (test n) (subst (λ x. test x ≡ false) same e)
+  | inr other ↦ and_left (all_below n test) (test n) (all_below_stops test n i (omega arith) e)
+]
+
+pub count_below-most : (n : ℕ) (test : ℕ → Bool) → count_below n test ≤ n
+count_below-most zero test = omega arith
+count_below-most (suc n) test = grind (arith, count_below-most n test)
+
+pub sum_below-at : (n : ℕ) (f : ℕ → ℕ) (k : ℕ) → k < n → f k ≤ sum_below n f
+sum_below-at zero f k lt = absurd (omega arith)
+sum_below-at (suc n) f k lt = elim (cases_eq k n) as (λ _. f k ≤ sum_below (suc n) f) [
+  | inl same ↦ subst (λ m. f m ≤ sum_below n f + f n) (sym same) (omega arith)
+  | inr other ↦ omega (arith, sum_below-at n f k (omega (arith, lt, other)))
+]
+
+pub most_below-within : (n : ℕ) (f : ℕ → ℕ) (b : ℕ) → ((k : ℕ) → k < n → f k ≤ b) → most_below n f ≤ b
+most_below-within zero f b all = omega arith
+most_below-within (suc n) f b all = omega (arith, most_below-within n f b (λ k lt. all k (omega arith)), all n (omega arith))

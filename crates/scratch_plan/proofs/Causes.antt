@@ -10,8 +10,9 @@ use Rattle.wan_model.specs.declared.side.Side.{Side}
 use Rattle.wan_model.specs.declared.side.Side.TheVariants.{Old, New}
 use Rattle.plan_check.specs.First.{first_of, first_below, unless}
 use Rattle.plan_check.specs.LeastSlack.{load_on, least_slack}
-use Rattle.plan_check.proofs.Firsts.{first_below_none, first_below_some}
+use Rattle.plan_check.proofs.Firsts.{first_below_none, first_below_some, first_of_parts}
 use Rattle.plan_check.proofs.LeastSlack.{none-no_slack}
+use Rattle.plan_check.proofs.Passes.{unless_passed}
 use Rattle.scratch_plan.specs.Refusals.{over_on, over_capacity, overfull, table_full, refusal, short_on, first_short, has_room_for_loads, no_slack}
 use Rattle.scratch_plan.specs.declared.no_plan.NoPlan.{NoPlan}
 use Rattle.scratch_plan.specs.declared.no_plan.NoPlan.TheVariants.{OverCapacity, TableFull, NoSlack, Memory}
@@ -21,21 +22,13 @@ pub nothing : {A : Type 0} (o : Option A) → ((a : A) → o ≡ Some a → ⊥)
 nothing None none = refl
 nothing (Some a) none = absurd (none a refl)
 
-both_none : {A : Type 0} (a b : Option A) → first_of a b ≡ None → (a ≡ None) × (b ≡ None)
-both_none None b e = (refl, e)
-both_none (Some x) b e = cc
-
-passed : {A : Type 0} (b : Bool) (a : A) → unless b a ≡ None → b ≡ true
-passed true a e = refl
-passed false a e = cc
-
 module _ (p : Problem) (free : refusal p ≡ None) where
   pub loads-fit : (l : ℕ) → l < length p.links → (old_load p l ≤ (link_at p l).capacity) × (new_load p l ≤ (link_at p l).capacity)
   loads-fit l inside =
       let c = (link_at p l).capacity in
-      let both = both_none (over_on p l Old) (over_on p l New) (first_below_none (λ k. first_of (over_on p k Old) (over_on p k New)) (length p.links) l inside (both_none (over_capacity p) (table_full p) free).0) in (
-        leb-true (old_load p l) c (passed (nat_le (old_load p l) c) (OverCapacity l Old (old_load p l) c) both.0),
-        leb-true (new_load p l) c (passed (nat_le (new_load p l) c) (OverCapacity l New (new_load p l) c) both.1),
+      let both = first_of_parts (over_on p l Old) (over_on p l New) (first_below_none (λ k. first_of (over_on p k Old) (over_on p k New)) (length p.links) l inside (first_of_parts (over_capacity p) (table_full p) free).0) in (
+        leb-true (old_load p l) c (unless_passed (nat_le (old_load p l) c) (OverCapacity l Old (old_load p l) c) both.0),
+        leb-true (new_load p l) c (unless_passed (nat_le (new_load p l) c) (OverCapacity l New (new_load p l) c) both.1),
       )
 
   pub room : has_table_room p ≡ true
@@ -43,8 +36,8 @@ module _ (p : Problem) (free : refusal p ≡ None) where
       let first = entries_at p (was_installed p) w in
       let moving = entries_at p (is_wanted_or_carrying p) w in
       let size = (switch_at p w).table in
-      let both = both_none (overfull p w first) (overfull p w moving) (first_below_none (λ v. first_of (overfull p v (entries_at p (was_installed p) v)) (overfull p v (entries_at p (is_wanted_or_carrying p) v))) (length p.switches) w inside (both_none (over_capacity p) (table_full p) free).1) in
-      and_from (nat_le first size) (nat_le moving size) (passed (nat_le first size) (TableFull w first size) both.0) (passed (nat_le moving size) (TableFull w moving size) both.1))
+      let both = first_of_parts (overfull p w first) (overfull p w moving) (first_below_none (λ v. first_of (overfull p v (entries_at p (was_installed p) v)) (overfull p v (entries_at p (is_wanted_or_carrying p) v))) (length p.switches) w inside (first_of_parts (over_capacity p) (table_full p) free).1) in
+      and_from (nat_le first size) (nat_le moving size) (unless_passed (nat_le first size) (TableFull w first size) both.0) (unless_passed (nat_le moving size) (TableFull w moving size) both.1))
 
 -- ---- and where nothing is refused
 none_below : {A : Type 0} (n : ℕ) (f : ℕ → Option A) → ((k : ℕ) → k < n → f k ≡ None) → first_below n f ≡ None
@@ -77,10 +70,10 @@ nothing_refused p loads tables =
 all-slack : (p : Problem) → first_short p ≡ None → has_slack p 64 ≡ true
 all-slack p none = all_below-from (length p.links) (λ l. nat_le (64 * old_load p l) (63 * (link_at p l).capacity) && nat_le (64 * new_load p l) (63 * (link_at p l).capacity)) (λ l inside.
     let c = (link_at p l).capacity in
-    let both = both_none (short_on p l Old) (short_on p l New) (first_below_none (λ k. first_of (short_on p k Old) (short_on p k New)) (length p.links) l inside none) in
+    let both = first_of_parts (short_on p l Old) (short_on p l New) (first_below_none (λ k. first_of (short_on p k Old) (short_on p k New)) (length p.links) l inside none) in
     and_from (nat_le (64 * old_load p l) (63 * c)) (nat_le (64 * new_load p l) (63 * c))
-    (passed (nat_le (64 * old_load p l) (63 * c)) (NoSlack l Old (old_load p l) c) both.0)
-    (passed (nat_le (64 * new_load p l) (63 * c)) (NoSlack l New (new_load p l) c) both.1))
+    (unless_passed (nat_le (64 * old_load p l) (63 * c)) (NoSlack l Old (old_load p l) c) both.0)
+    (unless_passed (nat_le (64 * new_load p l) (63 * c)) (NoSlack l New (new_load p l) c) both.1))
 
 pub some-short : (p : Problem) → least_slack p ≡ None → first_short p ≡ None → ⊥
 some-short p none short = clash (has_slack p 64) (none-no_slack p 64 (omega arith) (omega arith) none) (all-slack p short)

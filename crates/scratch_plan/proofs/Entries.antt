@@ -1,10 +1,11 @@
 -- Running sums over tunnels: what each adds to the tables on its path, and what all have added.
-use Rattle.std.proofs.Common.{◌≡◌, ℕ, ◌+◌, ◌*◌, ◌<◌, ◌≤◌, Bool, true, false, ◌&&◌, List, length, slice_index, ◌==◌, if◌then◌else◌, refl, ap, ◌∙◌, add-one, arith}
+use Rattle.std.proofs.Common.{◌≡◌, ℕ, ◌+◌, ◌*◌, ◌<◌, ◌≤◌, true, false, ◌&&◌, List, length, slice_index, ◌==◌, if◌then◌else◌, refl, ap, ◌∙◌, add-one, arith}
 use Rattle.rollout_rules.specs.Sums.{sum_below}
 use Rattle.rollout_rules.specs.Wan.{Problem, tunnel_at, switch_of, hops, width_of}
 use Rattle.rollout_rules.specs.Network.{IsNetwork}
 use Rattle.rollout_rules.proofs.Below.{sum_below-zero, sum_below-same}
 use Rattle.plan_check.specs.Parts.{GrownBy, added}
+use Rattle.plan_check.proofs.Shares.{left, taken}
 use Rattle.scratch_plan.specs.Groups.{is_in}
 use Rattle.scratch_plan.specs.Tables.{group_share, largest_group_share}
 use Rattle.scratch_plan.specs.Lacks.{AreEntries}
@@ -28,15 +29,6 @@ entries_from_sums p group n sums all so = record {
   count = so.count;
   each = λ w lt. so.each w lt ∙ ap (λ m. sum_below m (λ t. group_share p group t w)) all;
 }
-
--- an amount that is taken where two tests pass, of which the second does, or does not
-taken : (a b : Bool) (n : ℕ) → b ≡ true → (if a then n else 0) ≡ (if a && b then n else 0)
-taken true b n passes = rw passes refl
-taken false b n passes = refl
-
-left : (a b : Bool) (n : ℕ) → b ≡ false → (if a && b then n else 0) ≡ 0
-left true b n fails = rw fails refl
-left false b n fails = refl
 
 few_times : (a b : ℕ) → a ≤ 17 → b ≤ 16 → a * b ≤ largest_group_share
 few_times a b few small = grind arith

@@ -1,5 +1,5 @@
 -- A plan is valid where its stages are alone and in pairs as they should be. Only this module opens the clauses P0 to P5.
-use Rattle.std.proofs.Common.{◌≡◌, ℕ, zero, suc, pred, ◌+◌, ◌-◌, ◌*◌, ◌<◌, ◌≤◌, min, max, Bool, true, false, not, ◌&&◌, ◌||◌, List, [], ◌∷◌, length, get_or, slice_index, slice_index_or, is_some, nat_le, ◌==◌, refl, sym, ap, subst, ◌∙◌, inl, inr, arith, le-leb, ltb-true, eq-eqb}
+use Rattle.std.proofs.Common.{◌≡◌, ℕ, zero, suc, pred, ◌+◌, ◌-◌, ◌*◌, ◌<◌, ◌≤◌, min, max, Bool, true, false, ◌&&◌, ◌||◌, List, [], ◌∷◌, length, get_or, slice_index, slice_index_or, is_some, nat_le, ◌==◌, refl, sym, ap, subst, ◌∙◌, inl, inr, arith, le-leb, ltb-true, eq-eqb}
 use Rattle.std.proofs.lemmas.Bool.{and_from, or_left, or_right, cases_lt}
 use Rattle.rollout_rules.specs.declared.limits.TheConstants.{MOST_STAGES, LARGEST_SCALE}
 use Rattle.rollout_rules.specs.Sums.{all_below}
@@ -10,6 +10,7 @@ use Rattle.rollout_rules.specs.Valid.{same_mark, has_shape, begins_at_old, ends_
 use Rattle.rollout_rules.proofs.Below.{all_below-from}
 use Rattle.rollout_rules.proofs.OverItems.{all_resources-from}
 use Rattle.rollout_rules.proofs.Totals.{step_total-load, step_total-entries_at}
+use Rattle.rollout_rules.proofs.Alike.{same_mark-from}
 use Rattle.scratch_plan.specs.Steps.{last_of, Follows, keeps_total}
 
 -- ---- lists of which each follows the one before
@@ -52,10 +53,6 @@ pub record AreStages (p : Problem) (scale : ℕ) (first : Stage) (rest : List St
   pub new_rates : (t : ℕ) → t < length p.tunnels → slice_index (last_of first rest).rates t ≡ scale * new_rate (tunnel_at p t)
   pub new_marks : (t : ℕ) → t < length p.tunnels → mark (last_of first rest) t ≡ is_some (tunnel_at p t).new
   pub steps : Follows (IsStageStep p scale) first rest
-
-same_mark-from : (a b : Bool) → a ≡ b → same_mark a b ≡ true
-same_mark-from true b e = sym e
-same_mark-from false b e = ap not (sym e)
 
 module _ (p : Problem) (scale : ℕ) (first : Stage) (rest : List Stage) (are : AreStages p scale first rest) where
   abbrev plan : Plan

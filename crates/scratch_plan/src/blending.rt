@@ -1,6 +1,7 @@
 ghost use Rattle.std.specs.Prelude.{◌≡◌, ◌+◌, ◌-◌, ◌≤◌, None, IsTrue, IfOk, OnOk, map};
 ghost use Rattle.rollout_rules.specs.Valid.{is_valid_plan};
 ghost use Rattle.plan_check.specs.LeastSlack as slack;
+ghost use Rattle.plan_check.specs.SplitLoads.{AreSplitLoads};
 ghost use Rattle.scratch_plan.specs.Building.{with_stages};
 ghost use Rattle.scratch_plan.specs.Frame.{stage_of};
 ghost use Rattle.scratch_plan.specs.Marks.{is_used};
@@ -13,7 +14,7 @@ use crate::links::{Rule, first_lack};
 use crate::no_plan::NoPlan;
 use crate::refusing::refusal;
 use lists::{Memory, Nums};
-use plan_check::least_slack;
+use plan_check::{SplitLoads, slack_over};
 use std::alloc::Global;
 use wan_model::{Plan, Problem, Side};
 
@@ -24,12 +25,31 @@ pub fn scratch(alloc: Global, problem: &Problem) -> Result<Plan, NoPlan>
     ensures value { refusals.Answers result (spec.scratch_of problem.now) }
     ensures valid { IfOk result (λ plan. IsTrue (is_valid_plan problem.now plan)) }
 {
-    if let Some(cause) = refusal(alloc, problem)? {
+    let loads = SplitLoads::of(alloc, problem)?;
+    if let Some(cause) = refusal(alloc, problem, &loads)? {
         return Err(cause);
     }
-    match least_slack(alloc, problem)? {
+    let least = slack_over(problem, &loads);
+    scratch_over(alloc, problem, &loads, least)
+}
+
+/// The same of a problem that isn't refused, over its loads and its least slack 1/k.
+pub fn scratch_over(
+    alloc: Global,
+    problem: &Problem,
+    loads: &SplitLoads,
+    least: Option<u64>,
+) -> Result<Plan, NoPlan>
+    requires loads { AreSplitLoads problem.now loads.now }
+    requires least { least ≡ slack.least_slack problem.now }
+    requires fits { refusals.refusal problem.now ≡ None }
+    ensures value { refusals.Answers result (spec.scratch_of problem.now) }
+    ensures valid { IfOk result (λ plan. IsTrue (is_valid_plan problem.now plan)) }
+{
+    let _ = problem.links();
+    match least {
         Some(k) => Ok(by_slack(alloc, problem, k as u32)?),
-        None => Err(no_slack(alloc, problem)?),
+        None => Err(no_slack(problem, loads)),
     }
 }
 
@@ -79,12 +99,13 @@ fn blended_row(alloc: Global, problem: &Problem, n: u32, a: u32) -> Result<Nums,
 }
 
 // The first link without slack 1/64.
-fn no_slack(alloc: Global, problem: &Problem) -> Result<NoPlan, Memory>
-    requires { slack.least_slack problem.now ≡ None }
-    ensures { IfOk result (λ cause. cause ≡ refusals.no_slack problem.now) }
+fn no_slack(problem: &Problem, loads: &SplitLoads) -> NoPlan
+    requires loads { AreSplitLoads problem.now loads.now }
+    requires none { slack.least_slack problem.now ≡ None }
+    ensures { result ≡ refusals.no_slack problem.now }
 {
-    match first_lack(alloc, problem, Rule::Slack)? {
-        Some(cause) => Ok(cause),
+    match first_lack(problem, Rule::Slack, loads) {
+        Some(cause) => cause,
         None => unreachable!(),
     }
 }

@@ -20,8 +20,8 @@ mod refusing;
 mod tables;
 pub mod worked;
 
-pub use blending::scratch;
+pub use blending::{scratch, scratch_over};
 pub use equality::has_equal_rates;
 pub use framing::{frame, still};
 pub use no_plan::NoPlan;
-pub use refusing::refused;
+pub use refusing::{refused, refused_over};

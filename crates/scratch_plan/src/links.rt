@@ -1,15 +1,12 @@
-ghost use Rattle.std.specs.Prelude.{◌≡◌, ◌<◌, length, IfOk};
-ghost use Rattle.rollout_rules.specs.Network.{IsNetwork};
+ghost use Rattle.std.specs.Prelude.{◌≡◌, ◌<◌, length};
 ghost use Rattle.wan_model.specs.declared.side.Side.TheVariants.{Old, New};
 ghost use Rattle.plan_check.specs.LeastSlack.{AreLoads, load_on};
+ghost use Rattle.plan_check.specs.SplitLoads.{AreSplitLoads};
 ghost use Rattle.scratch_plan.specs.Lacks as spec;
 ghost use Rattle.scratch_plan.specs.declared.links.Rule.TheVariants as rule;
 
-use crate::framing::split_row;
 use crate::no_plan::NoPlan;
-use lists::{Memory, Nums};
-use plan_check::loads;
-use std::alloc::Global;
+use plan_check::SplitLoads;
 use wan_model::{Problem, Side};
 
 /// What is asked of the load of a link.
@@ -22,26 +19,11 @@ pub(crate) enum Rule {
 }
 
 /// The first link, by number and the old load before the new one, whose load isn't as is asked.
-pub(crate) fn first_lack(
-    alloc: Global,
-    problem: &Problem,
-    rule: Rule,
-) -> Result<Option<NoPlan>, Memory>
-    ensures value { IfOk result (λ cause. cause ≡ spec.first_lack rule problem.now) }
-    ensures network { IsNetwork problem.now }
+pub(crate) fn first_lack(problem: &Problem, rule: Rule, loads: &SplitLoads) -> Option<NoPlan>
+    requires { AreSplitLoads problem.now loads.now }
+    ensures { result ≡ spec.first_lack rule problem.now }
 {
-    let old = split_loads(alloc, problem, Side::Old)?;
-    let new = split_loads(alloc, problem, Side::New)?;
-    Ok(first_over(problem, rule, old.as_slice(), new.as_slice()))
-}
-
-// The loads of a split.
-fn split_loads(alloc: Global, problem: &Problem, side: Side) -> Result<Nums, Memory>
-    ensures loads { IfOk result (λ sums. AreLoads side problem.now sums) }
-    ensures network { IsNetwork problem.now }
-{
-    let row = split_row(alloc, problem, side, 1)?;
-    loads(alloc, problem, row.as_slice())
+    first_over(problem, rule, loads.old.as_slice(), loads.new.as_slice())
 }
 
 fn first_over(problem: &Problem, rule: Rule, old: &[u64], new: &[u64]) -> Option<NoPlan>

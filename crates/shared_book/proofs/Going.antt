@@ -1,6 +1,7 @@
 -- How a shared history goes on, note by note.
-use Rattle.std.proofs.Common.{◌≡◌, ℕ, ◌+◌, Bool, true, false, ◌&&◌, ◌==◌, cond, List, [], ◌∷◌, ◌++◌, refl, sym, ap, ◌∙◌, arith, append_assoc, append-nil, eq-eqb, eqb-true}
+use Rattle.std.proofs.Common.{◌≡◌, ℕ, ◌+◌, true, ◌&&◌, ◌==◌, cond, List, [], ◌∷◌, ◌++◌, refl, sym, ap, ◌∙◌, arith, append_assoc, append-nil, eq-eqb, eqb-true}
 use Rattle.std.proofs.lemmas.Bool.{and_parts, and_from}
+use Rattle.lists.proofs.Conditions.{and_regrouped_back}
 use Rattle.rollout_rules.specs.Legal.{is_legal}
 use Rattle.rollout_rules.specs.declared.op.Entry.{Entry}
 use Rattle.shared_book.specs.declared.note.What.{What}
@@ -10,16 +11,12 @@ use Rattle.shared_book.specs.Histories.{Opening}
 use Rattle.shared_book.specs.Legal.{may_say, may_note, may_go_on, is_legal_shared}
 use Rattle.shared_book.specs.Knows.{next_note}
 
-and_assoc : (a b c : Bool) → ((a && b) && c) ≡ (a && (b && c))
-and_assoc true b c = refl
-and_assoc false b c = refl
-
 module _ (o : Opening) where
   pub may_go_on-append : (ws xs ys : List Written) → may_go_on o ws (xs ++ ys) ≡ (may_go_on o ws xs && may_go_on o (ws ++ xs) ys)
   may_go_on-append ws [] ys = ap (λ vs. may_go_on o vs ys) (sym (append-nil ws))
   may_go_on-append ws (x ∷ xs) ys =
       ap (λ b. may_note o ws x && b) (may_go_on-append (ws ++ x ∷ []) xs ys ∙ ap (λ vs. may_go_on o (ws ++ x ∷ []) xs && may_go_on o vs ys) (append_assoc ws (x ∷ []) xs))
-      ∙ sym (and_assoc (may_note o ws x) (may_go_on o (ws ++ x ∷ []) xs) (may_go_on o (ws ++ x ∷ xs) ys))
+      ∙ sym (and_regrouped_back (may_note o ws x) (may_go_on o (ws ++ x ∷ []) xs) (may_go_on o (ws ++ x ∷ xs) ys))
 
   pub goes_on : (ws later : List Written) → is_legal_shared o ws ≡ true → may_go_on o ws later ≡ true → is_legal_shared o (ws ++ later) ≡ true
   goes_on ws later legal may =

@@ -19,3 +19,4 @@ pub mod Imaged
 pub mod Staying
 pub mod RoundImages
 pub mod HeardDones
+pub mod Alike

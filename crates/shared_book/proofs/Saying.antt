@@ -1,9 +1,8 @@
 -- What a call is told may be noted.
-use Rattle.std.proofs.Common.{◌≡◌, ℕ, Bool, true, false, not, ◌&&◌, ◌==◌, List, [], ◌∷◌, length, filter, Option, Some, None, is_some, if◌then◌else◌, refl, sym, ap, ◌∙◌, subst, ◌⊎◌, inl, inr, ⊎_elim, arith, eq-eqb, ne_eqb}
+use Rattle.std.proofs.Common.{◌≡◌, ℕ, Bool, true, false, not, ◌&&◌, ◌==◌, List, [], ◌∷◌, length, filter, Option, Some, None, is_some, if◌then◌else◌, refl, ap, ◌∙◌, subst, ◌⊎◌, inl, inr, ⊎_elim, arith, eq-eqb, ne_eqb}
 use Rattle.std.proofs.lemmas.Bool.{and_from}
+use Rattle.lists.proofs.Conditions.{some_same_is}
 use Rattle.shared_book.specs.Batches.{dones_ahead, behind_dones, is_batch}
-use Rattle.rollout_rules.specs.Wan.{Problem}
-use Rattle.rollout_rules.specs.History.{History}
 use Rattle.rollout_rules.specs.Legal.{is_finished}
 use Rattle.rollout_rules.specs.World.{in_flight}
 use Rattle.rollout_rules.specs.declared.op.Op.{Op}
@@ -22,9 +21,6 @@ use Rattle.shared_book.specs.Replies.{first_alien, turned, list_says, or_stopped
 
 not_stopped : (ws : List Written) → first_stop ws ≡ None → not (is_stopped ws) ≡ true
 not_stopped ws none = ap (λ s. not (is_some s)) none
-
-told-same : (a b : What) → Some a ≡ Some b → a ≡ b
-told-same a b e = cc e
 
 -- what was answered is what there was
 pick : (b : Bool) (here said : What) (later : Option What) → (if b then Some here else later) ≡ Some said → ((b ≡ true) × (here ≡ said)) ⊎ (later ≡ Some said)
@@ -89,15 +85,15 @@ module _ (o : Opening) (ws : List Written) (seat : ℕ) where
   woken-may : (s : Option Halt) (finished still : Bool) (ops : List Op) (said : What)
       → first_stop ws ≡ s → is_finished o.rollout.problem o.rollout.plan (history_of o ws) ≡ finished → is_still o.rollout.problem (history_of o ws) ≡ still
       → ((op : Op) (rest : List Op) → ops ≡ op ∷ rest → still ≡ false) → said_by (wake_or s (wake_with finished still ops)) ≡ Some said → may_say o ws seat [] said ≡ true
-  woken-may (Some halt) finished still ops said s f t some is = subst (λ w. may_say o ws seat [] w ≡ true) (told-same what.Stopped said is) (stopped-may o ws seat (ap is_some s))
+  woken-may (Some halt) finished still ops said s f t some is = subst (λ w. may_say o ws seat [] w ≡ true) (some_same_is what.Stopped said is) (stopped-may o ws seat (ap is_some s))
   woken-may None finished still (op ∷ ops) said s f t some is =
-      subst (λ w. may_say o ws seat [] w ≡ true) (told-same what.Work said is)
+      subst (λ w. may_say o ws seat [] w ≡ true) (some_same_is what.Work said is)
       (and_from (not (is_stopped ws) && true) (not (is_still o.rollout.problem (history_of o ws))) (and_from (not (is_stopped ws)) true (not_stopped ws s) refl) (ap not (t ∙ some op ops refl)))
   woken-may None true still [] said s f t some is =
-      subst (λ w. may_say o ws seat [] w ≡ true) (told-same what.Finished said is)
+      subst (λ w. may_say o ws seat [] w ≡ true) (some_same_is what.Finished said is)
       (and_from (not (is_stopped ws) && true) (is_finished o.rollout.problem o.rollout.plan (history_of o ws)) (and_from (not (is_stopped ws)) true (not_stopped ws s) refl) f)
   woken-may None false true [] said s f t some is =
-      subst (λ w. may_say o ws seat [] w ≡ true) (told-same what.Held said is)
+      subst (λ w. may_say o ws seat [] w ≡ true) (some_same_is what.Held said is)
       (and_from (not (is_stopped ws) && true && is_still o.rollout.problem (history_of o ws)) (not (is_finished o.rollout.problem o.rollout.plan (history_of o ws)))
       (and_from (not (is_stopped ws) && true) (is_still o.rollout.problem (history_of o ws)) (and_from (not (is_stopped ws)) true (not_stopped ws s) refl) t) (ap not f))
   woken-may None false false [] said s f t some is = absurd (cc is)

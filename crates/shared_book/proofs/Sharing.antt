@@ -1,9 +1,9 @@
 -- How a shared book goes on by one note.
-use Rattle.std.proofs.Common.{◌≡◌, ℕ, suc, ◌+◌, ◌<◌, ◌≤◌, Bool, true, false, not, ◌&&◌, ◌||◌, ◌==◌, if◌then◌else◌, List, [], ◌∷◌, ◌++◌, length, drop, Option, Some, None, refl, sym, ap, ap₂, ◌∙◌, subst, arith, append_assoc, append-nil, length-append, eq-eqb, ne_eqb}
+use Rattle.std.proofs.Common.{◌≡◌, ℕ, ◌+◌, ◌<◌, ◌≤◌, Bool, true, false, not, ◌&&◌, ◌||◌, ◌==◌, if◌then◌else◌, List, [], ◌∷◌, ◌++◌, length, drop, Option, Some, None, refl, sym, ap, ap₂, ◌∙◌, subst, arith, append_assoc, append-nil, length-append, eq-eqb, ne_eqb}
 use Rattle.std.specs.Option.{option_or}
 use Rattle.std.proofs.Math.Seq.{drop-append_seam}
 use Rattle.std.proofs.lemmas.Bool.{and_from}
-use Rattle.rollout_rules.specs.Sums.{sum_below, count_below}
+use Rattle.lists.proofs.Conditions.{or_with_false}
 use Rattle.rollout_rules.specs.History.{History, with_entries}
 use Rattle.rollout_rules.specs.declared.op.Entry.{Entry}
 use Rattle.rollout_rules.proofs.Below.{sum_below-same, sum_below-but}
@@ -13,9 +13,9 @@ use Rattle.shared_book.specs.declared.note.What.{What}
 use Rattle.shared_book.specs.declared.note.Note.{Note}
 use Rattle.shared_book.specs.declared.note.Written.{Written}
 use Rattle.shared_book.specs.declared.call_reply.Halt.{Halt}
-use Rattle.shared_book.specs.Notes.{notes_of, calls_by, halt_by, first_stop, asks_to_stop, has_asked}
-use Rattle.shared_book.specs.Histories.{Opening, segment_of, history_of, all_entries, written}
-use Rattle.shared_book.specs.Legal.{may_say, is_legal_shared}
+use Rattle.shared_book.specs.Notes.{notes_of, halt_by, first_stop, asks_to_stop, has_asked}
+use Rattle.shared_book.specs.Histories.{Opening, segment_of, all_entries, written}
+use Rattle.shared_book.specs.Legal.{may_say}
 use Rattle.shared_book.specs.Knows.{next_note}
 use Rattle.shared_book.proofs.Going.{one_more}
 use Rattle.shared_book.proofs.Stops.{first_stop-append}
@@ -38,16 +38,12 @@ or-none None = refl
 pub first_stop-next : (ws : List Written) (w : Written) → first_stop (ws ++ w ∷ []) ≡ option_or (first_stop ws) (halt_by w.note)
 first_stop-next ws w = first_stop-append ws (w ∷ []) ∙ ap (option_or (first_stop ws)) (or-none (halt_by w.note))
 
-or-right : (b : Bool) → (b || false) ≡ b
-or-right true = refl
-or-right false = refl
-
 or-assoc : (a b c : Bool) → ((a || b) || c) ≡ (a || (b || c))
 or-assoc true b c = refl
 or-assoc false b c = refl
 
 has_asked-next : (seat : ℕ) (ws : List Written) (w : Written) → has_asked seat (ws ++ w ∷ []) ≡ (has_asked seat ws || ((w.note.seat == seat) && asks_to_stop w.note.what))
-has_asked-next seat [] w = or-right ((w.note.seat == seat) && asks_to_stop w.note.what)
+has_asked-next seat [] w = or_with_false ((w.note.seat == seat) && asks_to_stop w.note.what)
 has_asked-next seat (v ∷ ws) w =
     ap (λ b. ((v.note.seat == seat) && asks_to_stop v.note.what) || b) (has_asked-next seat ws w)
     ∙ sym (or-assoc ((v.note.seat == seat) && asks_to_stop v.note.what) (has_asked seat ws) ((w.note.seat == seat) && asks_to_stop w.note.what))

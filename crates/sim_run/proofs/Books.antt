@@ -1,14 +1,14 @@
 -- The book of a controller: its journal stays its own, and a start finds its history again.
 use Rattle.std.proofs.Common.{◌≡◌, ℕ, Bool, true, false, if◌then◌else◌, nat_le, nat_lt, List, [], ◌∷◌, ◌++◌, length, All, Option, Some, None, IfSome, Result, Ok, Err, IfErr, IfOk, OnOk, inl, refl, sym, ap, ap₂, ◌∙◌, subst, lt-ltb, le-leb}
 use Rattle.std.proofs.lemmas.List.Elements.{All-head, All-tail}
+use Rattle.lists.proofs.Conditions.{some_same_is}
 use Rattle.rollout_rules.specs.Wan.{Rollout}
 use Rattle.rollout_rules.specs.Items.{item_count}
-use Rattle.rollout_rules.specs.History.{History, begun, from_nothing, no_start, with_entries}
+use Rattle.rollout_rules.specs.History.{History, begun, from_nothing, no_start}
 use Rattle.rollout_rules.specs.declared.op.Entry.{Entry}
 use Rattle.rollout_rules.specs.declared.op.Op.{Op}
 use Rattle.rollout_rules.specs.declared.op.OpView.{OpView}
 use Rattle.wan_edge.specs.Frames.{Answer}
-use Rattle.rollout_laws.proofs.Contents.{list_below-length}
 use Rattle.dependency_graph.specs.Graph.{Followed}
 use Rattle.disk_model.specs.Memory.{MayLeave, Storing, trace_of}
 use Rattle.disk_model.specs.Moments.{LeavesOnly}
@@ -23,6 +23,7 @@ use Rattle.intent_journal.specs.declared.fault.JournalFault.{JournalFault}
 use Rattle.intent_journal.specs.declared.fault.JournalFault.TheVariants.{BadStart, Illegal, Memory, NotJournal, OtherPlan}
 use Rattle.intent_journal.specs.declared.fault.JournalFault.TheVariants as journal
 use Rattle.rollout_rules.specs.Legal.{is_legal}
+use Rattle.rollout_rules.proofs.Rows.{list_below-length}
 use Rattle.rollout_book.specs.JournaledRounds.{Journaled, graph_of, with_batch, with_lost}
 use Rattle.rollout_book.specs.Aliens.{IsFault, OnAlien, OnDisk, fault_of, first_alien, is_known, op_of, told_by}
 use Rattle.rollout_book.specs.declared.fault.BookFault.{BookFault}
@@ -43,14 +44,11 @@ ok-value result a P is holds = subst (λ r. IfOk r P) is holds
 pub err-value : {A E : Type 0} (result : Result A E) (e : E) (P : E → Type 0) → result ≡ Err e → IfErr result P → P e
 err-value result e P is holds = subst (λ r. IfErr r P) is holds
 
-some-is : {A : Type 0} (a b : A) → Some a ≡ Some b → a ≡ b
-some-is a b e = cc e
-
 -- what was opened or made for this digest is its own
 module _ (image : List ℕ) (left : List ℕ → Type 0) where
   own-kept : (start : List ℕ) (entries : List Entry) → KeepsNow (Some (kept_of own_digest start entries)) (Some image) left → IsOwn image
   own-kept start entries keeps =
-      let here : image ≡ keeps.now = some-is image keeps.now keeps.is_told in
+      let here : image ≡ keeps.now = some_same_is image keeps.now keeps.is_told in
       record {
         kept = kept_of own_digest start entries;
         is = ap journal_in here ∙ keeps.fresh.keeps ∙ sym keeps.is_kept;
@@ -73,7 +71,7 @@ module _ (image : List ℕ) (left : List ℕ → Type 0) where
 own-of : (told : Option Kept) (kept : Kept) (image : List ℕ) → told ≡ Some kept → kept.digest ≡ own_digest.bytes → kept.migration ≡ own_digest.migration → IfSome told (λ k. HasOwner k image) → IsOwn image
 own-of None kept image is digest migration has = absurd (cc is)
 own-of (Some k) kept image is digest migration has =
-    let same : k ≡ kept = some-is k kept is in
+    let same : k ≡ kept = some_same_is k kept is in
     record {
       kept = has.now;
       is = has.is;
@@ -111,7 +109,7 @@ pub found-again : (b : Journaled Storing) (list : List Entry) → IsOwnBook b �
 found-again b list own same listed legal kept law image left =
     let bytes = b.disk.timeline.medium.bytes in
     let here : image ≡ bytes = kept.only image left in
-    let one : kept.has.kept ≡ own.own.kept = some-is kept.has.kept own.own.kept (sym kept.has.is ∙ own.own.is) in
+    let one : kept.has.kept ≡ own.own.kept = some_same_is kept.has.kept own.own.kept (sym kept.has.is ∙ own.own.is) in
     let all : list ≡ b.history.entries = listed ∙ same in
     law b.rollout own_digest kept.has.kept image b.history.start
     (numbered b.rollout b.history.start own.start)

@@ -1,7 +1,8 @@
 -- What the switches hold, by how many operations they have applied.
-use Rattle.std.proofs.Common.{◌≡◌, ℕ, zero, suc, ◌+◌, ◌<◌, Bool, true, false, cond, if◌then◌else◌, ◌||◌, ◌==◌, List, [], ◌∷◌, ◌++◌, length, length-set, get_or, set, replicate, refl, sym, ap, ap₂, ◌∙◌, subst, inl, inr, arith}
+use Rattle.std.proofs.Common.{◌≡◌, ℕ, zero, suc, ◌+◌, ◌<◌, Bool, true, false, cond, if◌then◌else◌, ◌==◌, List, [], ◌∷◌, ◌++◌, length, length-set, get_or, set, replicate, refl, sym, ap, ap₂, ◌∙◌, subst, inl, inr, arith}
 use Rattle.std.proofs.lemmas.Bool.{cases_eq}
 use Rattle.std.proofs.lemmas.List.{get_or-set_same, get_or-set_other, ext_get_or, get_or-replicate, length-replicate}
+use Rattle.lists.proofs.Conditions.{or_with_false}
 use Rattle.rollout_rules.specs.Sums.{list_below}
 use Rattle.rollout_rules.specs.Wan.{Problem, Plan}
 use Rattle.rollout_rules.specs.Items.{item_count, item_at}
@@ -10,16 +11,13 @@ use Rattle.rollout_rules.specs.History.{no_start}
 use Rattle.rollout_rules.specs.declared.held.Held.{Held}
 use Rattle.rollout_rules.specs.Agent.{nothing_held, pair_of, first_pair, is_next_command, held_after}
 use Rattle.rollout_rules.specs.World.{holding_of, pair_at, no_pairs}
-use Rattle.rollout_laws.proofs.Contents.{list_below-length, list_below-at}
+use Rattle.rollout_rules.proofs.Rows.{list_below-length}
+use Rattle.rollout_laws.proofs.Contents.{list_below-at}
 use Rattle.sim_run.specs.Passing.{applied_after, holding_at, holdings}
 
 list_below-agree : {X : Type 0} → (n : ℕ) (f g : ℕ → X) → ((k : ℕ) → k < n → f k ≡ g k) → list_below n f ≡ list_below n g
 list_below-agree zero f g same = refl
 list_below-agree (suc n) f g same = ap₂ (λ xs x. xs ++ x ∷ []) (list_below-agree n f g (λ k lt. same k (omega arith))) (same n (omega arith))
-
-or-false : (b : Bool) → (b || false) ≡ b
-or-false true = refl
-or-false false = refl
 
 either : {A B : Type 0} → (f : A → B) (b : Bool) (x y : A) → cond b (f x) (f y) ≡ f (cond b x y)
 either f true x y = refl
@@ -28,7 +26,7 @@ either f false x y = refl
 -- by the agent rule, within the first migration
 pub applied-next : (x m : ℕ) → (if is_next_command (pair_of 0 x) (pair_of 0 m) then pair_of 0 m else pair_of 0 x).number ≡ applied_after x m
 applied-next x m =
-    ap (λ b. (cond b (pair_of 0 m) (pair_of 0 x)).number) (or-false (m == x + 1))
+    ap (λ b. (cond b (pair_of 0 m) (pair_of 0 x)).number) (or_with_false (m == x + 1))
     ∙ sym (either (λ (h : Held). h.number) (m == x + 1) (pair_of 0 m) (pair_of 0 x))
 
 module _ (p : Problem) (plan : Plan) where
@@ -57,7 +55,7 @@ module _ (p : Problem) (plan : Plan) where
       ]
 
   next : (x m : ℕ) → is_next_command (pair_of 0 x) (pair_of 0 m) ≡ (m == x + 1)
-  next x m = or-false (m == x + 1)
+  next x m = or_with_false (m == x + 1)
 
   -- the switch of item n applies the next operation alone
   pub holding-after : (n x m : ℕ) → held_after (holding_at p plan n x) (pair_of 0 m) (content_after p plan (item_at p n) m) ≡ holding_at p plan n (applied_after x m)

@@ -9,8 +9,8 @@ use Rattle.rollout_rules.specs.declared.op.Op.{Op}
 use Rattle.rollout_rules.specs.declared.op.OpView.{OpView}
 use Rattle.rollout_rules.specs.declared.event.Event.{Event}
 use Rattle.rollout_rules.specs.declared.event.Act.{Act}
+use Rattle.rollout_rules.proofs.Rows.{list_below-length}
 use Rattle.rollout_laws.specs.Kept.{HasAnswer}
-use Rattle.rollout_laws.proofs.Contents.{list_below-length}
 use Rattle.rollout_laws.proofs.Keeping.{answer_is_of_an_item, answer_was_applied}
 use Rattle.rollout_laws.proofs.Worlds.{after_events_is_kept, every_new_world_is_kept}
 use Rattle.sim_run.specs.Acts.{acted, events_of, first_rehearsal}

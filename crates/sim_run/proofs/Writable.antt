@@ -1,7 +1,8 @@
 -- The batch of a round may be written.
-use Rattle.std.proofs.Common.{◌≡◌, ℕ, zero, suc, ◌<◌, Bool, true, false, not, ◌&&◌, ◌||◌, ◌==◌, nat_le, List, [], ◌∷◌, length, drop, refl, lt-ltb}
+use Rattle.std.proofs.Common.{◌≡◌, ℕ, zero, suc, ◌<◌, Bool, true, not, ◌&&◌, ◌==◌, nat_le, List, [], ◌∷◌, length, drop, refl, lt-ltb}
 use Rattle.std.proofs.lemmas.Bool.{and_parts, and_from}
 use Rattle.std.specs.List.{list_any}
+use Rattle.lists.proofs.Conditions.{or_second}
 use Rattle.rollout_rules.specs.Wan.{Problem, Plan}
 use Rattle.rollout_rules.specs.Release.{batch}
 use Rattle.rollout_rules.specs.World.{World, is_writing, is_answered, all_answered, answers_of, allows}
@@ -12,14 +13,10 @@ use Rattle.rollout_rules.specs.declared.op.Entry.TheVariants.{Begin, Done}
 use Rattle.rollout_rules.specs.declared.event.Event.TheVariants as event
 use Rattle.rollout_laws.proofs.Rounds.{batch_follows, batch_is_answered}
 
-or-right : (a b : Bool) → b ≡ true → (a || b) ≡ true
-or-right true b e = refl
-or-right false b e = e
-
 any-drop : (test : Given → Bool) (k : ℕ) (xs : List Given) → list_any test (drop k xs) ≡ true → list_any test xs ≡ true
 any-drop test zero xs e = e
 any-drop test (suc k) [] e = e
-any-drop test (suc k) (x ∷ xs) e = or-right (test x) (list_any test xs) (any-drop test k xs e)
+any-drop test (suc k) (x ∷ xs) e = or_second (test x) (list_any test xs) (any-drop test k xs e)
 
 module _ (migration : ℕ) (k : ℕ) (handed : List Given) where
   answered-drop : (e : Entry) → is_answered migration (drop k handed) e ≡ true → is_answered migration handed e ≡ true

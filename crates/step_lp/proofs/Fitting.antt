@@ -1,6 +1,6 @@
 -- The rates of a feasible point are within the totals of their flows, so they fit a rate of a plan.
 use Rattle.std.proofs.Common.{◌≡◌, ℕ, zero, suc, ◌+◌, ◌-◌, ◌*◌, ◌/◌, ◌^◌, ◌<◌, ◌≤◌, max, true, false, nat_abs, List, length, ap, ◌∙◌, sym, refl, arith}
-use Rattle.std.specs.Prelude.{◌==◌, Option, Some, None, unwrap_or}
+use Rattle.std.specs.Prelude.{◌==◌}
 use Rattle.std.specs.Int.{◌∣◌}
 use Rattle.std.proofs.Math.Nat.{div-mul_cancel, mul-div-le, mul-le-mul_left, mul-le-mul_right, le_of_mul-le-mul_left}
 use Rattle.std.proofs.lemmas.Bool.{ne_eqb}
@@ -8,12 +8,13 @@ use Rattle.rollout_rules.specs.declared.limits.TheConstants.{LARGEST_SCALE, LARG
 use Rattle.rollout_rules.specs.Sums.{sum_below}
 use Rattle.rollout_rules.specs.Wan.{Problem, tunnel_at, tunnel_of, old_rate, new_rate}
 use Rattle.rollout_rules.specs.Valid.{flow_total}
-use Rattle.rollout_rules.specs.Network.{IsNetwork, IsRate}
+use Rattle.rollout_rules.specs.Network.{IsNetwork}
 use Rattle.rollout_rules.proofs.Below.{sum_below-up}
 use Rattle.rollout_rules.proofs.Tunnels.{tunnels_of, tunnel_of-below, place_of-below, tunnel_of-place_of}
 use Rattle.rollout_rules.proofs.Tunnels as tunnels
 use Rattle.fraction_lp.specs.Ratio.{Ratio, zero_ratio, bottom-pos}
 use Rattle.fraction_lp.specs.Program.{IsFeasible}
+use Rattle.scratch_plan.proofs.Rates.{rate_within}
 use Rattle.step_lp.specs.Program.{used_at, used_count, rate_blocks, blocks, old_sum, new_sum, move_program}
 use Rattle.step_lp.specs.Moves.{place_of, number_in, rate_in, AreMoves}
 use Rattle.step_lp.specs.Points.{common_bottom, units_of, HaveRates}
@@ -30,10 +31,6 @@ sum_below-most (suc n) k f h = omega (arith, sum_below-most n k f (λ j lt. h j 
 term-most : (n j : ℕ) (f : ℕ → ℕ) → j < n → f j ≤ sum_below n f
 term-most n j f lt = omega (arith, sum_below-up (suc j) n f lt)
 
-rate-most : (r : Option ℕ) → IsRate r → unwrap_or r 0 ≤ LARGEST_RATE
-rate-most None h = omega arith
-rate-most (Some n) h = h
-
 -- the most that a flow has in a split
 abbrev most_total : ℕ
 most_total = 16000000000
@@ -45,8 +42,8 @@ total-most p f rate net lt h =
 
 totals-most : (p : Problem) (f : ℕ) → IsNetwork p → f < length p.flows → max (old_sum p f) (new_sum p f) ≤ most_total
 totals-most p f net lt =
-    let old : old_sum p f ≤ most_total = total-most p f (λ t. old_rate (tunnel_at p t)) net lt (λ t inside. rate-most (tunnel_at p t).old (net.tunnels t inside).old) in
-    let new : new_sum p f ≤ most_total = total-most p f (λ t. new_rate (tunnel_at p t)) net lt (λ t inside. rate-most (tunnel_at p t).new (net.tunnels t inside).new) in
+    let old : old_sum p f ≤ most_total = total-most p f (λ t. old_rate (tunnel_at p t)) net lt (λ t inside. rate_within (tunnel_at p t).old (net.tunnels t inside).old) in
+    let new : new_sum p f ≤ most_total = total-most p f (λ t. new_rate (tunnel_at p t)) net lt (λ t inside. rate_within (tunnel_at p t).new (net.tunnels t inside).new) in
     omega arith
 
 -- ---- a rate is within its flow's total

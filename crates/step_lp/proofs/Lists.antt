@@ -11,10 +11,6 @@ pub length-joined_below : {A : Type 0} (n : ℕ) (f : ℕ → List A) → length
 length-joined_below zero f = refl
 length-joined_below (suc n) f = length-append (joined_below n f) (f n) ∙ ap (λ k. k + length (f n)) (length-joined_below n f)
 
-pub length-list_below : {A : Type 0} (n : ℕ) (f : ℕ → A) → length (list_below n f) ≡ n
-length-list_below zero f = refl
-length-list_below (suc n) f = length-append (list_below n f) (f n ∷ []) ∙ omega (arith, length-list_below n f)
-
 pub map-joined_below : {A B : Type 0} (g : A → B) (n : ℕ) (f : ℕ → List A) → map g (joined_below n f) ≡ joined_below n (λ k. map g (f k))
 map-joined_below g zero f = refl
 map-joined_below g (suc n) f = map-append g (joined_below n f) (f n) ∙ ap (λ xs. xs ++ map g (f n)) (map-joined_below g n f)

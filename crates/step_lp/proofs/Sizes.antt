@@ -5,10 +5,11 @@ use Rattle.std.proofs.lemmas.List.{length-append, length-map}
 use Rattle.rollout_rules.specs.Sums.{sum_below, count_below, list_below}
 use Rattle.rollout_rules.specs.Wan.{Problem}
 use Rattle.rollout_rules.proofs.Below.{sum_below-same}
+use Rattle.rollout_rules.proofs.Rows.{list_below-length}
 use Rattle.step_lp.specs.declared.limit.Limit.{Limit}
 use Rattle.step_lp.specs.declared.limit.Limit.TheVariants.{Link}
 use Rattle.step_lp.specs.Program.{joined_below, used_at, used_to, used_tunnels, used_count, rate_blocks, blocks, unknowns, row_of, tops_of, tops_at, top_limits, link_limits, totals_of, total_limits, limits, move_program, coefficients_in, coefficient}
-use Rattle.step_lp.proofs.Lists.{length-joined_below, length-list_below, sum_below-times}
+use Rattle.step_lp.proofs.Lists.{length-joined_below, sum_below-times}
 
 length-if_used : (b : Bool) (t : ℕ) → length (if b then t ∷ [] else []) ≡ (if b then 1 else 0)
 length-if_used true t = refl
@@ -21,10 +22,6 @@ length-used_to p n =
 
 pub length-used_tunnels : (p : Problem) → length (used_tunnels p) ≡ used_count p
 length-used_tunnels p = length-used_to p (length p.tunnels)
-
-pub count_below-most : (n : ℕ) (test : ℕ → Bool) → count_below n test ≤ n
-count_below-most zero test = omega arith
-count_below-most (suc n) test = grind (arith, count_below-most n test)
 
 length-tops_at : (p : Problem) (s t : ℕ) (b : Bool) → length (if b then tops_of s t else []) ≡ 2 * (if b then 1 else 0)
 length-tops_at p s t true = refl
@@ -45,7 +42,7 @@ length-top_limits p q =
 length-link_limits : (p : Problem) (q : ℕ) → length (link_limits p q) ≡ q * length p.links
 length-link_limits p q =
     length-joined_below q (λ s. list_below (length p.links) (Link s))
-    ∙ sum_below-times q (length p.links) (λ s. length (list_below (length p.links) (Link s))) (λ s lt. length-list_below (length p.links) (Link s))
+    ∙ sum_below-times q (length p.links) (λ s. length (list_below (length p.links) (Link s))) (λ s lt. list_below-length (length p.links) (Link s))
 
 length-total_limits : (p : Problem) (q : ℕ) → length (total_limits p q) ≡ rate_blocks q * (length p.flows * 2)
 length-total_limits p q =

@@ -1,5 +1,5 @@
 -- A run that finds all that it needs ends well.
-use Rattle.std.proofs.Common.{◌≡◌, ◌≢◌, ℕ, ◌<◌, ◌^◌, true, List, [], ◌∷◌, length, Option, Some, None, IfSome, Ok, Err, refl, sym, ap, ◌∙◌, subst, inl, inr}
+use Rattle.std.proofs.Common.{◌≡◌, ◌≢◌, ℕ, ◌<◌, ◌^◌, true, List, [], ◌∷◌, Option, Some, None, IfSome, Result, Ok, Err, IfOk, IfErr, refl, sym, ap, ◌∙◌, subst, inl, inr}
 use Rattle.std.specs.List.{All, AllByRecursion}
 use Rattle.std.proofs.lemmas.List.Elements.{All-cons, All-contains, All-nil}
 use Rattle.rollout_rules.specs.Wan.{Rollout}
@@ -33,9 +33,8 @@ use Rattle.controller_run.specs.declared.end.RunEnd.{RunEnd}
 use Rattle.controller_run.specs.declared.end.RunEnd.TheVariants as run
 use Rattle.controller_run.specs.declared.running.Limits.{Limits}
 use Rattle.intent_journal.specs.Openings.{IsLeft, found_by}
-use Rattle.controller_run.specs.RolloutEnds.{HasRolled, IfRolled, OnUnopened, answer_for}
-use Rattle.controller_run.specs.declared.rollout_end.RolloutEnd.{RolloutEnd}
-use Rattle.controller_run.specs.declared.rollout_end.RolloutEnd.TheVariants as outcome
+use Rattle.controller_run.specs.RolloutEnds.{HasRolled}
+use Rattle.controller_run.specs.declared.outcome.RunOutcome.{RunOutcome}
 use Rattle.completion_laws.specs.Answering.{IsReady}
 use Rattle.completion_laws.specs.Faults.{IsExcused, IsWithoutFault}
 use Rattle.completion_laws.specs.Finishing.{FinishesOrIsExcused, FinishesOrWants, IsSure, IsWant}
@@ -44,7 +43,7 @@ use Rattle.completion_laws.proofs.Finished.{wants}
 use Rattle.text_commands.specs.CommandEnds.{ending_of_journal, status_of}
 use Rattle.swanroll_top.specs.Ready.{CountsNoFault, GoesOnFrom, IsReadyFor, WaitsReady}
 use Rattle.text_commands.specs.Answers.{rollout_to}
-use Rattle.swanroll_top.specs.Rollouts.{FleetSeen, IsUnbegun, OpensAndRolls, RefusesAs, Rolls, RollsAs, ending_of_stop, line_or_ending}
+use Rattle.swanroll_top.specs.Rollouts.{FleetSeen, IsUnbegun, OpensAndRolls, RefusesAs, Rolls, RollsAs, by_answer, ending_of_stop, line_at, line_or_ending}
 use Rattle.text_commands.specs.Runs.{EndsWith, IsInput}
 use Rattle.text_commands.specs.declared.command_end.CommandEnd.{CommandEnd}
 use Rattle.text_commands.specs.declared.command_end.CommandEnd.TheVariants.{Done, Usage, AboveLimit, Input, NotValid, NoPlan, Unshown, ReadFault, WriteFault, DiskFault, GuestFault, Refused, NotFinished, OutOfMemory}
@@ -81,7 +80,7 @@ module _ {P : Type 0} (tell : P → PortTrace) (r : Rollout) (migration : ℕ) (
 module _ {D P : Type 0} (trace : D → DiskTrace) (tell : P → PortTrace)
     (limits : Limits) (policy : OpView → ℕ) (source source_now : SourceTrace) (disk disk_now : D) (before now : FleetSeen P) (out out_now : Option (List ℕ)) (r : Rollout) (found : History)
     (goes : GoesOnFrom limits.migration source source_now (trace disk).bytes r found) (ready : IsReadyFor tell limits policy before.ports.waiting r found) where
-  module _ (network : IsNetwork r.problem) (valid : is_valid_plan r.problem r.plan ≡ true) (small : limits.migration < 2 ^ 32) (a : RolloutEnd)
+  module _ (network : IsNetwork r.problem) (valid : is_valid_plan r.problem r.plan ≡ true) (small : limits.migration < 2 ^ 32) (a : RunOutcome)
       (has : HasRolled trace tell r (digest_for r limits.migration) policy limits.rounds disk before.ports now.ports disk_now a) where
     abbrev Begun : RunEnd → Type 0
     Begun end = Ran trace tell (opening_of has.book policy) (trace has.book.disk).moment (trace has.book.disk).faults limits.migration limits.rounds
@@ -118,24 +117,17 @@ module _ {D P : Type 0} (trace : D → DiskTrace) (tell : P → PortTrace)
     abbrev Ended : RunEnd → Type 0
     Ended end = EndsRun tell (working_homes has.book.rollout.problem has.book.rollout.plan) has.book has.run.closed before.ports now.ports (Begun end) end
 
-    abbrev answer_of : RunEnd → RolloutEnd
-    answer_of end = answer_for has.book.rollout (length has.book.history.entries) has.run.closed.history end
+    ended-is : Ended a.end
+    unfolding digest_for
+    ended-is = has.run.ran
 
     -- nothing is held
-    held-never : (count : ℕ) (end : RunEnd) → outcome.Held count ≡ answer_of end → Ended end → ⊥
-    held-never count run.Finished is ended = cc
-    held-never count run.Held is ended = excused run.Held ended
-    held-never count (run.Stopped halt) is ended = cc
-    held-never count (run.NoPort switch) is ended = cc
-    held-never count run.Memory is ended = cc
+    held-never : a.end ≡ run.Held → ⊥
+    held-never is = excused run.Held (subst Ended is ended-is)
 
     -- what stopped it is excused
-    stop-excused : (other : Rollout) (halt : Halt) (end : RunEnd) → outcome.Stopped other halt ≡ answer_of end → Ended end → IsExcused halt.cause
-    stop-excused other halt run.Finished is ended = absurd cc
-    stop-excused other halt run.Held is ended = absurd cc
-    stop-excused other halt (run.Stopped first) is ended = let same : first ≡ halt = cc is in subst (λ (h : Halt). IsExcused h.cause) same (excused (run.Stopped first) ended)
-    stop-excused other halt (run.NoPort switch) is ended = absurd cc
-    stop-excused other halt run.Memory is ended = absurd cc
+    stop-excused : (halt : Halt) → a.end ≡ run.Stopped halt → IsExcused halt.cause
+    stop-excused halt is = excused (run.Stopped halt) (subst Ended is ended-is)
 
     -- where no count has risen, only lack of memory did
     module _ (counts : CountsNoFault tell (trace disk).faults (trace disk_now).faults before now) where
@@ -153,16 +145,8 @@ module _ {D P : Type 0} (trace : D → DiskTrace) (tell : P → PortTrace)
       wanting end ran =
           wants tell (opening_of has.book policy) limits.migration limits.rounds (Rose (trace has.book.disk).faults (trace has.run.closed.disk).faults) (first_sessions ran.berths) now.ports.kept ran.log (unfailing end ran) end (excused end ran) ran.reason
 
-      stop-wants : (other : Rollout) (halt : Halt) (end : RunEnd) → outcome.Stopped other halt ≡ answer_of end → Ended end → IsWant halt.cause
-      stop-wants other halt run.Finished is ended = absurd cc
-      stop-wants other halt run.Held is ended = absurd cc
-      stop-wants other halt (run.Stopped first) is ended = let same : first ≡ halt = cc is in subst (λ (h : Halt). IsWant h.cause) same (wanting (run.Stopped first) ended)
-      stop-wants other halt (run.NoPort switch) is ended = absurd cc
-      stop-wants other halt run.Memory is ended = absurd cc
-
-    ended-is : Ended has.run.end
-    unfolding digest_for
-    ended-is = has.run.ran
+      stop-wants : (halt : Halt) → a.end ≡ run.Stopped halt → IsWant halt.cause
+      stop-wants halt is = wanting (run.Stopped halt) (subst Ended is ended-is)
 
   -- ---- what isn't begun
 
@@ -181,25 +165,28 @@ module _ {D P : Type 0} (trace : D → DiskTrace) (tell : P → PortTrace)
 
   -- ---- how it ends
 
-  abbrev HasRolledTo : RolloutEnd → Type 0
+  abbrev HasRolledTo : RunOutcome → Type 0
   HasRolledTo a = HasRolled trace tell r (digest_for r limits.migration) policy limits.rounds disk before.ports now.ports disk_now a
 
   -- by what is known of the cause of a stop
   module _ (Stops : Cause → Type 0)
-      (stops : IsNetwork r.problem → is_valid_plan r.problem r.plan ≡ true → limits.migration < 2 ^ 32 → (a : RolloutEnd) → HasRolledTo a → (other : Rollout) (halt : Halt) → outcome.Stopped other halt ≡ a → Stops halt.cause)
+      (stops : IsNetwork r.problem → is_valid_plan r.problem r.plan ≡ true → limits.migration < 2 ^ 32 → (a : RunOutcome) → HasRolledTo a → (halt : Halt) → a.end ≡ run.Stopped halt → Stops halt.cause)
       (e : CommandEnd) (read : status_of e ≡ 6 → ⊥) (sink : status_of e ≡ 7 → ⊥) (memory : status_of e ≡ 12 → ⊥) (device : Rose (trace disk).faults (trace disk_now).faults → status_of e ≡ 8 → ⊥) (fleet : Rose before.faults now.faults → status_of e ≡ 9 → ⊥)
       (stopped : (other : Rollout) (why : Cause) → e ≡ ending_of_stop other why → Stops why → status_of e ≡ 0) where
-    answered-well : IsNetwork r.problem → is_valid_plan r.problem r.plan ≡ true → limits.migration < 2 ^ 32 → (a : RolloutEnd) → IfRolled a (HasRolledTo a)
-        → OnUnopened a (λ why. IsLeft trace r (digest_for r limits.migration) disk why disk_now × (now ≡ before))
-        → ((other : Rollout) (switch : ℕ) → a ≡ outcome.NoPort other switch → Rose before.faults now.faults) → EndsWith (line_or_ending a) e out out_now → status_of e ≡ 0
-    answered-well network valid small (outcome.Finished operations count) has unopened missing (inl done) = ap status_of done.0
-    answered-well network valid small (outcome.Finished operations count) has unopened missing (inr cut) = absurd (sink (ap status_of cut.0))
-    answered-well network valid small (outcome.Held count) has unopened missing ends =
-        absurd (held-never network valid small (outcome.Held count) has count has.run.end has.run.tells (ended-is network valid small (outcome.Held count) has))
-    answered-well network valid small (outcome.Stopped other halt) has unopened missing ends = stopped other halt.cause ends.0 (stops network valid small (outcome.Stopped other halt) has other halt refl)
-    answered-well network valid small (outcome.NoPort other switch) has unopened missing ends = absurd (fleet (missing other switch refl) (ap status_of ends.0))
-    answered-well network valid small outcome.Memory has unopened missing ends = absurd (memory (ap status_of ends.0))
-    answered-well network valid small (outcome.Unopened why) has unopened missing ends =
+    ran-well : IsNetwork r.problem → is_valid_plan r.problem r.plan ≡ true → limits.migration < 2 ^ 32 → (a : RunOutcome) → HasRolledTo a
+        → ((switch : ℕ) → a.end ≡ run.NoPort switch → Rose before.faults now.faults) → (end : RunEnd) → a.end ≡ end → EndsWith (line_at end a) e out out_now → status_of e ≡ 0
+    ran-well network valid small a has missing run.Finished is (inl done) = ap status_of done.0
+    ran-well network valid small a has missing run.Finished is (inr cut) = absurd (sink (ap status_of cut.0))
+    ran-well network valid small a has missing run.Held is ends = absurd (held-never network valid small a has is)
+    ran-well network valid small a has missing (run.Stopped halt) is ends = stopped a.plan halt.cause ends.0 (stops network valid small a has halt is)
+    ran-well network valid small a has missing (run.NoPort switch) is ends = absurd (fleet (missing switch is) (ap status_of ends.0))
+    ran-well network valid small a has missing run.Memory is ends = absurd (memory (ap status_of ends.0))
+
+    answered-well : IsNetwork r.problem → is_valid_plan r.problem r.plan ≡ true → limits.migration < 2 ^ 32 → (a : Result RunOutcome JournalFault) → IfOk a HasRolledTo
+        → IfErr a (λ why. IsLeft trace r (digest_for r limits.migration) disk why disk_now × (now ≡ before))
+        → IfOk a (λ o. (switch : ℕ) → o.end ≡ run.NoPort switch → Rose before.faults now.faults) → EndsWith (by_answer line_or_ending a) e out out_now → status_of e ≡ 0
+    answered-well network valid small (Ok o) has unopened missing ends = ran-well network valid small o has missing o.end refl ends
+    answered-well network valid small (Err why) has unopened missing ends =
         let told = of-some (λ image. IsCause why (digest_for r limits.migration) (verdict r (digest_for r limits.migration) image)) goes.image (trace disk).bytes goes.told unopened.0.refusal in
         absurd (unopened-ends why e told ends.0 (λ is. device (unopened.0.failed is)) memory)
 
@@ -247,12 +234,12 @@ module _ {D P : Type 0} (trace : D → DiskTrace) (tell : P → PortTrace)
   abbrev RollsTo : CommandEnd → Type 0
   RollsTo e = Rolls trace tell (IsInput source source_now) limits policy disk disk_now before now e out out_now
 
-  abbrev HasRolledFrom : D → RolloutEnd → Type 0
+  abbrev HasRolledFrom : D → RunOutcome → Type 0
   HasRolledFrom opened a = HasRolled trace tell r (digest_for r limits.migration) policy limits.rounds opened before.ports now.ports disk_now a
 
   -- by what is known of the cause of a stop
   module _ (Stops : Cause → Type 0)
-      (stops : (opened : D) → Opens (trace disk) (trace opened) → IsNetwork r.problem → is_valid_plan r.problem r.plan ≡ true → limits.migration < 2 ^ 32 → (a : RolloutEnd) → HasRolledFrom opened a → (other : Rollout) (halt : Halt) → outcome.Stopped other halt ≡ a → Stops halt.cause)
+      (stops : (opened : D) → Opens (trace disk) (trace opened) → IsNetwork r.problem → is_valid_plan r.problem r.plan ≡ true → limits.migration < 2 ^ 32 → (a : RunOutcome) → HasRolledFrom opened a → (halt : Halt) → a.end ≡ run.Stopped halt → Stops halt.cause)
       (e : CommandEnd) (read : status_of e ≡ 6 → ⊥) (sink : status_of e ≡ 7 → ⊥) (memory : status_of e ≡ 12 → ⊥) (device : Rose (trace disk).faults (trace disk_now).faults → status_of e ≡ 8 → ⊥) (fleet : Rose before.faults now.faults → status_of e ≡ 9 → ⊥)
       (stopped : (other : Rollout) (why : Cause) → e ≡ ending_of_stop other why → Stops why → status_of e ≡ 0) where
     opened-well : OpensAndRolls trace tell r limits policy disk disk_now before now e out out_now → status_of e ≡ 0
@@ -261,7 +248,7 @@ module _ {D P : Type 0} (trace : D → DiskTrace) (tell : P → PortTrace)
         let rolls = begun.rolls in
         answered-well trace tell limits policy source source_now begun.opened disk_now before now out out_now r found (goes-opened begun.opened begun.opens) ready
         Stops (stops begun.opened begun.opens) e read sink memory (λ rose. device (later-rose begun.opened begun.opens rose)) fleet stopped
-        rolls.network rolls.valid rolls.small rolls.answer rolls.rolled rolls.unopened rolls.no_port (follows-ends (line_or_ending rolls.answer) e out out_now rolls.follows memory)
+        rolls.network rolls.valid rolls.small rolls.answer rolls.rolled rolls.unopened rolls.no_port (follows-ends (by_answer line_or_ending rolls.answer) e out out_now rolls.follows memory)
 
     rolled-well : RollsTo e → status_of e ≡ 0
     rolled-well (inl none) = absurd (unbegun-ends e none.why read memory)
@@ -302,9 +289,8 @@ module _ {D P : Type 0} (trace : D → DiskTrace) (tell : P → PortTrace)
   ready-ends-well status rolls read sink device fleet memory =
       by-ending status rolls memory
       (λ e to over. rolled-well IsExcused
-      (λ opened opens network valid small a has other halt is.
-      stop-excused trace tell limits policy source source_now opened disk_now before now out out_now r found (goes-opened opened opens) ready network valid small a has other halt has.run.end (is ∙ has.run.tells)
-      (ended-is trace tell limits policy source source_now opened disk_now before now out out_now r found (goes-opened opened opens) ready network valid small a has))
+      (λ opened opens network valid small a has halt is.
+      stop-excused trace tell limits policy source source_now opened disk_now before now out out_now r found (goes-opened opened opens) ready network valid small a has halt is)
       e (over 6 read) (over 7 sink) (over 12 memory) (λ rose. over 8 device) (λ rose. over 9 fleet) (excused-well e (over 8 device) (over 9 fleet) (over 12 memory)) to)
 
   pub unfailing-ends-well : CountsNoFault tell (trace disk).faults (trace disk_now).faults before now
@@ -313,8 +299,7 @@ module _ {D P : Type 0} (trace : D → DiskTrace) (tell : P → PortTrace)
   unfailing-ends-well counts status rolls read sink memory =
       by-ending status rolls memory
       (λ e to over. rolled-well IsWant
-      (λ opened opens network valid small a has other halt is.
+      (λ opened opens network valid small a has halt is.
       stop-wants trace tell limits policy source source_now opened disk_now before now out out_now r found (goes-opened opened opens) ready network valid small a has
-      (record { disk = λ rose. counts.disk (later-rose opened opens rose); fleet = counts.fleet; ports = counts.ports }) other halt has.run.end (is ∙ has.run.tells)
-      (ended-is trace tell limits policy source source_now opened disk_now before now out out_now r found (goes-opened opened opens) ready network valid small a has))
+      (record { disk = λ rose. counts.disk (later-rose opened opens rose); fleet = counts.fleet; ports = counts.ports }) halt is)
       e (over 6 read) (over 7 sink) (over 12 memory) (λ rose eight. counts.disk rose) (λ rose nine. counts.fleet rose) (wanting-well e (over 12 memory)) to)

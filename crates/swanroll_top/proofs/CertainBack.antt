@@ -1,5 +1,5 @@
 -- A rollback that finds all that it needs ends well.
-use Rattle.std.proofs.Common.{◌≡◌, ◌≢◌, ℕ, ◌+◌, ◌<◌, ◌^◌, true, List, [], Option, Some, None, Ok, Err, refl, sym, ap, ◌∙◌, subst, inl, inr, arith}
+use Rattle.std.proofs.Common.{◌≡◌, ◌≢◌, ℕ, ◌+◌, ◌<◌, ◌^◌, true, false, List, [], Option, Some, None, Ok, Err, refl, sym, ap, ◌∙◌, subst, inl, inr, arith}
 use Rattle.std.specs.Prelude.{IsSome}
 use Rattle.std.specs.List.{AllByRecursion}
 use Rattle.std.proofs.lemmas.List.Elements.{All-contains}
@@ -31,13 +31,14 @@ use Rattle.switch_ports.specs.Opening.{AreGiven}
 use Rattle.rollout_report.specs.Journals.{digest_for}
 use Rattle.controller_run.specs.declared.end.RunEnd.{RunEnd}
 use Rattle.controller_run.specs.declared.end.RunEnd.TheVariants as run
+use Rattle.controller_run.specs.declared.outcome.RunOutcome.{RunOutcome}
 use Rattle.controller_run.specs.declared.running.Limits.{Limits}
 use Rattle.completion_laws.specs.Faults.{IsExcused, IsWithoutFault}
 use Rattle.completion_laws.specs.Finishing.{EndsOrIsExcused, IsProvided, IsWant}
 use Rattle.completion_laws.proofs.Excused.{ran-ends}
 use Rattle.completion_laws.proofs.Finished.{only-want}
 use Rattle.completion_laws.proofs.NoFaults.{no-fault}
-use Rattle.rollback_service.specs.Levellings.{HasLevelled, start_of}
+use Rattle.rollback_service.specs.Levellings.{HasLevelled, LacksPort, start_of}
 use Rattle.rollback_service.specs.Placings.{IsNotPlaced, IsSeen}
 use Rattle.rollback_service.specs.declared.answer.LevelAnswer.{LevelAnswer}
 use Rattle.rollback_service.specs.declared.answer.LevelAnswer.TheVariants as ended
@@ -46,7 +47,7 @@ use Rattle.text_commands.specs.CommandEnds.{ending_of_journal, status_of}
 use Rattle.swanroll_top.specs.Ready.{CountsNoFault, GoesOnFrom, IsServedFor, WaitsReady}
 use Rattle.text_commands.specs.Answers.{rollout_to}
 use Rattle.swanroll_top.specs.Rollbacks.{Closes, FindsNoJournal, Levels, OpensAndRollsBack, Reverts, RevertsAs, RollsBack, TakesBack, back_text}
-use Rattle.swanroll_top.specs.Rollouts.{FleetSeen, IsUnbegun, RefusesAs, ending_of_stop}
+use Rattle.swanroll_top.specs.Rollouts.{FleetSeen, IsUnbegun, RefusesAs, ending_at, ending_of_stop}
 use Rattle.text_commands.specs.Runs.{IsInput}
 use Rattle.text_commands.specs.declared.command_end.CommandEnd.{CommandEnd}
 use Rattle.text_commands.specs.declared.command_end.CommandEnd.TheVariants.{Done, Usage, AboveLimit, Input, NotValid, NoPlan, Unshown, ReadFault, WriteFault, DiskFault, GuestFault, Refused, NotFinished, OutOfMemory}
@@ -56,7 +57,7 @@ use Rattle.swanroll_top.proofs.Levelling.{here}
 use Rattle.swanroll_top.proofs.Outcomes.{rose-later}
 use Rattle.text_commands.proofs.Programs.{follows-ends, told-same}
 use Rattle.swanroll_top.proofs.Reporting.{rolled-within}
-use Rattle.swanroll_top.proofs.Reverting.{Begun, is_run, level-stopped, levels-rose, run-begun}
+use Rattle.swanroll_top.proofs.Reverting.{Begun, is_level, is_run, levels-rose, run-begun, stopped-begun, unlevel-not}
 use Rattle.switch_laws.proofs.Answered.{some_at}
 use Rattle.switch_laws.proofs.Stands.{was_told}
 
@@ -176,11 +177,9 @@ module _ {D P : Type 0} (trace : D → DiskTrace) (tell : P → PortTrace)
         ran-ends trace tell (opening_of has.rolled.book has.policy) (trace has.rolled.book.disk).moment (trace has.rolled.book.disk).faults limits.migration limits.rounds
         (working_homes has.rolled.book.rollout.problem has.rolled.book.rollout.plan) before.ports end has.rolled.run.closed now.ports ran (provided end ran)
 
-    module _ (other : Rollout) (halt : Halt) (is : answer ≡ ended.Stopped other halt) where
+    module _ (o : RunOutcome) (halt : Halt) (is : answer ≡ ended.Unlevel o) (stop : o.end ≡ run.Stopped halt) where
       stopped-ran : RanTo (run.Stopped halt)
-      stopped-ran =
-          subst RanTo (level-stopped has.rolled.book.rollout other (start_of has.rolled.book.rollout has.rolled.book.history has.stage) has.rolled.run.end halt (sym is ∙ has.tells))
-          (run-begun trace tell origin r limits.migration limits.rounds disk levelled before.ports now.ports answer has (ap is_run is))
+      stopped-ran = stopped-begun trace tell origin r limits.migration limits.rounds disk levelled before.ports now.ports answer has o halt is stop
 
       stop-excused : IsExcused halt.cause
       stop-excused = ends-so (run.Stopped halt) stopped-ran
@@ -189,7 +188,7 @@ module _ {D P : Type 0} (trace : D → DiskTrace) (tell : P → PortTrace)
       stop-wants : CountsNoFault tell (trace disk).faults (trace levelled).faults before now → IsWant halt.cause
       stop-wants counts =
           let ran = stopped-ran in
-          let o = opening_of has.rolled.book has.policy in
+          let opening = opening_of has.rolled.book has.policy in
           let without : IsWithoutFault tell (Rose (trace has.rolled.book.disk).faults (trace has.rolled.run.closed.disk).faults) (first_sessions ran.berths) now.ports.kept = record {
             disk = λ rose. counts.disk (rose-later (trace disk).faults (trace has.rolled.book.disk).faults (trace levelled).faults has.rolled.opened.on.count (subst (λ (d : D). Rose (trace has.rolled.book.disk).faults (trace d).faults) (sym has.rolled.run.back) rose));
             ports = λ t at back kept. some_at (λ (waiting : ℕ → Option P). (switch : ℕ) (first back : P) → waiting switch ≡ Some first → now.ports.kept switch ≡ Some back → Rose (tell first).faults (tell back).faults → ⊥)
@@ -199,10 +198,10 @@ module _ {D P : Type 0} (trace : D → DiskTrace) (tell : P → PortTrace)
                 kept;
           } in
           only-want halt.cause stop-excused
-          (no-fault tell (Rose (trace has.rolled.book.disk).faults (trace has.rolled.run.closed.disk).faults) (first_sessions ran.berths) now.ports.kept without o limits.migration (homes_of o.rollout.problem) limits.rounds ran.log halt.cause ran.reason)
+          (no-fault tell (Rose (trace has.rolled.book.disk).faults (trace has.rolled.run.closed.disk).faults) (first_sessions ran.berths) now.ports.kept without opening limits.migration (homes_of opening.rollout.problem) limits.rounds ran.log halt.cause ran.reason)
 
     -- what a levelling has left is a journal
-    placing-never : (first : ℕ) (image : List ℕ) → (trace levelled).bytes ≡ Some image → IsSeen trace levelled → RanTo has.rolled.run.end → IsNeither first image → ⊥
+    placing-never : (first : ℕ) (image : List ℕ) → (trace levelled).bytes ≡ Some image → IsSeen trace levelled → RanTo has.run.end → IsNeither first image → ⊥
     placing-never first image told seen ran neither =
         let images : HasImages trace (opening_of has.rolled.book has.policy) (trace has.rolled.book.disk).moment (trace has.rolled.book.disk).faults levelled ran.log =
         subst (λ (d : D). HasImages trace (opening_of has.rolled.book has.policy) (trace has.rolled.book.disk).moment (trace has.rolled.book.disk).faults d ran.log) (sym has.rolled.run.back) ran.images in
@@ -214,7 +213,7 @@ module _ {D P : Type 0} (trace : D → DiskTrace) (tell : P → PortTrace)
 
   module _ (e : CommandEnd) (sink : status_of e ≡ 7 → ⊥) (memory : status_of e ≡ 12 → ⊥) (device : Rose (trace disk).faults (trace disk_now).faults → status_of e ≡ 8 → ⊥) (fleet : Rose before.faults now.faults → status_of e ≡ 9 → ⊥)
       (stop : (network : IsNetwork r.problem) (valid : is_valid_plan r.problem r.plan ≡ true) (small : limits.migration + 1 < 2 ^ 32) (levelled : D) (answer : LevelAnswer) → HasLevelledTo levelled answer → disk_now ≡ levelled
-      → (other : Rollout) (halt : Halt) → answer ≡ ended.Stopped other halt → e ≡ ending_of_stop other halt.cause → ⊥)
+      → (o : RunOutcome) (halt : Halt) → answer ≡ ended.Unlevel o → o.end ≡ run.Stopped halt → e ≡ ending_of_stop o.plan halt.cause → ⊥)
       (told : IsSome (trace disk_now).bytes) where
     -- placing fails for the disk and for lack of memory alone
     unplaced-never : (network : IsNetwork r.problem) (valid : is_valid_plan r.problem r.plan ≡ true) (small : limits.migration + 1 < 2 ^ 32) (levelled : D) (answer : LevelAnswer) (has : HasLevelledTo levelled answer)
@@ -243,16 +242,27 @@ module _ {D P : Type 0} (trace : D → DiskTrace) (tell : P → PortTrace)
           absurd (never was.0 was.1 takes.seen none.cause none.left none.is)
     ]
 
+    -- one that isn't level doesn't end so
+    unlevel-well : (network : IsNetwork r.problem) (valid : is_valid_plan r.problem r.plan ≡ true) (small : limits.migration + 1 < 2 ^ 32) (levels : Levels trace tell r origin limits disk disk_now before now e out out_now)
+        (o : RunOutcome) → levels.answer ≡ ended.Unlevel o → disk_now ≡ levels.levelled → (end : RunEnd) → o.end ≡ end → is_level o.end ≡ false → e ≡ ending_at end o → status_of e ≡ 0
+    unlevel-well network valid small levels o is back run.Finished same isnt ends = absurd (let no : true ≡ false = sym (ap is_level same) ∙ isnt in cc)
+    unlevel-well network valid small levels o is back run.Held same isnt ends = absurd (let no : true ≡ false = sym (ap is_level same) ∙ isnt in cc)
+    unlevel-well network valid small levels o is back (run.Stopped halt) same isnt ends =
+        absurd (stop network valid small levels.levelled levels.answer levels.has back o halt is same ends)
+    unlevel-well network valid small levels o is back (run.NoPort switch) same isnt ends =
+        absurd (fleet (levels.no_port switch (subst (λ (a : LevelAnswer). LacksPort a switch) (sym is) same)) (ap status_of ends))
+    unlevel-well network valid small levels o is back run.Memory same isnt ends = absurd (memory (ap status_of ends))
+
     closes-well : (network : IsNetwork r.problem) (valid : is_valid_plan r.problem r.plan ≡ true) (small : limits.migration + 1 < 2 ^ 32) (levels : Levels trace tell r origin limits disk disk_now before now e out out_now)
         (a : LevelAnswer) → levels.answer ≡ a → Closes trace limits.migration a levels.levelled disk_now e out out_now → status_of e ≡ 0
     closes-well network valid small levels (ended.Level other start) is closes =
         takes-well other start levels.levelled closes
         (λ image at seen why left ends. unplaced-never network valid small levels.levelled levels.answer levels.has (ap is_run is) seen image at why left ends
         (λ fails. levels-rose trace tell r origin limits disk disk_now before now e out out_now fails levels))
-    closes-well network valid small levels (ended.Stopped other halt) is closes =
-        absurd (stop network valid small levels.levelled levels.answer levels.has closes.disk_is other halt is closes.is)
-    closes-well network valid small levels (ended.NoPort other switch) is closes = absurd (fleet (levels.no_port other switch is) (ap status_of closes.is))
-    closes-well network valid small levels ended.Memory is closes = absurd (memory (ap status_of closes.is))
+    closes-well network valid small levels (ended.Unlevel o) is closes =
+        let has = levels.has in
+        unlevel-well network valid small levels o is closes.disk_is o.end refl
+        (unlevel-not has.run o (start_of has.rolled.book.rollout has.rolled.book.history has.stage) (sym is ∙ has.tells)) closes.is
 
     none-well : FindsNoJournal trace r limits disk disk_now before now e out out_now → ⊥
     none-well none =
@@ -276,7 +286,7 @@ module _ {D P : Type 0} (trace : D → DiskTrace) (tell : P → PortTrace)
     abbrev StopsNever : CommandEnd → D → Type 0
     StopsNever e opened = (network : IsNetwork r.problem) (valid : is_valid_plan r.problem r.plan ≡ true) (small : limits.migration + 1 < 2 ^ 32) (levelled : D) (answer : LevelAnswer)
         → HasLevelled trace tell origin r (digest_for r limits.migration) limits.rounds opened before.ports now.ports levelled answer → disk_now ≡ levelled
-        → (other : Rollout) (halt : Halt) → answer ≡ ended.Stopped other halt → e ≡ ending_of_stop other halt.cause → ⊥
+        → (o : RunOutcome) (halt : Halt) → answer ≡ ended.Unlevel o → o.end ≡ run.Stopped halt → e ≡ ending_of_stop o.plan halt.cause → ⊥
 
     module _ (e : CommandEnd) (read : status_of e ≡ 6 → ⊥) (sink : status_of e ≡ 7 → ⊥) (memory : status_of e ≡ 12 → ⊥) (device : Rose (trace disk).faults (trace disk_now).faults → status_of e ≡ 8 → ⊥) (fleet : Rose before.faults now.faults → status_of e ≡ 9 → ⊥)
         (stop : (opened : D) → Opens (trace disk) (trace opened) → StopsNever e opened) where
@@ -307,9 +317,9 @@ module _ {D P : Type 0} (trace : D → DiskTrace) (tell : P → PortTrace)
     served-ends-well status rolls read sink device fleet memory =
         by-ending status rolls memory
         (λ e to over. reverts-well e (over 6 read) (over 7 sink) (over 12 memory) (λ rose. over 8 device) (λ rose. over 9 fleet)
-        (λ opened opens network valid small levelled answer has left other halt is ends.
-        excused-never e other halt.cause ends
-        (stop-excused trace tell origin limits source source_now opened disk_now before now out out_now r found (goes-opened trace tell limits source source_now disk disk_now before now out out_now r found goes served opened opens) served network valid small levelled answer has other halt is)
+        (λ opened opens network valid small levelled answer has left o halt is stop ends.
+        excused-never e o.plan halt.cause ends
+        (stop-excused trace tell origin limits source source_now opened disk_now before now out out_now r found (goes-opened trace tell limits source source_now disk disk_now before now out out_now r found goes served opened opens) served network valid small levelled answer has o halt is stop)
         (over 8 device) (over 9 fleet) (over 12 memory)) to)
 
     pub counted-ends-well : CountsNoFault tell (trace disk).faults (trace disk_now).faults before now
@@ -318,9 +328,9 @@ module _ {D P : Type 0} (trace : D → DiskTrace) (tell : P → PortTrace)
     counted-ends-well counts status rolls read sink memory =
         by-ending status rolls memory
         (λ e to over. reverts-well e (over 6 read) (over 7 sink) (over 12 memory) (λ rose eight. counts.disk rose) (λ rose nine. counts.fleet rose)
-        (λ opened opens network valid small levelled answer has left other halt is ends.
-        wanting-never e other halt.cause ends
-        (stop-wants trace tell origin limits source source_now opened disk_now before now out out_now r found (goes-opened trace tell limits source source_now disk disk_now before now out out_now r found goes served opened opens) served network valid small levelled answer has other halt is
+        (λ opened opens network valid small levelled answer has left o halt is stop ends.
+        wanting-never e o.plan halt.cause ends
+        (stop-wants trace tell origin limits source source_now opened disk_now before now out out_now r found (goes-opened trace tell limits source source_now disk disk_now before now out out_now r found goes served opened opens) served network valid small levelled answer has o halt is stop
         (record {
           disk = λ rose. counts.disk (rose-later (trace disk).faults (trace opened).faults (trace disk_now).faults opens.count (subst (λ (d : D). Rose (trace opened).faults (trace d).faults) (sym left) rose));
           fleet = counts.fleet;

@@ -1,5 +1,5 @@
 -- A drain that finds all that it needs ends well.
-use Rattle.std.proofs.Common.{◌≡◌, ◌≢◌, ℕ, ◌<◌, ◌^◌, true, List, length, Option, Some, Ok, refl, sym, ap, ◌∙◌, subst, inl, inr}
+use Rattle.std.proofs.Common.{◌≡◌, ◌≢◌, ℕ, ◌<◌, ◌^◌, true, List, Option, Some, Result, Ok, Err, IfOk, IfErr, refl, sym, ap, ◌∙◌, subst, inl, inr}
 use Rattle.std.specs.List.{AllByRecursion}
 use Rattle.std.proofs.lemmas.List.Elements.{All-contains}
 use Rattle.rollout_rules.specs.Wan.{Rollout}
@@ -9,12 +9,12 @@ use Rattle.rollout_rules.specs.Valid.{is_valid_plan}
 use Rattle.rollout_rules.specs.declared.op.OpView.{OpView}
 use Rattle.disk_model.specs.Traces.{DiskTrace}
 use Rattle.disk_mirror.specs.Openings.{Opens}
-use Rattle.dependency_graph.specs.Graph.{op_total}
 use Rattle.wan_edge.specs.Ports.{PortTrace}
 use Rattle.wan_edge.specs.Streams.{Rose, SourceTrace}
 use Rattle.intent_journal.specs.Recovered.{IsCause}
 use Rattle.intent_journal.specs.Verdicts.{verdict}
 use Rattle.intent_journal.specs.Openings.{IsLeft, found_by}
+use Rattle.intent_journal.specs.declared.fault.JournalFault.{JournalFault}
 use Rattle.shared_book.specs.declared.call_reply.Halt.{Halt}
 use Rattle.shared_book.specs.Homes.{homes_of}
 use Rattle.shared_book.specs.Opened.{opening_of}
@@ -27,19 +27,18 @@ use Rattle.controller_run.specs.Ran.{EndsRun, Ran}
 use Rattle.controller_run.specs.declared.end.RunEnd.{RunEnd}
 use Rattle.controller_run.specs.declared.end.RunEnd.TheVariants as run
 use Rattle.controller_run.specs.declared.running.Limits.{Limits}
-use Rattle.controller_run.specs.RolloutEnds.{HasRolled, IfRolled, OnUnopened, answer_for}
-use Rattle.controller_run.specs.declared.rollout_end.RolloutEnd.{RolloutEnd}
-use Rattle.controller_run.specs.declared.rollout_end.RolloutEnd.TheVariants as outcome
+use Rattle.controller_run.specs.RolloutEnds.{HasRolled}
+use Rattle.controller_run.specs.declared.outcome.RunOutcome.{RunOutcome}
 use Rattle.completion_laws.specs.Faults.{IsExcused, IsWithoutFault}
 use Rattle.completion_laws.specs.Finishing.{EndsOrIsExcused, IsProvided, IsWant}
 use Rattle.completion_laws.proofs.Excused.{ran-ends}
 use Rattle.completion_laws.proofs.Finished.{only-want}
 use Rattle.completion_laws.proofs.NoFaults.{no-fault}
-use Rattle.swanroll_top.specs.Drains.{Drains, DrainsAs, OpensAndDrains, drained_or_ending}
+use Rattle.swanroll_top.specs.Drains.{Drains, DrainsAs, OpensAndDrains, drained_at, drained_or_ending}
 use Rattle.text_commands.specs.CommandEnds.{status_of}
 use Rattle.swanroll_top.specs.Ready.{CountsNoFault, GoesOnFrom, IsServedFor, WaitsReady}
 use Rattle.text_commands.specs.Answers.{rollout_to}
-use Rattle.swanroll_top.specs.Rollouts.{FleetSeen, ending_of_stop}
+use Rattle.swanroll_top.specs.Rollouts.{FleetSeen, by_answer, ending_of_stop}
 use Rattle.text_commands.specs.Runs.{EndsWith, IsInput}
 use Rattle.text_commands.specs.declared.command_end.CommandEnd.{CommandEnd}
 use Rattle.swanroll_top.proofs.Certain.{of-some, opened-ready, opened-waited, some-same}
@@ -54,7 +53,7 @@ use Rattle.swanroll_top.proofs.Reporting.{rolled-within}
 module _ {D P : Type 0} (trace : D → DiskTrace) (tell : P → PortTrace)
     (limits : Limits) (policy : OpView → ℕ) (source source_now : SourceTrace) (disk disk_now : D) (before now : FleetSeen P) (out out_now : Option (List ℕ)) (r : Rollout) (found : History)
     (goes : GoesOnFrom limits.migration source source_now (trace disk).bytes r found) (served : IsServedFor tell limits before.ports.waiting r found) where
-  module _ (network : IsNetwork r.problem) (valid : is_valid_plan r.problem r.plan ≡ true) (small : limits.migration < 2 ^ 32) (a : RolloutEnd)
+  module _ (network : IsNetwork r.problem) (valid : is_valid_plan r.problem r.plan ≡ true) (small : limits.migration < 2 ^ 32) (a : RunOutcome)
       (has : HasRolled trace tell r (digest_for r limits.migration) policy limits.rounds disk before.ports now.ports disk_now a) where
     abbrev RanTo : RunEnd → Type 0
     RanTo end = Ran trace tell (opening_of has.book policy) (trace has.book.disk).moment (trace has.book.disk).faults limits.migration limits.rounds
@@ -90,20 +89,13 @@ module _ {D P : Type 0} (trace : D → DiskTrace) (tell : P → PortTrace)
     abbrev Ended : RunEnd → Type 0
     Ended end = EndsRun tell (working_homes has.book.rollout.problem has.book.rollout.plan) has.book has.run.closed before.ports now.ports (RanTo end) end
 
-    ended-is : Ended has.run.end
+    ended-is : Ended a.end
     unfolding digest_for
     ended-is = has.run.ran
 
-    stopped-ran : (other : Rollout) (halt : Halt) (end : RunEnd) → outcome.Stopped other halt ≡ answer_for has.book.rollout (length has.book.history.entries) has.run.closed.history end → Ended end → RanTo (run.Stopped halt)
-    stopped-ran other halt run.Finished is ended = absurd cc
-    stopped-ran other halt run.Held is ended = absurd cc
-    stopped-ran other halt (run.Stopped first) is ended = let same : first ≡ halt = cc is in subst (λ (h : Halt). RanTo (run.Stopped h)) same ended
-    stopped-ran other halt (run.NoPort switch) is ended = absurd cc
-    stopped-ran other halt run.Memory is ended = absurd cc
-
-    module _ (other : Rollout) (halt : Halt) (is : a ≡ outcome.Stopped other halt) where
+    module _ (halt : Halt) (is : a.end ≡ run.Stopped halt) where
       ran-stopped : RanTo (run.Stopped halt)
-      ran-stopped = stopped-ran other halt has.run.end (sym is ∙ has.run.tells) ended-is
+      ran-stopped = subst Ended is ended-is
 
       -- what stopped it is excused
       stop-excused : IsExcused halt.cause
@@ -125,24 +117,27 @@ module _ {D P : Type 0} (trace : D → DiskTrace) (tell : P → PortTrace)
           only-want halt.cause stop-excused
           (no-fault tell (Rose (trace has.book.disk).faults (trace has.run.closed.disk).faults) (first_sessions ran.berths) now.ports.kept without o limits.migration (homes_of o.rollout.problem) limits.rounds ran.log halt.cause ran.reason)
 
-  abbrev HasRolledTo : RolloutEnd → Type 0
+  abbrev HasRolledTo : RunOutcome → Type 0
   HasRolledTo a = HasRolled trace tell r (digest_for r limits.migration) policy limits.rounds disk before.ports now.ports disk_now a
 
   -- ---- how it ends
 
   module _ (e : CommandEnd) (sink : status_of e ≡ 7 → ⊥) (memory : status_of e ≡ 12 → ⊥) (device : Rose (trace disk).faults (trace disk_now).faults → status_of e ≡ 8 → ⊥) (fleet : Rose before.faults now.faults → status_of e ≡ 9 → ⊥)
       (network : IsNetwork r.problem) (valid : is_valid_plan r.problem r.plan ≡ true) (small : limits.migration < 2 ^ 32)
-      (stop : (a : RolloutEnd) → HasRolledTo a → (other : Rollout) (halt : Halt) → a ≡ outcome.Stopped other halt → e ≡ ending_of_stop other halt.cause → ⊥) where
-    answered-well : (a : RolloutEnd) → IfRolled a (HasRolledTo a) → OnUnopened a (λ why. IsLeft trace r (digest_for r limits.migration) disk why disk_now × (now ≡ before))
-        → ((other : Rollout) (switch : ℕ) → a ≡ outcome.NoPort other switch → Rose before.faults now.faults) → EndsWith (drained_or_ending (op_total r) a) e out out_now → status_of e ≡ 0
-    answered-well (outcome.Finished all count) has unopened missing (inl done) = ap status_of done.0
-    answered-well (outcome.Finished all count) has unopened missing (inr cut) = absurd (sink (ap status_of cut.0))
-    answered-well (outcome.Held left) has unopened missing (inl done) = ap status_of done.0
-    answered-well (outcome.Held left) has unopened missing (inr cut) = absurd (sink (ap status_of cut.0))
-    answered-well (outcome.Stopped other halt) has unopened missing ends = absurd (stop (outcome.Stopped other halt) has other halt refl ends.0)
-    answered-well (outcome.NoPort other switch) has unopened missing ends = absurd (fleet (missing other switch refl) (ap status_of ends.0))
-    answered-well outcome.Memory has unopened missing ends = absurd (memory (ap status_of ends.0))
-    answered-well (outcome.Unopened why) has unopened missing ends =
+      (stop : (a : RunOutcome) → HasRolledTo a → (halt : Halt) → a.end ≡ run.Stopped halt → e ≡ ending_of_stop a.plan halt.cause → ⊥) where
+    ran-well : (a : RunOutcome) → HasRolledTo a → ((switch : ℕ) → a.end ≡ run.NoPort switch → Rose before.faults now.faults) → (end : RunEnd) → a.end ≡ end → EndsWith (drained_at end a) e out out_now → status_of e ≡ 0
+    ran-well a has missing run.Finished is (inl done) = ap status_of done.0
+    ran-well a has missing run.Finished is (inr cut) = absurd (sink (ap status_of cut.0))
+    ran-well a has missing run.Held is (inl done) = ap status_of done.0
+    ran-well a has missing run.Held is (inr cut) = absurd (sink (ap status_of cut.0))
+    ran-well a has missing (run.Stopped halt) is ends = absurd (stop a has halt is ends.0)
+    ran-well a has missing (run.NoPort switch) is ends = absurd (fleet (missing switch is) (ap status_of ends.0))
+    ran-well a has missing run.Memory is ends = absurd (memory (ap status_of ends.0))
+
+    answered-well : (a : Result RunOutcome JournalFault) → IfOk a HasRolledTo → IfErr a (λ why. IsLeft trace r (digest_for r limits.migration) disk why disk_now × (now ≡ before))
+        → IfOk a (λ o. (switch : ℕ) → o.end ≡ run.NoPort switch → Rose before.faults now.faults) → EndsWith (by_answer drained_or_ending a) e out out_now → status_of e ≡ 0
+    answered-well (Ok o) has unopened missing ends = ran-well o has missing o.end refl ends
+    answered-well (Err why) has unopened missing ends =
         let told = of-some (λ image. IsCause why (digest_for r limits.migration) (verdict r (digest_for r limits.migration) image)) goes.image (trace disk).bytes goes.told unopened.0.refusal in
         absurd (unopened-never trace tell limits source source_now disk disk_now before now out out_now r found goes served why e told ends.0 (λ is. device (unopened.0.failed is)) memory)
 
@@ -156,9 +151,9 @@ module _ {D P : Type 0} (trace : D → DiskTrace) (tell : P → PortTrace)
   goes-on opened opens = goes-opened trace tell limits source source_now disk disk_now before now out out_now r found goes served opened opens
 
   abbrev StopsNever : CommandEnd → D → Type 0
-  StopsNever e opened = (policy : OpView → ℕ) → IsNetwork r.problem → is_valid_plan r.problem r.plan ≡ true → limits.migration < 2 ^ 32 → (a : RolloutEnd)
+  StopsNever e opened = (policy : OpView → ℕ) → IsNetwork r.problem → is_valid_plan r.problem r.plan ≡ true → limits.migration < 2 ^ 32 → (a : RunOutcome)
       → HasRolled trace tell r (digest_for r limits.migration) policy limits.rounds opened before.ports now.ports disk_now a
-      → (other : Rollout) (halt : Halt) → a ≡ outcome.Stopped other halt → e ≡ ending_of_stop other halt.cause → ⊥
+      → (halt : Halt) → a.end ≡ run.Stopped halt → e ≡ ending_of_stop a.plan halt.cause → ⊥
 
   module _ (e : CommandEnd) (read : status_of e ≡ 6 → ⊥) (sink : status_of e ≡ 7 → ⊥) (memory : status_of e ≡ 12 → ⊥) (device : Rose (trace disk).faults (trace disk_now).faults → status_of e ≡ 8 → ⊥) (fleet : Rose before.faults now.faults → status_of e ≡ 9 → ⊥)
       (stop : (opened : D) → Opens (trace disk) (trace opened) → StopsNever e opened) where
@@ -169,7 +164,7 @@ module _ {D P : Type 0} (trace : D → DiskTrace) (tell : P → PortTrace)
         answered-well trace tell limits d.policy source source_now begun.opened disk_now before now out out_now r found (goes-on begun.opened begun.opens) served
         e sink memory (λ rose. device (rose-later (trace disk).faults (trace begun.opened).faults (trace disk_now).faults begun.opens.count rose)) fleet
         d.network d.valid d.small (stop begun.opened begun.opens d.policy d.network d.valid d.small)
-        d.answer d.rolled d.unopened d.no_port (follows-ends (drained_or_ending (op_total r) d.answer) e out out_now d.follows memory)
+        d.answer d.rolled d.unopened d.no_port (follows-ends (by_answer drained_or_ending d.answer) e out out_now d.follows memory)
 
     drains-well : Drains trace tell (IsInput source source_now) limits disk disk_now before now e out out_now → status_of e ≡ 0
     drains-well (inl none) = absurd (unbegun-never trace tell limits source source_now disk disk_now before now out out_now r found goes served e none.why read memory)
@@ -192,9 +187,9 @@ module _ {D P : Type 0} (trace : D → DiskTrace) (tell : P → PortTrace)
   drained-ends-well status rolls read sink device fleet memory =
       by-ending status rolls memory
       (λ e to over. drains-well e (over 6 read) (over 7 sink) (over 12 memory) (λ rose. over 8 device) (λ rose. over 9 fleet)
-      (λ opened opens policy network valid small a has other halt is ends.
-      excused-never e other halt.cause ends
-      (stop-excused trace tell limits policy source source_now opened disk_now before now out out_now r found (goes-on opened opens) served network valid small a has other halt is)
+      (λ opened opens policy network valid small a has halt is ends.
+      excused-never e a.plan halt.cause ends
+      (stop-excused trace tell limits policy source source_now opened disk_now before now out out_now r found (goes-on opened opens) served network valid small a has halt is)
       (over 8 device) (over 9 fleet) (over 12 memory)) to)
 
   pub faultless-ends-well : CountsNoFault tell (trace disk).faults (trace disk_now).faults before now
@@ -203,9 +198,9 @@ module _ {D P : Type 0} (trace : D → DiskTrace) (tell : P → PortTrace)
   faultless-ends-well counts status rolls read sink memory =
       by-ending status rolls memory
       (λ e to over. drains-well e (over 6 read) (over 7 sink) (over 12 memory) (λ rose eight. counts.disk rose) (λ rose nine. counts.fleet rose)
-      (λ opened opens policy network valid small a has other halt is ends.
-      wanting-never e other halt.cause ends
-      (stop-wants trace tell limits policy source source_now opened disk_now before now out out_now r found (goes-on opened opens) served network valid small a has other halt is
+      (λ opened opens policy network valid small a has halt is ends.
+      wanting-never e a.plan halt.cause ends
+      (stop-wants trace tell limits policy source source_now opened disk_now before now out out_now r found (goes-on opened opens) served network valid small a has halt is
       (record {
         disk = λ rose. counts.disk (rose-later (trace disk).faults (trace opened).faults (trace disk_now).faults opens.count rose);
         fleet = counts.fleet;

@@ -1,32 +1,32 @@
 -- How a drain follows from its input, and how it ends.
-use Rattle.std.proofs.Common.{◌≡◌, ◌<◌, ◌^◌, ℕ, List, Option, Result, Err, refl, sym, ap, ◌∙◌, subst, inl, inr}
+use Rattle.std.proofs.Common.{◌≡◌, ◌<◌, ◌^◌, ℕ, List, Option, Result, Ok, Err, IfOk, IfErr, refl, sym, ◌∙◌, subst, inl, inr}
 use Rattle.rollout_rules.specs.Wan.{Rollout}
 use Rattle.rollout_rules.specs.Network.{IsNetwork}
 use Rattle.rollout_rules.specs.declared.op.OpView.{OpView}
 use Rattle.disk_model.specs.Traces.{DiskTrace}
-use Rattle.dependency_graph.specs.Graph.{op_total}
 use Rattle.intent_journal.specs.Openings.{IsLeft}
+use Rattle.intent_journal.specs.declared.fault.JournalFault.{JournalFault}
 use Rattle.wan_edge.specs.Ports.{PortTrace}
 use Rattle.wan_edge.specs.Streams.{Rose, SourceTrace}
 use Rattle.rollout_report.specs.Journals.{digest_for}
 use Rattle.controller_run.specs.declared.running.Limits.{Limits}
-use Rattle.controller_run.specs.RolloutEnds.{HasRolled, IfRolled, OnUnopened}
-use Rattle.controller_run.specs.declared.rollout_end.RolloutEnd.{RolloutEnd}
-use Rattle.controller_run.specs.declared.rollout_end.RolloutEnd.TheVariants as outcome
+use Rattle.controller_run.specs.RolloutEnds.{HasRolled}
+use Rattle.controller_run.specs.declared.end.RunEnd.{RunEnd}
+use Rattle.controller_run.specs.declared.end.RunEnd.TheVariants as run
+use Rattle.controller_run.specs.declared.outcome.RunOutcome.{RunOutcome}
 use Rattle.rollback_plan.specs.Levels.{levelling}
 use Rattle.rollback_service.specs.Drainings.{HasDrained, HoldsAll}
-use Rattle.swanroll_top.specs.Drains.{Drains, DrainsIn, DrainsOut, drained_or_ending}
-use Rattle.text_commands.specs.CommandEnds.{ending_of_journal}
+use Rattle.swanroll_top.specs.Drains.{Drains, DrainsIn, DrainsOut, drained_at, drained_or_ending}
 use Rattle.text_commands.specs.Reading.{IsShortInput}
 use Rattle.text_commands.specs.Answers.{rollout_in}
 use Rattle.swanroll_top.specs.Reports.{ReadsDocument}
-use Rattle.swanroll_top.specs.Rollouts.{FleetSeen, IsDiskFault, IsUnbegun, RefusesAs, ending_of_stop, line_or_ending}
+use Rattle.swanroll_top.specs.Rollouts.{FleetSeen, IsDiskFault, IsUnbegun, RefusesAs, by_answer, ending_of_stop, line_at, line_or_ending}
 use Rattle.text_commands.specs.Runs.{Follows, Gives, IsInput}
 use Rattle.text_commands.specs.Safety.{IsValid}
 use Rattle.text_commands.specs.declared.command_end.CommandEnd.{CommandEnd}
-use Rattle.text_commands.specs.declared.command_end.CommandEnd.TheVariants.{Done, Usage, AboveLimit, Input, NotValid, NoPlan, Unshown, ReadFault, WriteFault, DiskFault, GuestFault, Refused, NotFinished, OutOfMemory}
+use Rattle.text_commands.specs.declared.command_end.CommandEnd.TheVariants.{DiskFault, NotFinished, OutOfMemory}
 use Rattle.text_commands.specs.declared.unfinished.Unfinished.TheVariants.{PortFault}
-use Rattle.swanroll_top.proofs.Outcomes.{disk-failed, given-or-memory, same-ending, without_text}
+use Rattle.swanroll_top.proofs.Outcomes.{disk-failed, given-or-memory, gives-own, same-ending, without_text}
 use Rattle.swanroll_top.proofs.Reporting.{reads-document, short-rollout}
 use Rattle.swanroll_top.proofs.Rolling.{never-disk, unbegun}
 
@@ -55,71 +55,41 @@ module _ {D P : Type 0} (trace : D → DiskTrace) (tell : P → PortTrace)
 
 -- ---- an ending in place of a line is the one of a run
 
-gives-own : (x : CommandEnd) → Gives {A = List ℕ} (Err x) (Err x)
-gives-own Done = refl
-gives-own Usage = refl
-gives-own AboveLimit = refl
-gives-own (Input f) = refl
-gives-own (NotValid p b) = refl
-gives-own (NoPlan u) = refl
-gives-own (Unshown u) = refl
-gives-own ReadFault = refl
-gives-own WriteFault = refl
-gives-own DiskFault = refl
-gives-own GuestFault = refl
-gives-own (Refused f) = refl
-gives-own (NotFinished u) = refl
-gives-own OutOfMemory = tt
-
 gives-same : (x e : CommandEnd) → without_text x ≡ without_text e → Gives {A = List ℕ} (Err e) (Err x)
 gives-same x e is = subst (λ (y : CommandEnd). Gives {A = List ℕ} (Err y) (Err x)) (same-ending x e is) (gives-own x)
 
-by-answer : (operations : ℕ) (a : RolloutEnd) (e : CommandEnd) → drained_or_ending operations a ≡ Err e → Gives {A = List ℕ} (Err e) (line_or_ending a)
-by-answer operations (outcome.Finished all found) e is = absurd cc
-by-answer operations (outcome.Held left) e is = absurd cc
-by-answer operations (outcome.Stopped r halt) e is = gives-same (ending_of_stop r halt.cause) e is
-by-answer operations (outcome.NoPort r switch) e is = gives-same (NotFinished (PortFault r switch)) e is
-by-answer operations outcome.Memory e is = gives-same OutOfMemory e is
-by-answer operations (outcome.Unopened why) e is = gives-same (ending_of_journal why) e is
+given-at : (end : RunEnd) (o : RunOutcome) (e : CommandEnd) → drained_at end o ≡ Err e → Gives {A = List ℕ} (Err e) (line_at end o)
+given-at run.Finished o e is = absurd cc
+given-at run.Held o e is = absurd cc
+given-at (run.Stopped halt) o e is = gives-same (ending_of_stop o.plan halt.cause) e is
+given-at (run.NoPort switch) o e is = gives-same (NotFinished (PortFault o.plan switch)) e is
+given-at run.Memory o e is = gives-same OutOfMemory e is
 
-pub drained-gives : (operations : ℕ) (a : RolloutEnd) (e : CommandEnd) → Gives {A = List ℕ} (Err e) (drained_or_ending operations a) → Gives {A = List ℕ} (Err e) (line_or_ending a)
-drained-gives operations a e h = elim (given-or-memory (drained_or_ending operations a) e h) as (λ _. Gives {A = List ℕ} (Err e) (line_or_ending a)) [
-  | inl is ↦ by-answer operations a e is
-  | inr memory ↦ subst (λ (x : CommandEnd). Gives {A = List ℕ} (Err x) (line_or_ending a)) (sym memory) tt
+pub drained-gives : (o : RunOutcome) (e : CommandEnd) → Gives {A = List ℕ} (Err e) (drained_or_ending o) → Gives {A = List ℕ} (Err e) (line_or_ending o)
+drained-gives o e h = elim (given-or-memory (drained_or_ending o) e h) as (λ _. Gives {A = List ℕ} (Err e) (line_or_ending o)) [
+  | inl is ↦ given-at o.end o e is
+  | inr memory ↦ subst (λ (x : CommandEnd). Gives {A = List ℕ} (Err x) (line_or_ending o)) (sym memory) tt
 ]
 
 -- ---- a drain by its answer
 
--- the number of operations counts where a journal was opened alone
-drained-same : (a : RolloutEnd) (m n : ℕ) → IfRolled a (m ≡ n) → drained_or_ending m a ≡ drained_or_ending n a
-drained-same (outcome.Finished all found) m n same = ap (λ (k : ℕ). drained_or_ending k (outcome.Finished all found)) same
-drained-same (outcome.Held left) m n same = ap (λ (k : ℕ). drained_or_ending k (outcome.Held left)) same
-drained-same (outcome.Stopped r halt) m n same = refl
-drained-same (outcome.NoPort r switch) m n same = refl
-drained-same outcome.Memory m n same = refl
-drained-same (outcome.Unopened why) m n same = refl
-
 module _ {D P : Type 0} (trace : D → DiskTrace) (tell : P → PortTrace) (r : Rollout) (limits : Limits) (disk disk_now : D) (before now : FleetSeen P) where
-  abbrev Drained : RolloutEnd → Type 0
-  Drained a = HasDrained trace tell r (digest_for r limits.migration) limits.rounds disk before.ports now.ports disk_now a
+  abbrev Drained : RunOutcome → Type 0
+  Drained o = HasDrained trace tell r (digest_for r limits.migration) limits.rounds disk before.ports now.ports disk_now o
 
-  abbrev RolledBy : (OpView → ℕ) → RolloutEnd → Type 0
-  RolledBy policy a = HasRolled trace tell r (digest_for r limits.migration) policy limits.rounds disk before.ports now.ports disk_now a
+  abbrev RolledBy : (OpView → ℕ) → RunOutcome → Type 0
+  RolledBy policy o = HasRolled trace tell r (digest_for r limits.migration) policy limits.rounds disk before.ports now.ports disk_now o
 
   -- what it was run under; where no journal was opened, any policy that holds all back
-  rolled-under : (a : RolloutEnd) → IfRolled a (Drained a) → (policy : OpView → ℕ) × HoldsAll policy × IfRolled a (RolledBy policy a)
-  rolled-under (outcome.Finished all found) has = (has.policy, has.holds, has.rolled)
-  rolled-under (outcome.Held left) has = (has.policy, has.holds, has.rolled)
-  rolled-under (outcome.Stopped other halt) has = (has.policy, has.holds, has.rolled)
-  rolled-under (outcome.NoPort other switch) has = (has.policy, has.holds, has.rolled)
-  rolled-under outcome.Memory has = (has.policy, has.holds, has.rolled)
-  rolled-under (outcome.Unopened why) has = (levelling 0, λ view small. refl, tt)
+  rolled-under : (a : Result RunOutcome JournalFault) → IfOk a Drained → (policy : OpView → ℕ) × HoldsAll policy × IfOk a (RolledBy policy)
+  rolled-under (Ok o) has = (has.policy, has.holds, has.rolled)
+  rolled-under (Err why) has = (levelling 0, λ view small. refl, tt)
 
-  pub drained-out : IsNetwork r.problem → IsValid r.problem r.plan → limits.migration < 2 ^ 32 → (operations : ℕ) (a : RolloutEnd) (e : CommandEnd) (out out_now : Option (List ℕ))
-      → IfRolled a (Drained a) → IfRolled a (operations ≡ op_total r) → OnUnopened a (λ why. IsLeft trace r (digest_for r limits.migration) disk why disk_now × (now ≡ before))
-      → ((other : Rollout) (switch : ℕ) → a ≡ outcome.NoPort other switch → Rose before.faults now.faults) → Follows (drained_or_ending operations a) e out out_now
+  pub drained-out : IsNetwork r.problem → IsValid r.problem r.plan → limits.migration < 2 ^ 32 → (a : Result RunOutcome JournalFault) (e : CommandEnd) (out out_now : Option (List ℕ))
+      → IfOk a Drained → IfErr a (λ why. IsLeft trace r (digest_for r limits.migration) disk why disk_now × (now ≡ before))
+      → IfOk a (λ o. (switch : ℕ) → o.end ≡ run.NoPort switch → Rose before.faults now.faults) → Follows (by_answer drained_or_ending a) e out out_now
       → DrainsOut trace tell r limits disk disk_now before now e out out_now
-  drained-out network valid small operations a e out out_now drained count unopened no_port follows =
+  drained-out network valid small a e out out_now drained unopened no_port follows =
       let under = rolled-under a drained in
       record {
         network = network;
@@ -131,10 +101,8 @@ module _ {D P : Type 0} (trace : D → DiskTrace) (tell : P → PortTrace) (r : 
         rolled = under.2;
         unopened = unopened;
         no_port = no_port;
-        follows = subst (λ (x : Result (List ℕ) CommandEnd). Follows x e out out_now) (drained-same a operations (op_total r) count) follows;
+        follows = follows;
       }
 
-  pub drained-failed : (a : RolloutEnd) → IsDiskFault a → IfRolled a (Drained a) → OnUnopened a (λ why. IsLeft trace r (digest_for r limits.migration) disk why disk_now) → Rose (trace disk).faults (trace disk_now).faults
-  drained-failed a is drained left =
-      let under = rolled-under a drained in
-      disk-failed trace tell r (digest_for r limits.migration) under.0 limits.rounds disk disk_now before.ports now.ports a is under.2 left
+  pub drained-failed : (o : RunOutcome) → IsDiskFault o.end → Drained o → Rose (trace disk).faults (trace disk_now).faults
+  drained-failed o is drained = disk-failed trace tell r (digest_for r limits.migration) drained.policy limits.rounds disk disk_now before.ports now.ports o is drained.rolled

@@ -1,10 +1,11 @@
 -- Of an item whose home is none of a run's switches nothing was settled.
-use Rattle.std.proofs.Common.{◌≡◌, ◌⊎◌, ⊎_elim, ℕ, zero, suc, ◌+◌, ◌<◌, Bool, true, false, ◌||◌, ◌==◌, if◌then◌else◌, List, [], ◌∷◌, ◌++◌, length, Option, Some, None, nat_eq, refl, sym, ap, ap₂, ◌∙◌, arith, eq-eqb}
+use Rattle.std.proofs.Common.{◌≡◌, ⊎_elim, ℕ, zero, suc, ◌+◌, Bool, true, false, ◌||◌, ◌==◌, if◌then◌else◌, List, [], ◌∷◌, Option, refl, sym, ap, ap₂, ◌∙◌, arith, eq-eqb}
 use Rattle.std.specs.List.{Contains, list_any}
 use Rattle.std.proofs.lemmas.Bool.{cases_Bool}
-use Rattle.std.proofs.lemmas.List.Elements.{Contains-append_cases, Contains-append_left, Contains-append_right}
+use Rattle.std.proofs.lemmas.List.Elements.{Contains-append_right}
 use Rattle.std.proofs.lemmas.Bool.{false≢true}
 use Rattle.std.proofs.lemmas.Bool.Decides.{Decides-eqb}
+use Rattle.lists.proofs.Conditions.{or_second}
 use Rattle.rollout_rules.specs.History.{History, dones_in, settled, with_entries}
 use Rattle.rollout_rules.specs.declared.op.Op.{Op}
 use Rattle.rollout_rules.specs.declared.op.Entry.{Entry}
@@ -13,20 +14,17 @@ use Rattle.rollout_laws.proofs.Histories.{settled-with}
 use Rattle.shared_book.specs.declared.note.What.{What}
 use Rattle.shared_book.specs.declared.note.What.TheVariants as what
 use Rattle.shared_book.specs.declared.note.Written.{Written}
-use Rattle.shared_book.specs.Histories.{added, all_entries, segment_of}
+use Rattle.shared_book.specs.Histories.{added}
 use Rattle.switch_ports.specs.Outboxes.{home_at}
 use Rattle.controller_run.specs.PortRuns.{AreAtHome}
+use Rattle.controller_run.proofs.Standing.{of_added}
 use Rattle.swanroll_top.specs.Targets.{is_among}
-
-or-last : (a b : Bool) → b ≡ true → (a || b) ≡ true
-or-last true b is = refl
-or-last false b is = is
 
 -- a switch among these is found by its number
 among-of : (switches : List ℕ) (w : ℕ) → Contains switches w → list_any (λ s. w == s) switches ≡ true
 among-of [] w at = absurd (omega (arith, at.1))
 among-of (v ∷ switches) w (zero, inside, is) = ap (λ (b : Bool). b || list_any (λ s. w == s) switches) (eq-eqb w v (sym is))
-among-of (v ∷ switches) w (suc k, inside, is) = or-last (w == v) (list_any (λ s. w == s) switches) (among-of switches w (k, omega (arith, inside), is))
+among-of (v ∷ switches) w (suc k, inside, is) = or_second (w == v) (list_any (λ s. w == s) switches) (among-of switches w (k, omega (arith, inside), is))
 
 abbrev bit : Bool → ℕ
 bit b = if b then 1 else 0
@@ -43,29 +41,10 @@ none-done (Done op ∷ es) n never = ⊎_elim
 nothing-in : (e : Entry) → Contains [] e → ⊥
 nothing-in e at = absurd (omega (arith, at.1))
 
-segment-in : (said : What) (es : List Entry) (e : Entry) → Contains (segment_of said es) e → Contains es e
-segment-in (what.Turned dones begins) es e at = at
-segment-in (what.Alien item held begun) es e at = absurd (nothing-in e at)
-segment-in what.Disk es e at = absurd (nothing-in e at)
-segment-in what.Listed es e at = absurd (nothing-in e at)
-segment-in what.Work es e at = absurd (nothing-in e at)
-segment-in what.Finished es e at = absurd (nothing-in e at)
-segment-in what.Held es e at = absurd (nothing-in e at)
-segment-in what.Stopped es e at = absurd (nothing-in e at)
-segment-in (what.Stop why) es e at = absurd (nothing-in e at)
-
--- what a history has was written with its notes
-added-in : (log : List Written) (e : Entry) → Contains (added log) e → Contains (all_entries log) e
-added-in [] e at = at
-added-in (w ∷ log) e at = ⊎_elim
-    (λ (here : Contains (segment_of w.note.what w.entries) e). Contains-append_left w.entries (all_entries log) e (segment-in w.note.what w.entries e here))
-    (λ (later : Contains (added log) e). Contains-append_right w.entries (all_entries log) e (added-in log e later))
-    (Contains-append_cases (segment_of w.note.what w.entries) (added log) e at)
-
 module _ (homes : List (Option ℕ)) (switches : List ℕ) (log : List Written) (at_home : AreAtHome homes log switches) (n : ℕ) (elsewhere : is_among switches (home_at homes n) ≡ false) where
   never-done : (op : Op) → Contains (added log) (Done op) → op.item ≡ n → ⊥
   never-done op at same =
-      let home = at_home op (added-in log (Done op) at) in
+      let home = at_home op (of_added log (Done op) at) in
       let is : is_among switches (home_at homes n) ≡ true = ap (λ (m : ℕ). is_among switches (home_at homes m)) (sym same) ∙ (ap (is_among switches) home.1 ∙ among-of switches home.0 home.2) in
       false≢true (sym elsewhere ∙ is)
 

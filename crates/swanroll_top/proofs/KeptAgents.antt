@@ -1,5 +1,5 @@
 -- How an agent with a file follows from its service.
-use Rattle.std.proofs.Common.{◌≡◌, ◌⊎◌, inl, inr, ⊎_elim, ℕ, List, Option, Some, None, Result, Ok, Err, IfOk, IfSome, sym, ap, subst, ◌∙◌, arith}
+use Rattle.std.proofs.Common.{◌≡◌, ◌⊎◌, inl, inr, ℕ, List, Option, Some, None, Ok, IfSome, sym, ap, subst, ◌∙◌, arith}
 use Rattle.disk_model.specs.Moments.{LeavesOnly}
 use Rattle.disk_model.specs.Traces.{DiskTrace}
 use Rattle.disk_model.proofs.Running.{LeavesOnly-start}
@@ -10,13 +10,8 @@ use Rattle.text_commands.specs.CommandEnds.{status_of}
 use Rattle.swanroll_top.specs.KeptAgents.{kept_status}
 use Rattle.text_commands.specs.Runs.{EndsWith, Follows}
 use Rattle.text_commands.specs.declared.command_end.CommandEnd.{CommandEnd}
-use Rattle.text_commands.specs.declared.command_end.CommandEnd.TheVariants.{Done, OutOfMemory, WriteFault}
+use Rattle.text_commands.specs.declared.command_end.CommandEnd.TheVariants.{Done}
 use Rattle.swanroll_top.specs.declared.kept_end.KeptEnd.{KeptEnd}
-
--- what holds of what was read holds where it was read
-pub at_ok : {A E : Type 0} (read : Result A E) (value : A) (P : A → Type 0) → read ≡ Ok value → P value → IfOk read P
-at_ok (Ok all) value P is holds = subst P (sym (cc is)) holds
-at_ok (Err why) value P is holds = absurd (cc is)
 
 -- nothing was done after the opening
 pub still_left : {D : Type 0} (trace : D → DiskTrace) (told : Option (List ℕ)) (disk : D) → ((c : List ℕ) → (trace disk).left_since (trace disk).moment c → (trace disk).may_leave c)

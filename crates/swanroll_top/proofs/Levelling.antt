@@ -35,7 +35,6 @@ use Rattle.intent_journal.specs.Placements.{IsStoodOrPlaced}
 use Rattle.intent_journal.specs.Verdicts.{verdict}
 use Rattle.intent_journal.proofs.Listings.{blank_none}
 use Rattle.rollout_book.specs.JournaledRounds.{Journaled}
-use Rattle.shared_book.specs.declared.note.Cause.{Cause}
 use Rattle.shared_book.specs.declared.note.Cause.TheVariants as cause
 use Rattle.shared_book.specs.declared.note.Written.{Written}
 use Rattle.shared_book.specs.Histories.{Opening, added, history_of}
@@ -53,11 +52,13 @@ use Rattle.switch_laws.specs.Holdings.{AreHeldAt, IsHeldAt}
 use Rattle.switch_laws.proofs.Answered.{some_at}
 use Rattle.switch_laws.proofs.Begun.{begun_within}
 use Rattle.switch_laws.proofs.Stands.{if_some, was_told}
+use Rattle.intent_journal.specs.declared.digest.Digest.{Digest}
 use Rattle.rollout_report.specs.Journals.{digest_for}
 use Rattle.controller_run.specs.Keeping.{IsBegun}
 use Rattle.controller_run.specs.PortRuns.{IsBack}
 use Rattle.controller_run.specs.declared.end.RunEnd.{RunEnd}
 use Rattle.controller_run.specs.declared.end.RunEnd.TheVariants as run
+use Rattle.controller_run.specs.declared.outcome.RunOutcome.{RunOutcome}
 use Rattle.controller_run.specs.declared.running.Limits.{Limits}
 use Rattle.completion_laws.proofs.Excused.{held-rests, held-still}
 use Rattle.completion_laws.proofs.InFlight.{still-flies}
@@ -69,7 +70,7 @@ use Rattle.rollback_plan.proofs.StageStarts.{back_start-contents, back_start-is_
 use Rattle.rollback_plan.proofs.TurnContents.{begins-back, so_far-levelled}
 use Rattle.rollback_plan.proofs.TurnStages.{start-at_ceiling}
 use Rattle.levelling_laws.proofs.Shared.{ended-so_far, held-so_far, list-so_far}
-use Rattle.rollback_service.specs.Levellings.{HasLevelled, LevelsBy, TurnsFrom, ceiling_of, level_for, start_of}
+use Rattle.rollback_service.specs.Levellings.{HasLevelled, LevelsBy, TurnsFrom, ceiling_of, level_at, start_of}
 use Rattle.rollback_service.specs.Placings.{HasPlaced, IsSeen, MayPlace, kept_from}
 use Rattle.rollback_service.specs.declared.answer.LevelAnswer.{LevelAnswer}
 use Rattle.rollback_service.specs.declared.answer.LevelAnswer.TheVariants as ended
@@ -80,14 +81,15 @@ use Rattle.text_commands.specs.CommandEnds.{ending_of_journal}
 use Rattle.swanroll_top.specs.LevelTargets.{AreHeldAtStage, EndsAtStage, EndsBackSafely, HasListFrom, IsFoundOrPlaced, IsHeldAtStage, IsLevelThere, IsTakenBack, LeadsSoFar, LevelsSafely, OnLevel, SendsSoFar, operations_to}
 use Rattle.text_commands.specs.Answers.{rollout_to}
 use Rattle.swanroll_top.specs.Rollbacks.{Closes, Levels, Reverts, RevertsAs, RollsBackOpened, RollsBackOutOf, TakesBack, back_text}
-use Rattle.swanroll_top.specs.Rollouts.{FleetSeen, ending_of_stop}
+use Rattle.swanroll_top.specs.Rollouts.{FleetSeen, ending_at}
 use Rattle.swanroll_top.specs.Targets.{EndsWithin, IsOfBegun, StaysSafe}
 use Rattle.text_commands.specs.declared.command_end.CommandEnd.{CommandEnd}
 use Rattle.text_commands.specs.declared.command_end.CommandEnd.TheVariants.{Done, DiskFault, NotFinished, OutOfMemory, WriteFault}
 use Rattle.text_commands.specs.declared.unfinished.Unfinished.TheVariants.{PortFault}
 use Rattle.swanroll_top.proofs.Elsewhere.{none-settled}
+use Rattle.swanroll_top.proofs.Outcomes.{is_ran, stop-not-done}
 use Rattle.swanroll_top.proofs.Reaching.{begun-told, berths-within, is-told, is_of_begun, journal-begun, not-begun, of-begun, unbegun-refused}
-use Rattle.swanroll_top.proofs.Reverting.{Begun, is_run, run-begun, run-unbegun}
+use Rattle.swanroll_top.proofs.Reverting.{Begun, is_level, is_run, run-begun, run-unbegun, unlevel-not}
 use Rattle.swanroll_top.proofs.SettledPorts.{berths-settled, each-more, told-more}
 use Rattle.text_commands.proofs.Statuses.{is-done}
 
@@ -307,11 +309,16 @@ module _ {D P : Type 0} (trace : D → DiskTrace) (tell : P → PortTrace)
   ]
 
   -- such an ending comes only after a run that was begun
+  ran-at : (end : RunEnd) (o : RunOutcome) → e ≡ ending_at end o → is_ran end ≡ true
+  ran-at run.Finished o is = refl
+  ran-at run.Held o is = refl
+  ran-at (run.Stopped halt) o is = refl
+  ran-at (run.NoPort switch) o is = absurd (not-begun e (NotFinished (PortFault o.plan switch)) begun is refl)
+  ran-at run.Memory o is = absurd (not-begun e OutOfMemory begun is refl)
+
   closes-run : (migration : ℕ) (answer : LevelAnswer) (levelled : D) → Closes trace migration answer levelled disk_now e out out_now → is_run answer ≡ true
   closes-run migration (ended.Level r start) levelled closes = refl
-  closes-run migration (ended.Stopped r halt) levelled closes = refl
-  closes-run migration (ended.NoPort r switch) levelled closes = absurd (not-begun e (NotFinished (PortFault r switch)) begun closes.is refl)
-  closes-run migration ended.Memory levelled closes = absurd (not-begun e OutOfMemory begun closes.is refl)
+  closes-run migration (ended.Unlevel o) levelled closes = ran-at o.end o closes.is
 
 -- it was a level
 pub record IsLevelEnd (r : Rollout) (start : List ℕ) (other : Rollout) (there : List ℕ) (end : RunEnd) : Type 0 where
@@ -319,12 +326,18 @@ pub record IsLevelEnd (r : Rollout) (start : List ℕ) (other : Rollout) (there 
   pub rollout_is : other ≡ r
   pub start_is : there ≡ start
 
-pub level-end : (r : Rollout) (start : List ℕ) (other : Rollout) (there : List ℕ) (end : RunEnd) → ended.Level other there ≡ level_for r start end → IsLevelEnd r start other there end
-level-end r start other there run.Finished is = record { end_is = inl refl; rollout_is = cc; start_is = cc }
-level-end r start other there run.Held is = record { end_is = inr refl; rollout_is = cc; start_is = cc }
-level-end r start other there (run.Stopped halt) is = absurd cc
-level-end r start other there (run.NoPort switch) is = absurd cc
-level-end r start other there run.Memory is = absurd cc
+level-at : (r : Rollout) (made : RunOutcome) (start : List ℕ) (other : Rollout) (there : List ℕ) → made.plan ≡ r → (end : RunEnd) → ended.Level other there ≡ level_at end made start → IsLevelEnd r start other there end
+level-at r made start other there plan run.Finished is = let same : other ≡ made.plan = cc in record { end_is = inl refl; rollout_is = same ∙ plan; start_is = cc }
+level-at r made start other there plan run.Held is = let same : other ≡ made.plan = cc in record { end_is = inr refl; rollout_is = same ∙ plan; start_is = cc }
+level-at r made start other there plan (run.Stopped halt) is = absurd cc
+level-at r made start other there plan (run.NoPort switch) is = absurd cc
+level-at r made start other there plan run.Memory is = absurd cc
+
+pub level-end : {D P : Type 0} (trace : D → DiskTrace) (tell : P → PortTrace) (origin : BackFrom) (r : Rollout) (digest : Digest) (rounds : ℕ) (disk : D) (before now : FleetPorts P) (levelled : D) (answer : LevelAnswer)
+    (has : HasLevelled trace tell origin r digest rounds disk before now levelled answer) (other : Rollout) (there : List ℕ) → ended.Level other there ≡ answer
+    → IsLevelEnd has.rolled.book.rollout (start_of has.rolled.book.rollout has.rolled.book.history has.stage) other there has.run.end
+level-end trace tell origin r digest rounds disk before now levelled answer has other there is =
+    level-at has.rolled.book.rollout has.run (start_of has.rolled.book.rollout has.rolled.book.history has.stage) other there (ap (λ (x : RunOutcome). x.plan) has.rolled.run.tells) has.run.end (is ∙ has.tells)
 
 module _ {D P : Type 0} (trace : D → DiskTrace) (tell : P → PortTrace)
     (Given : List ℕ → Type 0) (origin : BackFrom) (limits : Limits) (disk disk_now : D) (before now : FleetSeen P) (e : CommandEnd) (out out_now : Option (List ℕ))
@@ -424,15 +437,13 @@ module _ {D P : Type 0} (trace : D → DiskTrace) (tell : P → PortTrace)
     level-takes : (other : Rollout) (there : List ℕ) → ended.Level other there ≡ answer → TakesBack trace other limits.migration there levelled disk_now e out out_now
         → TakesBack trace book.rollout limits.migration start levelled disk_now e out out_now
     level-takes other there same takes =
-        let end = level-end book.rollout start other there has.rolled.run.end (same ∙ has.tells) in
+        let end = level-end trace tell origin from.r (digest_for from.r limits.migration) limits.rounds from.opened before.ports now.ports levelled answer has other there same in
         subst (λ (xs : List ℕ). TakesBack trace book.rollout limits.migration xs levelled disk_now e out out_now) end.start_is
         (subst (λ (r : Rollout). TakesBack trace r limits.migration there levelled disk_now e out out_now) end.rollout_is takes)
 
     crash-now : (a : LevelAnswer) → a ≡ answer → Closes trace limits.migration a levelled disk_now e out out_now → is_run a ≡ true → CrashNow
     crash-now (ended.Level other there) same closes is = taken-crash (level-takes other there same closes)
-    crash-now (ended.Stopped other halt) same closes is = unplaced-crash closes.disk_is
-    crash-now (ended.NoPort other switch) same closes is = absurd cc
-    crash-now ended.Memory same closes is = absurd cc
+    crash-now (ended.Unlevel o) same closes is = unplaced-crash closes.disk_is
 
     berths-here : AllByRecursion (EndsWithin tell book.rollout limits.migration book.history (history_of o ran.log) before.ports now.ports) ran.berths
     berths-here = berths-within tell o limits.migration ran.log before.ports now.ports net valid ran.legal small ran.berths ran.given ran.ports
@@ -481,7 +492,7 @@ module _ {D P : Type 0} (trace : D → DiskTrace) (tell : P → PortTrace)
   run-safely : Closes trace limits.migration answer levelled disk_now e out out_now → is_run answer ≡ true → LevelsSafely trace tell origin limits Given disk disk_now before.ports now.ports
   run-safely closes is =
       let ran = run-begun trace tell origin from.r limits.migration limits.rounds from.opened levelled before.ports now.ports answer has is in
-      levels-safely has.rolled.run.end ran (crash-now has.rolled.run.end ran answer refl closes is)
+      levels-safely has.run.end ran (crash-now has.run.end ran answer refl closes is)
 
   -- where the run has finished, and where the policy holds back the rest, it has come so far
   finished-so : (ran : BegunRun run.Finished) → HasComeSoFar book.rollout.problem book.rollout.plan book.history s (history_of o ran.log)
@@ -498,7 +509,7 @@ module _ {D P : Type 0} (trace : D → DiskTrace) (tell : P → PortTrace)
       → ((x : Rollout) (xs : List ℕ) → TakesBack trace x limits.migration xs levelled disk_now e out out_now → HasPlaced trace (kept_from x limits.migration xs) disk_now × Appends out (back_text x) out_now)
       → IsTakenBack trace tell origin limits Given disk disk_now before.ports now.ports out out_now
   level-taken other there same takes done =
-      let end = level-end book.rollout start other there has.rolled.run.end (same ∙ has.tells) in
+      let end = level-end trace tell origin from.r (digest_for from.r limits.migration) limits.rounds from.opened before.ports now.ports levelled answer has other there same in
       let ran = run-begun trace tell origin from.r limits.migration limits.rounds from.opened levelled before.ports now.ports answer has (sym (ap is_run same)) in
       elim end.end_is as (λ _. IsTakenBack trace tell origin limits Given disk disk_now before.ports now.ports out out_now) [
         | inl finished ↦
@@ -542,14 +553,13 @@ module _ {D P : Type 0} (trace : D → DiskTrace) (tell : P → PortTrace)
 
 -- ---- by the ending
 
-pub stop-not-done : (r : Rollout) (why : Cause) → Done ≡ ending_of_stop r why → ⊥
-stop-not-done r (cause.Spent rounds item number) h = cc
-stop-not-done r (cause.Port switch) h = cc
-stop-not-done r (cause.Above item held begun) h = cc
-stop-not-done r (cause.NotMine switch item) h = cc
-stop-not-done r (cause.NoAnswer switch byte) h = cc
-stop-not-done r cause.Disk h = cc
-stop-not-done r cause.Memory h = cc
+-- one that isn't level isn't done
+unlevel-not-done : (end : RunEnd) (o : RunOutcome) → is_level end ≡ false → Done ≡ ending_at end o → ⊥
+unlevel-not-done run.Finished o isnt h = cc isnt
+unlevel-not-done run.Held o isnt h = cc isnt
+unlevel-not-done (run.Stopped halt) o isnt h = stop-not-done o.plan halt.cause h
+unlevel-not-done (run.NoPort switch) o isnt h = cc h
+unlevel-not-done run.Memory o isnt h = cc h
 
 -- where all was done the journal was placed and its document written
 done-wrote : {D : Type 0} (trace : D → DiskTrace) (migration : ℕ) (levelled disk_now : D) (out out_now : Option (List ℕ)) (x : Rollout) (xs : List ℕ) → TakesBack trace x migration xs levelled disk_now Done out out_now
@@ -578,9 +588,9 @@ module _ {D P : Type 0} (trace : D → DiskTrace) (tell : P → PortTrace)
   answer-taken from (ended.Level other there) same closes =
       level-taken trace tell Given origin limits disk disk_now before now Done out out_now from from.levels.levelled from.levels.answer from.levels.has other there same closes
       (done-wrote trace limits.migration from.levels.levelled disk_now out out_now)
-  answer-taken from (ended.Stopped other halt) same closes = absurd (stop-not-done other halt.cause closes.is)
-  answer-taken from (ended.NoPort other switch) same closes = absurd (let no : Done ≡ NotFinished (PortFault other switch) = closes.is in cc)
-  answer-taken from ended.Memory same closes = absurd (let no : Done ≡ OutOfMemory = closes.is in cc)
+  answer-taken from (ended.Unlevel o) same closes =
+      let has = from.levels.has in
+      absurd (unlevel-not-done o.end o (unlevel-not has.run o (start_of has.rolled.book.rollout has.rolled.book.history has.stage) (same ∙ has.tells)) closes.is)
 
   done-taken : Reverts trace tell Given origin limits disk disk_now before now Done out out_now → IsTakenBack trace tell origin limits Given disk disk_now before.ports now.ports out out_now
   done-taken reverts =

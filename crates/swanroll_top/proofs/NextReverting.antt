@@ -1,5 +1,6 @@
 -- Why no next start is refused for what a rollback has left: of its rollout, or of its way back.
 use Rattle.std.proofs.Common.{◌≡◌, ◌⊎◌, inl, inr, ℕ, true, List, [], Option, Some, None, IfSome, refl, sym, ap, ◌∙◌, subst}
+use Rattle.lists.proofs.Conditions.{some_same_is}
 use Rattle.rollout_rules.specs.Wan.{Rollout}
 use Rattle.rollout_rules.specs.History.{History}
 use Rattle.rollout_rules.specs.Legal.{is_legal}
@@ -41,7 +42,7 @@ use Rattle.swanroll_top.specs.Rollbacks.{Closes, Reverts, RollsBack, TakesBack}
 use Rattle.swanroll_top.specs.Rollouts.{FleetSeen}
 use Rattle.text_commands.specs.declared.command_end.CommandEnd.{CommandEnd}
 use Rattle.swanroll_top.proofs.Levelling.{here, level-end}
-use Rattle.swanroll_top.proofs.NextStarting.{kept-owner, rolled-again, same-kept, unopened-again}
+use Rattle.swanroll_top.proofs.NextStarting.{kept-owner, rolled-again, unopened-again}
 use Rattle.swanroll_top.proofs.Reverting.{is_run, run-begun}
 
 -- ---- what this rollout takes again
@@ -69,7 +70,7 @@ module _ {D : Type 0} (trace : D → DiskTrace) (origin : BackFrom) (r : Rollout
   -- an image that keeps what levelling has left
   taken-old : (c : List ℕ) → journal_in c ≡ journal_in image → IsTakenAgain r (digest_for r migration) first c
   taken-old c old =
-      let same : owner.now ≡ list.has.kept = same-kept owner.now list.has.kept (sym owner.is ∙ list.has.is) in
+      let same : owner.now ≡ list.has.kept = some_same_is owner.now list.has.kept (sym owner.is ∙ list.has.is) in
       record {
         found = found;
         begins = begins;
@@ -191,15 +192,13 @@ module _ {D P : Type 0} (trace : D → DiskTrace) (tell : P → PortTrace)
 
     closes-either : (a : LevelAnswer) → a ≡ answer → Closes trace limits.migration a levelled disk_now e out out_now → StartsEither trace origin r limits.migration opened disk_now
     closes-either (ended.Level other xs) same closes =
-        let end = level-end book.rollout (start_of book.rollout book.history stage) other xs has.rolled.run.end (same ∙ has.tells) in
+        let end = level-end trace tell origin r (digest_for r limits.migration) limits.rounds opened before now levelled answer has other xs same in
         let there : TakesBack trace book.rollout limits.migration (start_of book.rollout book.history stage) levelled disk_now e out out_now =
         subst (λ (ys : List ℕ). TakesBack trace book.rollout limits.migration ys levelled disk_now e out out_now) end.start_is
         (subst (λ (x : Rollout). TakesBack trace x limits.migration xs levelled disk_now e out out_now) end.rollout_is closes) in
         takes-either (sym (ap is_run same))
         (subst (λ (x : Rollout). TakesBack trace x limits.migration (start_of x book.history stage) levelled disk_now e out out_now) has.rolled.opened.rollout there)
-    closes-either (ended.Stopped other halt) same closes = left-either closes.disk_is
-    closes-either (ended.NoPort other switch) same closes = left-either closes.disk_is
-    closes-either ended.Memory same closes = left-either closes.disk_is
+    closes-either (ended.Unlevel o) same closes = left-either closes.disk_is
 
 -- ---- by the input
 

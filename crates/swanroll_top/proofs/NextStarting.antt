@@ -1,7 +1,8 @@
 -- Why no next start of a rollout is refused for what a run of it has left.
-use Rattle.std.proofs.Common.{◌≡◌, ◌⊎◌, inl, inr, ℕ, ◌≤◌, true, List, ◌++◌, [], Option, Some, None, IfSome, sym, ap, ◌∙◌, subst, arith}
+use Rattle.std.proofs.Common.{◌≡◌, ◌⊎◌, inl, inr, ℕ, ◌≤◌, true, List, [], Option, Some, None, IfSome, Result, Ok, Err, IfOk, IfErr, sym, ap, ◌∙◌, subst, arith}
+use Rattle.lists.proofs.Conditions.{some_same_is}
 use Rattle.rollout_rules.specs.Wan.{Rollout}
-use Rattle.rollout_rules.specs.History.{History, no_start, with_entries}
+use Rattle.rollout_rules.specs.History.{no_start, with_entries}
 use Rattle.rollout_rules.specs.Legal.{is_legal}
 use Rattle.rollout_rules.specs.declared.op.OpView.{OpView}
 use Rattle.disk_model.specs.Traces.{DiskTrace}
@@ -9,6 +10,7 @@ use Rattle.disk_model.specs.Moments.{LeavesOnly}
 use Rattle.disk_model.proofs.Running.{LeavesOnly-weaker}
 use Rattle.wan_edge.specs.Ports.{PortTrace}
 use Rattle.intent_journal.specs.declared.digest.Digest.{Digest}
+use Rattle.intent_journal.specs.declared.fault.JournalFault.{JournalFault}
 use Rattle.intent_journal.specs.Openings.{IsLeft, found_by}
 use Rattle.intent_journal.specs.Parts.{Kept}
 use Rattle.intent_journal.specs.Phases.{kept_by, kept_of}
@@ -20,10 +22,9 @@ use Rattle.shared_book.specs.Opened.{opening_of}
 use Rattle.switch_ports.specs.Berths.{FleetPorts}
 use Rattle.rollout_report.specs.Journals.{digest_for}
 use Rattle.controller_run.specs.declared.running.Limits.{Limits}
-use Rattle.controller_run.specs.RolloutEnds.{HasRolled, IfRolled, OnUnopened}
-use Rattle.controller_run.specs.declared.rollout_end.RolloutEnd.{RolloutEnd}
-use Rattle.controller_run.specs.declared.rollout_end.RolloutEnd.TheVariants as answer
-use Rattle.swanroll_top.specs.NextStarts.{IsTakenAgain, LeavesToNext, MayBeFound, NextStart, StartsAgain}
+use Rattle.controller_run.specs.RolloutEnds.{HasRolled}
+use Rattle.controller_run.specs.declared.outcome.RunOutcome.{RunOutcome}
+use Rattle.swanroll_top.specs.NextStarts.{IsTakenAgain, MayBeFound, NextStart, StartsAgain}
 use Rattle.swanroll_top.specs.Rollouts.{FleetSeen, Rolls}
 use Rattle.text_commands.specs.declared.command_end.CommandEnd.{CommandEnd}
 
@@ -40,9 +41,6 @@ kept-owner r digest (OfAnother bytes migration) what is = absurd (cc is)
 kept-owner r digest NoStart what is = absurd (cc is)
 kept-owner r digest (NotLegal place) what is = absurd (cc is)
 
-pub same-kept : (a b : Kept) → Some a ≡ Some b → a ≡ b
-same-kept a b is = cc is
-
 widened : {A B C : Type 0} → A ⊎ B → A ⊎ (B ⊎ C)
 widened (inl a) = inl a
 widened (inr b) = inr (inl b)
@@ -53,7 +51,7 @@ taken : (r : Rollout) (digest : Digest) (first : List ℕ) (o : Opening) (kept :
 taken r digest first o kept rollout begins own c goes =
     let owner = goes.owner in
     let has = goes.list.has in
-    let same : owner.now ≡ has.kept = same-kept owner.now has.kept (sym owner.is ∙ has.is) in
+    let same : owner.now ≡ has.kept = some_same_is owner.now has.kept (sym owner.is ∙ has.is) in
     record {
       found = o.found;
       begins = begins;
@@ -110,18 +108,14 @@ module _ {D : Type 0} (trace : D → DiskTrace) (r : Rollout) (digest : Digest) 
   unopened-again run = left-again (trace disk).bytes (trace now).bytes run
 
 module _ {D P : Type 0} (trace : D → DiskTrace) (tell : P → PortTrace) (r : Rollout) (digest : Digest) (policy : OpView → ℕ) (rounds : ℕ) (disk disk_now : D) (before now : FleetPorts P) where
-  pub rolled-again : (a : RolloutEnd) → HasRolled trace tell r digest policy rounds disk before now disk_now a → StartsAgain trace r digest disk disk_now
+  pub rolled-again : (a : RunOutcome) → HasRolled trace tell r digest policy rounds disk before now disk_now a → StartsAgain trace r digest disk disk_now
   rolled-again a has =
       opened-again trace r digest disk disk_now (opening_of has.book policy) has.book.disk (trace disk).bytes (trace disk_now).bytes has.opened.rollout has.opened.found has.opened.on.keeps has.opened.on.meanwhile has.run.stays
 
-  answer-again : (a : RolloutEnd) (Q : Type 0) → IfRolled a (HasRolled trace tell r digest policy rounds disk before now disk_now a)
-      → OnUnopened a (λ why. IsLeft trace r digest disk why disk_now × Q) → StartsAgain trace r digest disk disk_now
-  answer-again (answer.Finished operations found) Q has left = rolled-again (answer.Finished operations found) has
-  answer-again (answer.Held count) Q has left = rolled-again (answer.Held count) has
-  answer-again (answer.Stopped other halt) Q has left = rolled-again (answer.Stopped other halt) has
-  answer-again (answer.NoPort other switch) Q has left = rolled-again (answer.NoPort other switch) has
-  answer-again answer.Memory Q has left = rolled-again answer.Memory has
-  answer-again (answer.Unopened why) Q has left = left-again trace r digest disk disk_now (trace disk).bytes (trace disk_now).bytes left.0.meanwhile
+  answer-again : (a : Result RunOutcome JournalFault) (Q : Type 0) → IfOk a (λ o. HasRolled trace tell r digest policy rounds disk before now disk_now o)
+      → IfErr a (λ why. IsLeft trace r digest disk why disk_now × Q) → StartsAgain trace r digest disk disk_now
+  answer-again (Ok o) Q has left = rolled-again o has
+  answer-again (Err why) Q has left = left-again trace r digest disk disk_now (trace disk).bytes (trace disk_now).bytes left.0.meanwhile
 
 module _ {D P : Type 0} (trace : D → DiskTrace) (tell : P → PortTrace) (Given : List ℕ → Type 0) (disk disk_now : D) (before now : FleetSeen P) (limits : Limits) (policy : OpView → ℕ) (e : CommandEnd) (out out_now : Option (List ℕ)) where
   pub rolls-next : Rolls trace tell Given limits policy disk disk_now before now e out out_now → NextStart trace limits Given disk disk_now

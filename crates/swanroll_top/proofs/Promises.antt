@@ -1,6 +1,7 @@
 -- How the promise of the call follows from what a command brought about and from what was noted.
 use Rattle.std.proofs.Common.{◌≡◌, ℕ, Bool, List, drop, String, Option, Some, None, Result, Ok, Err, refl, sym, ap, ◌∙◌, subst, arith}
 use Rattle.std.specs.declared.alloc.Global.{Global}
+use Rattle.wan_edge.specs.Fleets.{FleetTrace, PortsStay}
 use Rattle.rollout_rules.specs.declared.op.OpView.{OpView}
 use Rattle.agent_service.specs.Services.{Guests}
 use Rattle.switch_ports.specs.Berths.{FleetPorts, ports_of}
@@ -17,7 +18,7 @@ use Rattle.text_commands.specs.Program.{NotesLine, Streams}
 use Rattle.swanroll_top.specs.Promise.{Brings, EndsUnread, Keeps, Promise, Ran, StartPromise}
 use Rattle.swanroll_top.specs.ReportPromise.{BringsReport, ReportPromise}
 use Rattle.swanroll_top.specs.Reports.{RunsReport}
-use Rattle.swanroll_top.specs.Rollouts.{RollsAs, RunsRollout}
+use Rattle.swanroll_top.specs.Rollouts.{RollsAs, RunsRollout, fleet_of}
 use Rattle.swanroll_top.specs.RollbackPromise.{BringsRollback, RollbackPromise}
 use Rattle.swanroll_top.specs.Rollbacks.{RevertsAs}
 use Rattle.swanroll_top.specs.RunPromise.{BringsRollout, RunPromise}
@@ -25,7 +26,7 @@ use Rattle.text_commands.specs.Runs.{IsInput, IsTold}
 use Rattle.swanroll_top.specs.TrialPromise.{TrialPromise}
 use Rattle.swanroll_top.specs.Tries.{RunsTrial, tried}
 use Rattle.swanroll_top.specs.Uses.{uses_of}
-use Rattle.swanroll_top.specs.Views.{Objects, Outside, Views, outside, seen, source_at, streams, used, written_at}
+use Rattle.swanroll_top.specs.Views.{Objects, Outside, Views, outside, source_at, streams, used, written_at}
 use Rattle.swanroll_top.specs.Words.{Asked, a_drain, a_report, a_rollback, a_run, a_text, a_trial, an_agent, asked_by, what_is_held}
 use Rattle.text_commands.specs.declared.arguments.Unread.{Unread}
 use Rattle.text_commands.specs.declared.command_end.CommandEnd.{CommandEnd}
@@ -51,12 +52,10 @@ use Rattle.text_commands.proofs.Statuses.{is-disk-fault, is-done}
 abbrev ports_with : {P : Type 0} → Option (ℕ → Option P) → (ℕ → Option P) → (ℕ → Bool) → (ℕ → Option (List ℕ)) → FleetPorts P
 ports_with waiting kept lent named = record { waiting = waiting; kept = kept; lent = lent; named = named }
 
-pub same-ports : {F P : Type 0} (waiting : F → Option (ℕ → Option P)) (kept : F → ℕ → Option P) (lent : F → ℕ → Bool) (named : F → ℕ → Option (List ℕ)) (before now : F)
-    → waiting now ≡ waiting before → kept now ≡ kept before → lent now ≡ lent before → named now ≡ named before
-    → ports_of waiting kept lent named now ≡ ports_of waiting kept lent named before
-same-ports waiting kept lent named before now w k l n =
-    ap (λ x. ports_with x (kept now) (lent now) (named now)) w ∙ (ap (λ x. ports_with (waiting before) x (lent now) (named now)) k
-    ∙ (ap (λ x. ports_with (waiting before) (kept before) x (named now)) l ∙ ap (λ x. ports_with (waiting before) (kept before) (lent before) x) n))
+pub same-ports : {P G : Type 0} (before now : FleetTrace P G) → PortsStay before now → ports_of now ≡ ports_of before
+same-ports before now stay =
+    ap (λ x. ports_with x now.kept now.lent now.named) stay.0 ∙ (ap (λ x. ports_with before.waiting x now.lent now.named) stay.1
+    ∙ (ap (λ x. ports_with before.waiting before.kept x now.named) stay.2 ∙ ap (λ x. ports_with before.waiting before.kept before.lent x) stay.3))
 
 abbrev guests_with : {G : Type 0} → Option (List G) → List G → Guests G
 guests_with coming served = record { coming = coming; served = served }
@@ -121,8 +120,8 @@ module _ {S K D F P G : Type 0} (views : Views S K D F P G) where
       let source_now = views.source after.source in
       let out = (views.sink before.sink).written in
       let out_now = (views.sink after.sink).written in
-      let fleet = seen (views.fleet before.fleet) in
-      let fleet_now = seen (views.fleet after.fleet) in
+      let fleet = fleet_of (views.fleet before.fleet) in
+      let fleet_now = fleet_of (views.fleet after.fleet) in
       let told_runs = told-brings (λ x. RunsRollout source source_now x out out_now) out out_now e told.told told.is brings.runs (rollout-unwritten source source_now out out_now e brings.runs) (λ same. same) in
       let rolls : RollsAs views.disk views.port
       (IsInput source source_now) limits policy before.disk after.disk fleet fleet_now status out out_now = record { ending = e; told = told.told; told_as = told.is; is_status = told.is_status; rolls = brings.rolls } in
@@ -169,8 +168,8 @@ module _ {S K D F P G : Type 0} (views : Views S K D F P G) where
       let source_now = views.source after.source in
       let out = (views.sink before.sink).written in
       let out_now = (views.sink after.sink).written in
-      let fleet = seen (views.fleet before.fleet) in
-      let fleet_now = seen (views.fleet after.fleet) in
+      let fleet = fleet_of (views.fleet before.fleet) in
+      let fleet_now = fleet_of (views.fleet after.fleet) in
       let told_runs = told-brings (λ x. RunsRollout source source_now x out out_now) out out_now e told.told told.is brings.runs (rollout-unwritten source source_now out out_now e brings.runs) (λ same. same) in
       let rolls : DrainsAs views.disk views.port
       (IsInput source source_now) limits before.disk after.disk fleet fleet_now status out out_now = record { ending = e; told = told.told; told_as = told.is; is_status = told.is_status; rolls = brings.rolls } in
@@ -205,8 +204,8 @@ module _ {S K D F P G : Type 0} (views : Views S K D F P G) where
       let source_now = views.source after.source in
       let out = (views.sink before.sink).written in
       let out_now = (views.sink after.sink).written in
-      let fleet = seen (views.fleet before.fleet) in
-      let fleet_now = seen (views.fleet after.fleet) in
+      let fleet = fleet_of (views.fleet before.fleet) in
+      let fleet_now = fleet_of (views.fleet after.fleet) in
       let told_runs = told-brings (λ x. RunsRollout source source_now x out out_now) out out_now e told.told told.is brings.runs (rollout-unwritten source source_now out out_now e brings.runs) (λ same. same) in
       let rolls : RevertsAs views.disk views.port
       (IsInput source source_now) origin limits before.disk after.disk fleet fleet_now status out out_now = record { ending = e; told = told.told; told_as = told.is; is_status = told.is_status; rolls = brings.rolls } in
@@ -241,8 +240,8 @@ module _ {S K D F P G : Type 0} (views : Views S K D F P G) where
       let source_now = views.source after.source in
       let out = (views.sink before.sink).written in
       let out_now = (views.sink after.sink).written in
-      let fleet = seen (views.fleet before.fleet) in
-      let fleet_now = seen (views.fleet after.fleet) in
+      let fleet = fleet_of (views.fleet before.fleet) in
+      let fleet_now = fleet_of (views.fleet after.fleet) in
       let told_runs = told-brings (λ x. RunsRollout source source_now x out out_now) out out_now e told.told told.is brings.runs (rollout-unwritten source source_now out out_now e brings.runs) (λ same. same) in
       record {
         does = λ read memory. record {

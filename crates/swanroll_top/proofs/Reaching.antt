@@ -1,10 +1,9 @@
 -- After a rollout that was begun the network is safe, after status 0 at the target, and after status 14 the policy holds back the rest.
-use Rattle.std.proofs.Common.{◌≡◌, ◌⊎◌, ℕ, ◌<◌, ◌^◌, List, [], ◌∷◌, length, nat_lt, Bool, true, false, if◌then◌else◌, Option, Some, None, IfSome, Ok, Err, refl, sym, ap, Result, ◌∙◌, subst, inl, inr, arith}
+use Rattle.std.proofs.Common.{◌≡◌, ℕ, ◌<◌, ◌^◌, List, [], ◌∷◌, length, nat_lt, Bool, true, false, if◌then◌else◌, Option, Some, None, IfSome, Result, Ok, Err, IfOk, IfErr, refl, sym, ap, ◌∙◌, subst, inl, inr, arith}
 use Rattle.std.specs.List.{All, AllByRecursion}
 use Rattle.std.proofs.lemmas.List.Elements.{All-head, All-tail}
 use Rattle.rollout_rules.specs.Wan.{Rollout}
-use Rattle.rollout_rules.specs.History.{History}
-use Rattle.rollout_rules.specs.Legal.{is_finished, is_legal}
+use Rattle.rollout_rules.specs.Legal.{is_finished}
 use Rattle.rollout_rules.specs.Network.{IsNetwork}
 use Rattle.rollout_rules.specs.Valid.{is_valid_plan}
 use Rattle.rollout_rules.specs.declared.limits.TheConstants.{MOST_INPUT}
@@ -13,7 +12,6 @@ use Rattle.disk_model.specs.Traces.{DiskTrace}
 use Rattle.disk_mirror.specs.Openings.{IsTold, Opens}
 use Rattle.wan_edge.specs.Ports.{PortTrace}
 use Rattle.wan_edge.specs.Streams.{Appends}
-use Rattle.dependency_graph.specs.Graph.{op_total}
 use Rattle.intent_journal.specs.Verdicts.{verdict}
 use Rattle.intent_journal.specs.declared.fault.JournalFault.{JournalFault}
 use Rattle.intent_journal.specs.declared.fault.JournalFault.TheVariants as fault
@@ -25,7 +23,6 @@ use Rattle.shared_book.specs.Legal.{is_legal_shared}
 use Rattle.shared_book.proofs.Lists.{list-is_legal}
 use Rattle.shared_book.specs.Homes.{homes_of}
 use Rattle.shared_book.specs.Opened.{opening_of}
-use Rattle.rollout_book.specs.JournaledRounds.{Journaled}
 use Rattle.port_session.specs.Sessions.{first_session}
 use Rattle.switch_ports.specs.declared.ports.Berth.{Berth}
 use Rattle.switch_ports.specs.Berths.{FleetPorts}
@@ -37,29 +34,29 @@ use Rattle.switch_laws.proofs.Stands.{held_at_end, held_stands}
 use Rattle.completion_laws.proofs.Each.{each_at_end, each_stands}
 use Rattle.rollout_report.specs.Journals.{digest_for}
 use Rattle.controller_run.specs.PortRuns.{IsBack}
-use Rattle.controller_run.specs.Ran.{EndsRun, Ran}
+use Rattle.controller_run.specs.Ran.{Ran}
 use Rattle.controller_run.specs.declared.end.RunEnd.{RunEnd}
 use Rattle.controller_run.specs.declared.end.RunEnd.TheVariants as run
 use Rattle.controller_run.specs.declared.running.Limits.{Limits}
 use Rattle.controller_run.proofs.Standing.{runs_at}
 use Rattle.completion_laws.proofs.Excused.{held-rests, held-still}
 use Rattle.intent_journal.specs.Openings.{IsLeft, found_by}
-use Rattle.controller_run.specs.RolloutEnds.{HasRolled, IfRolled, OnUnopened, answer_for}
-use Rattle.controller_run.specs.declared.rollout_end.RolloutEnd.{RolloutEnd}
-use Rattle.controller_run.specs.declared.rollout_end.RolloutEnd.TheVariants as outcome
+use Rattle.controller_run.specs.RolloutEnds.{HasRolled}
+use Rattle.controller_run.specs.declared.outcome.RunOutcome.{RunOutcome}
 use Rattle.text_commands.specs.CommandEnds.{ending_of_journal, status_of}
 use Rattle.text_commands.specs.Lines.{IsToldAs}
 use Rattle.text_commands.specs.Answers.{rollout_in, rollout_to}
-use Rattle.swanroll_top.specs.Rollouts.{FleetSeen, IsUnbegun, Rolls, RollsAs, RollsOpened, RollsOut, RollsOutOf, ending_of_stop, finished_line, line_or_ending}
+use Rattle.swanroll_top.specs.Rollouts.{FleetSeen, IsUnbegun, Rolls, RollsAs, RollsOpened, RollsOut, RollsOutOf, by_answer, ending_of_stop, finished_line, line_at, line_or_ending}
 use Rattle.text_commands.specs.Program.{IsUnfinished}
 use Rattle.text_commands.specs.Runs.{EndsWith, Follows}
-use Rattle.swanroll_top.specs.Targets.{BeginsNothing, EndsAtTarget, EndsSafely, EndsWithin, IsOfBegun, ReachesTarget, RestsHeld, StaysSafe}
+use Rattle.swanroll_top.specs.Targets.{EndsAtTarget, EndsSafely, EndsWithin, IsOfBegun, ReachesTarget, RestsHeld, StaysSafe}
 use Rattle.text_commands.specs.Unfinished.{unfinished_status}
 use Rattle.text_commands.specs.declared.command_end.CommandEnd.{CommandEnd}
 use Rattle.text_commands.specs.declared.command_end.CommandEnd.TheVariants.{Done, Usage, AboveLimit, Input, NotValid, NoPlan, Unshown, ReadFault, WriteFault, DiskFault, GuestFault, Refused, NotFinished, OutOfMemory}
 use Rattle.text_commands.specs.declared.unfinished.Unfinished.{Unfinished}
 use Rattle.text_commands.specs.declared.unfinished.Unfinished.TheVariants.{RoundsSpent, PortFault, Above, NotMine, NoAnswer, Held}
 use Rattle.text_commands.proofs.Answering.{is_answer, rollout-answers}
+use Rattle.swanroll_top.proofs.Outcomes.{is_ran, ran-begun, stop-not-done, unbegun-nothing}
 use Rattle.swanroll_top.proofs.Elsewhere.{none-settled}
 use Rattle.text_commands.proofs.Programs.{follows-ends, told-same}
 use Rattle.text_commands.proofs.Statuses.{is-done, is-unfinished, not-status}
@@ -172,62 +169,12 @@ unbegun-refused Given OutOfMemory begun h = absurd cc
 
 -- ---- an answer after a run that was begun
 
-abbrev pub is_ran : RolloutEnd → Bool
-is_ran (outcome.Finished operations found) = true
-is_ran (outcome.Held left) = true
-is_ran (outcome.Stopped r halt) = true
-is_ran (outcome.NoPort r switch) = false
-is_ran outcome.Memory = false
-is_ran (outcome.Unopened why) = false
-
-ends-ran : (a : RolloutEnd) (e : CommandEnd) (out now : Option (List ℕ)) → is_of_begun e ≡ true → EndsWith (line_or_ending a) e out now → is_ran a ≡ true
-ends-ran (outcome.Finished operations found) e out now begun h = refl
-ends-ran (outcome.Held left) e out now begun h = refl
-ends-ran (outcome.Stopped r halt) e out now begun h = refl
-ends-ran (outcome.NoPort r switch) e out now begun h = absurd (not-begun e (NotFinished (PortFault r switch)) begun h.0 refl)
-ends-ran outcome.Memory e out now begun h = absurd (not-begun e OutOfMemory begun h.0 refl)
-ends-ran (outcome.Unopened why) e out now begun h = absurd (not-begun e (ending_of_journal why) begun h.0 (journal-begun why))
-
--- the run after it was begun
-module _ {D P : Type 0} (tell : P → PortTrace) (homes : List ℕ) (opened closed : Journaled D) (before now : FleetPorts P) where
-  ran-begun : (r : Rollout) (found : ℕ) (h : History) (Ran : RunEnd → Type 0) (end : RunEnd) → is_ran (answer_for r found h end) ≡ true → EndsRun tell homes opened closed before now (Ran end) end → Ran end
-  ran-begun r found h Ran run.Finished is ran = ran
-  ran-begun r found h Ran run.Held is ran = ran
-  ran-begun r found h Ran (run.Stopped halt) is ran = ran
-  ran-begun r found h Ran (run.NoPort switch) is ran = absurd cc
-  ran-begun r found h Ran run.Memory is ran = absurd cc
-
-  -- and one that wasn't has left the ports as they were
-  pub unbegun-nothing : (r : Rollout) (found : ℕ) (h : History) (ran : Type 0) (end : RunEnd) → is_ran (answer_for r found h end) ≡ false → EndsRun tell homes opened closed before now ran end → BeginsNothing tell before now
-  unbegun-nothing r found h ran run.Finished isnt ends = absurd (cc isnt)
-  unbegun-nothing r found h ran run.Held isnt ends = absurd (cc isnt)
-  unbegun-nothing r found h ran (run.Stopped halt) isnt ends = absurd (cc isnt)
-  unbegun-nothing r found h ran (run.NoPort switch) isnt ends = inr (opened.rollout.problem, ends.1.earlier, ends.1.given_back)
-  unbegun-nothing r found h ran run.Memory isnt ends = elim ends.ports [
-    | inl same ↦ inl same
-    | inr back ↦ inr (opened.rollout.problem, homes, back)
-  ]
-
--- so it is finished, and the line has these numbers
-record IsFinishedEnd (r : Rollout) (found operations count : ℕ) (end : RunEnd) : Type 0 where
-  pub end_is : end ≡ run.Finished
-  pub operations_is : operations ≡ op_total r
-  pub count_is : count ≡ found
-
-finished-end : (r : Rollout) (found : ℕ) (h : History) (end : RunEnd) (operations count : ℕ) → outcome.Finished operations count ≡ answer_for r found h end → IsFinishedEnd r found operations count end
-finished-end r found h run.Finished operations count is = record { end_is = refl; operations_is = cc; count_is = cc }
-finished-end r found h run.Held operations count is = absurd cc
-finished-end r found h (run.Stopped halt) operations count is = absurd cc
-finished-end r found h (run.NoPort switch) operations count is = absurd cc
-finished-end r found h run.Memory operations count is = absurd cc
-
--- so it is held
-held-end : (r : Rollout) (found : ℕ) (h : History) (end : RunEnd) (count : ℕ) → outcome.Held count ≡ answer_for r found h end → end ≡ run.Held
-held-end r found h run.Finished count is = absurd cc
-held-end r found h run.Held count is = refl
-held-end r found h (run.Stopped halt) count is = absurd cc
-held-end r found h (run.NoPort switch) count is = absurd cc
-held-end r found h run.Memory count is = absurd cc
+ran-at : (end : RunEnd) (o : RunOutcome) (e : CommandEnd) (out now : Option (List ℕ)) → is_of_begun e ≡ true → EndsWith (line_at end o) e out now → is_ran end ≡ true
+ran-at run.Finished o e out now begun h = refl
+ran-at run.Held o e out now begun h = refl
+ran-at (run.Stopped halt) o e out now begun h = refl
+ran-at (run.NoPort switch) o e out now begun h = absurd (not-begun e (NotFinished (PortFault o.plan switch)) begun h.0 refl)
+ran-at run.Memory o e out now begun h = absurd (not-begun e OutOfMemory begun h.0 refl)
 
 -- ---- the ports
 
@@ -318,7 +265,7 @@ module _ {D P : Type 0} (trace : D → DiskTrace) (tell : P → PortTrace)
 
 module _ {D P : Type 0} (trace : D → DiskTrace) (tell : P → PortTrace)
     (Given : List ℕ → Type 0) (disk disk_now : D) (before now : FleetSeen P) (limits : Limits) (policy : OpView → ℕ) (e : CommandEnd) (out out_now : Option (List ℕ))
-    (rolled : RunsFrom trace tell Given limits policy disk disk_now before now e out out_now) (a : RolloutEnd)
+    (rolled : RunsFrom trace tell Given limits policy disk disk_now before now e out out_now) (a : RunOutcome)
     (has : HasRolled trace tell rolled.r (digest_for rolled.r limits.migration) policy limits.rounds rolled.opened before.ports now.ports disk_now a) where
   abbrev pub Begun : RunEnd → Type 0
   Begun end = Ran trace tell (opening_of has.book policy) (trace has.book.disk).moment (trace has.book.disk).faults limits.migration limits.rounds
@@ -330,11 +277,9 @@ module _ {D P : Type 0} (trace : D → DiskTrace) (tell : P → PortTrace)
   valid : is_valid_plan has.book.rollout.problem has.book.rollout.plan ≡ true
   valid = subst (λ (r : Rollout). is_valid_plan r.problem r.plan ≡ true) (sym has.opened.rollout) rolled.rolls.valid
 
-  pub has-run : is_ran a ≡ true → Begun has.run.end
+  pub has-run : is_ran a.end ≡ true → Begun a.end
   unfolding digest_for
-  has-run is =
-      ran-begun tell (working_homes has.book.rollout.problem has.book.rollout.plan) has.book has.run.closed before.ports now.ports
-      has.book.rollout (length has.book.history.entries) has.run.closed.history Begun has.run.end (sym (ap is_ran has.run.tells) ∙ is) has.run.ran
+  has-run is = ran-begun tell (working_homes has.book.rollout.problem has.book.rollout.plan) has.book has.run.closed before.ports now.ports Begun a.end is has.run.ran
 
   stays-safe : (end : RunEnd) → Begun end → StaysSafe trace tell limits Given disk before.ports now.ports
   stays-safe end ran = record {
@@ -360,29 +305,26 @@ module _ {D P : Type 0} (trace : D → DiskTrace) (tell : P → PortTrace)
   }
 
   -- whether it was begun or not
-  runs-ends : (is : Bool) → is_ran a ≡ is → EndsSafely trace tell limits Given disk before.ports now.ports
-  runs-ends true is = inr (stays-safe has.run.end (has-run is))
+  runs-ends : (is : Bool) → is_ran a.end ≡ is → EndsSafely trace tell limits Given disk before.ports now.ports
+  runs-ends true is = inr (stays-safe a.end (has-run is))
   runs-ends false isnt = inl
-      (unbegun-nothing tell (working_homes has.book.rollout.problem has.book.rollout.plan) has.book has.run.closed before.ports now.ports
-      has.book.rollout (length has.book.history.entries) has.run.closed.history _ has.run.end (sym (ap is_ran has.run.tells) ∙ isnt) has.run.ran)
+      (unbegun-nothing tell (working_homes has.book.rollout.problem has.book.rollout.plan) has.book has.run.closed before.ports now.ports _ a.end isnt has.run.ran)
 
-  reaches : (operations count : ℕ) → a ≡ outcome.Finished operations count → Appends out (finished_line operations count) out_now → ReachesTarget trace tell limits Given disk before.ports now.ports out out_now
+  reaches : a.end ≡ run.Finished → Appends out (finished_line a.operations a.found) out_now → ReachesTarget trace tell limits Given disk before.ports now.ports out out_now
   unfolding stays-safe
-  reaches operations count is line =
-      let end = finished-end has.book.rollout (length has.book.history.entries) has.run.closed.history has.run.end operations count (sym is ∙ has.run.tells) in
-      let ran : Begun run.Finished = subst Begun end.end_is (has-run (ap is_ran is)) in
+  reaches is line =
+      let ran : Begun run.Finished = subst Begun is (has-run (ap is_ran is)) in
       record {
         stays = stays-safe run.Finished ran;
         finished = ran.ends.1;
         ports = berths-end tell (opening_of has.book policy) limits.migration ran.log before.ports now.ports net valid ran.legal rolled.rolls.small ran.ends.1 ran.berths ran.given ran.ports;
-        line = subst (λ (text : List ℕ). Appends out text out_now) (ap (λ n. finished_line n count) end.operations_is ∙ ap (finished_line (op_total has.book.rollout)) end.count_is) line;
+        line = subst (λ (text : List ℕ). Appends out text out_now) (ap (λ (o : RunOutcome). finished_line o.operations o.found) has.run.tells) line;
       }
 
-  rests : (count : ℕ) → a ≡ outcome.Held count → RestsHeld trace tell limits policy Given disk before.ports now.ports
+  rests : a.end ≡ run.Held → RestsHeld trace tell limits policy Given disk before.ports now.ports
   unfolding stays-safe
-  rests count is =
-      let end = held-end has.book.rollout (length has.book.history.entries) has.run.closed.history has.run.end count (sym is ∙ has.run.tells) in
-      let ran : Begun run.Held = subst Begun end (has-run (ap is_ran is)) in
+  rests is =
+      let ran : Begun run.Held = subst Begun is (has-run (ap is_ran is)) in
       let homes = working_homes has.book.rollout.problem has.book.rollout.plan in
       record {
         stays = stays-safe run.Held ran;
@@ -393,46 +335,36 @@ module _ {D P : Type 0} (trace : D → DiskTrace) (tell : P → PortTrace)
 
 module _ {D P : Type 0} (trace : D → DiskTrace) (tell : P → PortTrace)
     (Given : List ℕ → Type 0) (disk disk_now : D) (before now : FleetSeen P) (limits : Limits) (policy : OpView → ℕ) (out out_now : Option (List ℕ)) where
-  rolled-if : (r : Rollout) (opened : D) (a : RolloutEnd) → is_ran a ≡ true → IfRolled a (HasRolled trace tell r (digest_for r limits.migration) policy limits.rounds opened before.ports now.ports disk_now a)
-      → HasRolled trace tell r (digest_for r limits.migration) policy limits.rounds opened before.ports now.ports disk_now a
-  rolled-if r opened (outcome.Finished operations found) is has = has
-  rolled-if r opened (outcome.Held left) is has = has
-  rolled-if r opened (outcome.Stopped other halt) is has = has
-  rolled-if r opened (outcome.NoPort other switch) is has = has
-  rolled-if r opened outcome.Memory is has = has
-  rolled-if r opened (outcome.Unopened why) is has = absurd cc
+  begun-by : (e : CommandEnd) → is_of_begun e ≡ true → (rolled : RunsFrom trace tell Given limits policy disk disk_now before now e out out_now) (a : Result RunOutcome JournalFault)
+      → IfOk a (λ o. HasRolled trace tell rolled.r (digest_for rolled.r limits.migration) policy limits.rounds rolled.opened before.ports now.ports disk_now o)
+      → EndsWith (by_answer line_or_ending a) e out out_now → StaysSafe trace tell limits Given disk before.ports now.ports
+  begun-by e begun rolled (Ok o) has ends =
+      stays-safe trace tell Given disk disk_now before now limits policy e out out_now rolled o has o.end
+      (has-run trace tell Given disk disk_now before now limits policy e out out_now rolled o has (ran-at o.end o e out out_now begun ends))
+  begun-by e begun rolled (Err why) has ends = absurd (not-begun e (ending_of_journal why) begun ends.0 (journal-begun why))
 
   begun-safe : (e : CommandEnd) → is_of_begun e ≡ true → Rolls trace tell Given limits policy disk disk_now before now e out out_now
       → StaysSafe trace tell limits Given disk before.ports now.ports
   begun-safe e begun (inl none) = absurd (unbegun-refused Given e begun none.why)
   begun-safe e begun (inr way) =
       let rolled = runs-from trace tell Given disk disk_now before now limits policy e out out_now (λ is. not-begun e DiskFault begun is refl) way in
-      let a = rolled.rolls.answer in
-      let is : is_ran a ≡ true = ends-ran a e out out_now begun (begun-ends (line_or_ending a) e out out_now begun rolled.rolls.follows) in
-      let has = rolled-if rolled.r rolled.opened a is rolled.rolls.rolled in
-      stays-safe trace tell Given disk disk_now before now limits policy e out out_now rolled a has has.run.end
-      (has-run trace tell Given disk disk_now before now limits policy e out out_now rolled a has is)
+      begun-by e begun rolled rolled.rolls.answer rolled.rolls.rolled (begun-ends (by_answer line_or_ending rolled.rolls.answer) e out out_now begun rolled.rolls.follows)
 
-  answer-reaches : (rolled : RunsFrom trace tell Given limits policy disk disk_now before now Done out out_now) (a : RolloutEnd)
-      → IfRolled a (HasRolled trace tell rolled.r (digest_for rolled.r limits.migration) policy limits.rounds rolled.opened before.ports now.ports disk_now a)
-      → Follows (line_or_ending a) Done out out_now → ReachesTarget trace tell limits Given disk before.ports now.ports out out_now
-  answer-reaches rolled (outcome.Finished operations count) has (inl done) =
-      reaches trace tell Given disk disk_now before now limits policy Done out out_now rolled (outcome.Finished operations count) has operations count refl done.1
-  answer-reaches rolled (outcome.Finished operations count) has (inr cut) = absurd (cc (cut.0))
-  answer-reaches rolled (outcome.Held held) has ends = absurd (cc (ends.0))
-  answer-reaches rolled (outcome.Stopped r halt) has ends = absurd (stop-done r halt.cause ends.0)
-    where
-      stop-done : (r : Rollout) (why : Cause) → Done ≡ ending_of_stop r why → ⊥
-      stop-done r (cause.Spent rounds item number) h = cc
-      stop-done r (cause.Port switch) h = cc
-      stop-done r (cause.Above item held begun) h = cc
-      stop-done r (cause.NotMine switch item) h = cc
-      stop-done r (cause.NoAnswer switch byte) h = cc
-      stop-done r cause.Disk h = cc
-      stop-done r cause.Memory h = cc
-  answer-reaches rolled (outcome.NoPort r switch) has ends = absurd (cc (ends.0))
-  answer-reaches rolled outcome.Memory has ends = absurd (cc (ends.0))
-  answer-reaches rolled (outcome.Unopened why) has ends = absurd (not-begun Done (ending_of_journal why) refl ends.0 (journal-begun why))
+  reaches-at : (rolled : RunsFrom trace tell Given limits policy disk disk_now before now Done out out_now) (o : RunOutcome)
+      → HasRolled trace tell rolled.r (digest_for rolled.r limits.migration) policy limits.rounds rolled.opened before.ports now.ports disk_now o
+      → (end : RunEnd) → o.end ≡ end → EndsWith (line_at end o) Done out out_now → ReachesTarget trace tell limits Given disk before.ports now.ports out out_now
+  reaches-at rolled o has run.Finished is (inl done) = reaches trace tell Given disk disk_now before now limits policy Done out out_now rolled o has is done.1
+  reaches-at rolled o has run.Finished is (inr cut) = absurd (cc (cut.0))
+  reaches-at rolled o has run.Held is ends = absurd (cc (ends.0))
+  reaches-at rolled o has (run.Stopped halt) is ends = absurd (stop-not-done o.plan halt.cause ends.0)
+  reaches-at rolled o has (run.NoPort switch) is ends = absurd (cc (ends.0))
+  reaches-at rolled o has run.Memory is ends = absurd (cc (ends.0))
+
+  answer-reaches : (rolled : RunsFrom trace tell Given limits policy disk disk_now before now Done out out_now) (a : Result RunOutcome JournalFault)
+      → IfOk a (λ o. HasRolled trace tell rolled.r (digest_for rolled.r limits.migration) policy limits.rounds rolled.opened before.ports now.ports disk_now o)
+      → Follows (by_answer line_or_ending a) Done out out_now → ReachesTarget trace tell limits Given disk before.ports now.ports out out_now
+  answer-reaches rolled (Ok o) has ends = reaches-at rolled o has o.end refl ends
+  answer-reaches rolled (Err why) has ends = absurd (not-begun Done (ending_of_journal why) refl ends.0 (journal-begun why))
 
   done-reaches : Rolls trace tell Given limits policy disk disk_now before now Done out out_now → ReachesTarget trace tell limits Given disk before.ports now.ports out out_now
   done-reaches (inl none) = absurd (unbegun-refused Given Done refl none.why)
@@ -442,26 +374,30 @@ module _ {D P : Type 0} (trace : D → DiskTrace) (tell : P → PortTrace)
 
   -- by the answer of a run that says held
   module _ (count : ℕ) where
-    answer-rests : (rolled : RunsFrom trace tell Given limits policy disk disk_now before now (NotFinished (Held count)) out out_now) (a : RolloutEnd)
-        → IfRolled a (HasRolled trace tell rolled.r (digest_for rolled.r limits.migration) policy limits.rounds rolled.opened before.ports now.ports disk_now a)
-        → Follows (line_or_ending a) (NotFinished (Held count)) out out_now → RestsHeld trace tell limits policy Given disk before.ports now.ports
-    answer-rests rolled (outcome.Finished operations found) has (inl done) = absurd (cc (done.0))
-    answer-rests rolled (outcome.Finished operations found) has (inr cut) = absurd (cc (cut.0))
-    answer-rests rolled (outcome.Held held) has ends =
-        rests trace tell Given disk disk_now before now limits policy (NotFinished (Held count)) out out_now rolled (outcome.Held held) has held refl
-    answer-rests rolled (outcome.Stopped r halt) has ends = absurd (stop-held r halt.cause ends.0)
-      where
-        stop-held : (r : Rollout) (why : Cause) → NotFinished (Held count) ≡ ending_of_stop r why → ⊥
-        stop-held r (cause.Spent rounds item number) h = cc
-        stop-held r (cause.Port switch) h = cc
-        stop-held r (cause.Above item held begun) h = cc
-        stop-held r (cause.NotMine switch item) h = cc
-        stop-held r (cause.NoAnswer switch byte) h = cc
-        stop-held r cause.Disk h = cc
-        stop-held r cause.Memory h = cc
-    answer-rests rolled (outcome.NoPort r switch) has ends = absurd (cc (ends.0))
-    answer-rests rolled outcome.Memory has ends = absurd (cc (ends.0))
-    answer-rests rolled (outcome.Unopened why) has ends = absurd (not-begun (NotFinished (Held count)) (ending_of_journal why) refl ends.0 (journal-begun why))
+    stop-not-held : (r : Rollout) (why : Cause) → NotFinished (Held count) ≡ ending_of_stop r why → ⊥
+    stop-not-held r (cause.Spent rounds item number) h = cc
+    stop-not-held r (cause.Port switch) h = cc
+    stop-not-held r (cause.Above item held begun) h = cc
+    stop-not-held r (cause.NotMine switch item) h = cc
+    stop-not-held r (cause.NoAnswer switch byte) h = cc
+    stop-not-held r cause.Disk h = cc
+    stop-not-held r cause.Memory h = cc
+
+    rests-at : (rolled : RunsFrom trace tell Given limits policy disk disk_now before now (NotFinished (Held count)) out out_now) (o : RunOutcome)
+        → HasRolled trace tell rolled.r (digest_for rolled.r limits.migration) policy limits.rounds rolled.opened before.ports now.ports disk_now o
+        → (end : RunEnd) → o.end ≡ end → EndsWith (line_at end o) (NotFinished (Held count)) out out_now → RestsHeld trace tell limits policy Given disk before.ports now.ports
+    rests-at rolled o has run.Finished is (inl done) = absurd (cc (done.0))
+    rests-at rolled o has run.Finished is (inr cut) = absurd (cc (cut.0))
+    rests-at rolled o has run.Held is ends = rests trace tell Given disk disk_now before now limits policy (NotFinished (Held count)) out out_now rolled o has is
+    rests-at rolled o has (run.Stopped halt) is ends = absurd (stop-not-held o.plan halt.cause ends.0)
+    rests-at rolled o has (run.NoPort switch) is ends = absurd (cc (ends.0))
+    rests-at rolled o has run.Memory is ends = absurd (cc (ends.0))
+
+    answer-rests : (rolled : RunsFrom trace tell Given limits policy disk disk_now before now (NotFinished (Held count)) out out_now) (a : Result RunOutcome JournalFault)
+        → IfOk a (λ o. HasRolled trace tell rolled.r (digest_for rolled.r limits.migration) policy limits.rounds rolled.opened before.ports now.ports disk_now o)
+        → Follows (by_answer line_or_ending a) (NotFinished (Held count)) out out_now → RestsHeld trace tell limits policy Given disk before.ports now.ports
+    answer-rests rolled (Ok o) has ends = rests-at rolled o has o.end refl ends
+    answer-rests rolled (Err why) has ends = absurd (not-begun (NotFinished (Held count)) (ending_of_journal why) refl ends.0 (journal-begun why))
 
     held-rests-by : Rolls trace tell Given limits policy disk disk_now before now (NotFinished (Held count)) out out_now → RestsHeld trace tell limits policy Given disk before.ports now.ports
     held-rests-by (inl none) = absurd (unbegun-refused Given (NotFinished (Held count)) refl none.why)
@@ -476,16 +412,11 @@ module _ {D P : Type 0} (trace : D → DiskTrace) (tell : P → PortTrace)
   as-it-was : now ≡ before → EndsSafely trace tell limits Given disk before.ports now.ports
   as-it-was same = inl (inl (ap (λ (f : FleetSeen P). f.ports) same))
 
-  answer-ends : (rolled : RunsFrom trace tell Given limits policy disk disk_now before now e out out_now) (a : RolloutEnd) (Q : JournalFault → Type 0)
-      → IfRolled a (HasRolled trace tell rolled.r (digest_for rolled.r limits.migration) policy limits.rounds rolled.opened before.ports now.ports disk_now a)
-      → OnUnopened a (λ why. Q why × (now ≡ before)) → EndsSafely trace tell limits Given disk before.ports now.ports
-  answer-ends rolled (outcome.Finished operations found) Q has left =
-      runs-ends trace tell Given disk disk_now before now limits policy e out out_now rolled (outcome.Finished operations found) has true refl
-  answer-ends rolled (outcome.Held count) Q has left = runs-ends trace tell Given disk disk_now before now limits policy e out out_now rolled (outcome.Held count) has true refl
-  answer-ends rolled (outcome.Stopped other halt) Q has left = runs-ends trace tell Given disk disk_now before now limits policy e out out_now rolled (outcome.Stopped other halt) has true refl
-  answer-ends rolled (outcome.NoPort other switch) Q has left = runs-ends trace tell Given disk disk_now before now limits policy e out out_now rolled (outcome.NoPort other switch) has false refl
-  answer-ends rolled outcome.Memory Q has left = runs-ends trace tell Given disk disk_now before now limits policy e out out_now rolled outcome.Memory has false refl
-  answer-ends rolled (outcome.Unopened why) Q has left = as-it-was left.1
+  answer-ends : (rolled : RunsFrom trace tell Given limits policy disk disk_now before now e out out_now) (a : Result RunOutcome JournalFault) (Q : JournalFault → Type 0)
+      → IfOk a (λ o. HasRolled trace tell rolled.r (digest_for rolled.r limits.migration) policy limits.rounds rolled.opened before.ports now.ports disk_now o)
+      → IfErr a (λ why. Q why × (now ≡ before)) → EndsSafely trace tell limits Given disk before.ports now.ports
+  answer-ends rolled (Ok o) Q has left = runs-ends trace tell Given disk disk_now before now limits policy e out out_now rolled o has (is_ran o.end) refl
+  answer-ends rolled (Err why) Q has left = as-it-was left.1
 
   pub rolls-ends : Rolls trace tell Given limits policy disk disk_now before now e out out_now → EndsSafely trace tell limits Given disk before.ports now.ports
   rolls-ends (inl none) = as-it-was none.fleet_is

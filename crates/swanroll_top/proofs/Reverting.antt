@@ -12,17 +12,17 @@ use Rattle.shared_book.specs.declared.note.Cause.TheVariants as cause
 use Rattle.shared_book.specs.declared.call_reply.Halt.{Halt}
 use Rattle.shared_book.specs.Homes.{homes_of}
 use Rattle.shared_book.specs.Opened.{opening_of}
-use Rattle.rollout_book.specs.JournaledRounds.{Journaled}
 use Rattle.switch_ports.specs.Berths.{FleetPorts}
 use Rattle.switch_ports.specs.Homes.{working_homes}
 use Rattle.rollout_report.specs.Journals.{digest_for}
 use Rattle.controller_run.specs.Causes.{IsCause}
-use Rattle.controller_run.specs.Ran.{EndsRun, Ran}
+use Rattle.controller_run.specs.Ran.{Ran}
 use Rattle.controller_run.specs.declared.end.RunEnd.{RunEnd}
 use Rattle.controller_run.specs.declared.end.RunEnd.TheVariants as run
+use Rattle.controller_run.specs.declared.outcome.RunOutcome.{RunOutcome}
 use Rattle.controller_run.specs.declared.running.Limits.{Limits}
 use Rattle.rollback_plan.specs.Turning.{back}
-use Rattle.rollback_service.specs.Levellings.{HasLevelled, level_for, start_of}
+use Rattle.rollback_service.specs.Levellings.{HasLevelled, level_at, level_for, start_of}
 use Rattle.rollback_service.specs.Placings.{HasPlaced, IsNotPlaced, IsSeen, MayPlace, kept_from}
 use Rattle.rollback_service.specs.declared.answer.LevelAnswer.{LevelAnswer}
 use Rattle.rollback_service.specs.declared.answer.LevelAnswer.TheVariants as level
@@ -32,13 +32,12 @@ use Rattle.text_commands.specs.Reading.{IsShortInput}
 use Rattle.text_commands.specs.Answers.{rollout_in}
 use Rattle.swanroll_top.specs.Reports.{ReadsDocument}
 use Rattle.swanroll_top.specs.Rollbacks.{Closes, FindsNoJournal, Levels, Reverts, RevertsIn, TakesBack, back_text}
-use Rattle.swanroll_top.specs.Rollouts.{FleetSeen, IsUnbegun, RefusesAs, ending_of_stop}
+use Rattle.swanroll_top.specs.Rollouts.{FleetSeen, IsDiskFault, IsUnbegun, RefusesAs}
 use Rattle.text_commands.specs.Runs.{Follows, IsInput}
 use Rattle.swanroll_top.specs.Targets.{BeginsNothing}
 use Rattle.text_commands.specs.declared.command_end.CommandEnd.{CommandEnd}
-use Rattle.text_commands.specs.declared.command_end.CommandEnd.TheVariants.{WriteFault, DiskFault, NotFinished, OutOfMemory}
-use Rattle.text_commands.specs.declared.unfinished.Unfinished.TheVariants.{PortFault}
-use Rattle.swanroll_top.proofs.Outcomes.{journal-disk, rose-later, stop-disk, text-not-disk}
+use Rattle.text_commands.specs.declared.command_end.CommandEnd.TheVariants.{DiskFault}
+use Rattle.swanroll_top.proofs.Outcomes.{is_ran, journal-disk, ran-begun, rollout-disk, rose-later, text-not-disk, unbegun-nothing}
 use Rattle.text_commands.proofs.Programs.{follows-ends}
 use Rattle.swanroll_top.proofs.Reporting.{reads-document, short-rollout}
 use Rattle.swanroll_top.proofs.Rolling.{never-disk, unbegun}
@@ -86,58 +85,42 @@ module _ {D : Type 0} (trace : D → DiskTrace) (r : Rollout) (migration : ℕ) 
   unplaced-takes why e out is left ends =
       record { seen = seen; may = may; ends = inr (record { cause = why; left = subst (λ (a : Result Rollout JournalFault). IfErr a NotPlaced) is left; is = ends; silent = refl }) }
 
--- ---- endings that aren't a fault of the sink
-
-pub stop-not-cut : (r : Rollout) (why : Cause) → ending_of_stop r why ≡ WriteFault → ⊥
-stop-not-cut r (cause.Spent rounds item number) h = cc
-stop-not-cut r (cause.Port switch) h = cc
-stop-not-cut r (cause.Above item held begun) h = cc
-stop-not-cut r (cause.NotMine switch item) h = cc
-stop-not-cut r (cause.NoAnswer switch byte) h = cc
-stop-not-cut r cause.Disk h = cc
-stop-not-cut r cause.Memory h = cc
-
-pub journal-not-cut : (why : JournalFault) → ending_of_journal why ≡ WriteFault → ⊥
-journal-not-cut (fault.NotJournal first) h = cc
-journal-not-cut (fault.OtherPlan kept wanted) h = cc
-journal-not-cut (fault.Illegal place) h = cc
-journal-not-cut fault.BadStart h = cc
-journal-not-cut fault.Disk h = cc
-journal-not-cut fault.Memory h = cc
-
 -- ---- a levelling that was begun
 
 abbrev pub is_run : LevelAnswer → Bool
 is_run (level.Level r start) = true
-is_run (level.Stopped r halt) = true
-is_run (level.NoPort r switch) = false
-is_run level.Memory = false
+is_run (level.Unlevel o) = is_ran o.end
 
-module _ {D P : Type 0} (tell : P → PortTrace) (homes : List ℕ) (opened closed : Journaled D) (before now : FleetPorts P) where
-  level-begun : (r : Rollout) (start : List ℕ) (Ran : RunEnd → Type 0) (end : RunEnd) → is_run (level_for r start end) ≡ true → EndsRun tell homes opened closed before now (Ran end) end → Ran end
-  level-begun r start Ran run.Finished is ran = ran
-  level-begun r start Ran run.Held is ran = ran
-  level-begun r start Ran (run.Stopped halt) is ran = ran
-  level-begun r start Ran (run.NoPort switch) is ran = absurd cc
-  level-begun r start Ran run.Memory is ran = absurd cc
+-- an answer tells whether the run was begun
+level-ran : (end : RunEnd) (o : RunOutcome) (start : List ℕ) → o.end ≡ end → is_run (level_at end o start) ≡ is_ran end
+level-ran run.Finished o start same = refl
+level-ran run.Held o start same = refl
+level-ran (run.Stopped halt) o start same = ap is_ran same
+level-ran (run.NoPort switch) o start same = ap is_ran same
+level-ran run.Memory o start same = ap is_ran same
 
-  -- and one that wasn't has left the ports as they were
-  level-unbegun : (r : Rollout) (start : List ℕ) (ran : Type 0) (end : RunEnd) → is_run (level_for r start end) ≡ false → EndsRun tell homes opened closed before now ran end → BeginsNothing tell before now
-  level-unbegun r start ran run.Finished isnt ends = absurd (cc isnt)
-  level-unbegun r start ran run.Held isnt ends = absurd (cc isnt)
-  level-unbegun r start ran (run.Stopped halt) isnt ends = absurd (cc isnt)
-  level-unbegun r start ran (run.NoPort switch) isnt ends = inr (opened.rollout.problem, ends.1.earlier, ends.1.given_back)
-  level-unbegun r start ran run.Memory isnt ends = elim ends.ports as (λ _. BeginsNothing tell before now) [
-    | inl same ↦ inl same
-    | inr back ↦ inr (opened.rollout.problem, homes, back)
-  ]
+-- after one that didn't level it, what the run has come to is told, and that was no level
+abbrev pub is_level : RunEnd → Bool
+is_level run.Finished = true
+is_level run.Held = true
+is_level (run.Stopped halt) = false
+is_level (run.NoPort switch) = false
+is_level run.Memory = false
 
-pub level-stopped : (r other : Rollout) (start : List ℕ) (end : RunEnd) (halt : Halt) → level.Stopped other halt ≡ level_for r start end → end ≡ run.Stopped halt
-level-stopped r other start run.Finished halt is = absurd cc
-level-stopped r other start run.Held halt is = absurd cc
-level-stopped r other start (run.Stopped first) halt is = let both : halt ≡ first = cc is in ap run.Stopped (sym both)
-level-stopped r other start (run.NoPort switch) halt is = absurd cc
-level-stopped r other start run.Memory halt is = absurd cc
+unlevel-at : (end : RunEnd) (made o : RunOutcome) (start : List ℕ) → level.Unlevel o ≡ level_at end made start → (o ≡ made) × (is_level end ≡ false)
+unlevel-at run.Finished made o start is = absurd cc
+unlevel-at run.Held made o start is = absurd cc
+unlevel-at (run.Stopped halt) made o start is = (cc, refl)
+unlevel-at (run.NoPort switch) made o start is = (cc, refl)
+unlevel-at run.Memory made o start is = (cc, refl)
+
+pub unlevel-not : (made o : RunOutcome) (start : List ℕ) → level.Unlevel o ≡ level_for made start → is_level o.end ≡ false
+unlevel-not made o start is =
+    let both = unlevel-at made.end made o start is in
+    ap (λ (x : RunOutcome). is_level x.end) both.0 ∙ both.1
+
+unlevel-is : (made o : RunOutcome) (start : List ℕ) → level.Unlevel o ≡ level_for made start → o ≡ made
+unlevel-is made o start is = (unlevel-at made.end made o start is).0
 
 module _ {D P : Type 0} (trace : D → DiskTrace) (tell : P → PortTrace)
     (origin : BackFrom) (r : Rollout) (migration rounds : ℕ) (disk levelled : D) (before now : FleetPorts P) (answer : LevelAnswer)
@@ -146,20 +129,21 @@ module _ {D P : Type 0} (trace : D → DiskTrace) (tell : P → PortTrace)
   Begun end = Ran trace tell (opening_of has.rolled.book has.policy) (trace has.rolled.book.disk).moment (trace has.rolled.book.disk).faults migration rounds
       (working_homes has.rolled.book.rollout.problem has.rolled.book.rollout.plan) before end has.rolled.run.closed now
 
-  pub run-begun : is_run answer ≡ true → Begun has.rolled.run.end
+  ran-is : is_run answer ≡ is_ran has.run.end
+  ran-is = ap is_run has.tells ∙ level-ran has.run.end has.run (start_of has.rolled.book.rollout has.rolled.book.history has.stage) refl
+
+  pub run-begun : is_run answer ≡ true → Begun has.run.end
   unfolding digest_for
   run-begun is =
-      level-begun tell (working_homes has.rolled.book.rollout.problem has.rolled.book.rollout.plan) has.rolled.book has.rolled.run.closed before now
-      has.rolled.book.rollout (start_of has.rolled.book.rollout has.rolled.book.history has.stage) Begun has.rolled.run.end (sym (ap is_run has.tells) ∙ is) has.rolled.run.ran
+      ran-begun tell (working_homes has.rolled.book.rollout.problem has.rolled.book.rollout.plan) has.rolled.book has.rolled.run.closed before now Begun has.run.end (sym ran-is ∙ is) has.rolled.run.ran
 
   pub run-unbegun : is_run answer ≡ false → BeginsNothing tell before now
   run-unbegun isnt =
       let book = has.rolled.book in
-      level-unbegun tell (working_homes book.rollout.problem book.rollout.plan) book has.rolled.run.closed before now
-      book.rollout (start_of book.rollout book.history has.stage)
+      unbegun-nothing tell (working_homes book.rollout.problem book.rollout.plan) book has.rolled.run.closed before now
       (Ran trace tell (opening_of book has.policy) (trace book.disk).moment (trace book.disk).faults (digest_for r migration).migration rounds
-      (working_homes book.rollout.problem book.rollout.plan) before has.rolled.run.end has.rolled.run.closed now)
-      has.rolled.run.end (sym (ap is_run has.tells) ∙ isnt) has.rolled.run.ran
+      (working_homes book.rollout.problem book.rollout.plan) before has.run.end has.rolled.run.closed now)
+      has.run.end (sym ran-is ∙ isnt) has.rolled.run.ran
 
   -- no failure of the disk was taken back
   faults-later : is_run answer ≡ true → (trace disk).faults ≤ (trace levelled).faults
@@ -167,15 +151,28 @@ module _ {D P : Type 0} (trace : D → DiskTrace) (tell : P → PortTrace)
       let ran = run-begun is in
       subst (λ (d : D). (trace disk).faults ≤ (trace d).faults) (sym has.rolled.run.back) (omega (arith, has.rolled.opened.on.count, ran.images.more))
 
-  stopped-rose : (other : Rollout) (halt : Halt) → answer ≡ level.Stopped other halt → halt.cause ≡ cause.Disk → Rose (trace disk).faults (trace levelled).faults
-  stopped-rose other halt is disk_is =
-      let o = opening_of has.rolled.book has.policy in
-      let end : has.rolled.run.end ≡ run.Stopped halt = level-stopped has.rolled.book.rollout other (start_of has.rolled.book.rollout has.rolled.book.history has.stage) has.rolled.run.end halt (sym is ∙ has.tells) in
-      let ran : Begun (run.Stopped halt) = subst Begun end (run-begun (ap is_run is)) in
+  -- a run that was stopped
+  pub stopped-begun : (o : RunOutcome) (halt : Halt) → answer ≡ level.Unlevel o → o.end ≡ run.Stopped halt → Begun (run.Stopped halt)
+  stopped-begun o halt is stop =
+      let same : o ≡ has.run = unlevel-is has.run o (start_of has.rolled.book.rollout has.rolled.book.history has.stage) (sym is ∙ has.tells) in
+      subst Begun (sym (ap (λ (x : RunOutcome). x.end) same) ∙ stop) (run-begun (ap is_run is ∙ ap is_ran stop))
+
+  stopped-rose : (o : RunOutcome) (halt : Halt) → answer ≡ level.Unlevel o → o.end ≡ run.Stopped halt → halt.cause ≡ cause.Disk → Rose (trace disk).faults (trace levelled).faults
+  stopped-rose o halt is stop disk_is =
+      let opening = opening_of has.rolled.book has.policy in
+      let ran = stopped-begun o halt is stop in
       let rose : Rose (trace has.rolled.book.disk).faults (trace has.rolled.run.closed.disk).faults =
-      subst (λ (why : Cause). IsCause tell o migration (homes_of o.rollout.problem) rounds (Rose (trace has.rolled.book.disk).faults (trace has.rolled.run.closed.disk).faults) ran.log ran.reason.first why ran.reason.now) disk_is ran.reason.holds in
+      subst (λ (why : Cause). IsCause tell opening migration (homes_of opening.rollout.problem) rounds (Rose (trace has.rolled.book.disk).faults (trace has.rolled.run.closed.disk).faults) ran.log ran.reason.first why ran.reason.now) disk_is ran.reason.holds in
       rose-later (trace disk).faults (trace has.rolled.book.disk).faults (trace levelled).faults has.rolled.opened.on.count
       (subst (λ (d : D). Rose (trace has.rolled.book.disk).faults (trace d).faults) (sym has.rolled.run.back) rose)
+
+  -- a fault of the disk is a stop
+  pub unlevel-rose : (o : RunOutcome) → answer ≡ level.Unlevel o → (end : RunEnd) → o.end ≡ end → IsDiskFault end → Rose (trace disk).faults (trace levelled).faults
+  unlevel-rose o is run.Finished same fault = absurd fault
+  unlevel-rose o is run.Held same fault = absurd fault
+  unlevel-rose o is (run.Stopped halt) same fault = stopped-rose o halt is same fault
+  unlevel-rose o is (run.NoPort switch) same fault = absurd fault
+  unlevel-rose o is run.Memory same fault = absurd fault
 
 -- ---- a fault of the disk
 
@@ -198,11 +195,9 @@ module _ {D P : Type 0} (trace : D → DiskTrace) (tell : P → PortTrace)
   closes-rose levelled (level.Level other start) has closes =
       rose-later (trace disk).faults (trace levelled).faults (trace disk_now).faults
       (faults-later trace tell origin r limits.migration limits.rounds disk levelled before.ports now.ports (level.Level other start) has refl) (takes-rose levelled other start closes)
-  closes-rose levelled (level.Stopped other halt) has closes =
+  closes-rose levelled (level.Unlevel o) has closes =
       subst (λ (d : D). Rose (trace disk).faults (trace d).faults) (sym closes.disk_is)
-      (stopped-rose trace tell origin r limits.migration limits.rounds disk levelled before.ports now.ports (level.Stopped other halt) has other halt refl (stop-disk other halt.cause (sym closes.is ∙ fails)))
-  closes-rose levelled (level.NoPort other switch) has closes = absurd (let no : NotFinished (PortFault other switch) ≡ DiskFault = sym closes.is ∙ fails in cc)
-  closes-rose levelled level.Memory has closes = absurd (let no : OutOfMemory ≡ DiskFault = sym closes.is ∙ fails in cc)
+      (unlevel-rose trace tell origin r limits.migration limits.rounds disk levelled before.ports now.ports (level.Unlevel o) has o refl o.end refl (rollout-disk o (sym closes.is ∙ fails)))
 
   pub levels-rose : Levels trace tell r origin limits disk disk_now before now e out out_now → Rose (trace disk).faults (trace disk_now).faults
   levels-rose levels = closes-rose levels.levelled levels.answer levels.has levels.closes

@@ -1,5 +1,5 @@
 -- After a drain that was begun the network is safe and nothing was begun after the list found; after status 0 nothing is in flight, and the switches hold what is settled.
-use Rattle.std.proofs.Common.{◌≡◌, ◌+◌, ◌-◌, ◌<◌, ◌≤◌, ◌==◌, ℕ, List, [], ◌∷◌, length, true, false, Option, Some, Ok, IfSome, refl, sym, ap, ◌∙◌, subst, inl, inr, arith, eqb-true, ne_eqb}
+use Rattle.std.proofs.Common.{◌≡◌, ◌+◌, ◌-◌, ◌<◌, ◌≤◌, ◌==◌, ℕ, List, [], ◌∷◌, Bool, true, false, Option, Some, Result, Ok, Err, IfOk, IfErr, IfSome, refl, sym, ap, ◌∙◌, subst, inl, inr, arith, eqb-true, ne_eqb}
 use Rattle.std.specs.List.{All, AllByRecursion}
 use Rattle.std.proofs.lemmas.List.Elements.{All-head, All-tail, All-weaker}
 use Rattle.rollout_rules.specs.Sums.{sum_below}
@@ -44,29 +44,29 @@ use Rattle.controller_run.specs.Ran.{Ran}
 use Rattle.controller_run.specs.declared.end.RunEnd.{RunEnd}
 use Rattle.controller_run.specs.declared.end.RunEnd.TheVariants as run
 use Rattle.controller_run.specs.declared.running.Limits.{Limits}
-use Rattle.controller_run.specs.RolloutEnds.{HasRolled, IfRolled, OnUnopened, answer_for}
-use Rattle.controller_run.specs.declared.rollout_end.RolloutEnd.{RolloutEnd}
-use Rattle.controller_run.specs.declared.rollout_end.RolloutEnd.TheVariants as outcome
+use Rattle.controller_run.specs.RolloutEnds.{HasRolled}
+use Rattle.controller_run.specs.declared.outcome.RunOutcome.{RunOutcome}
 use Rattle.completion_laws.proofs.Excused.{held-still}
 use Rattle.completion_laws.proofs.InFlight.{still-flies}
 use Rattle.rollback_plan.specs.Levels.{HoldsFrom}
 use Rattle.rollback_service.specs.Drainings.{HoldsAll}
 use Rattle.levelling_laws.proofs.Drained.{list-begins_nothing}
-use Rattle.swanroll_top.specs.Drains.{Drains, DrainsAs, DrainsOpened, DrainsOut, DrainsOutOf, drained_line, drained_or_ending, line_with_left}
+use Rattle.swanroll_top.specs.Drains.{Drains, DrainsAs, DrainsOpened, DrainsOut, DrainsOutOf, drained_at, drained_line, drained_or_ending, line_with_left}
 use Rattle.swanroll_top.specs.DrainTargets.{DrainsSafely, EndsDrainSafely, IsBegunIn, IsDrained, SendsAgain, settled_in_all}
 use Rattle.text_commands.specs.CommandEnds.{ending_of_journal}
 use Rattle.swanroll_top.specs.NextStarts.{NextStart}
 use Rattle.text_commands.specs.Answers.{rollout_to}
-use Rattle.swanroll_top.specs.Rollouts.{FleetSeen, RollsOut}
+use Rattle.swanroll_top.specs.Rollouts.{FleetSeen, RollsOut, by_answer}
 use Rattle.text_commands.specs.Runs.{EndsWith, Follows}
 use Rattle.swanroll_top.specs.Targets.{IsOfBegun, StaysSafe}
 use Rattle.text_commands.specs.declared.command_end.CommandEnd.{CommandEnd}
 use Rattle.text_commands.specs.declared.command_end.CommandEnd.TheVariants.{Done, DiskFault, NotFinished, OutOfMemory}
 use Rattle.text_commands.specs.declared.unfinished.Unfinished.TheVariants.{PortFault}
 use Rattle.swanroll_top.proofs.Elsewhere.{none-settled}
-use Rattle.swanroll_top.proofs.Levelling.{levels-holds, stop-not-done}
+use Rattle.swanroll_top.proofs.Levelling.{levels-holds}
 use Rattle.swanroll_top.proofs.NextStarting.{rolls-next}
-use Rattle.swanroll_top.proofs.Reaching.{RunsFrom, begun-ends, begun-told, berths-within, has-run, is-told, is_of_begun, is_ran, journal-begun, not-begun, of-begun, unbegun-nothing, unbegun-refused}
+use Rattle.swanroll_top.proofs.Outcomes.{is_ran, stop-not-done, unbegun-nothing}
+use Rattle.swanroll_top.proofs.Reaching.{RunsFrom, begun-ends, begun-told, berths-within, has-run, is-told, is_of_begun, journal-begun, not-begun, of-begun, unbegun-refused}
 use Rattle.swanroll_top.proofs.SettledPorts.{berths-settled}
 use Rattle.text_commands.proofs.Statuses.{is-done}
 
@@ -128,39 +128,19 @@ module _ {P : Type 0} (tell : P → PortTrace) (o : Opening) (migration : ℕ) (
 
 -- ---- how it ended
 
--- it was held, and so many operations are left
-record IsHeldEnd (r : Rollout) (h : History) (left : ℕ) (end : RunEnd) : Type 0 where
-  end_is : end ≡ run.Held
-  left_is : left ≡ unsettled r.problem r.plan h
-
-held-so : (r : Rollout) (found : ℕ) (h : History) (end : RunEnd) (left : ℕ) → outcome.Held left ≡ answer_for r found h end → IsHeldEnd r h left end
-held-so r found h run.Finished left is = absurd cc
-held-so r found h run.Held left is = record { end_is = refl; left_is = cc }
-held-so r found h (run.Stopped halt) left is = absurd cc
-held-so r found h (run.NoPort switch) left is = absurd cc
-held-so r found h run.Memory left is = absurd cc
-
-finished-so : (r : Rollout) (found : ℕ) (h : History) (end : RunEnd) (all count : ℕ) → outcome.Finished all count ≡ answer_for r found h end → end ≡ run.Finished
-finished-so r found h run.Finished all count is = refl
-finished-so r found h run.Held all count is = absurd cc
-finished-so r found h (run.Stopped halt) all count is = absurd cc
-finished-so r found h (run.NoPort switch) all count is = absurd cc
-finished-so r found h run.Memory all count is = absurd cc
-
 -- such an ending comes only after a run that was begun
-drained-ran : (n : ℕ) (a : RolloutEnd) (e : CommandEnd) (out now : Option (List ℕ)) → is_of_begun e ≡ true → EndsWith (drained_or_ending n a) e out now → is_ran a ≡ true
-drained-ran n (outcome.Finished all found) e out now begun h = refl
-drained-ran n (outcome.Held left) e out now begun h = refl
-drained-ran n (outcome.Stopped r halt) e out now begun h = refl
-drained-ran n (outcome.NoPort r switch) e out now begun h = absurd (not-begun e (NotFinished (PortFault r switch)) begun h.0 refl)
-drained-ran n outcome.Memory e out now begun h = absurd (not-begun e OutOfMemory begun h.0 refl)
-drained-ran n (outcome.Unopened why) e out now begun h = absurd (not-begun e (ending_of_journal why) begun h.0 (journal-begun why))
+ran-at : (end : RunEnd) (o : RunOutcome) (e : CommandEnd) (out now : Option (List ℕ)) → is_of_begun e ≡ true → EndsWith (drained_at end o) e out now → is_ran end ≡ true
+ran-at run.Finished o e out now begun h = refl
+ran-at run.Held o e out now begun h = refl
+ran-at (run.Stopped halt) o e out now begun h = refl
+ran-at (run.NoPort switch) o e out now begun h = absurd (not-begun e (NotFinished (PortFault o.plan switch)) begun h.0 refl)
+ran-at run.Memory o e out now begun h = absurd (not-begun e OutOfMemory begun h.0 refl)
 
 -- ---- a run under a policy that holds all back
 
 module _ {D P : Type 0} (trace : D → DiskTrace) (tell : P → PortTrace)
     (Given : List ℕ → Type 0) (disk disk_now : D) (before now : FleetSeen P) (limits : Limits) (policy : OpView → ℕ) (holds : HoldsAll policy) (e : CommandEnd) (w w_now : Option (List ℕ))
-    (from : RunsFrom trace tell Given limits policy disk disk_now before now e w w_now) (a : RolloutEnd)
+    (from : RunsFrom trace tell Given limits policy disk disk_now before now e w w_now) (a : RunOutcome)
     (has : HasRolled trace tell from.r (digest_for from.r limits.migration) policy limits.rounds from.opened before.ports now.ports disk_now a) where
   abbrev book : Journaled D
   book = has.book
@@ -181,13 +161,12 @@ module _ {D P : Type 0} (trace : D → DiskTrace) (tell : P → PortTrace)
   holds-all : HoldsFrom 0 policy
   holds-all = levels-holds 0 policy holds
 
-  drain-begun : is_ran a ≡ true → BegunRun has.run.end
+  drain-begun : is_ran a.end ≡ true → BegunRun a.end
   drain-begun is = has-run trace tell Given disk disk_now before now limits policy e w w_now from a has is
 
-  drain-unbegun : is_ran a ≡ false → EndsDrainSafely trace tell limits Given disk before.ports now.ports
+  drain-unbegun : is_ran a.end ≡ false → EndsDrainSafely trace tell limits Given disk before.ports now.ports
   drain-unbegun isnt = inl
-      (unbegun-nothing tell (working_homes book.rollout.problem book.rollout.plan) book has.run.closed before.ports now.ports
-      book.rollout (length book.history.entries) has.run.closed.history _ has.run.end (sym (ap is_ran has.run.tells) ∙ isnt) has.run.ran)
+      (unbegun-nothing tell (working_homes book.rollout.problem book.rollout.plan) book has.run.closed before.ports now.ports _ a.end isnt has.run.ran)
 
   drain-stays : (end : RunEnd) → BegunRun end → StaysSafe trace tell limits Given disk before.ports now.ports
   drain-stays end ran = record {
@@ -251,17 +230,18 @@ module _ {D P : Type 0} (trace : D → DiskTrace) (tell : P → PortTrace)
       (still-flies book.rollout.problem (history_of o ran.log) (held-still trace tell o (trace book.disk).moment (trace book.disk).faults limits.migration limits.rounds homes before.ports has.run.closed now.ports ran))
       left (ap (λ (n : ℕ). op_total book.rollout - n) left_now ∙ all-but_left book.rollout (history_of o ran.log) legal) out out_now text
 
-  drain-finished : (all count : ℕ) → outcome.Finished all count ≡ a → (out out_now : Option (List ℕ)) → Appends out (line_with_left (op_total from.r) 0) out_now → IsDrained trace tell limits Given disk before.ports now.ports out out_now
-  drain-finished all count is out out_now text =
-      let end = finished-so book.rollout (length book.history.entries) has.run.closed.history has.run.end all count (is ∙ has.run.tells) in
-      finished-drained (subst BegunRun end (drain-begun (sym (ap is_ran is)))) out out_now
-      (subst (λ (x : Rollout). Appends out (line_with_left (op_total x) 0) out_now) (sym has.opened.rollout) text)
+  counted : a.operations ≡ op_total book.rollout
+  counted = ap (λ (o : RunOutcome). o.operations) has.run.tells
 
-  drain-held : (left : ℕ) → outcome.Held left ≡ a → (out out_now : Option (List ℕ)) → Appends out (line_with_left (op_total from.r) left) out_now → IsDrained trace tell limits Given disk before.ports now.ports out out_now
-  drain-held left is out out_now text =
-      let end = held-so book.rollout (length book.history.entries) has.run.closed.history has.run.end left (is ∙ has.run.tells) in
-      held-drained (subst BegunRun end.end_is (drain-begun (sym (ap is_ran is)))) left end.left_is out out_now
-      (subst (λ (x : Rollout). Appends out (line_with_left (op_total x) left) out_now) (sym has.opened.rollout) text)
+  drain-finished : a.end ≡ run.Finished → (out out_now : Option (List ℕ)) → Appends out (line_with_left a.operations 0) out_now → IsDrained trace tell limits Given disk before.ports now.ports out out_now
+  drain-finished is out out_now text =
+      finished-drained (subst BegunRun is (drain-begun (ap is_ran is))) out out_now
+      (subst (λ (n : ℕ). Appends out (line_with_left n 0) out_now) counted text)
+
+  drain-held : a.end ≡ run.Held → (out out_now : Option (List ℕ)) → Appends out (line_with_left a.operations a.left) out_now → IsDrained trace tell limits Given disk before.ports now.ports out out_now
+  drain-held is out out_now text =
+      held-drained (subst BegunRun is (drain-begun (ap is_ran is))) a.left (ap (λ (o : RunOutcome). o.left) has.run.tells) out out_now
+      (subst (λ (n : ℕ). Appends out (line_with_left n a.left) out_now) counted text)
 
 -- ---- a drain, from the image that its disk told
 
@@ -319,7 +299,7 @@ module _ {D P : Type 0} (trace : D → DiskTrace) (tell : P → PortTrace)
     rolls = rolls_of d.r d.opened d.drains;
   }
 
-  abbrev RolledTo : DrainsFrom trace tell Given limits disk disk_now before now e out out_now → RolloutEnd → Type 0
+  abbrev RolledTo : DrainsFrom trace tell Given limits disk disk_now before now e out out_now → RunOutcome → Type 0
   RolledTo d a = HasRolled trace tell d.r (digest_for d.r limits.migration) d.drains.policy limits.rounds d.opened before.ports now.ports disk_now a
 
   -- whenever a crash comes
@@ -339,25 +319,25 @@ module _ {D P : Type 0} (trace : D → DiskTrace) (tell : P → PortTrace)
 
   -- ---- whatever the ending
 
-  ran-safely : (d : DrainsFrom trace tell Given limits disk disk_now before now e out out_now) (a : RolloutEnd) → RolledTo d a → is_ran a ≡ true → DrainsSafely trace tell limits Given disk before.ports now.ports
+  ran-safely : (d : DrainsFrom trace tell Given limits disk disk_now before now e out out_now) (a : RunOutcome) → RolledTo d a → is_ran a.end ≡ true → DrainsSafely trace tell limits Given disk before.ports now.ports
   ran-safely d a has is =
-      drains-safely trace tell Given disk disk_now before now limits d.drains.policy d.drains.holds OutOfMemory out out (run_of d) a has has.run.end
+      drains-safely trace tell Given disk disk_now before now limits d.drains.policy d.drains.holds OutOfMemory out out (run_of d) a has a.end
       (drain-begun trace tell Given disk disk_now before now limits d.drains.policy d.drains.holds OutOfMemory out out (run_of d) a has is)
 
-  never-ran : (d : DrainsFrom trace tell Given limits disk disk_now before now e out out_now) (a : RolloutEnd) → RolledTo d a → is_ran a ≡ false → EndsDrainSafely trace tell limits Given disk before.ports now.ports
+  never-ran : (d : DrainsFrom trace tell Given limits disk disk_now before now e out out_now) (a : RunOutcome) → RolledTo d a → is_ran a.end ≡ false → EndsDrainSafely trace tell limits Given disk before.ports now.ports
   never-ran d a has isnt = drain-unbegun trace tell Given disk disk_now before now limits d.drains.policy d.drains.holds OutOfMemory out out (run_of d) a has isnt
 
   as-it-was : now ≡ before → EndsDrainSafely trace tell limits Given disk before.ports now.ports
   as-it-was same = inl (inl (ap (λ (f : FleetSeen P). f.ports) same))
 
-  answer-ends : (d : DrainsFrom trace tell Given limits disk disk_now before now e out out_now) (a : RolloutEnd) (Q : JournalFault → Type 0) → IfRolled a (RolledTo d a) → OnUnopened a (λ why. Q why × (now ≡ before))
+  either-ran : (d : DrainsFrom trace tell Given limits disk disk_now before now e out out_now) (a : RunOutcome) → RolledTo d a → (is : Bool) → is_ran a.end ≡ is → EndsDrainSafely trace tell limits Given disk before.ports now.ports
+  either-ran d a has true is = inr (ran-safely d a has is)
+  either-ran d a has false isnt = never-ran d a has isnt
+
+  answer-ends : (d : DrainsFrom trace tell Given limits disk disk_now before now e out out_now) (a : Result RunOutcome JournalFault) (Q : JournalFault → Type 0) → IfOk a (RolledTo d) → IfErr a (λ why. Q why × (now ≡ before))
       → EndsDrainSafely trace tell limits Given disk before.ports now.ports
-  answer-ends d (outcome.Finished all found) Q has left = inr (ran-safely d (outcome.Finished all found) has refl)
-  answer-ends d (outcome.Held count) Q has left = inr (ran-safely d (outcome.Held count) has refl)
-  answer-ends d (outcome.Stopped other halt) Q has left = inr (ran-safely d (outcome.Stopped other halt) has refl)
-  answer-ends d (outcome.NoPort other switch) Q has left = never-ran d (outcome.NoPort other switch) has refl
-  answer-ends d outcome.Memory Q has left = never-ran d outcome.Memory has refl
-  answer-ends d (outcome.Unopened why) Q has left = as-it-was left.1
+  answer-ends d (Ok o) Q has left = either-ran d o has (is_ran o.end) refl
+  answer-ends d (Err why) Q has left = as-it-was left.1
 
   pub drains-ends : Drains trace tell Given limits disk disk_now before now e out out_now → EndsDrainSafely trace tell limits Given disk before.ports now.ports
   drains-ends (inl none) = as-it-was none.fleet_is
@@ -370,13 +350,10 @@ module _ {D P : Type 0} (trace : D → DiskTrace) (tell : P → PortTrace)
 
   -- ---- by the ending
 
-  rolled-then : (d : DrainsFrom trace tell Given limits disk disk_now before now e out out_now) (a : RolloutEnd) → is_ran a ≡ true → IfRolled a (RolledTo d a) → RolledTo d a
-  rolled-then d (outcome.Finished all found) is has = has
-  rolled-then d (outcome.Held left) is has = has
-  rolled-then d (outcome.Stopped other halt) is has = has
-  rolled-then d (outcome.NoPort other switch) is has = has
-  rolled-then d outcome.Memory is has = has
-  rolled-then d (outcome.Unopened why) is has = absurd cc
+  begun-by : is_of_begun e ≡ true → (d : DrainsFrom trace tell Given limits disk disk_now before now e out out_now) (a : Result RunOutcome JournalFault) → IfOk a (RolledTo d)
+      → EndsWith (by_answer drained_or_ending a) e out out_now → DrainsSafely trace tell limits Given disk before.ports now.ports
+  begun-by begun d (Ok o) has ends = ran-safely d o has (ran-at o.end o e out out_now begun ends)
+  begun-by begun d (Err why) has ends = absurd (not-begun e (ending_of_journal why) begun ends.0 (journal-begun why))
 
   begun-safely : is_of_begun e ≡ true → Drains trace tell Given limits disk disk_now before now e out out_now → DrainsSafely trace tell limits Given disk before.ports now.ports
   begun-safely begun (inl none) = absurd (unbegun-refused Given e begun none.why)
@@ -384,9 +361,7 @@ module _ {D P : Type 0} (trace : D → DiskTrace) (tell : P → PortTrace)
     | inl fails ↦ absurd (not-begun e DiskFault begun fails.is refl)
     | inr opened ↦
         let d = drains-from way opened in
-        let a = d.drains.answer in
-        let is : is_ran a ≡ true = drained-ran (op_total d.r) a e out out_now begun (begun-ends (drained_or_ending (op_total d.r) a) e out out_now begun d.drains.follows) in
-        ran-safely d a (rolled-then d a is d.drains.rolled) is
+        begun-by begun d d.drains.answer d.drains.rolled (begun-ends (by_answer drained_or_ending d.drains.answer) e out out_now begun d.drains.follows)
   ]
 
 module _ {D P : Type 0} (trace : D → DiskTrace) (tell : P → PortTrace)
@@ -394,20 +369,22 @@ module _ {D P : Type 0} (trace : D → DiskTrace) (tell : P → PortTrace)
   abbrev From : Type 0
   From = DrainsFrom trace tell Given limits disk disk_now before now Done out out_now
 
-  answer-drained : (d : From) (a : RolloutEnd) → IfRolled a (RolledTo trace tell Given limits disk disk_now before now Done out out_now d a) → Follows (drained_or_ending (op_total d.r) a) Done out out_now
+  drained-by : (d : From) (o : RunOutcome) → RolledTo trace tell Given limits disk disk_now before now Done out out_now d o → (end : RunEnd) → o.end ≡ end → EndsWith (drained_at end o) Done out out_now
       → IsDrained trace tell limits Given disk before.ports now.ports out out_now
-  answer-drained d (outcome.Finished all count) has (inl done) =
-      drain-finished trace tell Given disk disk_now before now limits d.drains.policy d.drains.holds OutOfMemory out out (run_of trace tell Given limits disk disk_now before now Done out out_now d) (outcome.Finished all count) has
-      all count refl out out_now done.1
-  answer-drained d (outcome.Finished all count) has (inr cut) = absurd (cc (cut.0))
-  answer-drained d (outcome.Held left) has (inl done) =
-      drain-held trace tell Given disk disk_now before now limits d.drains.policy d.drains.holds OutOfMemory out out (run_of trace tell Given limits disk disk_now before now Done out out_now d) (outcome.Held left) has
-      left refl out out_now done.1
-  answer-drained d (outcome.Held left) has (inr cut) = absurd (cc (cut.0))
-  answer-drained d (outcome.Stopped r halt) has ends = absurd (stop-not-done r halt.cause ends.0)
-  answer-drained d (outcome.NoPort r switch) has ends = absurd (cc (ends.0))
-  answer-drained d outcome.Memory has ends = absurd (cc (ends.0))
-  answer-drained d (outcome.Unopened why) has ends = absurd (not-begun Done (ending_of_journal why) refl ends.0 (journal-begun why))
+  drained-by d o has run.Finished is (inl done) =
+      drain-finished trace tell Given disk disk_now before now limits d.drains.policy d.drains.holds OutOfMemory out out (run_of trace tell Given limits disk disk_now before now Done out out_now d) o has is out out_now done.1
+  drained-by d o has run.Finished is (inr cut) = absurd (cc (cut.0))
+  drained-by d o has run.Held is (inl done) =
+      drain-held trace tell Given disk disk_now before now limits d.drains.policy d.drains.holds OutOfMemory out out (run_of trace tell Given limits disk disk_now before now Done out out_now d) o has is out out_now done.1
+  drained-by d o has run.Held is (inr cut) = absurd (cc (cut.0))
+  drained-by d o has (run.Stopped halt) is ends = absurd (stop-not-done o.plan halt.cause ends.0)
+  drained-by d o has (run.NoPort switch) is ends = absurd (cc (ends.0))
+  drained-by d o has run.Memory is ends = absurd (cc (ends.0))
+
+  answer-drained : (d : From) (a : Result RunOutcome JournalFault) → IfOk a (RolledTo trace tell Given limits disk disk_now before now Done out out_now d) → Follows (by_answer drained_or_ending a) Done out out_now
+      → IsDrained trace tell limits Given disk before.ports now.ports out out_now
+  answer-drained d (Ok o) has ends = drained-by d o has o.end refl ends
+  answer-drained d (Err why) has ends = absurd (not-begun Done (ending_of_journal why) refl ends.0 (journal-begun why))
 
   done-drained : Drains trace tell Given limits disk disk_now before now Done out out_now → IsDrained trace tell limits Given disk before.ports now.ports out out_now
   done-drained (inl none) = absurd (unbegun-refused Given Done refl none.why)

@@ -1,9 +1,10 @@
 -- The promise of `agent`, which serves the guests of the fleet.
 use Rattle.std.specs.Prelude.{◌≡◌, ℕ}
+use Rattle.agent_service.specs.Services.{guests_of}
 use Rattle.swanroll_top.specs.Agents.{RunsAgent, ServesAs}
 use Rattle.text_commands.specs.CommandEnds.{status_of}
 use Rattle.text_commands.specs.Program.{NotesLine}
-use Rattle.swanroll_top.specs.Views.{Objects, Outside, Views, guests_of, streams, used, written_at}
+use Rattle.swanroll_top.specs.Views.{Objects, Outside, Views, streams, used, written_at}
 use Rattle.text_commands.specs.declared.command_end.CommandEnd.{CommandEnd}
 
 -- what an agent has brought about that ended so

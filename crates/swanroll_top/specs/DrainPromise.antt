@@ -1,5 +1,7 @@
 -- The promise of `drain`, which awaits what the rollout of its input has in flight, from the journal on the disk over the ports of the fleet, and begins nothing.
 use Rattle.std.specs.Prelude.{◌≡◌, ◌≢◌, ℕ}
+use Rattle.switch_ports.specs.Berths.{ports_of}
+use Rattle.agent_service.specs.Services.{guests_of}
 use Rattle.controller_run.specs.declared.running.Limits.{Limits}
 use Rattle.swanroll_top.specs.Drains.{Drains, DrainsAs}
 use Rattle.swanroll_top.specs.DrainTargets.{DrainsSafely, EndsDrainSafely, IsDrained}
@@ -8,10 +10,10 @@ use Rattle.text_commands.specs.Lines.{IsToldAs}
 use Rattle.swanroll_top.specs.NextStarts.{NextStart}
 use Rattle.text_commands.specs.Program.{NotesLine}
 use Rattle.swanroll_top.specs.Reports.{ReadsDocument}
-use Rattle.swanroll_top.specs.Rollouts.{RunsRollout}
+use Rattle.swanroll_top.specs.Rollouts.{RunsRollout, fleet_of}
 use Rattle.swanroll_top.specs.RunPromise.{RollsAndNotes}
 use Rattle.swanroll_top.specs.Targets.{IsOfBegun}
-use Rattle.swanroll_top.specs.Views.{Objects, Outside, Views, guests_of, input_of, seen, source_at, streams, used, written_at}
+use Rattle.swanroll_top.specs.Views.{Objects, Outside, Views, input_of, source_at, streams, used, written_at}
 use Rattle.text_commands.specs.declared.command_end.CommandEnd.{CommandEnd}
 
 -- what a drain has brought about that ended so
@@ -19,7 +21,7 @@ pub record BringsDrain {S K D F P G : Type 0} (views : Views S K D F P G) (limit
   pub runs : RunsRollout (source_at views before) (source_at views after) ending (written_at views before) (written_at views after)
   pub guests : guests_of (views.fleet after.fleet) ≡ guests_of (views.fleet before.fleet)
   pub rolls : Drains views.disk views.port
-      (input_of views before after) limits before.disk after.disk (seen (views.fleet before.fleet)) (seen (views.fleet after.fleet)) ending (written_at views before) (written_at views after)
+      (input_of views before after) limits before.disk after.disk (fleet_of (views.fleet before.fleet)) (fleet_of (views.fleet after.fleet)) ending (written_at views before) (written_at views after)
 
 -- How a drain ended, said once, as of a run: what came of the disk and of the ports and what was written, the status, and the line of the notes.
 pub record DrainsAsOne {S K D F P G : Type 0} (views : Views S K D F P G) (limits : Limits) (before : Outside S K D F) (status : ℕ) (after : Outside S K D F) : Type 0 where
@@ -43,17 +45,17 @@ pub record DrainPromise {S K D F P G : Type 0} (views : Views S K D F P G) (limi
   pub serves : guests_of (views.fleet after.fleet) ≡ guests_of (views.fleet before.fleet)
   -- the rollout is drained from what the journal had, or disk and ports are as they were
   pub rolls : DrainsAs views.disk views.port
-      (input_of views (used before) (used after)) limits before.disk after.disk (seen (views.fleet before.fleet)) (seen (views.fleet after.fleet)) status (written_at views (used before)) (written_at views (used after))
+      (input_of views (used before) (used after)) limits before.disk after.disk (fleet_of (views.fleet before.fleet)) (fleet_of (views.fleet after.fleet)) status (written_at views (used before)) (written_at views (used after))
   -- a disk fails only after an input that was read to its end and isn't refused
   pub failed : status ≡ 8 → ReadsDocument (views.source before.source) (views.source after.source)
   -- whenever a crash comes, the next start of this rollout isn't refused for what this one has left
   pub next : NextStart views.disk limits (input_of views (used before) (used after)) before.disk after.disk
   -- whatever the status, nothing went out, or the network is safe, and nothing was begun after the list found
-  pub ends : EndsDrainSafely views.disk views.port limits (input_of views (used before) (used after)) before.disk (views.fleet before.fleet).ports (views.fleet after.fleet).ports
+  pub ends : EndsDrainSafely views.disk views.port limits (input_of views (used before) (used after)) before.disk (ports_of (views.fleet before.fleet)) (ports_of (views.fleet after.fleet))
   -- the network is safe after each drain that was begun, and nothing was begun after the list found
   pub safe : IsOfBegun status
-      → DrainsSafely views.disk views.port limits (input_of views (used before) (used after)) before.disk (views.fleet before.fleet).ports (views.fleet after.fleet).ports
+      → DrainsSafely views.disk views.port limits (input_of views (used before) (used after)) before.disk (ports_of (views.fleet before.fleet)) (ports_of (views.fleet after.fleet))
   -- and after status 0 nothing is in flight, and the switches hold what is settled
   pub still : status ≡ 0
-      → IsDrained views.disk views.port limits (input_of views (used before) (used after)) before.disk (views.fleet before.fleet).ports (views.fleet after.fleet).ports
+      → IsDrained views.disk views.port limits (input_of views (used before) (used after)) before.disk (ports_of (views.fleet before.fleet)) (ports_of (views.fleet after.fleet))
       (written_at views (used before)) (written_at views (used after))

@@ -1,25 +1,26 @@
 -- What the command `drain` brings about. A disk and a port are given by what they tell.
-use Rattle.std.specs.Prelude.{◌≡◌, ◌⊎◌, ◌-◌, ◌<◌, ◌^◌, ℕ, List, ◌++◌, codes, decimal, Option, Result, Ok, Err}
+use Rattle.std.specs.Prelude.{◌≡◌, ◌⊎◌, ◌-◌, ◌<◌, ◌^◌, ℕ, List, ◌++◌, codes, decimal, Option, Result, Ok, Err, IfOk, IfErr}
 use Rattle.rollout_rules.specs.Wan.{Rollout}
 use Rattle.rollout_rules.specs.Network.{IsNetwork}
 use Rattle.rollout_rules.specs.declared.op.OpView.{OpView}
 use Rattle.disk_model.specs.Traces.{DiskTrace}
 use Rattle.disk_mirror.specs.Openings.{IsTold, Opens, OpensWithin}
-use Rattle.dependency_graph.specs.Graph.{op_total}
 use Rattle.intent_journal.specs.Openings.{IsLeft}
+use Rattle.intent_journal.specs.declared.fault.JournalFault.{JournalFault}
 use Rattle.wan_edge.specs.Ports.{PortTrace}
 use Rattle.wan_edge.specs.Streams.{Rose}
 use Rattle.rollout_report.specs.Journals.{digest_for}
 use Rattle.controller_run.specs.declared.running.Limits.{Limits}
-use Rattle.controller_run.specs.RolloutEnds.{HasRolled, IfRolled, OnUnopened}
-use Rattle.controller_run.specs.declared.rollout_end.RolloutEnd.{RolloutEnd}
-use Rattle.controller_run.specs.declared.rollout_end.RolloutEnd.TheVariants as outcome
+use Rattle.controller_run.specs.RolloutEnds.{HasRolled}
+use Rattle.controller_run.specs.declared.end.RunEnd.{RunEnd}
+use Rattle.controller_run.specs.declared.end.RunEnd.TheVariants as run
+use Rattle.controller_run.specs.declared.outcome.RunOutcome.{RunOutcome}
 use Rattle.rollback_service.specs.Drainings.{HoldsAll}
 use Rattle.text_commands.specs.CommandEnds.{status_of}
 use Rattle.retarget_service.specs.JournalRoom.{journal_room}
 use Rattle.text_commands.specs.Lines.{IsToldAs}
 use Rattle.text_commands.specs.Answers.{rollout_to}
-use Rattle.swanroll_top.specs.Rollouts.{FailsToOpen, FleetSeen, IsRefused, IsUnbegun, LeavesAll, ending_of_rollout}
+use Rattle.swanroll_top.specs.Rollouts.{FailsToOpen, FleetSeen, IsRefused, IsUnbegun, LeavesAll, by_answer, ending_at}
 use Rattle.text_commands.specs.Runs.{Follows}
 use Rattle.text_commands.specs.Safety.{IsValid}
 use Rattle.text_commands.specs.declared.command_end.CommandEnd.{CommandEnd}
@@ -32,11 +33,14 @@ drained_line operations settled = codes "drained: operations " ++ decimal operat
 abbrev pub line_with_left : ℕ → ℕ → List ℕ
 line_with_left operations left = drained_line operations (operations - left)
 
--- The line of a rollout of so many operations that is drained: none is left, or those that are held back. Or how the run ends without one.
-abbrev pub drained_or_ending : ℕ → RolloutEnd → Result (List ℕ) CommandEnd
-drained_or_ending operations (outcome.Finished all found) = Ok (line_with_left operations 0)
-drained_or_ending operations (outcome.Held left) = Ok (line_with_left operations left)
-drained_or_ending operations end = Err (ending_of_rollout end)
+-- The line of a rollout that is drained: none is left, or those that are held back. Or how the run ends without one.
+abbrev pub drained_at : RunEnd → RunOutcome → Result (List ℕ) CommandEnd
+drained_at run.Finished outcome = Ok (line_with_left outcome.operations 0)
+drained_at run.Held outcome = Ok (line_with_left outcome.operations outcome.left)
+drained_at end outcome = Err (ending_at end outcome)
+
+abbrev pub drained_or_ending : RunOutcome → Result (List ℕ) CommandEnd
+drained_or_ending outcome = drained_at outcome.end outcome
 
 -- The rollout of an input, whose plan is valid, was run from what its disk had, over the ports of a fleet, under a policy that holds all back, and the run ends as the answer says.
 -- Where no journal was opened, no port was; where a port is missing, the fleet failed to give it.
@@ -47,11 +51,11 @@ pub record DrainsOut {D P : Type 0} (trace : D → DiskTrace) (tell : P → Port
   pub small : limits.migration < 2 ^ 32
   pub policy : OpView → ℕ
   pub holds : HoldsAll policy
-  pub answer : RolloutEnd
-  pub rolled : IfRolled answer (HasRolled trace tell r (digest_for r limits.migration) policy limits.rounds disk before.ports now.ports disk_now answer)
-  pub unopened : OnUnopened answer (λ why. IsLeft trace r (digest_for r limits.migration) disk why disk_now × (now ≡ before))
-  pub no_port : (other : Rollout) (switch : ℕ) → answer ≡ outcome.NoPort other switch → Rose before.faults now.faults
-  pub follows : Follows (drained_or_ending (op_total r) answer) ending out out_now
+  pub answer : Result RunOutcome JournalFault
+  pub rolled : IfOk answer (λ outcome. HasRolled trace tell r (digest_for r limits.migration) policy limits.rounds disk before.ports now.ports disk_now outcome)
+  pub unopened : IfErr answer (λ why. IsLeft trace r (digest_for r limits.migration) disk why disk_now × (now ≡ before))
+  pub no_port : IfOk answer (λ outcome. (switch : ℕ) → outcome.end ≡ run.NoPort switch → Rose before.faults now.faults)
+  pub follows : Follows (by_answer drained_or_ending answer) ending out out_now
 
 -- The disk was opened, tells its bytes since, no more than there is room for a journal of this rollout, and the rollout was drained from these.
 pub record DrainsOpened {D P : Type 0} (trace : D → DiskTrace) (tell : P → PortTrace)

@@ -1,19 +1,20 @@
 -- The promise of `held`, which asks the switches of the rollout of its input what they hold, over the ports of the fleet.
 use Rattle.std.specs.Prelude.{◌≡◌, ◌≢◌, ℕ}
+use Rattle.agent_service.specs.Services.{guests_of}
 use Rattle.text_commands.specs.CommandEnds.{status_of}
 use Rattle.swanroll_top.specs.HeldAsked.{Asks, WritesHeld}
 use Rattle.text_commands.specs.Lines.{IsToldAs}
 use Rattle.text_commands.specs.Program.{NotesLine}
-use Rattle.swanroll_top.specs.Rollouts.{RunsRollout}
+use Rattle.swanroll_top.specs.Rollouts.{RunsRollout, fleet_of}
 use Rattle.swanroll_top.specs.RunPromise.{RollsAndNotes}
-use Rattle.swanroll_top.specs.Views.{Objects, Outside, Views, guests_of, input_of, seen, source_at, streams, used, written_at}
+use Rattle.swanroll_top.specs.Views.{Objects, Outside, Views, input_of, source_at, streams, used, written_at}
 use Rattle.text_commands.specs.declared.command_end.CommandEnd.{CommandEnd}
 
 -- what has been brought about where it ended so
 pub record BringsHeld {S K D F P G : Type 0} (views : Views S K D F P G) (rounds : ℕ) (before : Objects S K D F) (ending : CommandEnd) (after : Objects S K D F) : Type 0 where
   pub runs : RunsRollout (source_at views before) (source_at views after) ending (written_at views before) (written_at views after)
   pub guests : guests_of (views.fleet after.fleet) ≡ guests_of (views.fleet before.fleet)
-  pub asks : Asks views.port (input_of views before after) rounds (seen (views.fleet before.fleet)) (seen (views.fleet after.fleet)) ending (written_at views before) (written_at views after)
+  pub asks : Asks views.port (input_of views before after) rounds (fleet_of (views.fleet before.fleet)) (fleet_of (views.fleet after.fleet)) ending (written_at views before) (written_at views after)
 
 -- How it ended, said once: what was asked and told and written, the status, and the line of the notes.
 pub record AsksAsOne {S K D F P G : Type 0} (views : Views S K D F P G) (rounds : ℕ) (before : Outside S K D F) (status : ℕ) (after : Outside S K D F) : Type 0 where
@@ -38,4 +39,4 @@ pub record HeldPromise {S K D F P G : Type 0} (views : Views S K D F P G) (round
   -- after status 0 all have told, and what was written is what they told
   pub writes : status ≡ 0
       → WritesHeld views.port
-      (input_of views (used before) (used after)) rounds (seen (views.fleet before.fleet)) (seen (views.fleet after.fleet)) (written_at views (used before)) (written_at views (used after))
+      (input_of views (used before) (used after)) rounds (fleet_of (views.fleet before.fleet)) (fleet_of (views.fleet after.fleet)) (written_at views (used before)) (written_at views (used after))

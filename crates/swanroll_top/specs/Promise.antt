@@ -1,6 +1,7 @@
 -- The promise of the call: all that it brings about, by what its words ask for.
 use Rattle.std.specs.Prelude.{◌≡◌, ◌≢◌, ⊤, Bool, true, false, ◌||◌, ℕ, List, drop, String, Option, Some, None, Result, IsTrue, IfErr, IfOk}
 use Rattle.std.specs.declared.alloc.Global.{Global}
+use Rattle.switch_ports.specs.Berths.{ports_of}
 use Rattle.rollout_rules.specs.declared.op.OpView.{OpView}
 use Rattle.wan_edge.specs.Streams.{Rose}
 use Rattle.swanroll_top.specs.AgentPromise.{AgentPromise, BringsService}
@@ -40,7 +41,7 @@ pub record LeavesUnnamed {S K D F P G : Type 0} (views : Views S K D F P G) (use
   -- a fleet without ports to open or guests to serve
   pub fleet : UnlessUsed (uses.ports || uses.guests) before.fleet after.fleet
   -- the ports of a fleet whose guests are served
-  pub ports : UnlessUsed uses.ports (views.fleet before.fleet).ports (views.fleet after.fleet).ports
+  pub ports : UnlessUsed uses.ports (ports_of (views.fleet before.fleet)) (ports_of (views.fleet after.fleet))
 
 -- ---- by the ending, before anything is noted
 
@@ -71,7 +72,7 @@ pub record Ran {S K D F P G : Type 0} (views : Views S K D F P G) (asked : Asked
   -- what it doesn't use is as it was
   pub unnamed : LeavesUnnamed views (uses_of (Some asked)) before after
   -- as many guests are out as at first
-  pub visiting : (views.fleet after.fleet).guests.visiting ≡ (views.fleet before.fleet).guests.visiting
+  pub visiting : (views.fleet after.fleet).visiting ≡ (views.fleet before.fleet).visiting
 
 -- ---- by the status
 
@@ -98,7 +99,7 @@ pub record Promise {S K D F P G : Type 0} (views : Views S K D F P G) (asked : O
   -- what the command doesn't use is as it was
   pub unnamed : LeavesUnnamed views (uses_of asked) (used before) (used after)
   -- as many guests are out as at first
-  pub visiting : (views.fleet after.fleet).guests.visiting ≡ (views.fleet before.fleet).guests.visiting
+  pub visiting : (views.fleet after.fleet).visiting ≡ (views.fleet before.fleet).visiting
   -- what the command promises of the rest
   pub command : Keeps views asked before status after
 

@@ -12,7 +12,7 @@ use Rattle.wan_edge.specs.Streams.{Rose}
 use Rattle.rollback_plan.specs.Turning.{back_plan, back_problem}
 use Rattle.rollout_report.specs.Journals.{digest_for}
 use Rattle.controller_run.specs.declared.running.Limits.{Limits}
-use Rattle.rollback_service.specs.Levellings.{HasLevelled}
+use Rattle.rollback_service.specs.Levellings.{HasLevelled, LacksPort}
 use Rattle.rollback_service.specs.Placings.{HasPlaced, IsNotPlaced, IsSeen, MayPlace, kept_from}
 use Rattle.rollback_service.specs.declared.answer.LevelAnswer.{LevelAnswer}
 use Rattle.rollback_service.specs.declared.answer.LevelAnswer.TheVariants as level
@@ -21,12 +21,10 @@ use Rattle.text_commands.specs.CommandEnds.{ending_of_journal, status_of}
 use Rattle.retarget_service.specs.JournalRoom.{journal_room}
 use Rattle.text_commands.specs.Lines.{IsToldAs}
 use Rattle.text_commands.specs.Answers.{rollout_to}
-use Rattle.swanroll_top.specs.Rollouts.{FailsToOpen, FleetSeen, IsRefused, IsUnbegun, LeavesAll, ending_of_stop}
+use Rattle.swanroll_top.specs.Rollouts.{FailsToOpen, FleetSeen, IsRefused, IsUnbegun, LeavesAll, ending_of_rollout}
 use Rattle.text_commands.specs.Runs.{Follows}
 use Rattle.text_commands.specs.Safety.{IsValid}
 use Rattle.text_commands.specs.declared.command_end.CommandEnd.{CommandEnd}
-use Rattle.text_commands.specs.declared.command_end.CommandEnd.TheVariants.{NotFinished, OutOfMemory}
-use Rattle.text_commands.specs.declared.unfinished.Unfinished.TheVariants.{PortFault}
 
 -- the document of the way back of a rollout, and a line feed
 abbrev pub back_text : Rollout → List ℕ
@@ -61,9 +59,7 @@ pub record LeavesUnlevel {D : Type 0} (why : CommandEnd) (disk disk_now : D) (en
 -- what follows from how levelling has gone: after a level alone something is placed
 abbrev pub Closes : {D : Type 0} → (D → DiskTrace) → ℕ → LevelAnswer → D → D → CommandEnd → Option (List ℕ) → Option (List ℕ) → Type 0
 Closes trace migration (level.Level r start) disk disk_now ending out out_now = TakesBack trace r migration start disk disk_now ending out out_now
-Closes trace migration (level.Stopped r halt) disk disk_now ending out out_now = LeavesUnlevel (ending_of_stop r halt.cause) disk disk_now ending out out_now
-Closes trace migration (level.NoPort r switch) disk disk_now ending out out_now = LeavesUnlevel (NotFinished (PortFault r switch)) disk disk_now ending out out_now
-Closes trace migration level.Memory disk disk_now ending out out_now = LeavesUnlevel OutOfMemory disk disk_now ending out out_now
+Closes trace migration (level.Unlevel outcome) disk disk_now ending out out_now = LeavesUnlevel (ending_of_rollout outcome) disk disk_now ending out out_now
 
 -- ---- from a disk that was opened
 
@@ -73,7 +69,7 @@ pub record Levels {D P : Type 0} (trace : D → DiskTrace) (tell : P → PortTra
   pub levelled : D
   pub answer : LevelAnswer
   pub has : HasLevelled trace tell origin r (digest_for r limits.migration) limits.rounds disk before.ports now.ports levelled answer
-  pub no_port : (other : Rollout) (switch : ℕ) → answer ≡ level.NoPort other switch → Rose before.faults now.faults
+  pub no_port : (switch : ℕ) → LacksPort answer switch → Rose before.faults now.faults
   pub closes : Closes trace limits.migration answer levelled disk_now ending out out_now
 
 -- No journal of it was opened there, and no port.

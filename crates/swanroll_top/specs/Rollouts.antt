@@ -1,22 +1,24 @@
 -- What the command `run` brings about. A disk and a port are given by what they tell.
-use Rattle.std.specs.Prelude.{◌≡◌, ◌⊎◌, ⊤, ◌↔◌, ◌<◌, ◌^◌, Bool, true, false, ℕ, List, ◌++◌, codes, decimal, Option, Result, Ok, Err}
+use Rattle.std.specs.Prelude.{◌≡◌, ◌⊎◌, ⊤, ◌↔◌, ◌<◌, ◌^◌, Bool, true, false, ℕ, List, ◌++◌, codes, decimal, Option, Result, Ok, Err, IfOk, IfErr}
 use Rattle.rollout_rules.specs.Wan.{Rollout}
 use Rattle.rollout_rules.specs.Network.{IsNetwork}
 use Rattle.rollout_rules.specs.declared.op.OpView.{OpView}
 use Rattle.disk_model.specs.Traces.{DiskTrace}
 use Rattle.disk_mirror.specs.Openings.{IsTold, Opens, OpensWithin}
-use Rattle.intent_journal.specs.declared.fault.JournalFault.TheVariants as fault
+use Rattle.intent_journal.specs.declared.fault.JournalFault.{JournalFault}
 use Rattle.shared_book.specs.declared.note.Cause.{Cause}
 use Rattle.shared_book.specs.declared.note.Cause.TheVariants as cause
 use Rattle.wan_edge.specs.Ports.{PortTrace}
 use Rattle.wan_edge.specs.Streams.{Rose, SourceTrace}
+use Rattle.wan_edge.specs.Fleets.{FleetTrace}
 use Rattle.switch_ports.specs.Berths.{FleetPorts, ports_of}
 use Rattle.rollout_report.specs.Journals.{digest_for}
 use Rattle.controller_run.specs.declared.running.Limits.{Limits}
 use Rattle.intent_journal.specs.Openings.{IsLeft}
-use Rattle.controller_run.specs.RolloutEnds.{HasRolled, IfRolled, OnUnopened}
-use Rattle.controller_run.specs.declared.rollout_end.RolloutEnd.{RolloutEnd}
-use Rattle.controller_run.specs.declared.rollout_end.RolloutEnd.TheVariants as outcome
+use Rattle.controller_run.specs.RolloutEnds.{HasRolled}
+use Rattle.controller_run.specs.declared.end.RunEnd.{RunEnd}
+use Rattle.controller_run.specs.declared.end.RunEnd.TheVariants as run
+use Rattle.controller_run.specs.declared.outcome.RunOutcome.{RunOutcome}
 use Rattle.text_commands.specs.CommandEnds.{ending_of_journal, status_of}
 use Rattle.retarget_service.specs.JournalRoom.{journal_room}
 use Rattle.text_commands.specs.Lines.{IsToldAs}
@@ -42,28 +44,37 @@ ending_of_stop r (cause.NoAnswer switch byte) = NotFinished (NoAnswer r switch b
 ending_of_stop r cause.Disk = DiskFault
 ending_of_stop r cause.Memory = OutOfMemory
 
--- how a command ends whose rollout has gone so
-abbrev pub ending_of_rollout : RolloutEnd → CommandEnd
-ending_of_rollout (outcome.Finished operations found) = Done
-ending_of_rollout (outcome.Held left) = NotFinished (Held left)
-ending_of_rollout (outcome.Stopped r halt) = ending_of_stop r halt.cause
-ending_of_rollout (outcome.NoPort r switch) = NotFinished (PortFault r switch)
-ending_of_rollout outcome.Memory = OutOfMemory
-ending_of_rollout (outcome.Unopened why) = ending_of_journal why
+-- how a command ends whose rollout has come to this
+abbrev pub ending_at : RunEnd → RunOutcome → CommandEnd
+ending_at run.Finished outcome = Done
+ending_at run.Held outcome = NotFinished (Held outcome.left)
+ending_at (run.Stopped halt) outcome = ending_of_stop outcome.plan halt.cause
+ending_at (run.NoPort switch) outcome = NotFinished (PortFault outcome.plan switch)
+ending_at run.Memory outcome = OutOfMemory
+
+abbrev pub ending_of_rollout : RunOutcome → CommandEnd
+ending_of_rollout outcome = ending_at outcome.end outcome
 
 -- the line of a rollout that is finished, or how the run ends without one
-abbrev pub line_or_ending : RolloutEnd → Result (List ℕ) CommandEnd
-line_or_ending (outcome.Finished operations found) = Ok (finished_line operations found)
-line_or_ending end = Err (ending_of_rollout end)
+abbrev pub line_at : RunEnd → RunOutcome → Result (List ℕ) CommandEnd
+line_at run.Finished outcome = Ok (finished_line outcome.operations outcome.found)
+line_at end outcome = Err (ending_at end outcome)
 
--- the answers that tell a fault of the disk
-abbrev pub IsDiskFault : RolloutEnd → Type 0
-IsDiskFault (outcome.Finished operations found) = ⊥
-IsDiskFault (outcome.Held left) = ⊥
-IsDiskFault (outcome.Stopped r halt) = halt.cause ≡ cause.Disk
-IsDiskFault (outcome.NoPort r switch) = ⊥
-IsDiskFault outcome.Memory = ⊥
-IsDiskFault (outcome.Unopened why) = why ≡ fault.Disk
+abbrev pub line_or_ending : RunOutcome → Result (List ℕ) CommandEnd
+line_or_ending outcome = line_at outcome.end outcome
+
+-- the same where the journal may not have been opened: then the run ends as the cause says
+abbrev pub by_answer : (RunOutcome → Result (List ℕ) CommandEnd) → Result RunOutcome JournalFault → Result (List ℕ) CommandEnd
+by_answer line (Ok outcome) = line outcome
+by_answer line (Err why) = Err (ending_of_journal why)
+
+-- the end that tells a fault of the disk
+abbrev pub IsDiskFault : RunEnd → Type 0
+IsDiskFault run.Finished = ⊥
+IsDiskFault run.Held = ⊥
+IsDiskFault (run.Stopped halt) = halt.cause ≡ cause.Disk
+IsDiskFault (run.NoPort switch) = ⊥
+IsDiskFault run.Memory = ⊥
 
 -- ---- what becomes of the disk and of the ports
 
@@ -72,8 +83,8 @@ pub record FleetSeen (P : Type 0) : Type 0 where
   pub ports : FleetPorts P
   pub faults : ℕ
 
-abbrev pub fleet_of : {F P : Type 0} → (F → Option (ℕ → Option P)) → (F → ℕ → Option P) → (F → ℕ → Bool) → (F → ℕ → Option (List ℕ)) → (F → ℕ) → F → FleetSeen P
-fleet_of waiting kept lent named faults fleet = record { ports = ports_of waiting kept lent named fleet; faults = faults fleet }
+abbrev pub fleet_of : {P G : Type 0} → FleetTrace P G → FleetSeen P
+fleet_of fleet = record { ports = ports_of fleet; faults = fleet.faults }
 
 -- The rollout of an input, whose plan is valid, was run from what its disk had, over the ports of a fleet, and the run ends as the answer says.
 -- Where no journal was opened, no port was; where a port is missing, the fleet failed to give it.
@@ -82,11 +93,11 @@ pub record RollsOut {D P : Type 0} (trace : D → DiskTrace) (tell : P → PortT
   pub network : IsNetwork r.problem
   pub valid : IsValid r.problem r.plan
   pub small : limits.migration < 2 ^ 32
-  pub answer : RolloutEnd
-  pub rolled : IfRolled answer (HasRolled trace tell r (digest_for r limits.migration) policy limits.rounds disk before.ports now.ports disk_now answer)
-  pub unopened : OnUnopened answer (λ why. IsLeft trace r (digest_for r limits.migration) disk why disk_now × (now ≡ before))
-  pub no_port : (other : Rollout) (switch : ℕ) → answer ≡ outcome.NoPort other switch → Rose before.faults now.faults
-  pub follows : Follows (line_or_ending answer) ending out out_now
+  pub answer : Result RunOutcome JournalFault
+  pub rolled : IfOk answer (λ outcome. HasRolled trace tell r (digest_for r limits.migration) policy limits.rounds disk before.ports now.ports disk_now outcome)
+  pub unopened : IfErr answer (λ why. IsLeft trace r (digest_for r limits.migration) disk why disk_now × (now ≡ before))
+  pub no_port : IfOk answer (λ outcome. (switch : ℕ) → outcome.end ≡ run.NoPort switch → Rose before.faults now.faults)
+  pub follows : Follows (by_answer line_or_ending answer) ending out out_now
 
 -- The disk couldn't be opened, which it counted. Nothing was begun.
 pub record FailsToOpen {D P : Type 0} (trace : D → DiskTrace) (disk disk_now : D) (before now : FleetSeen P) (ending : CommandEnd) (out out_now : Option (List ℕ)) : Type 0 where

@@ -1,25 +1,12 @@
 -- What the outside objects of the call tell, and these objects at a moment.
-use Rattle.std.specs.Prelude.{ℕ, Bool, List, Option}
+use Rattle.std.specs.Prelude.{ℕ, List, Option}
 use Rattle.disk_model.specs.Traces.{DiskTrace}
 use Rattle.wan_edge.specs.Ports.{PortTrace}
 use Rattle.wan_edge.specs.Streams.{SinkTrace, SourceTrace}
-use Rattle.agent_service.specs.Services.{Guests, Tells}
-use Rattle.switch_ports.specs.Berths.{FleetPorts, ports_of}
+use Rattle.wan_edge.specs.Fleets.{FleetTrace}
+use Rattle.agent_service.specs.Services.{Tells}
 use Rattle.text_commands.specs.Program.{Streams}
-use Rattle.swanroll_top.specs.Rollouts.{FleetSeen}
 use Rattle.text_commands.specs.Runs.{IsInput}
-
--- the guests of a fleet: those to come, where they are told, those given back, and how many are out
-pub record GuestsTrace (G : Type 0) : Type 0 where
-  pub coming : Option (List G)
-  pub served : List G
-  pub visiting : ℕ
-
--- what a fleet tells: its ports, its guests, and how often it has failed
-pub record FleetTrace (P G : Type 0) : Type 0 where
-  pub ports : FleetPorts P
-  pub guests : GuestsTrace G
-  pub faults : ℕ
 
 -- what each of the outside objects tells
 pub record Views (S K D F P G : Type 0) : Type 1 where
@@ -29,14 +16,6 @@ pub record Views (S K D F P G : Type 0) : Type 1 where
   pub fleet : F → FleetTrace P G
   pub port : P → PortTrace
   pub guest : Tells G
-
--- what a fleet tells, by each of its parts
-abbrev pub fleet_told : {F P G : Type 0} → (F → Option (ℕ → Option P)) → (F → ℕ → Option P) → (F → ℕ → Bool) → (F → ℕ → Option (List ℕ)) → (F → Option (List G)) → (F → List G) → (F → ℕ) → (F → ℕ) → F → FleetTrace P G
-fleet_told waiting kept lent named coming served visiting faults fleet = record {
-  ports = ports_of waiting kept lent named fleet;
-  guests = record { coming = coming fleet; served = served fleet; visiting = visiting fleet };
-  faults = faults fleet;
-}
 
 -- what guests tell, as sources and as sinks
 abbrev pub guest_told : {G : Type 0} → (G → SourceTrace) → (G → SinkTrace) → Tells G
@@ -72,13 +51,6 @@ used o = objects o.source o.sink o.disk o.fleet
 -- these with another disk
 abbrev pub over : {S K D F : Type 0} → D → Outside S K D F → Outside S K D F
 over disk o = outside o.source o.sink o.notes disk o.fleet
-
--- what is told of a fleet's ports and faults, and of its guests
-abbrev pub seen : {P G : Type 0} → FleetTrace P G → FleetSeen P
-seen fleet = record { ports = fleet.ports; faults = fleet.faults }
-
-abbrev pub guests_of : {P G : Type 0} → FleetTrace P G → Guests G
-guests_of fleet = record { coming = fleet.guests.coming; served = fleet.guests.served }
 
 -- what is told of the bytes read, written, noted and stored, and of faults
 abbrev pub streams : {S K D F P G : Type 0} → Views S K D F P G → Outside S K D F → Streams

@@ -1,7 +1,9 @@
 //! The command `agent`, over the guests of a fleet.
 
 ghost use Rattle.std.specs.Prelude.{◌≡◌, ◌≢◌, Ok, IfOk};
+ghost use Rattle.agent_service.specs.Services.{guests_of};
 ghost use Rattle.wan_edge.specs.Streams.{Rose};
+ghost use Rattle.wan_edge.specs.Fleets.{PortsStay};
 ghost use Rattle.swanroll_top.specs.Agents.{EndsOwn, RunsAgent, service_line};
 ghost use Rattle.text_commands.specs.Runs.{Follows};
 
@@ -21,19 +23,14 @@ pub fn agent<K: Sink, F: Fleet>(
     sink: &mut K,
 ) -> CommandEnd
     ensures runs { RunsAgent (record { source = F.Guest.Source.told; sink = F.Guest.Sink.told })
-        guests
-        (record { coming = F.coming fleet.old; served = F.served fleet.old })
-        (record { coming = F.coming fleet.new; served = F.served fleet.new }) result
+        guests (guests_of (F.told fleet.old)) (guests_of (F.told fleet.new)) result
         (K.told sink.old).written (K.told sink.new).written }
     ensures guest_fault { result ≡ CommandEnd.GuestFault
-        → Rose (F.faults fleet.old) (F.faults fleet.new) }
+        → Rose (F.told fleet.old).faults (F.told fleet.new).faults }
     ensures write_fault { result ≡ CommandEnd.WriteFault
         → Rose (K.told sink.old).faults (K.told sink.new).faults }
-    ensures visiting { F.visiting fleet.new ≡ F.visiting fleet.old }
-    ensures ports { (F.waiting fleet.new ≡ F.waiting fleet.old)
-        × (F.kept fleet.new ≡ F.kept fleet.old)
-        × (F.lent fleet.new ≡ F.lent fleet.old)
-        × (F.named fleet.new ≡ F.named fleet.old) }
+    ensures visiting { (F.told fleet.new).visiting ≡ (F.told fleet.old).visiting }
+    ensures ports { PortsStay (F.told fleet.old) (F.told fleet.new) }
     ensures others { (result ≢ CommandEnd.Usage)
         × (result ≢ CommandEnd.ReadFault)
         × (result ≢ CommandEnd.DiskFault) }

@@ -1,6 +1,6 @@
 ghost use Rattle.order_policy.specs.Named.{answers_in};
 ghost use Rattle.swanroll_top.specs.Promise.{StartPromise};
-ghost use Rattle.swanroll_top.specs.Views.{fleet_told, guest_told, outside, views_of};
+ghost use Rattle.swanroll_top.specs.Views.{guest_told, outside, views_of};
 
 use crate::top::{Ended, swanroll};
 use disk_mirror::Openable;
@@ -26,11 +26,9 @@ pub fn start<R: Wait + Threads + Sync, S: Source, K: Sink, D: Openable + Drop + 
 ) -> Ended<D>
 where
     F::Port: Drop + Send,
-    ensures { StartPromise (views_of S.told K.told D.told
-        (fleet_told F.waiting F.kept F.lent F.named F.coming F.served F.visiting F.faults)
-        F.Port.told (guest_told F.Guest.Source.told F.Guest.Sink.told))
-        (answers_in policies.now) arguments (λ all. all.items)
-        (outside source.old sink.old notes.old disk fleet.old) result.status
+    ensures { StartPromise (views_of S.told K.told D.told F.told F.Port.told
+        (guest_told F.Guest.Source.told F.Guest.Sink.told)) (answers_in policies.now) arguments
+        (λ all. all.items) (outside source.old sink.old notes.old disk fleet.old) result.status
         (outside source.new sink.new notes.new result.disk fleet.new) }
 {
     match arguments {

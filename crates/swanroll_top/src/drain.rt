@@ -2,6 +2,7 @@
 
 ghost use Rattle.std.specs.Prelude.{◌≡◌, ◌≢◌, ◌-◌, IfOk};
 ghost use Rattle.wan_edge.specs.Streams.{Rose};
+ghost use Rattle.wan_edge.specs.Fleets.{GuestsStay};
 ghost use Rattle.swanroll_top.specs.Drains.{Drains, DrainsIn, DrainsOut, OpensAndDrains, drained_line, drained_or_ending, line_with_left};
 ghost use Rattle.text_commands.specs.Answers.{rollout_in};
 ghost use Rattle.swanroll_top.specs.Rollouts.{EndsRollout, FollowsRolled, IsDiskFault, RunsRollout, fleet_of};
@@ -9,13 +10,14 @@ ghost use Rattle.text_commands.specs.Runs.{Follows, Gives, IsInput};
 
 use crate::rollout_ending::ending_of_rollout;
 use crate::run::CommandResult;
-use controller_run::{Limits, RolloutEnd};
+use controller_run::{Limits, RolloutResult, RunEnd, RunOutcome};
 use dependency_graph::checked_plan_is_valid;
 use disk_mirror::Openable;
 use disk_model::Disk;
+use intent_journal::Unopened;
 use lists::{Memory, Text};
 use retarget_service::journal_room;
-use rollback_service::{Drained, run_draining};
+use rollback_service::run_draining;
 use std::alloc::Global;
 use std::sync::Wait;
 use std::thread::Threads;
@@ -39,12 +41,9 @@ where
     ensures runs { RunsRollout (S.told source.old) (S.told source.new) result.ending
         (K.told sink.old).written (K.told sink.new).written }
     ensures rolls { Drains D.told F.Port.told (IsInput (S.told source.old) (S.told source.new))
-        limits disk result.disk (fleet_of F.waiting F.kept F.lent F.named F.faults fleet.old)
-        (fleet_of F.waiting F.kept F.lent F.named F.faults fleet.new) result.ending
-        (K.told sink.old).written (K.told sink.new).written }
-    ensures guests { (F.coming fleet.new ≡ F.coming fleet.old)
-        × (F.served fleet.new ≡ F.served fleet.old)
-        × (F.visiting fleet.new ≡ F.visiting fleet.old) }
+        limits disk result.disk (fleet_of (F.told fleet.old)) (fleet_of (F.told fleet.new))
+        result.ending (K.told sink.old).written (K.told sink.new).written }
+    ensures guests { GuestsStay (F.told fleet.old) (F.told fleet.new) }
     ensures read_fault { result.ending ≡ CommandEnd.ReadFault
         → Rose (S.told source.old).faults (S.told source.new).faults }
     ensures write_fault { result.ending ≡ CommandEnd.WriteFault
@@ -73,12 +72,9 @@ where
     ensures follows { FollowsRolled (rollout_in input) result.ending (K.told sink.old).written
         (K.told sink.new).written }
     ensures rolls { DrainsIn D.told F.Port.told (rollout_in input) limits disk result.disk
-        (fleet_of F.waiting F.kept F.lent F.named F.faults fleet.old)
-        (fleet_of F.waiting F.kept F.lent F.named F.faults fleet.new) result.ending
+        (fleet_of (F.told fleet.old)) (fleet_of (F.told fleet.new)) result.ending
         (K.told sink.old).written (K.told sink.new).written }
-    ensures guests { (F.coming fleet.new ≡ F.coming fleet.old)
-        × (F.served fleet.new ≡ F.served fleet.old)
-        × (F.visiting fleet.new ≡ F.visiting fleet.old) }
+    ensures guests { GuestsStay (F.told fleet.old) (F.told fleet.new) }
     ensures write_fault { result.ending ≡ CommandEnd.WriteFault
         → Rose (K.told sink.old).faults (K.told sink.new).faults }
     ensures disk_fault { result.ending ≡ CommandEnd.DiskFault
@@ -103,13 +99,10 @@ fn drain_plan<R: Wait + Threads + Sync, K: Sink, D: Openable + Drop + Send, F: F
 where
     F::Port: Drop + Send,
     ensures rolls { OpensAndDrains D.told F.Port.told plan limits disk result.disk
-        (fleet_of F.waiting F.kept F.lent F.named F.faults fleet.old)
-        (fleet_of F.waiting F.kept F.lent F.named F.faults fleet.new) result.ending
+        (fleet_of (F.told fleet.old)) (fleet_of (F.told fleet.new)) result.ending
         (K.told sink.old).written (K.told sink.new).written }
     ensures ends { EndsRollout result.ending (K.told sink.old).written (K.told sink.new).written }
-    ensures guests { (F.coming fleet.new ≡ F.coming fleet.old)
-        × (F.served fleet.new ≡ F.served fleet.old)
-        × (F.visiting fleet.new ≡ F.visiting fleet.old) }
+    ensures guests { GuestsStay (F.told fleet.old) (F.told fleet.new) }
     ensures write_fault { result.ending ≡ CommandEnd.WriteFault
         → Rose (K.told sink.old).faults (K.told sink.new).faults }
     ensures disk_fault { result.ending ≡ CommandEnd.DiskFault
@@ -139,57 +132,56 @@ fn drain_opened<R: Wait + Threads + Sync, K: Sink, D: Disk + Drop + Send, F: Fle
 where
     F::Port: Drop + Send,
     ensures rolls { DrainsOut D.told F.Port.told plan limits disk result.disk
-        (fleet_of F.waiting F.kept F.lent F.named F.faults fleet.old)
-        (fleet_of F.waiting F.kept F.lent F.named F.faults fleet.new) result.ending
+        (fleet_of (F.told fleet.old)) (fleet_of (F.told fleet.new)) result.ending
         (K.told sink.old).written (K.told sink.new).written }
     ensures ends { EndsRollout result.ending (K.told sink.old).written (K.told sink.new).written }
-    ensures guests { (F.coming fleet.new ≡ F.coming fleet.old)
-        × (F.served fleet.new ≡ F.served fleet.old)
-        × (F.visiting fleet.new ≡ F.visiting fleet.old) }
+    ensures guests { GuestsStay (F.told fleet.old) (F.told fleet.new) }
     ensures write_fault { result.ending ≡ CommandEnd.WriteFault
         → Rose (K.told sink.old).faults (K.told sink.new).faults }
     ensures disk_fault { result.ending ≡ CommandEnd.DiskFault
         → Rose (D.told disk).faults (D.told result.disk).faults }
 {
     checked_plan_is_valid(&plan);
-    let Drained {
-        disk,
-        operations,
-        answer,
-    } = run_draining(rt, alloc, plan, limits, disk, fleet);
-    CommandResult {
-        ending: write_drained(alloc, operations, answer, sink),
-        disk,
+    match run_draining(rt, alloc, plan, limits, disk, fleet) {
+        Ok(drained) => {
+            let RolloutResult { disk, outcome } = drained;
+            CommandResult {
+                ending: write_drained(alloc, outcome, sink),
+                disk,
+            }
+        }
+        Err(unopened) => {
+            let Unopened { disk, cause } = unopened;
+            CommandResult {
+                ending: CommandEnd::from(cause),
+                disk,
+            }
+        }
     }
 }
 
 /// Writes the line of a rollout that is drained, or says how the run ends without one.
-fn write_drained<K: Sink>(
-    alloc: Global,
-    operations: u32,
-    answer: RolloutEnd,
-    sink: &mut K,
-) -> CommandEnd
-    ensures follows { Follows (drained_or_ending operations answer) result
-        (K.told sink.old).written (K.told sink.new).written }
+fn write_drained<K: Sink>(alloc: Global, outcome: RunOutcome, sink: &mut K) -> CommandEnd
+    ensures follows { Follows (drained_or_ending outcome) result (K.told sink.old).written
+        (K.told sink.new).written }
     ensures ends { EndsRollout result (K.told sink.old).written (K.told sink.new).written }
-    ensures disk { result ≡ CommandEnd.DiskFault → IsDiskFault answer }
+    ensures disk { result ≡ CommandEnd.DiskFault → IsDiskFault outcome.end }
     ensures write_fault { result ≡ CommandEnd.WriteFault
         → Rose (K.told sink.old).faults (K.told sink.new).faults }
 {
-    match line_of(alloc, operations, answer) {
+    match line_of(alloc, outcome) {
         Ok(line) => write_text(sink, line.as_str()),
         Err(ending) => ending,
     }
 }
 
-fn line_of(alloc: Global, operations: u32, answer: RolloutEnd) -> Result<Text, CommandEnd>
-    ensures { Gives result (drained_or_ending operations answer) }
+fn line_of(alloc: Global, outcome: RunOutcome) -> Result<Text, CommandEnd>
+    ensures { Gives result (drained_or_ending outcome) }
 {
-    match answer {
-        RolloutEnd::Finished { .. } => Ok(line_with_left(alloc, operations, 0)?),
-        RolloutEnd::Held { left } => Ok(line_with_left(alloc, operations, left)?),
-        end => Err(ending_of_rollout(end)),
+    match outcome.end {
+        RunEnd::Finished => Ok(line_with_left(alloc, outcome.operations, 0)?),
+        RunEnd::Held => Ok(line_with_left(alloc, outcome.operations, outcome.left)?),
+        _ => Err(ending_of_rollout(outcome)),
     }
 }
 

@@ -2,6 +2,7 @@
 
 ghost use Rattle.std.specs.Prelude.{◌≡◌, ◌≢◌};
 ghost use Rattle.wan_edge.specs.Streams.{Rose};
+ghost use Rattle.wan_edge.specs.Fleets.{GuestsStay};
 ghost use Rattle.swanroll_top.specs.HeldAsked.{Asks, AsksIn, AsksRollout, ending_of_not_told};
 ghost use Rattle.text_commands.specs.Answers.{rollout_in};
 ghost use Rattle.swanroll_top.specs.Rollouts.{EndsRollout, FollowsRolled, RunsRollout, fleet_of};
@@ -25,12 +26,9 @@ pub fn held<S: Source, K: Sink, F: Fleet>(
     ensures runs { RunsRollout (S.told source.old) (S.told source.new) result
         (K.told sink.old).written (K.told sink.new).written }
     ensures asks { Asks F.Port.told (IsInput (S.told source.old) (S.told source.new)) rounds
-        (fleet_of F.waiting F.kept F.lent F.named F.faults fleet.old)
-        (fleet_of F.waiting F.kept F.lent F.named F.faults fleet.new) result
-        (K.told sink.old).written (K.told sink.new).written }
-    ensures guests { (F.coming fleet.new ≡ F.coming fleet.old)
-        × (F.served fleet.new ≡ F.served fleet.old)
-        × (F.visiting fleet.new ≡ F.visiting fleet.old) }
+        (fleet_of (F.told fleet.old)) (fleet_of (F.told fleet.new)) result (K.told sink.old).written
+        (K.told sink.new).written }
+    ensures guests { GuestsStay (F.told fleet.old) (F.told fleet.new) }
     ensures read_fault { result ≡ CommandEnd.ReadFault
         → Rose (S.told source.old).faults (S.told source.new).faults }
     ensures write_fault { result ≡ CommandEnd.WriteFault
@@ -53,13 +51,9 @@ fn ask_input<K: Sink, F: Fleet>(
 ) -> CommandEnd
     ensures follows { FollowsRolled (rollout_in input) result (K.told sink.old).written
         (K.told sink.new).written }
-    ensures asks { AsksIn F.Port.told (rollout_in input) rounds
-        (fleet_of F.waiting F.kept F.lent F.named F.faults fleet.old)
-        (fleet_of F.waiting F.kept F.lent F.named F.faults fleet.new) result
-        (K.told sink.old).written (K.told sink.new).written }
-    ensures guests { (F.coming fleet.new ≡ F.coming fleet.old)
-        × (F.served fleet.new ≡ F.served fleet.old)
-        × (F.visiting fleet.new ≡ F.visiting fleet.old) }
+    ensures asks { AsksIn F.Port.told (rollout_in input) rounds (fleet_of (F.told fleet.old))
+        (fleet_of (F.told fleet.new)) result (K.told sink.old).written (K.told sink.new).written }
+    ensures guests { GuestsStay (F.told fleet.old) (F.told fleet.new) }
     ensures write_fault { result ≡ CommandEnd.WriteFault
         → Rose (K.told sink.old).faults (K.told sink.new).faults }
     ensures no_disk { result ≢ CommandEnd.DiskFault }
@@ -78,14 +72,10 @@ fn ask_plan<K: Sink, F: Fleet>(
     sink: &mut K,
     fleet: &mut F,
 ) -> CommandEnd
-    ensures asks { AsksRollout F.Port.told plan rounds
-        (fleet_of F.waiting F.kept F.lent F.named F.faults fleet.old)
-        (fleet_of F.waiting F.kept F.lent F.named F.faults fleet.new) result
-        (K.told sink.old).written (K.told sink.new).written }
+    ensures asks { AsksRollout F.Port.told plan rounds (fleet_of (F.told fleet.old))
+        (fleet_of (F.told fleet.new)) result (K.told sink.old).written (K.told sink.new).written }
     ensures ends { EndsRollout result (K.told sink.old).written (K.told sink.new).written }
-    ensures guests { (F.coming fleet.new ≡ F.coming fleet.old)
-        × (F.served fleet.new ≡ F.served fleet.old)
-        × (F.visiting fleet.new ≡ F.visiting fleet.old) }
+    ensures guests { GuestsStay (F.told fleet.old) (F.told fleet.new) }
     ensures write_fault { result ≡ CommandEnd.WriteFault
         → Rose (K.told sink.old).faults (K.told sink.new).faults }
     ensures no_disk { result ≢ CommandEnd.DiskFault }

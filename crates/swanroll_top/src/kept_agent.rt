@@ -1,6 +1,8 @@
 //! The command `agent` over a file that keeps what it holds.
 ghost use Rattle.std.specs.Prelude.{◌≡◌, ◌⊎◌, IfOk, IfSome, drop, option_map};
+ghost use Rattle.wan_edge.specs.Fleets.{PortsStay};
 ghost use Rattle.agent_service.specs.KeptServices.{MayBeLeft};
+ghost use Rattle.agent_service.specs.Services.{guests_of};
 ghost use Rattle.disk_model.specs.Moments.{LeavesOnly};
 ghost use Rattle.order_policy.specs.Named.{answers_in};
 ghost use Rattle.swanroll_top.specs.KeptAgents.{IsServed, KeepsAgent, guests_in, kept_status};
@@ -61,14 +63,10 @@ pub fn keep_agent<K: Sink, D: Openable, F: Fleet>(
       source = F.Guest.Source.told;
       sink = F.Guest.Sink.told;
     }) disk result.disk
-        (record { coming = F.coming fleet.old; served = F.served fleet.old })
-        (record { coming = F.coming fleet.new; served = F.served fleet.new }) guests result.status
+        (guests_of (F.told fleet.old)) (guests_of (F.told fleet.new)) guests result.status
         (K.told sink.old).written (K.told sink.new).written }
-    ensures visiting { F.visiting fleet.new ≡ F.visiting fleet.old }
-    ensures ports { (F.waiting fleet.new ≡ F.waiting fleet.old)
-        × (F.kept fleet.new ≡ F.kept fleet.old)
-        × (F.lent fleet.new ≡ F.lent fleet.old)
-        × (F.named fleet.new ≡ F.named fleet.old) }
+    ensures visiting { (F.told fleet.new).visiting ≡ (F.told fleet.old).visiting }
+    ensures ports { PortsStay (F.told fleet.old) (F.told fleet.new) }
 {
     match disk.open(STATE_ROOM) {
         Ok(()) => keep_opened(alloc, guests, sink, notes, disk, fleet),
@@ -94,14 +92,10 @@ fn keep_opened<K: Sink, D: Openable, F: Fleet>(
           source = F.Guest.Source.told;
           sink = F.Guest.Sink.told;
         }) disk result.disk
-        (record { coming = F.coming fleet.old; served = F.served fleet.old })
-        (record { coming = F.coming fleet.new; served = F.served fleet.new }) guests
+        (guests_of (F.told fleet.old)) (guests_of (F.told fleet.new)) guests
         (K.told sink.old).written (K.told sink.new).written }
-    ensures visiting { F.visiting fleet.new ≡ F.visiting fleet.old }
-    ensures ports { (F.waiting fleet.new ≡ F.waiting fleet.old)
-        × (F.kept fleet.new ≡ F.kept fleet.old)
-        × (F.lent fleet.new ≡ F.lent fleet.old)
-        × (F.named fleet.new ≡ F.named fleet.old) }
+    ensures visiting { (F.told fleet.new).visiting ≡ (F.told fleet.old).visiting }
+    ensures ports { PortsStay (F.told fleet.old) (F.told fleet.new) }
 {
     let ending = serve(alloc, guests, sink, &mut disk, fleet);
     let status = tell(alloc, notes, ending);
@@ -123,14 +117,10 @@ fn serve<K: Sink, D: Openable, F: Fleet>(
           source = F.Guest.Source.told;
           sink = F.Guest.Sink.told;
         }) disk.old disk.new
-        (record { coming = F.coming fleet.old; served = F.served fleet.old })
-        (record { coming = F.coming fleet.new; served = F.served fleet.new }) guests
+        (guests_of (F.told fleet.old)) (guests_of (F.told fleet.new)) guests
         (K.told sink.old).written (K.told sink.new).written }
-    ensures visiting { F.visiting fleet.new ≡ F.visiting fleet.old }
-    ensures ports { (F.waiting fleet.new ≡ F.waiting fleet.old)
-        × (F.kept fleet.new ≡ F.kept fleet.old)
-        × (F.lent fleet.new ≡ F.lent fleet.old)
-        × (F.named fleet.new ≡ F.named fleet.old) }
+    ensures visiting { (F.told fleet.new).visiting ≡ (F.told fleet.old).visiting }
+    ensures ports { PortsStay (F.told fleet.old) (F.told fleet.new) }
 {
     match keep_guests(alloc, fleet, disk, guests) {
         Ok(service) => KeptEnd::Ended(write_service(alloc, &service, sink)),

@@ -4,16 +4,17 @@
 ghost use Rattle.std.specs.Prelude.{◌≡◌, ◌≢◌, ◌+◌, ◌<◌, ◌^◌, Ok};
 ghost use Rattle.rollout_rules.specs.Wan.{Rollout};
 ghost use Rattle.wan_edge.specs.Streams.{Rose};
+ghost use Rattle.wan_edge.specs.Fleets.{GuestsStay};
 ghost use Rattle.rollback_service.specs.Levellings.{IsStartBack, MayStart};
 ghost use Rattle.rollback_plan.specs.Turning as turning;
 ghost use Rattle.text_commands.specs.Answers.{rollout_in};
 ghost use Rattle.swanroll_top.specs.Rollbacks.{Closes, OpensAndRollsBack, Reverts, RevertsIn, RollsBack, TakesBack, back_text};
-ghost use Rattle.swanroll_top.specs.Rollouts.{EndsRollout, FollowsRolled, RunsRollout, ending_of_rollout, fleet_of};
+ghost use Rattle.swanroll_top.specs.Rollouts.{EndsRollout, FollowsRolled, RunsRollout, fleet_of};
 ghost use Rattle.text_commands.specs.Runs.{Follows, IsInput};
 
 use crate::rollout_ending::ending_of_rollout;
 use crate::run::CommandResult;
-use controller_run::{Limits, RolloutEnd};
+use controller_run::Limits;
 use dependency_graph::checked_plan_is_valid;
 use disk_mirror::Openable;
 use disk_model::Disk;
@@ -47,12 +48,9 @@ where
     ensures runs { RunsRollout (S.told source.old) (S.told source.new) result.ending
         (K.told sink.old).written (K.told sink.new).written }
     ensures rolls { Reverts D.told F.Port.told (IsInput (S.told source.old) (S.told source.new))
-        origin limits disk result.disk (fleet_of F.waiting F.kept F.lent F.named F.faults fleet.old)
-        (fleet_of F.waiting F.kept F.lent F.named F.faults fleet.new) result.ending
-        (K.told sink.old).written (K.told sink.new).written }
-    ensures guests { (F.coming fleet.new ≡ F.coming fleet.old)
-        × (F.served fleet.new ≡ F.served fleet.old)
-        × (F.visiting fleet.new ≡ F.visiting fleet.old) }
+        origin limits disk result.disk (fleet_of (F.told fleet.old)) (fleet_of (F.told fleet.new))
+        result.ending (K.told sink.old).written (K.told sink.new).written }
+    ensures guests { GuestsStay (F.told fleet.old) (F.told fleet.new) }
     ensures read_fault { result.ending ≡ CommandEnd.ReadFault
         → Rose (S.told source.old).faults (S.told source.new).faults }
     ensures write_fault { result.ending ≡ CommandEnd.WriteFault
@@ -82,14 +80,10 @@ where
     requires { limits.migration + 1 < 2 ^ 32 }
     ensures follows { FollowsRolled (rollout_in input) result.ending (K.told sink.old).written
         (K.told sink.new).written }
-    ensures rolls { RevertsIn D.told F.Port.told (rollout_in input) origin limits disk
-        result.disk
-        (fleet_of F.waiting F.kept F.lent F.named F.faults fleet.old)
-        (fleet_of F.waiting F.kept F.lent F.named F.faults fleet.new) result.ending
+    ensures rolls { RevertsIn D.told F.Port.told (rollout_in input) origin limits disk result.disk
+        (fleet_of (F.told fleet.old)) (fleet_of (F.told fleet.new)) result.ending
         (K.told sink.old).written (K.told sink.new).written }
-    ensures guests { (F.coming fleet.new ≡ F.coming fleet.old)
-        × (F.served fleet.new ≡ F.served fleet.old)
-        × (F.visiting fleet.new ≡ F.visiting fleet.old) }
+    ensures guests { GuestsStay (F.told fleet.old) (F.told fleet.new) }
     ensures write_fault { result.ending ≡ CommandEnd.WriteFault
         → Rose (K.told sink.old).faults (K.told sink.new).faults }
     ensures disk_fault { result.ending ≡ CommandEnd.DiskFault
@@ -116,13 +110,10 @@ where
     F::Port: Drop + Send,
     requires { limits.migration + 1 < 2 ^ 32 }
     ensures rolls { OpensAndRollsBack D.told F.Port.told plan origin limits disk result.disk
-        (fleet_of F.waiting F.kept F.lent F.named F.faults fleet.old)
-        (fleet_of F.waiting F.kept F.lent F.named F.faults fleet.new) result.ending
+        (fleet_of (F.told fleet.old)) (fleet_of (F.told fleet.new)) result.ending
         (K.told sink.old).written (K.told sink.new).written }
     ensures ends { EndsRollout result.ending (K.told sink.old).written (K.told sink.new).written }
-    ensures guests { (F.coming fleet.new ≡ F.coming fleet.old)
-        × (F.served fleet.new ≡ F.served fleet.old)
-        × (F.visiting fleet.new ≡ F.visiting fleet.old) }
+    ensures guests { GuestsStay (F.told fleet.old) (F.told fleet.new) }
     ensures write_fault { result.ending ≡ CommandEnd.WriteFault
         → Rose (K.told sink.old).faults (K.told sink.new).faults }
     ensures disk_fault { result.ending ≡ CommandEnd.DiskFault
@@ -154,13 +145,10 @@ where
     F::Port: Drop + Send,
     requires { limits.migration + 1 < 2 ^ 32 }
     ensures rolls { RollsBack D.told F.Port.told plan origin limits disk result.disk
-        (fleet_of F.waiting F.kept F.lent F.named F.faults fleet.old)
-        (fleet_of F.waiting F.kept F.lent F.named F.faults fleet.new) result.ending
+        (fleet_of (F.told fleet.old)) (fleet_of (F.told fleet.new)) result.ending
         (K.told sink.old).written (K.told sink.new).written }
     ensures ends { EndsRollout result.ending (K.told sink.old).written (K.told sink.new).written }
-    ensures guests { (F.coming fleet.new ≡ F.coming fleet.old)
-        × (F.served fleet.new ≡ F.served fleet.old)
-        × (F.visiting fleet.new ≡ F.visiting fleet.old) }
+    ensures guests { GuestsStay (F.told fleet.old) (F.told fleet.new) }
     ensures write_fault { result.ending ≡ CommandEnd.WriteFault
         → Rose (K.told sink.old).faults (K.told sink.new).faults }
     ensures disk_fault { result.ending ≡ CommandEnd.DiskFault
@@ -200,20 +188,10 @@ fn close<K: Sink, D: Disk>(
 {
     match answer {
         LevelAnswer::Level(plan, start) => take_back(alloc, migration, plan, start, sink, disk),
-        LevelAnswer::Stopped(plan, halt) => unlevel(RolloutEnd::Stopped(plan, halt), disk),
-        LevelAnswer::NoPort(plan, switch) => unlevel(RolloutEnd::NoPort(plan, switch), disk),
-        LevelAnswer::Memory => unlevel(RolloutEnd::Memory, disk),
-    }
-}
-
-// Ends as a rollout does that has gone so, with nothing placed.
-fn unlevel<D>(end: RolloutEnd, disk: D) -> CommandResult<D>
-    ensures ending { result.ending ≡ ending_of_rollout end }
-    ensures disk { result.disk ≡ disk }
-{
-    CommandResult {
-        ending: ending_of_rollout(end),
-        disk,
+        LevelAnswer::Unlevel(outcome) => CommandResult {
+            ending: ending_of_rollout(outcome),
+            disk,
+        },
     }
 }
 

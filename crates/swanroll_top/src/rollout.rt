@@ -3,16 +3,18 @@
 ghost use Rattle.std.specs.Prelude.{◌≡◌, ◌≢◌, ◌++◌, IfOk};
 ghost use Rattle.order_policy.specs.Answers.{rank_by};
 ghost use Rattle.wan_edge.specs.Streams.{Rose};
+ghost use Rattle.wan_edge.specs.Fleets.{GuestsStay};
 ghost use Rattle.text_commands.specs.Answers.{rollout_in};
 ghost use Rattle.swanroll_top.specs.Rollouts.{EndsRollout, FollowsRolled, IsDiskFault, OpensAndRolls, Rolls, RollsIn, RollsOut, RunsRollout, finished_line, fleet_of, line_or_ending};
 ghost use Rattle.text_commands.specs.Runs.{Follows, Gives, IsInput};
 
 use crate::rollout_ending::ending_of_rollout;
 use crate::run::CommandResult;
-use controller_run::{Limits, RolloutEnd, RolloutResult, run_rollout};
+use controller_run::{Limits, RolloutResult, RunEnd, RunOutcome, run_rollout};
 use dependency_graph::checked_plan_is_valid;
 use disk_mirror::Openable;
 use disk_model::Disk;
+use intent_journal::Unopened;
 use lists::{Memory, Text};
 use order_policy::Policy;
 use retarget_service::journal_room;
@@ -40,13 +42,10 @@ where
     ensures runs { RunsRollout (S.told source.old) (S.told source.new) result.ending
         (K.told sink.old).written (K.told sink.new).written }
     ensures rolls { Rolls D.told F.Port.told (IsInput (S.told source.old) (S.told source.new))
-        limits (rank_by policy.now.answers) disk result.disk
-        (fleet_of F.waiting F.kept F.lent F.named F.faults fleet.old)
-        (fleet_of F.waiting F.kept F.lent F.named F.faults fleet.new) result.ending
-        (K.told sink.old).written (K.told sink.new).written }
-    ensures guests { (F.coming fleet.new ≡ F.coming fleet.old)
-        × (F.served fleet.new ≡ F.served fleet.old)
-        × (F.visiting fleet.new ≡ F.visiting fleet.old) }
+        limits (rank_by policy.now.answers) disk result.disk (fleet_of (F.told fleet.old))
+        (fleet_of (F.told fleet.new)) result.ending (K.told sink.old).written
+        (K.told sink.new).written }
+    ensures guests { GuestsStay (F.told fleet.old) (F.told fleet.new) }
     ensures read_fault { result.ending ≡ CommandEnd.ReadFault
         → Rose (S.told source.old).faults (S.told source.new).faults }
     ensures write_fault { result.ending ≡ CommandEnd.WriteFault
@@ -76,13 +75,10 @@ where
     ensures follows { FollowsRolled (rollout_in input) result.ending (K.told sink.old).written
         (K.told sink.new).written }
     ensures rolls { RollsIn D.told F.Port.told (rollout_in input) limits
-        (rank_by policy.now.answers) disk result.disk
-        (fleet_of F.waiting F.kept F.lent F.named F.faults fleet.old)
-        (fleet_of F.waiting F.kept F.lent F.named F.faults fleet.new) result.ending
-        (K.told sink.old).written (K.told sink.new).written }
-    ensures guests { (F.coming fleet.new ≡ F.coming fleet.old)
-        × (F.served fleet.new ≡ F.served fleet.old)
-        × (F.visiting fleet.new ≡ F.visiting fleet.old) }
+        (rank_by policy.now.answers) disk result.disk (fleet_of (F.told fleet.old))
+        (fleet_of (F.told fleet.new)) result.ending (K.told sink.old).written
+        (K.told sink.new).written }
+    ensures guests { GuestsStay (F.told fleet.old) (F.told fleet.new) }
     ensures write_fault { result.ending ≡ CommandEnd.WriteFault
         → Rose (K.told sink.old).faults (K.told sink.new).faults }
     ensures disk_fault { result.ending ≡ CommandEnd.DiskFault
@@ -108,13 +104,10 @@ fn roll_out_plan<R: Wait + Threads + Sync, K: Sink, D: Openable + Drop + Send, F
 where
     F::Port: Drop + Send,
     ensures rolls { OpensAndRolls D.told F.Port.told plan limits (rank_by policy.now.answers) disk
-        result.disk (fleet_of F.waiting F.kept F.lent F.named F.faults fleet.old)
-        (fleet_of F.waiting F.kept F.lent F.named F.faults fleet.new) result.ending
+        result.disk (fleet_of (F.told fleet.old)) (fleet_of (F.told fleet.new)) result.ending
         (K.told sink.old).written (K.told sink.new).written }
     ensures ends { EndsRollout result.ending (K.told sink.old).written (K.told sink.new).written }
-    ensures guests { (F.coming fleet.new ≡ F.coming fleet.old)
-        × (F.served fleet.new ≡ F.served fleet.old)
-        × (F.visiting fleet.new ≡ F.visiting fleet.old) }
+    ensures guests { GuestsStay (F.told fleet.old) (F.told fleet.new) }
     ensures write_fault { result.ending ≡ CommandEnd.WriteFault
         → Rose (K.told sink.old).faults (K.told sink.new).faults }
     ensures disk_fault { result.ending ≡ CommandEnd.DiskFault
@@ -145,47 +138,55 @@ fn roll_out_opened<R: Wait + Threads + Sync, K: Sink, D: Disk + Drop + Send, F: 
 where
     F::Port: Drop + Send,
     ensures rolls { RollsOut D.told F.Port.told plan limits (rank_by policy.now.answers) disk
-        result.disk (fleet_of F.waiting F.kept F.lent F.named F.faults fleet.old)
-        (fleet_of F.waiting F.kept F.lent F.named F.faults fleet.new) result.ending
+        result.disk (fleet_of (F.told fleet.old)) (fleet_of (F.told fleet.new)) result.ending
         (K.told sink.old).written (K.told sink.new).written }
     ensures ends { EndsRollout result.ending (K.told sink.old).written (K.told sink.new).written }
-    ensures guests { (F.coming fleet.new ≡ F.coming fleet.old)
-        × (F.served fleet.new ≡ F.served fleet.old)
-        × (F.visiting fleet.new ≡ F.visiting fleet.old) }
+    ensures guests { GuestsStay (F.told fleet.old) (F.told fleet.new) }
     ensures write_fault { result.ending ≡ CommandEnd.WriteFault
         → Rose (K.told sink.old).faults (K.told sink.new).faults }
     ensures disk_fault { result.ending ≡ CommandEnd.DiskFault
         → Rose (D.told disk).faults (D.told result.disk).faults }
 {
     checked_plan_is_valid(&plan);
-    let RolloutResult { disk, answer } = run_rollout(rt, alloc, plan, policy, limits, disk, fleet);
-    CommandResult {
-        ending: write_outcome(alloc, answer, sink),
-        disk,
+    match run_rollout(rt, alloc, plan, policy, limits, disk, fleet) {
+        Ok(rolled) => {
+            let RolloutResult { disk, outcome } = rolled;
+            CommandResult {
+                ending: write_outcome(alloc, outcome, sink),
+                disk,
+            }
+        }
+        Err(unopened) => {
+            let Unopened { disk, cause } = unopened;
+            CommandResult {
+                ending: CommandEnd::from(cause),
+                disk,
+            }
+        }
     }
 }
 
 /// Writes the line of a rollout that is finished, or says how the run ends without one.
-fn write_outcome<K: Sink>(alloc: Global, answer: RolloutEnd, sink: &mut K) -> CommandEnd
-    ensures follows { Follows (line_or_ending answer) result (K.told sink.old).written
+fn write_outcome<K: Sink>(alloc: Global, outcome: RunOutcome, sink: &mut K) -> CommandEnd
+    ensures follows { Follows (line_or_ending outcome) result (K.told sink.old).written
         (K.told sink.new).written }
     ensures ends { EndsRollout result (K.told sink.old).written (K.told sink.new).written }
-    ensures disk { result ≡ CommandEnd.DiskFault → IsDiskFault answer }
+    ensures disk { result ≡ CommandEnd.DiskFault → IsDiskFault outcome.end }
     ensures write_fault { result ≡ CommandEnd.WriteFault
         → Rose (K.told sink.old).faults (K.told sink.new).faults }
 {
-    match line_of(alloc, answer) {
+    match line_of(alloc, outcome) {
         Ok(line) => write_text(sink, line.as_str()),
         Err(ending) => ending,
     }
 }
 
-fn line_of(alloc: Global, answer: RolloutEnd) -> Result<Text, CommandEnd>
-    ensures { Gives result (line_or_ending answer) }
+fn line_of(alloc: Global, outcome: RunOutcome) -> Result<Text, CommandEnd>
+    ensures { Gives result (line_or_ending outcome) }
 {
-    match answer {
-        RolloutEnd::Finished { operations, found } => Ok(finished_line(alloc, operations, found)?),
-        end => Err(ending_of_rollout(end)),
+    match outcome.end {
+        RunEnd::Finished => Ok(finished_line(alloc, outcome.operations, outcome.found)?),
+        _ => Err(ending_of_rollout(outcome)),
     }
 }
 

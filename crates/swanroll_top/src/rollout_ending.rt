@@ -1,26 +1,38 @@
-//! How a command ends by how its rollout has gone: the one place at which the end of a rollout is turned into that of
-//! a command. `run`, `drain`, `rollback` and a takeover take it for each end that they don't tell in a line of their own.
+//! How a command ends by what its rollout has come to: the one place at which the end of a run is turned into that of a
+//! command. `run`, `drain`, `rollback` and a takeover take it for each end that they don't tell in a line of their own.
 ghost use Rattle.std.specs.Prelude.{◌≡◌};
 ghost use Rattle.swanroll_top.specs.Rollouts.{ending_of_rollout, ending_of_stop};
 
-use controller_run::RolloutEnd;
+use controller_run::{RunEnd, RunOutcome};
 use shared_book::Cause;
 use text_commands::{CommandEnd, Unfinished};
 use wan_model::CheckedPlan;
 
-/// How a command ends whose rollout has gone so: done where it is finished, and else why it isn't.
-pub fn ending_of_rollout(end: RolloutEnd) -> CommandEnd
-    ensures { result ≡ ending_of_rollout end }
+/// How a command ends whose rollout has come to this: done where it is finished, and else why it isn't.
+pub fn ending_of_rollout(outcome: RunOutcome) -> CommandEnd
+    ensures { result ≡ ending_of_rollout outcome }
 {
+    let RunOutcome {
+        plan,
+        left,
+        end,
+        ..
+    } = outcome;
     match end {
-        RolloutEnd::Finished { .. } => CommandEnd::Done,
-        RolloutEnd::Held { left } => CommandEnd::NotFinished(Unfinished::Held(left)),
-        RolloutEnd::Stopped(plan, halt) => ending_of_stop(plan, halt.cause),
-        RolloutEnd::NoPort(plan, switch) => {
-            CommandEnd::NotFinished(Unfinished::PortFault(plan, switch))
+        RunEnd::Finished => {
+            drop(plan);
+            CommandEnd::Done
         }
-        RolloutEnd::Memory => CommandEnd::OutOfMemory,
-        RolloutEnd::Unopened(cause) => CommandEnd::from(cause),
+        RunEnd::Held => {
+            drop(plan);
+            CommandEnd::NotFinished(Unfinished::Held(left))
+        }
+        RunEnd::Stopped(halt) => ending_of_stop(plan, halt.cause),
+        RunEnd::NoPort(switch) => CommandEnd::NotFinished(Unfinished::PortFault(plan, switch)),
+        RunEnd::Memory => {
+            drop(plan);
+            CommandEnd::OutOfMemory
+        }
     }
 }
 

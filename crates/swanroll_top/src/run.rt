@@ -1,6 +1,6 @@
 ghost use Rattle.swanroll_top.specs.Promise.{Ran};
 ghost use Rattle.swanroll_top.specs.Tries.{IsAskedShape};
-ghost use Rattle.swanroll_top.specs.Views.{fleet_told, guest_told, objects, views_of};
+ghost use Rattle.swanroll_top.specs.Views.{guest_told, objects, views_of};
 ghost use Rattle.swanroll_top.specs.Words.{asked};
 
 use crate::agent::agent;
@@ -38,10 +38,8 @@ pub fn run<R: Wait + Threads + Sync, S: Source, K: Sink, D: Openable + Drop + Se
 where
     F::Port: Drop + Send,
     requires { IsAskedShape (asked command) }
-    ensures { Ran (views_of S.told K.told D.told
-        (fleet_told F.waiting F.kept F.lent F.named F.coming F.served F.visiting F.faults)
-        F.Port.told (guest_told F.Guest.Source.told F.Guest.Sink.told))
-        (asked command.entry)
+    ensures { Ran (views_of S.told K.told D.told F.told F.Port.told
+        (guest_told F.Guest.Source.told F.Guest.Sink.told)) (asked command.entry)
         (objects source.old sink.old disk fleet.old) result.ending
         (objects source.new sink.new result.disk fleet.new) }
 {

@@ -1,6 +1,6 @@
 ghost use Rattle.order_policy.specs.Named.{answers_in};
 ghost use Rattle.swanroll_top.specs.Promise.{Promise};
-ghost use Rattle.swanroll_top.specs.Views.{fleet_told, guest_told, outside, views_of};
+ghost use Rattle.swanroll_top.specs.Views.{guest_told, outside, views_of};
 ghost use Rattle.swanroll_top.specs.Words.{asked_by};
 
 use crate::run::{CommandResult, run};
@@ -58,9 +58,8 @@ pub fn swanroll<R: Wait + Threads + Sync, S: Source, K: Sink, D: Openable + Drop
 ) -> Ended<D>
 where
     F::Port: Drop + Send,
-    ensures { Promise (views_of S.told K.told D.told
-        (fleet_told F.waiting F.kept F.lent F.named F.coming F.served F.visiting F.faults)
-        F.Port.told (guest_told F.Guest.Source.told F.Guest.Sink.told))
+    ensures { Promise (views_of S.told K.told D.told F.told F.Port.told
+        (guest_told F.Guest.Source.told F.Guest.Sink.told))
         (asked_by (answers_in policies.now) words.now)
         (outside source.old sink.old notes.old disk fleet.old) result.status
         (outside source.new sink.new notes.new result.disk fleet.new) }

@@ -9,6 +9,7 @@ use Rattle.wan_edge.specs.Frames.{AnswerFrame, CommandFrame, IsCommand, Splits, 
 use Rattle.wan_edge.specs.Streams.{Appends, AppendsPart}
 use Rattle.wan_edge.specs.Switches.{Holdings, after_command, after_commands, answer_to, answers_to}
 use Rattle.wan_edge.proofs.Chains.{Appends-chain}
+use Rattle.wan_edge.proofs.Commands.{after_commands-append}
 use Rattle.wire_frames.specs.Reading.{IsCommandFault}
 use Rattle.wire_frames.specs.declared.fault.FrameFault.{FrameFault}
 use Rattle.wire_frames.specs.declared.fault.FrameFault.TheVariants.{Count, Kind}
@@ -18,11 +19,7 @@ use Rattle.switch_agent.specs.declared.serve_fault.ServeFault.{ServeFault}
 use Rattle.switch_agent.specs.declared.serve_fault.ServeFault.TheVariants.{Frame, Long, Memory, Read, Write}
 use Rattle.switch_agent.specs.declared.serve_fault.Served.{Served}
 
-after_commands-append : (held : Holdings) (xs ys : List CommandFrame) → after_commands held (xs ++ ys) ≡ after_commands (after_commands held xs) ys
-after_commands-append held [] ys = refl
-after_commands-append held (x ∷ xs) ys = after_commands-append (after_command held x) xs ys
-
-answers_to-append : (held : Holdings) (xs ys : List CommandFrame) → answers_to held (xs ++ ys) ≡ answers_to held xs ++ answers_to (after_commands held xs) ys
+pub answers_to-append : (held : Holdings) (xs ys : List CommandFrame) → answers_to held (xs ++ ys) ≡ answers_to held xs ++ answers_to (after_commands held xs) ys
 answers_to-append held [] ys = refl
 answers_to-append held (x ∷ xs) ys = ap (λ (answers : List AnswerFrame). answer_to held x ∷ answers) (answers_to-append (after_command held x) xs ys)
 
@@ -30,7 +27,7 @@ answered-append : (held : Holdings) (xs ys : List CommandFrame) → answered hel
 answered-append held xs ys = ap (flat_map answer_bytes) (answers_to-append held xs ys) ∙ flat_map-append answer_bytes (answers_to held xs) (answers_to (after_commands held xs) ys)
 
 -- all of a list was appended, and then a part of the next
-AppendsPart-chain : (a b c : Option (List ℕ)) (xs ys : List ℕ) → Appends a xs b → AppendsPart b ys c → AppendsPart a (xs ++ ys) c
+pub AppendsPart-chain : (a b c : Option (List ℕ)) (xs ys : List ℕ) → Appends a xs b → AppendsPart b ys c → AppendsPart a (xs ++ ys) c
 AppendsPart-chain a b c xs ys first second =
     let front : take (length xs + second.count) (xs ++ ys) ≡ xs ++ take second.count ys = take-append-add xs ys second.count in
     let not_all = second.not_all in
@@ -51,15 +48,15 @@ ends_after (Some Memory) GoesOn items rest a b c xs ys first second = (second.0,
 served : ℕ → Option ServeFault → Served
 served commands fault = record { commands = commands; fault = fault }
 
-or_false : (p a : Bool) → (p || a) ≡ ((p || false) || a)
+pub or_false : (p a : Bool) → (p || a) ≡ ((p || false) || a)
 or_false true a = refl
 or_false false a = refl
 
-or_assoc : (p x a : Bool) → ((p || x) || a) ≡ (p || (x || a))
+pub or_assoc : (p x a : Bool) → ((p || x) || a) ≡ (p || (x || a))
 or_assoc true x a = refl
 or_assoc false x a = refl
 
-or_swapped : (p x y a : Bool) → (y || ((p || x) || a)) ≡ (p || (y || (x || a)))
+pub or_swapped : (p x y a : Bool) → (y || ((p || x) || a)) ≡ (p || (y || (x || a)))
 or_swapped true x true a = refl
 or_swapped true x false a = refl
 or_swapped false x y a = refl
@@ -94,9 +91,9 @@ carry_on a b c bytes kept more m n fault GoesOn w1 w2 w3 first second =
           (ends_after fault GoesOn c second.rest w1 w2 w3 (answered (holding a) first.commands) (answered (holding b) second.commands) first.ends.1 second.ends);
     }
 
-fault_with_more : (rest more : List ℕ) (fault : FrameFault) → IsCommandFault rest fault → IsCommandFault (rest ++ more) fault
-fault_with_more rest more (Kind byte) found = record { other = found.other; behind = found.behind ++ more; parts = ap (λ (xs : List ℕ). xs ++ more) found.parts }
-fault_with_more rest more (Count byte) found = record {
+pub command_fault_more : (rest more : List ℕ) (fault : FrameFault) → IsCommandFault rest fault → IsCommandFault (rest ++ more) fault
+command_fault_more rest more (Kind byte) found = record { other = found.other; behind = found.behind ++ more; parts = ap (λ (xs : List ℕ). xs ++ more) found.parts }
+command_fault_more rest more (Count byte) found = record {
   head = found.head;
   begins = found.begins;
   long = found.long;
@@ -106,7 +103,7 @@ fault_with_more rest more (Count byte) found = record {
 }
 
 ends_with_more : (fault : ServeFault) (P Q : List ℕ → Type 0) (items : Items) (rest more : List ℕ) (a c : Option (List ℕ)) (xs : List ℕ) → IsOwnFault fault → Ends (Some fault) P items rest a xs c → Ends (Some fault) Q items (rest ++ more) a xs c
-ends_with_more (Frame fault) P Q items rest more a c xs own ends = (fault_with_more rest more fault ends.0, ends.1)
+ends_with_more (Frame fault) P Q items rest more a c xs own ends = (command_fault_more rest more fault ends.0, ends.1)
 ends_with_more Read P Q items rest more a c xs own ends = absurd own
 ends_with_more Write P Q items rest more a c xs own ends = ends
 ends_with_more Long P Q items rest more a c xs own ends = absurd own
@@ -137,7 +134,7 @@ carried_with_more a b bytes more n fault P Q w w' own carried = record {
   ends = ends_with_more fault P Q b carried.rest more w w' (answered (holding a) carried.commands) own carried.ends;
 }
 
-one : (c : CommandFrame) → IsCommand c → All IsCommand (c ∷ [])
+pub one : (c : CommandFrame) → IsCommand c → All IsCommand (c ∷ [])
 one c fits zero d inside = fits
 one c fits (suc k) d inside = absurd (omega arith)
 

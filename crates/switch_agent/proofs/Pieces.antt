@@ -1,8 +1,9 @@
 -- What a read of a guest gave, and what came of it.
-use Rattle.std.proofs.Common.{◌≡◌, ◌∙◌, ℕ, zero, suc, ◌+◌, ◌-◌, ◌<◌, ◌≤◌, ◌==◌, Bool, true, false, true≢false, List, [], ◌∷◌, ◌++◌, length, take, Option, Some, None, Result, Ok, Err, refl, sym, ap, ap₂, subst, arith}
+use Rattle.std.proofs.Common.{◌≡◌, ◌∙◌, ℕ, zero, suc, ◌-◌, ◌<◌, ◌≤◌, ◌==◌, Bool, true, false, true≢false, List, [], ◌++◌, length, take, Option, Some, None, Result, Ok, Err, refl, sym, ap, ap₂, subst, arith}
 use Rattle.std.specs.Prelude.{IfOk, IfSome}
 use Rattle.std.proofs.lemmas.Bool.{eqb-true}
 use Rattle.std.proofs.lemmas.List.{append-nil, length-take-le, take-append-le}
+use Rattle.lists.proofs.Rows.{none_of_length_0}
 use Rattle.wan_edge.specs.Frames.{IsCutCommand}
 use Rattle.wan_edge.specs.Streams.{Appends, FailsToRead, IsAtEnd, Reads, SinkTrace, SourceTrace, Takes, TakesFrom}
 use Rattle.wan_edge.proofs.Chains.{Appends-nothing, TakesFrom-nothing}
@@ -29,10 +30,6 @@ pub read_within : {E : Type 0} (r : Result ℕ E) (k room long : ℕ) → k ≤ 
 read_within (Ok n) k room long few inside within = (omega (arith, few, within), omega (arith, inside, within))
 read_within (Err e) k room long few inside within = tt
 
-no_bytes : (xs : List ℕ) → length xs ≡ 0 → xs ≡ []
-no_bytes [] none = refl
-no_bytes (x ∷ xs) none = absurd (omega (arith, none))
-
 -- the end before a read of nothing is the end after it
 ended : (before now : Option (List ℕ)) → TakesFrom before [] now → IsAtEnd before → IsAtEnd now
 ended before None takes at_end = tt
@@ -41,7 +38,7 @@ ended before (Some rest) takes at_end = subst IsAtEnd takes at_end
 pub read_end : (n : ℕ) (buffer : List ℕ) (a b : SourceTrace) → Reads n buffer a b → n ≤ length buffer → length (take n buffer) ≡ 0 → IsAtEnd b.left
 read_end n buffer a b reads inside none =
     let zero_read : n ≡ 0 = omega (arith, length-take-le n buffer inside, none) in
-    ended a.left b.left (subst (λ (bytes : List ℕ). TakesFrom a.left bytes b.left) (no_bytes (take n buffer) none) reads.takes.left) (reads.at_end zero_read)
+    ended a.left b.left (subst (λ (bytes : List ℕ). TakesFrom a.left bytes b.left) (none_of_length_0 (take n buffer) none) reads.takes.left) (reads.at_end zero_read)
 
 -- ---- what came of it
 
@@ -59,7 +56,7 @@ recast a b bytes commands fault fault_now P Q w w' change carried = record {
   ends = change carried.rest (answered (holding a) carried.commands) carried.ends;
 }
 
-some_left : (n : ℕ) → (n == 0) ≡ false → 0 < n
+pub some_left : (n : ℕ) → (n == 0) ≡ false → 0 < n
 some_left zero isnt = absurd (true≢false isnt)
 some_left (suc n) isnt = omega arith
 
@@ -113,7 +110,7 @@ module _ (a b : Items) (kept piece kept_now : List ℕ) (room : ℕ) (left w w' 
 pub end_heard : (items : Items) (kept piece : List ℕ) (room : ℕ) (left w : Option (List ℕ)) (heard : GuestRead) → heard ≡ record { served = record { commands = 0; fault = None }; talk = None } → IsCutCommand kept → length piece ≡ 0
     → (length piece ≡ 0 → IsAtEnd left) → HearsBytes items items (talk_of kept room) piece heard left w w
 end_heard items kept piece room left w heard is cut none at_end =
-    let all : kept ++ piece ≡ kept = ap (λ (xs : List ℕ). kept ++ xs) (no_bytes piece none) ∙ append-nil kept in
+    let all : kept ++ piece ≡ kept = ap (λ (xs : List ℕ). kept ++ xs) (none_of_length_0 piece none) ∙ append-nil kept in
     subst (λ (h : GuestRead). HearsBytes items items (talk_of kept room) piece h left w w) (sym is) (record {
       carried = subst (λ (bytes : List ℕ). CarriesOut items items bytes (record { commands = 0; fault = None }) IsCutCommand w w) (sym all)
           (nothing_carried items kept None IsCutCommand w (cut, appends_nothing w));
@@ -122,22 +119,22 @@ end_heard items kept piece room left w heard is cut none at_end =
     })
 
 -- one fault isn't another, and no fault is none of them
-long_read : Some Long ≡ Some Read → ⊥
+pub long_read : Some Long ≡ Some Read → ⊥
 long_read is = cc
 
-write_read : Some Write ≡ Some Read → ⊥
+pub write_read : Some Write ≡ Some Read → ⊥
 write_read is = cc
 
-memory_read : Some Memory ≡ Some Read → ⊥
+pub memory_read : Some Memory ≡ Some Read → ⊥
 memory_read is = cc
 
-frame_read : (fault : FrameFault) → Some (Frame fault) ≡ Some Read → ⊥
+pub frame_read : (fault : FrameFault) → Some (Frame fault) ≡ Some Read → ⊥
 frame_read fault is = cc
 
-no_fault : (found : Option ServeFault) (fault : ServeFault) → found ≡ None → found ≡ Some fault → ⊥
+pub no_fault : (found : Option ServeFault) (fault : ServeFault) → found ≡ None → found ≡ Some fault → ⊥
 no_fault found fault none some = let e : None ≡ Some fault = sym none ∙ some in cc
 
-long_write : Some Long ≡ Some Write → ⊥
+pub long_write : Some Long ≡ Some Write → ⊥
 long_write is = cc
 
 -- a fault of the bytes or of writing is none of reading

@@ -1,5 +1,5 @@
 -- How many items there are, and may be.
-use Rattle.std.proofs.Common.{◌≡◌, ◌∙◌, ◌==◌, ◌||◌, ℕ, zero, suc, ◌+◌, ◌*◌, ◌<◌, ◌≤◌, Bool, true, false, [], ◌∷◌, ◌++◌, length, Option, Some, is_some, refl, sym, ap, inl, inr, nat_eq, nat_lt, eqb-true, ltb-true, true≢false, arith, length-append}
+use Rattle.std.proofs.Common.{◌≡◌, ◌∙◌, ◌==◌, ◌||◌, ℕ, ◌+◌, ◌<◌, ◌≤◌, Bool, true, false, [], ◌∷◌, ◌++◌, length, Option, Some, is_some, refl, sym, ap, inl, inr, nat_eq, nat_lt, eqb-true, ltb-true, true≢false, arith, length-append}
 use Rattle.std.specs.List.{IsDistinct, list_any}
 use Rattle.std.specs.Map.{keys_of, lookup}
 use Rattle.std.specs.Cmp.{nat_eq_equiv}
@@ -11,17 +11,10 @@ use Rattle.std.proofs.lemmas.Map.Steps.{length-le_from_distinct_below}
 use Rattle.indexmap.specs.IndexMap.{insert_entry}
 use Rattle.rollout_rules.specs.Items.{item_count}
 use Rattle.rollout_rules.specs.Network.{IsNetwork}
-use Rattle.rollout_rules.specs.Sums.{sum_below}
 use Rattle.rollout_rules.specs.Wan.{Problem, hops}
+use Rattle.rollout_rules.proofs.Below.{sum_below-most}
 use Rattle.wan_edge.specs.Frames.{CommandFrame}
 use Rattle.switch_agent.specs.Items.{Items, most_items, seen}
-
-pub sum_below-most : (n m : ℕ) (f : ℕ → ℕ) → ((k : ℕ) → k < n → f k ≤ m) → sum_below n f ≤ n * m
-sum_below-most zero m f le = omega arith
-sum_below-most (suc n) m f le = omega (arith, sum_below-most n m f (λ k lt. le k (omega arith)), le n (omega arith), suc_times)
-  where
-    suc_times : suc n * m ≡ n * m + m
-    suc_times = grind arith
 
 pub few-items : (p : Problem) → IsNetwork p → item_count p ≤ most_items
 few-items p net =

@@ -1,6 +1,6 @@
 -- A port after whole rounds starts the next run as found.
 use Rattle.std.proofs.Math.Seq.{take-length}
-use Rattle.std.proofs.Common.{◌≡◌, ◌⊎◌, ℕ, ◌^◌, ◌<◌, ◌≤◌, ◌==◌, true, List, [], ◌∷◌, ◌++◌, length, take, Option, Some, None, is_some, IfSome, inl, inr, refl, sym, ap, ap₂, ◌∙◌, subst, append_assoc, append-nil, arith}
+use Rattle.std.proofs.Common.{◌≡◌, ◌⊎◌, ℕ, ◌^◌, ◌<◌, ◌==◌, true, List, [], ◌∷◌, ◌++◌, length, Option, Some, None, is_some, IfSome, inl, inr, refl, sym, ap, ap₂, ◌∙◌, subst, append_assoc, append-nil, arith}
 use Rattle.std.proofs.lemmas.Bool.{OnTrue_at, cond_both}
 use Rattle.std.proofs.lemmas.Grind.{flat_map-append}
 use Rattle.std.proofs.lemmas.List.Elements.{All-append, All-filter, All-weaker}
@@ -13,7 +13,7 @@ use Rattle.rollout_rules.specs.History.{History, with_entries}
 use Rattle.rollout_rules.specs.Legal.{is_legal}
 use Rattle.rollout_rules.specs.Agent.{held_after, is_at_most}
 use Rattle.rollout_rules.specs.declared.op.Entry.{Entry}
-use Rattle.rollout_laws.proofs.Pairs.{after-more, at_most-refl, at_most-trans}
+use Rattle.rollout_rules.proofs.Pairs.{after-more, at_most-refl, at_most-trans}
 use Rattle.wan_edge.specs.Frames.{Command, CommandFrame, IsAnswer, IsCommand, Splits, answer_bytes, command_bytes}
 use Rattle.wan_edge.specs.Ports.{IsHonestStep, MovesByRule, PortTrace}
 use Rattle.wan_edge.specs.Streams.{Appends}
@@ -31,7 +31,7 @@ use Rattle.switch_laws.proofs.Listed.{begun_stays}
 use Rattle.switch_laws.proofs.Stands.{held_stands, if_some, was_told}
 
 -- no command takes anything back
-none_falls : (commands : List CommandFrame) (holdings : Holdings) (n : ℕ) → is_at_most (holdings n).held (after_commands holdings commands n).held ≡ true
+pub none_falls : (commands : List CommandFrame) (holdings : Holdings) (n : ℕ) → is_at_most (holdings n).held (after_commands holdings commands n).held ≡ true
 none_falls [] holdings n = at_most-refl (holdings n).held
 none_falls (c ∷ cs) holdings n =
     let here : is_at_most (holdings n).held (after_command holdings c n).held ≡ true

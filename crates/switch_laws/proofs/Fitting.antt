@@ -17,10 +17,11 @@ use Rattle.rollout_rules.specs.declared.item.Item.{Item}
 use Rattle.rollout_rules.specs.declared.item.Item.TheVariants as item
 use Rattle.rollout_rules.specs.declared.op.Op.{Op}
 use Rattle.rollout_rules.specs.declared.op.Entry.TheVariants.{Begin}
-use Rattle.rollout_rules.proofs.Below.{all_below-at, sum_below-zero}
+use Rattle.rollout_rules.proofs.Below.{all_below-at, sum_below-at, sum_below-zero}
 use Rattle.rollout_rules.proofs.Numbers.{is_item-item_at}
 use Rattle.rollout_rules.proofs.Tunnels.{tunnel_of-below}
-use Rattle.rollout_laws.proofs.Contents.{list_below-at, list_below-length}
+use Rattle.rollout_rules.proofs.Rows.{list_below-length}
+use Rattle.rollout_laws.proofs.Contents.{list_below-at}
 use Rattle.rollout_laws.proofs.Histories.{is_counted}
 use Rattle.rollout_laws.proofs.Standing.{stand-most}
 use Rattle.rollout_laws.proofs.Validity.{plan-is_valid}
@@ -33,13 +34,6 @@ use Rattle.switch_laws.proofs.Begun.{begun_within}
 few_sum : (n : ℕ) (f : ℕ → ℕ) (most : ℕ) → ((k : ℕ) → k < n → f k ≤ most) → sum_below n f ≤ n * most
 few_sum zero f most each = omega arith
 few_sum (suc n) f most each = omega (arith, few_sum n f most (λ k lt. each k (omega arith)), each n (omega arith))
-
-one_of_sum : (n : ℕ) (f : ℕ → ℕ) (k : ℕ) → k < n → f k ≤ sum_below n f
-one_of_sum zero f k lt = absurd (omega arith)
-one_of_sum (suc n) f k lt = elim (cases_lt k n) as (λ c. f k ≤ sum_below (suc n) f) [
-  | inl below ↦ omega (arith, one_of_sum n f k below)
-  | inr above ↦ let at : k ≡ n = omega arith in rw at (omega arith)
-]
 
 rate_within : (rate : Option ℕ) → IsRate rate → unwrap_or rate 0 ≤ LARGEST_RATE
 rate_within None within = omega arith
@@ -95,7 +89,7 @@ module _ (p : Problem) (plan : Plan) (net : IsNetwork p) (valid : is_valid_plan 
       let high : total ≤ most_total = leb-true total most_total (and_parts (nat_le (min (old_total p plan f) (new_total p plan f)) total) (nat_le total most_total) keeps).1 in
       let old : old_total p plan f ≤ 65536 * (16 * 1000000000) = total_within f inside (λ t. old_rate (tunnel_at p t)) (λ t lt. rate_within (tunnel_at p t).old (net.tunnels t lt).old) in
       let new : new_total p plan f ≤ 65536 * (16 * 1000000000) = total_within f inside (λ t. new_rate (tunnel_at p t)) (λ t lt. rate_within (tunnel_at p t).new (net.tunnels t lt).new) in
-      let one = one_of_sum (flow_at p f).tunnels (λ k. rate_at plan s (tunnel_of p f k)) j few in
+      let one = sum_below-at (flow_at p f).tunnels (λ k. rate_at plan s (tunnel_of p f k)) j few in
       omega (arith, high, old, new, one)
 
   -- a flow without tunnels never changes

@@ -12,8 +12,9 @@ use Rattle.rollout_rules.specs.Agent.{Holding, held_after, is_at_most, is_next_c
 use Rattle.rollout_rules.specs.declared.op.Op.{Op}
 use Rattle.rollout_rules.specs.declared.op.Entry.{Entry}
 use Rattle.rollout_rules.specs.declared.op.Entry.TheVariants.{Begin}
+use Rattle.rollout_rules.proofs.Pairs.{IsNextCommand, at_most-from, at_most-refl, at_most-trans, next_command-is, next_is_more}
 use Rattle.rollout_laws.proofs.Histories.{begun-with}
-use Rattle.rollout_laws.proofs.Pairs.{IsNextCommand, after-late, at_most-from, at_most-refl, at_most-trans, next_command-is, next_is_more}
+use Rattle.rollout_laws.proofs.Pairs.{after-late}
 use Rattle.wan_edge.specs.Frames.{Command, CommandFrame}
 use Rattle.wan_edge.specs.Switches.{Holdings, after_command, after_commands, pair_asked}
 use Rattle.rollout_book.specs.Commands.{command_of}

@@ -1,10 +1,11 @@
 -- Which commands stand among the bytes that were offered.
-use Rattle.std.proofs.Common.{◌≡◌, ℕ, ◌+◌, ◌<◌, List, [], ◌∷◌, ◌++◌, length, take, drop, refl, sym, ap, subst, ◌∙◌, append_assoc, arith, length-append, take-append-drop}
+use Rattle.std.proofs.Common.{◌≡◌, ℕ, List, [], ◌∷◌, ◌++◌, length, take, drop, refl, sym, ap, subst, ◌∙◌, append_assoc, arith, length-append, take-append-drop}
 use Rattle.std.proofs.lemmas.Grind.{flat_map-append}
 use Rattle.std.proofs.lemmas.List.Elements.{All-append, All-cons, All-head, All-nil, All-tail, Contains-append_right}
 use Rattle.std.specs.List.{All, Contains, flat_map}
-use Rattle.wan_edge.specs.Frames.{Command, CommandFrame, IsCommand, command_bytes, command_head}
+use Rattle.wan_edge.specs.Frames.{Command, CommandFrame, IsCommand, command_bytes}
 use Rattle.wan_edge.specs.Ports.{IsOffered}
+use Rattle.wan_edge.proofs.Sizes.{command-some}
 use Rattle.wire_frames.proofs.OneSpelling.{one_command}
 use Rattle.port_session.specs.Offers.{frames_of}
 
@@ -22,13 +23,9 @@ all_framed P migration [] all = All-nil P
 all_framed P migration (c ∷ cs) all =
     All-cons P (migration, c) (framed migration cs) (All-head (λ d. P (migration, d)) c cs all) (all_framed P migration cs (All-tail (λ d. P (migration, d)) c cs all))
 
-some_bytes : (c : CommandFrame) → 0 < length (command_bytes c)
-unfolding command_bytes command_head
-some_bytes c = omega arith
-
 none_there : (earlier : List CommandFrame) (c : CommandFrame) (behind : List ℕ) → [] ≡ flat_map command_bytes earlier ++ (command_bytes c ++ behind) → ⊥
 none_there earlier c behind e =
-    absurd (omega (arith, ap length e, length-append (flat_map command_bytes earlier) (command_bytes c ++ behind), length-append (command_bytes c) behind, some_bytes c))
+    absurd (omega (arith, ap length e, length-append (flat_map command_bytes earlier) (command_bytes c ++ behind), length-append (command_bytes c) behind, command-some c))
 
 -- a command that stands after others in a row of whole commands is one of these
 one_of_row : (xs earlier : List CommandFrame) (c : CommandFrame) (behind : List ℕ) → All IsCommand xs → All IsCommand earlier → IsCommand c → flat_map command_bytes xs ≡ flat_map command_bytes earlier ++ (command_bytes c ++ behind) → Contains xs c

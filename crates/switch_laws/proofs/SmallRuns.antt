@@ -38,7 +38,7 @@ not_cut [] parts = omega (arith, ap length parts)
 not_cut (c ∷ cs) parts =
     omega (arith, ap length parts, length-append (command_bytes c ++ flat_map command_bytes cs) [], length-append (command_bytes c) (flat_map command_bytes cs), long c)
 
-command_fits : IsCommand (4, first_command)
+pub command_fits : IsCommand (4, first_command)
 command_fits = record {
   migration = omega arith;
   item = omega arith;
@@ -49,7 +49,7 @@ command_fits = record {
   rates = All-cons (λ rate. rate < 2 ^ 64) 0 (0 ∷ 2 ∷ []) (omega arith) (All-cons (λ rate. rate < 2 ^ 64) 0 (2 ∷ []) (omega arith) (All-cons (λ rate. rate < 2 ^ 64) 2 [] (omega arith) (All-nil (λ rate. rate < 2 ^ 64))));
 }
 
-answer_fits : IsAnswer (4, first_answer)
+pub answer_fits : IsAnswer (4, first_answer)
 answer_fits = record { migration = omega arith; item = omega arith; held = omega arith }
 
 moves : MovesByRule (frames_of 4 (first_command ∷ [])) holding_nothing (after_command holding_nothing (4, first_command))
@@ -68,7 +68,7 @@ held (a ∷ later) rest split =
     (append-nil (answer_bytes (4, first_answer)) ∙ split.parts ∙ append_assoc (answer_bytes a) (flat_map answer_bytes later) rest) in
     All-cons holds a later (subst holds parts.0 refl) (none_in_nothing holds later (omega (arith, ap length parts.1, length-append (flat_map answer_bytes later) rest)))
 
-one_answered : All IsAnswer ((4, first_answer) ∷ [])
+pub one_answered : All IsAnswer ((4, first_answer) ∷ [])
 one_answered = All-cons IsAnswer (4, first_answer) [] answer_fits (All-nil IsAnswer)
 
 tells : Tells 4 unused (first_answer ∷ []) answering

@@ -1,5 +1,5 @@
 -- What a switch holds after a run, and after a finished one.
-use Rattle.std.proofs.Common.{◌≡◌, ◌⊎◌, ℕ, ◌+◌, ◌^◌, ◌<◌, ◌≤◌, ◌==◌, true, false, List, ◌++◌, take, slice_index, Option, Some, None, is_some, IfSome, inl, inr, ⊎_elim, refl, sym, ap, ap₂, ◌∙◌, subst, append-nil, arith, eqb-true, le_of_eq}
+use Rattle.std.proofs.Common.{◌≡◌, ◌⊎◌, ℕ, ◌^◌, ◌<◌, ◌≤◌, ◌==◌, true, List, ◌++◌, take, slice_index, Option, Some, None, is_some, IfSome, inl, inr, ⊎_elim, refl, sym, ap, ap₂, ◌∙◌, subst, append-nil, arith, eqb-true, le_of_eq}
 use Rattle.std.proofs.lemmas.Bool.{OnTrue_at, false≢true}
 use Rattle.std.proofs.lemmas.List.Elements.{All-append, All-contains, All-filter, All-weaker}
 use Rattle.std.proofs.lemmas.Option.{same_Some}
@@ -17,10 +17,10 @@ use Rattle.rollout_rules.specs.declared.op.Entry.{Entry}
 use Rattle.rollout_rules.specs.declared.op.Entry.TheVariants.{Done}
 use Rattle.rollout_rules.proofs.Below.{all_below-at}
 use Rattle.rollout_rules.proofs.Numbers.{is_item-item_at, number_of-item_at}
+use Rattle.rollout_rules.proofs.Pairs.{at_most-is}
 use Rattle.rollout_laws.specs.Target.{target}
 use Rattle.rollout_laws.proofs.Ends.{finished-target}
 use Rattle.rollout_laws.proofs.Histories.{is_counted, rest_follows}
-use Rattle.rollout_laws.proofs.Pairs.{at_most-is}
 use Rattle.wan_edge.specs.Frames.{Command, CommandFrame, IsCommand, command_bytes}
 use Rattle.wan_edge.specs.Ports.{IsHonestStep, IsOffered, MovesByRule, PortTrace}
 use Rattle.wan_edge.specs.Streams.{KeepsTelling}

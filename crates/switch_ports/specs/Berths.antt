@@ -3,7 +3,7 @@ use Rattle.std.specs.Prelude.{◌≡◌, ℕ, ◌==◌, Bool, true, false, List,
 use Rattle.std.specs.List.{AllByRecursion}
 use Rattle.std.specs.Option.{option_map}
 use Rattle.rollout_rules.specs.Wan.{Problem, switch_at}
-use Rattle.wan_edge.specs.Fleets.{marked, with_one, without}
+use Rattle.wan_edge.specs.Fleets.{FleetTrace, marked, with_one, without}
 use Rattle.switch_ports.specs.declared.ports.Berth.{Berth}
 
 -- the ports that wait for their switches, where they are told; those that were given back; of which switches the port is lent; and the name under which
@@ -63,9 +63,9 @@ after_keeping ports berths = record {
   named = ports.named;
 }
 
--- what a fleet tells of its ports, by what each of these says of it
-abbrev pub ports_of : {F P : Type 0} → (F → Option (ℕ → Option P)) → (F → ℕ → Option P) → (F → ℕ → Bool) → (F → ℕ → Option (List ℕ)) → F → FleetPorts P
-ports_of waiting kept lent named fleet = record { waiting = waiting fleet; kept = kept fleet; lent = lent fleet; named = named fleet }
+-- what a fleet tells of its ports
+abbrev pub ports_of : {P G : Type 0} → FleetTrace P G → FleetPorts P
+ports_of fleet = record { waiting = fleet.waiting; kept = fleet.kept; lent = fleet.lent; named = fleet.named }
 
 -- no two berths are of one switch
 abbrev pub AreApart : {P : Type 0} → List (Berth P) → Type 0

@@ -2,6 +2,7 @@
 ghost use Rattle.std.specs.Prelude.{◌≡◌, ℕ, ◌<◌, ◌≤◌, [], All, length, nat_eq, vec_capacity, IfErr, IfOk, IsErrOf, OnErr, OnOk};
 ghost use Rattle.std.specs.List.{IsDistinct};
 ghost use Rattle.wan_edge.specs.Streams.{Rose};
+ghost use Rattle.wan_edge.specs.Fleets.{GuestsStay};
 ghost use Rattle.switch_ports.specs.Berths.{AreApart, ports_of};
 ghost use Rattle.switch_ports.specs.Homes.{working_homes};
 ghost use Rattle.switch_ports.specs.Opening.{Opens, OpensUntil, Refuses};
@@ -45,23 +46,17 @@ pub fn open_ports<F: Fleet>(
     plan: &CheckedPlan,
 ) -> Result<Vec<Berth<F::Port>>, NotOpened>
     ensures opened { IfOk result
-        (λ berths. Opens F.Port.told plan.now.problem
-        (working_homes plan.now.problem plan.now.plan)
-        (ports_of F.waiting F.kept F.lent F.named fleet.old) berths.items
-        (ports_of F.waiting F.kept F.lent F.named fleet.new)) }
+        (λ berths. Opens F.Port.told plan.now.problem (working_homes plan.now.problem plan.now.plan)
+        (ports_of (F.told fleet.old)) berths.items (ports_of (F.told fleet.new))) }
     ensures apart { IfOk result (λ berths. AreApart berths.items) }
     ensures refused { IfErr result
-        (λ why. Refuses F.Port.told plan.now.problem
-        (working_homes plan.now.problem plan.now.plan) why
-        (ports_of F.waiting F.kept F.lent F.named fleet.old)
-        (ports_of F.waiting F.kept F.lent F.named fleet.new)) }
-    ensures guests { (F.coming fleet.new ≡ F.coming fleet.old)
-        × (F.served fleet.new ≡ F.served fleet.old)
-        × (F.visiting fleet.new ≡ F.visiting fleet.old) }
+        (λ why. Refuses F.Port.told plan.now.problem (working_homes plan.now.problem plan.now.plan)
+        why (ports_of (F.told fleet.old)) (ports_of (F.told fleet.new))) }
+    ensures guests { GuestsStay (F.told fleet.old) (F.told fleet.new) }
     ensures cause { (switch : ℕ)
         → IsErrOf result (NotOpened.NoPort switch)
-        → Rose (F.faults fleet.old) (F.faults fleet.new) }
-    ensures count { F.faults fleet.old ≤ F.faults fleet.new }
+        → Rose (F.told fleet.old).faults (F.told fleet.new).faults }
+    ensures count { (F.told fleet.old).faults ≤ (F.told fleet.new).faults }
 {
     let homes = working_homes(alloc, plan)?;
     let mut berths = Vec::with_capacity(alloc, homes.as_slice().len())?;
@@ -88,18 +83,14 @@ fn open_each<F: Fleet>(
     requires fresh { berths.old.items ≡ [] }
     requires room { length homes.now ≤ vec_capacity berths.old }
     ensures opened { OnOk result
-        (Opens F.Port.told problem.now homes.now
-        (ports_of F.waiting F.kept F.lent F.named fleet.old) berths.new.items
-        (ports_of F.waiting F.kept F.lent F.named fleet.new)) }
+        (Opens F.Port.told problem.now homes.now (ports_of (F.told fleet.old)) berths.new.items
+        (ports_of (F.told fleet.new))) }
     ensures until { IfErr result
-        (λ switch. OpensUntil F.Port.told problem.now homes.now switch
-        (ports_of F.waiting F.kept F.lent F.named fleet.old) berths.new.items
-        (ports_of F.waiting F.kept F.lent F.named fleet.new)) }
-    ensures guests { (F.coming fleet.new ≡ F.coming fleet.old)
-        × (F.served fleet.new ≡ F.served fleet.old)
-        × (F.visiting fleet.new ≡ F.visiting fleet.old) }
-    ensures cause { OnErr result (Rose (F.faults fleet.old) (F.faults fleet.new)) }
-    ensures count { F.faults fleet.old ≤ F.faults fleet.new }
+        (λ switch. OpensUntil F.Port.told problem.now homes.now switch (ports_of (F.told fleet.old))
+        berths.new.items (ports_of (F.told fleet.new))) }
+    ensures guests { GuestsStay (F.told fleet.old) (F.told fleet.new) }
+    ensures cause { OnErr result (Rose (F.told fleet.old).faults (F.told fleet.new).faults) }
+    ensures count { (F.told fleet.old).faults ≤ (F.told fleet.new).faults }
 {
     for &switch in homes {
         match fleet.port(switch, problem.switch_name(switch as usize)) {

@@ -105,7 +105,8 @@ impl Outboxes {
     fn put(&mut self, command: &Command, home: Option<u32>) -> Result<(), Memory>
         ensures switches { self.new.switches ≡ self.old.switches }
         ensures ok { OnOk result
-            (self.new.outboxes ≡ with_put self.old.outboxes (place_of self.old.switches home) command.now) }
+            (self.new.outboxes
+            ≡ with_put self.old.outboxes (place_of self.old.switches home) command.now) }
     {
         if let Some(place) = self.place_of(home) {
             self.outboxes[place].add(*command)?;

@@ -66,7 +66,7 @@ fn heard_at<F: Fleet>(fleet: &mut F) -> Option<[u32; 2]> {
 }
 
 fn heard_over<F: Fleet>(fleet: &mut F, mut port: F::Port) -> Option<[u32; 2]>
-    requires { F.lent fleet.old 0 ≡ true }
+    requires { (F.told fleet.old).lent 0 ≡ true }
 {
     let told = count_heard(&mut port);
     fleet.keep(0, port);

@@ -9,9 +9,10 @@ use Rattle.rollout_rules.specs.Legal.{is_sound}
 use Rattle.rollout_rules.specs.Agent.{first_pair}
 use Rattle.rollout_rules.specs.World.{World, first_world, are_first_pairs, held_of}
 use Rattle.rollout_rules.specs.declared.held.Held.{Held}
+use Rattle.rollout_rules.proofs.Rows.{list_below-length}
 use Rattle.rollout_laws.specs.Kept.{IsKept}
 use Rattle.rollout_laws.specs.SafeWorlds.{pairs_held}
-use Rattle.rollout_laws.proofs.Contents.{list_below-length, list_below-at}
+use Rattle.rollout_laws.proofs.Contents.{list_below-at}
 use Rattle.rollout_laws.proofs.Keeping.{first_world_is_kept}
 use Rattle.rollout_core.specs.Worlds.{Standing}
 use Rattle.takeover_rules.specs.Takeovers.{takeover_of, newer_world, no_fences, first_takeover}

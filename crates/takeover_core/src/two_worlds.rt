@@ -57,7 +57,8 @@ impl<'p> TwoWorlds<'p> {
             (λ worlds. worlds
             ≡ record {
               rollout = plan.now;
-              takeover = first_takeover plan.now.problem plan.now.plan start.now migration first.now;
+              takeover = first_takeover plan.now.problem plan.now.plan
+                  start.now migration first.now;
             }) }
     {
         checked_plan_is_valid(plan);

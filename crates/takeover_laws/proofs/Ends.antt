@@ -11,9 +11,9 @@ use Rattle.rollout_rules.specs.Agent.{is_at_most, nothing_held}
 use Rattle.rollout_rules.specs.World.{World, are_first_pairs, held_of}
 use Rattle.rollout_rules.specs.declared.held.Held.{Held}
 use Rattle.rollout_rules.specs.declared.event.Event.{Event}
+use Rattle.rollout_rules.proofs.Pairs.{at_most-refl, at_most-trans}
 use Rattle.rollout_laws.specs.Kept.{IsKept}
 use Rattle.rollout_laws.specs.SafeWorlds.{NetworkAtTarget}
-use Rattle.rollout_laws.proofs.Pairs.{at_most-refl, at_most-trans}
 use Rattle.rollout_laws.proofs.Worlds.{every_world_is_kept}
 use Rattle.rollout_laws.proofs.SafeWorlds.{kept_is_safe_world}
 use Rattle.rollout_laws.proofs.Durable.{held_never_falls}

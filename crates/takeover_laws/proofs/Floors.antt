@@ -3,7 +3,7 @@ use Rattle.std.proofs.Common.{◌≡◌, ℕ, ◌+◌, ◌<◌, ◌≤◌, nat_l
 use Rattle.std.proofs.lemmas.Bool.{cond_both, cond-true, cond-false, lt-ltb, le-ltb, ltb-false, false_from_ne_true}
 use Rattle.rollout_rules.specs.Agent.{pair_of, Holding, is_next_command, held_after}
 use Rattle.rollout_rules.specs.declared.held.Held.{Held}
-use Rattle.rollout_laws.proofs.Pairs.{IsNextCommand, next_command-is}
+use Rattle.rollout_rules.proofs.Pairs.{IsNextCommand, next_command-is}
 use Rattle.takeover_rules.specs.Terms.{Guarded, floor_after, guarded_after, Asked, held_after_all, guarded_after_all}
 
 -- a command of a term that isn't below the floor, and one of a term that is

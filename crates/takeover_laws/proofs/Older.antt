@@ -1,56 +1,30 @@
 -- The older world: what each of its events keeps, before the last fence and after it.
-use Rattle.std.proofs.Common.{◌≡◌, ℕ, ◌+◌, Bool, true, ◌&&◌, nat_lt, List, [], ◌∷◌, ◌++◌, length, take, Option, Some, None, slice_index_or, slice_set, refl, sym, ap, ◌∙◌, subst, ⊎_elim, arith, eqb-true, ltb-true, get_or-set_other}
+use Rattle.std.proofs.Common.{◌≡◌, ℕ, Bool, true, ◌&&◌, nat_lt, List, [], ◌∷◌, length, take, Option, Some, None, slice_index_or, refl, sym, ap, subst, ⊎_elim, arith, ltb-true, get_or-set_other}
 use Rattle.std.proofs.lemmas.Bool.{and_parts, cond_both, cond-true, cases_eq}
-use Rattle.std.proofs.lemmas.List.{set-get_or}
-use Rattle.std.proofs.lemmas.List.Elements.{All-push, All-weaker, All-map, filter_passes}
-use Rattle.std.specs.List.{All, filter}
-use Rattle.rollout_rules.specs.Sums.{list_below}
+use Rattle.std.proofs.lemmas.List.Elements.{All-push, All-weaker}
 use Rattle.rollout_rules.specs.Wan.{Problem, Plan}
 use Rattle.rollout_rules.specs.Items.{item_count, item_at}
 use Rattle.rollout_rules.specs.Operations.{operations, content_after}
-use Rattle.rollout_rules.specs.History.{History, with_entries, begun, settled, flies}
+use Rattle.rollout_rules.specs.History.{with_entries}
 use Rattle.rollout_rules.specs.Legal.{may_follow}
 use Rattle.rollout_rules.specs.Agent.{pair_of, is_at_most, Holding, nothing_held, held_after}
-use Rattle.rollout_rules.specs.Release.{next_op}
 use Rattle.rollout_rules.specs.World.{World, no_op, holding_of, pair_at, held_of, in_flight, all_answered, allows, received, happens, after_event}
 use Rattle.rollout_rules.specs.declared.held.Held.{Held}
 use Rattle.rollout_rules.specs.declared.op.Op.{Op}
 use Rattle.rollout_rules.specs.declared.op.Entry.{Entry}
 use Rattle.rollout_rules.specs.declared.event.Event.{Event}
+use Rattle.rollout_rules.proofs.Pairs.{at_most-refl, at_most-trans}
 use Rattle.rollout_rules.specs.declared.event.Event.TheVariants as event
 use Rattle.rollout_laws.specs.Kept.{IsBegun, IsKept, IsCommand}
 use Rattle.rollout_laws.specs.SafeWorlds.{HasFrom, with_answer}
-use Rattle.rollout_laws.proofs.Histories.{begun-with, take_follows, is_legal-append, is_counted}
-use Rattle.rollout_laws.proofs.Pairs.{at_most-refl, at_most-trans, after-late}
-use Rattle.rollout_laws.proofs.Delivery.{sent_are_commands, kept-with_answer}
+use Rattle.rollout_laws.proofs.Histories.{take_follows, is_legal-append, is_counted}
+use Rattle.rollout_laws.proofs.Delivery.{kept-with_answer, passed_over, sent_are_commands}
 use Rattle.rollout_laws.proofs.Worlds.{happens_is_kept}
 use Rattle.rollout_laws.proofs.Durable.{goes_on_from, held_never_falls}
+use Rattle.rollout_laws.proofs.Keeping.{begun-more, in_flight_is_begun}
 use Rattle.takeover_rules.specs.Takeovers.{is_fenced, is_all_fenced, comes_to, behind_fence, after_older}
 use Rattle.takeover_laws.specs.InHand.{IsListed, HoldsTheFirst}
 use Rattle.takeover_laws.proofs.Fences.{fenced-with_operation}
-
--- what is at most the pair held is passed over, and answered with what is held
-passed_over : (w : World) (n : ℕ) (asked : Held) (content : List ℕ) → is_at_most asked (held_of w n).held ≡ true → received w n asked content ≡ with_answer w n
-passed_over w n asked content late =
-    ap (λ v. record w { held = slice_set w.held n v; given = w.given ++ record { item = n; held = v.held } ∷ [] }) (after-late (held_of w n) asked content late)
-    ∙ ap (λ h. record w { held = h; given = w.given ++ record { item = n; held = (held_of w n).held } ∷ [] }) (set-get_or w.held n nothing_held)
-
--- a history that goes on has begun no less
-begun-more : (h : History) (es : List Entry) (op : Op) → IsBegun h op → IsBegun (with_entries h es) op
-begun-more h es op was =
-    let high = was.high in
-    record { low = was.low; high = omega (arith, high, begun-with h es op.item) }
-
--- each operation in flight is begun
-flying_is_begun : (h : History) (n : ℕ) → flies h n ≡ true → IsBegun h (next_op h n)
-flying_is_begun h n flying =
-    let count = eqb-true (begun h n) (settled h n + 1) flying in
-    record { low = omega arith; high = omega (arith, count) }
-
-in_flight_is_begun : (p : Problem) (h : History) → All (IsBegun h) (in_flight p h)
-in_flight_is_begun p h =
-    All-map (IsBegun h) (next_op h) (filter (flies h) (list_below (item_count p) (λ n. n)))
-    (All-weaker (λ n. flies h n ≡ true) (λ n. IsBegun h (next_op h n)) (flying_is_begun h) _ (filter_passes (flies h) (list_below (item_count p) (λ n. n))))
 
 module _ (p : Problem) (plan : Plan) where
   pub kept-listed : (w : World) → IsKept p plan w → IsListed p plan w

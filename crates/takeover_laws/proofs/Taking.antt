@@ -11,10 +11,10 @@ use Rattle.rollout_rules.specs.Agent.{first_pair, is_at_most, nothing_held}
 use Rattle.rollout_rules.specs.World.{World, number_at, pair_at, first_world, are_first_pairs, held_of, now, after_event}
 use Rattle.rollout_rules.specs.declared.held.Held.{Held}
 use Rattle.rollout_rules.specs.declared.event.Event.{Event}
+use Rattle.rollout_rules.proofs.Pairs.{at_most-trans}
 use Rattle.rollout_laws.specs.Kept.{IsKept}
 use Rattle.rollout_laws.specs.SafeWorlds.{applied, pairs_held}
 use Rattle.rollout_laws.proofs.Contents.{list_below-at}
-use Rattle.rollout_laws.proofs.Pairs.{at_most-trans}
 use Rattle.rollout_laws.proofs.Keeping.{first_world_is_kept}
 use Rattle.rollout_laws.proofs.Worlds.{after_events-push}
 use Rattle.rollout_laws.proofs.Durable.{goes_on_from, held_never_falls}

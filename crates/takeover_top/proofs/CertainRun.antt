@@ -1,11 +1,9 @@
 -- A rollout that is run from the journal of a takeover, over ports that are ready, ends well.
-use Rattle.std.proofs.Common.{◌≡◌, ◌⊎◌, ℕ, suc, ◌<◌, ◌≤◌, ◌^◌, true, List, [], ◌∷◌, length, slice_index, Option, Some, None, inl, inr, refl, sym, ap, ◌∙◌, subst, arith}
-use Rattle.std.specs.Prelude.{IfSome}
+use Rattle.std.proofs.Common.{◌≡◌, ◌⊎◌, ℕ, suc, ◌<◌, ◌≤◌, ◌^◌, true, List, [], ◌∷◌, length, Option, Some, Result, Ok, Err, IfOk, IfErr, inl, inr, refl, sym, ap, ◌∙◌, subst, arith}
 use Rattle.std.specs.List.{All, AllByRecursion, Contains}
 use Rattle.std.proofs.lemmas.Bool.{cases_eq}
 use Rattle.std.proofs.lemmas.List.Elements.{All-cons, All-contains, All-nil}
 use Rattle.std.proofs.lemmas.Option.{same_Some}
-use Rattle.rollout_rules.specs.Agent.{pair_of}
 use Rattle.rollout_rules.specs.History.{History, started}
 use Rattle.rollout_rules.specs.Items.{item_count}
 use Rattle.rollout_rules.specs.Legal.{is_sound, unsettled}
@@ -41,11 +39,10 @@ use Rattle.controller_run.specs.Ran.{EndsRun, Ran}
 use Rattle.controller_run.specs.declared.end.RunEnd.{RunEnd}
 use Rattle.controller_run.specs.declared.end.RunEnd.TheVariants as run
 use Rattle.controller_run.specs.declared.running.Limits.{Limits}
-use Rattle.controller_run.specs.RolloutEnds.{HasRolled, IfRolled, OnUnopened, answer_for}
-use Rattle.controller_run.specs.declared.rollout_end.RolloutEnd.{RolloutEnd}
-use Rattle.controller_run.specs.declared.rollout_end.RolloutEnd.TheVariants as outcome
+use Rattle.controller_run.specs.RolloutEnds.{HasRolled}
+use Rattle.controller_run.specs.declared.outcome.RunOutcome.{RunOutcome}
 use Rattle.completion_laws.specs.Answering.{IsUpToDate}
-use Rattle.completion_laws.specs.Faults.{IsExcused, IsWithoutFault}
+use Rattle.completion_laws.specs.Faults.{IsWithoutFault}
 use Rattle.completion_laws.specs.Finishing.{EndsOrIsExcused, IsServed, IsWant}
 use Rattle.completion_laws.proofs.Excused.{held-none, ran-served}
 use Rattle.completion_laws.proofs.Finished.{only-want}
@@ -56,19 +53,16 @@ use Rattle.text_commands.specs.Runs.{EndsWith}
 use Rattle.text_commands.specs.declared.command_end.CommandEnd.{CommandEnd}
 use Rattle.text_commands.proofs.Programs.{follows-ends}
 use Rattle.swanroll_top.specs.Ready.{CountsNoFault}
-use Rattle.swanroll_top.specs.Rollouts.{FleetSeen, ending_of_stop}
+use Rattle.swanroll_top.specs.Rollouts.{FleetSeen, by_answer, ending_of_stop}
 use Rattle.swanroll_top.proofs.Outcomes.{rose-later}
-use Rattle.takeover_top.specs.Endings.{taken_or_ending}
+use Rattle.swanroll_top.proofs.Certain.{of-some}
+use Rattle.takeover_top.specs.Endings.{taken_at, taken_or_ending}
 use Rattle.takeover_top.specs.Lines.{start_total}
-use Rattle.takeover_top.specs.ReadyToTake.{EndsWell, IsOfStart, IsReadyToTell}
+use Rattle.takeover_top.specs.ReadyToTake.{IsReadyToTell}
 use Rattle.takeover_top.specs.Takings.{RunsOn}
 use Rattle.takeover_top.specs.declared.ending.TakeoverEnding.{TakeoverEnding}
 use Rattle.takeover_top.proofs.PlacedStands.{verdict-stands}
 use Rattle.takeover_top.proofs.PromptVisits.{AreHere, IsHere}
-
--- what holds of what an option has, where it has this
-of-some : {X : Type 0} (Q : X → Type 0) (x : X) (o : Option X) → o ≡ Some x → IfSome o Q → Q x
-of-some Q x o is holds = subst (λ p. IfSome p Q) is holds
 
 -- a port that is ready is up to date after the start
 up-to-date : (r : Rollout) (migration : ℕ) (start : List ℕ) (first : SessionTrace) → IsReadyToTell r migration start first → IsUpToDate r migration (homes_of r.problem) (started start) first
@@ -122,7 +116,7 @@ module _ {D P : Type 0} (trace : D → DiskTrace) (tell : P → PortTrace)
 
   -- ---- a rollout that was run
 
-  module _ (valid : is_valid_plan r.problem r.plan ≡ true) (a : RolloutEnd) (has : HasRolled trace tell r (digest_for r limits.migration) policy limits.rounds placed mid.ports now.ports disk_now a) where
+  module _ (valid : is_valid_plan r.problem r.plan ≡ true) (a : RunOutcome) (has : HasRolled trace tell r (digest_for r limits.migration) policy limits.rounds placed mid.ports now.ports disk_now a) where
     abbrev RanTo : RunEnd → Type 0
     RanTo end = Ran trace tell (opening_of has.book policy) (trace has.book.disk).moment (trace has.book.disk).faults limits.migration limits.rounds
         (working_homes has.book.rollout.problem has.book.rollout.plan) mid.ports end has.run.closed now.ports
@@ -169,36 +163,24 @@ module _ {D P : Type 0} (trace : D → DiskTrace) (tell : P → PortTrace)
     abbrev Ended : RunEnd → Type 0
     Ended end = EndsRun tell (working_homes has.book.rollout.problem has.book.rollout.plan) has.book has.run.closed mid.ports now.ports (RanTo end) end
 
-    ended-is : Ended has.run.end
+    ended-is : Ended a.end
     unfolding digest_for
     ended-is = has.run.ran
 
-    abbrev answer_of : RunEnd → RolloutEnd
-    answer_of end = answer_for has.book.rollout (length has.book.history.entries) has.run.closed.history end
-
     -- what stopped it is lack of memory
-    stop-wants : (other : Rollout) (halt : Halt) (end : RunEnd) → outcome.Stopped other halt ≡ answer_of end → Ended end → IsWant halt.cause
-    stop-wants other halt run.Finished is ended = absurd cc
-    stop-wants other halt run.Held is ended = absurd cc
-    stop-wants other halt (run.Stopped first) is ended =
-        let same : first ≡ halt = cc is in
+    stop-wants : (halt : Halt) → a.end ≡ run.Stopped halt → IsWant halt.cause
+    stop-wants halt is =
+        let ended : RanTo (run.Stopped halt) = subst Ended is ended-is in
         let o = opening_of has.book policy in
-        subst (λ (h : Halt). IsWant h.cause) same
-        (only-want first.cause (ends-so (run.Stopped first) ended)
-        (no-fault tell (Rose (trace has.book.disk).faults (trace has.run.closed.disk).faults) (first_sessions ended.berths) now.ports.kept (without (run.Stopped first) ended) o limits.migration (homes_of o.rollout.problem) limits.rounds ended.log first.cause ended.reason))
-    stop-wants other halt (run.NoPort switch) is ended = absurd cc
-    stop-wants other halt run.Memory is ended = absurd cc
+        only-want halt.cause (ends-so (run.Stopped halt) ended)
+        (no-fault tell (Rose (trace has.book.disk).faults (trace has.run.closed.disk).faults) (first_sessions ended.berths) now.ports.kept (without (run.Stopped halt) ended) o limits.migration (homes_of o.rollout.problem) limits.rounds ended.log halt.cause ended.reason)
 
     -- nothing is held by a policy that holds nothing back
-    held-never : HoldsNothing policy → (left : ℕ) (end : RunEnd) → outcome.Held left ≡ answer_of end → Ended end → ⊥
-    held-never free left run.Finished is ended = absurd cc
-    held-never free left run.Held is ended =
+    held-never : HoldsNothing policy → a.end ≡ run.Held → ⊥
+    held-never free is =
         held-none trace tell (opening_of has.book policy) (trace has.book.disk).moment (trace has.book.disk).faults limits.migration limits.rounds
-        (working_homes has.book.rollout.problem has.book.rollout.plan) mid.ports has.run.closed now.ports ended
+        (working_homes has.book.rollout.problem has.book.rollout.plan) mid.ports has.run.closed now.ports (subst Ended is ended-is)
         (subst (λ (x : Rollout). IsNetwork x.problem) (sym rollout-is) net) (subst (λ (x : Rollout). is_valid_plan x.problem x.plan ≡ true) (sym rollout-is) valid) free
-    held-never free left (run.Stopped halt) is ended = absurd cc
-    held-never free left (run.NoPort switch) is ended = absurd cc
-    held-never free left run.Memory is ended = absurd cc
 
   -- ---- what isn't begun
 
@@ -225,24 +207,26 @@ module _ {D P : Type 0} (trace : D → DiskTrace) (tell : P → PortTrace)
     abbrev e : CommandEnd
     e = runs.ended
 
-    abbrev HasRolledTo : RolloutEnd → Type 0
+    abbrev HasRolledTo : RunOutcome → Type 0
     HasRolledTo a = HasRolled trace tell r (digest_for r limits.migration) policy limits.rounds placed mid.ports now.ports disk_now a
 
     abbrev total : ℕ
     total = start_total (item_count r.problem) start
 
-    by-answer : (status_of e ≡ 12 → ⊥) → (a : RolloutEnd) → IfRolled a (HasRolledTo a) → OnUnopened a (λ why. IsLeft trace r (digest_for r limits.migration) placed why disk_now × (now ≡ mid))
-        → ((other : Rollout) (switch : ℕ) → a ≡ outcome.NoPort other switch → Rose mid.faults now.faults) → EndsWith (taken_or_ending total a) e sink.written sink_now.written
+    by-end : (status_of e ≡ 12 → ⊥) → (a : RunOutcome) → HasRolledTo a → ((switch : ℕ) → a.end ≡ run.NoPort switch → Rose mid.faults now.faults) → (end : RunEnd) → a.end ≡ end
+        → EndsWith (taken_at total end a) e sink.written sink_now.written → (status_of e ≡ 0) ⊎ ((status_of e ≡ 14) × (HoldsNothing policy → ⊥))
+    by-end memory a has missing run.Finished is (inl done) = inl (ap status_of done.0)
+    by-end memory a has missing run.Finished is (inr cut) = absurd (unfailed (runs.write_fault cut.0))
+    by-end memory a has missing run.Held is ends = inr (ap status_of ends.0, λ free. held-never runs.valid a has free is)
+    by-end memory a has missing (run.Stopped halt) is ends = absurd (stopped-never e a.plan halt.cause ends.0 (stop-wants runs.valid a has halt is) memory)
+    by-end memory a has missing (run.NoPort switch) is ends = absurd (counts.fleet (rose-later before.faults mid.faults now.faults fleet_later (missing switch is)))
+    by-end memory a has missing run.Memory is ends = absurd (memory (ap status_of ends.0))
+
+    by-answer : (status_of e ≡ 12 → ⊥) → (a : Result RunOutcome JournalFault) → IfOk a HasRolledTo → IfErr a (λ why. IsLeft trace r (digest_for r limits.migration) placed why disk_now × (now ≡ mid))
+        → IfOk a (λ o. (switch : ℕ) → o.end ≡ run.NoPort switch → Rose mid.faults now.faults) → EndsWith (by_answer (taken_or_ending total) a) e sink.written sink_now.written
         → (status_of e ≡ 0) ⊎ ((status_of e ≡ 14) × (HoldsNothing policy → ⊥))
-    by-answer memory (outcome.Finished operations found) has unopened missing (inl done) = inl (ap status_of done.0)
-    by-answer memory (outcome.Finished operations found) has unopened missing (inr cut) = absurd (unfailed (runs.write_fault cut.0))
-    by-answer memory (outcome.Held left) has unopened missing ends =
-        inr (ap status_of ends.0, λ free. held-never runs.valid (outcome.Held left) has free left has.run.end has.run.tells (ended-is runs.valid (outcome.Held left) has))
-    by-answer memory (outcome.Stopped other halt) has unopened missing ends =
-        absurd (stopped-never e other halt.cause ends.0 (stop-wants runs.valid (outcome.Stopped other halt) has other halt has.run.end has.run.tells (ended-is runs.valid (outcome.Stopped other halt) has)) memory)
-    by-answer memory (outcome.NoPort other switch) has unopened missing ends = absurd (counts.fleet (rose-later before.faults mid.faults now.faults fleet_later (missing other switch refl)))
-    by-answer memory outcome.Memory has unopened missing ends = absurd (memory (ap status_of ends.0))
-    by-answer memory (outcome.Unopened why) has unopened missing ends =
+    by-answer memory (Ok o) has unopened missing ends = by-end memory o has missing o.end refl ends
+    by-answer memory (Err why) has unopened missing ends =
         absurd (unopened-never why (verdict r (digest_for r limits.migration) image) stands
         (of-some (λ all. IsCause why (digest_for r limits.migration) (verdict r (digest_for r limits.migration) all)) image (trace placed).bytes told unopened.0.refusal)
         (λ is. counts.disk (rose-later count (trace placed).faults (trace disk_now).faults later (unopened.0.failed is)))
@@ -251,5 +235,5 @@ module _ {D P : Type 0} (trace : D → DiskTrace) (tell : P → PortTrace)
     pub run-well : (status_of e ≡ 12) ⊎ ((status_of e ≡ 0) ⊎ ((status_of e ≡ 14) × (HoldsNothing policy → ⊥)))
     run-well = elim (cases_eq (status_of e) 12) [
       | inl memory ↦ inl memory
-      | inr other ↦ inr (by-answer other runs.answer runs.rolled runs.unopened runs.no_port (follows-ends (taken_or_ending total runs.answer) e sink.written sink_now.written runs.follows other))
+      | inr other ↦ inr (by-answer other runs.answer runs.rolled runs.unopened runs.no_port (follows-ends (by_answer (taken_or_ending total) runs.answer) e sink.written sink_now.written runs.follows other))
     ]

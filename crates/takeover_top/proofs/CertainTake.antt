@@ -1,20 +1,18 @@
 -- A takeover that finds all that it needs ends well.
-use Rattle.std.proofs.Common.{◌≡◌, ◌⊎◌, ℕ, ◌<◌, ◌≤◌, Bool, true, false, List, [], length, Option, Some, None, Result, Ok, Err, is_some, inl, inr, refl, sym, ap, ◌∙◌, subst, arith}
+use Rattle.std.proofs.Common.{◌≡◌, ℕ, ◌≤◌, Bool, true, List, length, Option, Some, None, Result, Ok, Err, is_some, inl, inr, refl, sym, ap, ◌∙◌, subst, arith}
 use Rattle.std.specs.Prelude.{IfSome, IsErrOf}
-use Rattle.std.proofs.lemmas.Bool.{cases_eq, false≢true}
+use Rattle.std.proofs.lemmas.Bool.{false≢true}
 use Rattle.rollout_rules.specs.Legal.{is_sound}
 use Rattle.rollout_rules.specs.Network.{IsNetwork}
 use Rattle.rollout_rules.specs.Wan.{Rollout}
 use Rattle.rollout_rules.specs.declared.op.OpView.{OpView}
-use Rattle.rollout_rules.specs.declared.limits.TheConstants.{MOST_INPUT}
-use Rattle.rollout_laws.specs.Waiting.{HoldsNothing}
 use Rattle.disk_model.specs.Traces.{DiskTrace}
 use Rattle.wan_edge.specs.Ports.{PortTrace}
 use Rattle.wan_edge.specs.Streams.{Rose, SinkTrace, SourceTrace}
 use Rattle.dependency_graph.specs.declared.start_fault.StartFault.{StartFault}
 use Rattle.dependency_graph.specs.declared.start_fault.StartFault.TheVariants as broken
 use Rattle.dependency_graph.specs.FirstFault.{TellsSound}
-use Rattle.intent_journal.specs.Images.{is_blank, journal_in}
+use Rattle.intent_journal.specs.Images.{journal_in}
 use Rattle.intent_journal.specs.Parts.{Kept}
 use Rattle.intent_journal.specs.Phases.{IsFresh}
 use Rattle.intent_journal.specs.Placements.{IsNeither, IsPlacingFault, MayBePlaced}
@@ -23,7 +21,6 @@ use Rattle.intent_journal.specs.declared.fault.JournalFault.TheVariants as fault
 use Rattle.switch_ports.specs.Homes.{working_homes}
 use Rattle.controller_run.specs.declared.running.Limits.{Limits}
 use Rattle.fence_takeover.specs.Beginnings.{Begins, taken_kept}
-use Rattle.fence_takeover.specs.Fences.{Fences}
 use Rattle.fence_takeover.specs.declared.end.FenceEnd.{FenceEnd}
 use Rattle.fence_takeover.specs.declared.end.FenceEnd.TheVariants as fence
 use Rattle.fence_takeover.specs.declared.begun.NotBegun.{NotBegun}
@@ -40,11 +37,12 @@ use Rattle.swanroll_top.specs.Ready.{CountsNoFault}
 use Rattle.swanroll_top.specs.Rollouts.{FleetSeen}
 use Rattle.swanroll_top.proofs.Outcomes.{rose-later}
 use Rattle.swanroll_top.proofs.Reporting.{rolled-within, short-rollout}
+use Rattle.swanroll_top.proofs.Certain.{of-some}
 use Rattle.takeover_top.specs.Endings.{Told, ending_of_not_begun}
 use Rattle.takeover_top.specs.ReadyToTake.{EndsWell, IsGivenFor, IsReadyToTake, WaitsToTell}
 use Rattle.takeover_top.specs.Takings.{ByBeginning, ByInput, ByRollout, RunsOn, Takes, TakesRollout}
 use Rattle.takeover_top.specs.declared.ending.TakeoverEnding.{TakeoverEnding}
-use Rattle.takeover_top.specs.declared.ending.TakeoverEnding.TheVariants.{Ended, Later, Unsound}
+use Rattle.takeover_top.specs.declared.ending.TakeoverEnding.TheVariants.{Ended, Later}
 use Rattle.takeover_top.proofs.CertainRun.{run-well}
 use Rattle.takeover_top.proofs.PromptFences.{IsFenceExcused, fences-only, fences-start}
 use Rattle.takeover_top.proofs.PromptHomes.{all-at}
@@ -58,9 +56,6 @@ pub record IsWellEnd (policy : OpView → ℕ) (ending : TakeoverEnding) : Type 
 
 wanted : (policy : OpView → ℕ) (ending : TakeoverEnding) → ending ≡ Ended OutOfMemory → IsWellEnd policy ending
 wanted policy ending is = record { own = OutOfMemory; is = is; well = inl refl }
-
-of-some : {X : Type 0} (Q : X → Type 0) (x : X) (o : Option X) → o ≡ Some x → IfSome o Q → Q x
-of-some Q x o is holds = subst (λ p. IfSome p Q) is holds
 
 neither-placed : (first : ℕ) (image : List ℕ) → MayBePlaced image → IsNeither first image → ⊥
 neither-placed first image (inl blank) neither = false≢true (sym neither.not_blank ∙ blank)

@@ -1,6 +1,7 @@
 -- A takeover ends for a fault only where its object counted one.
-use Rattle.std.proofs.Common.{◌≡◌, ◌⊎◌, ℕ, ◌≤◌, List, Bool, true, false, Option, Result, Ok, Err, refl, sym, ap, ◌∙◌, subst, inl, inr, arith}
+use Rattle.std.proofs.Common.{◌≡◌, ◌⊎◌, ℕ, List, Bool, true, false, Option, Result, Ok, Err, refl, sym, ap, ◌∙◌, subst, inl, inr, arith}
 use Rattle.std.specs.Prelude.{IsErrOf}
+use Rattle.lists.proofs.Conditions.{not_both}
 use Rattle.rollout_rules.specs.Wan.{Rollout}
 use Rattle.rollout_rules.specs.declared.op.OpView.{OpView}
 use Rattle.wan_edge.specs.Ports.{PortTrace}
@@ -13,24 +14,25 @@ use Rattle.fence_takeover.specs.declared.end.FenceEnd.TheVariants as fence
 use Rattle.intent_journal.specs.declared.fault.JournalFault.{JournalFault}
 use Rattle.intent_journal.specs.declared.fault.JournalFault.TheVariants as journal
 use Rattle.controller_run.specs.declared.running.Limits.{Limits}
-use Rattle.controller_run.specs.declared.rollout_end.RolloutEnd.{RolloutEnd}
-use Rattle.controller_run.specs.declared.rollout_end.RolloutEnd.TheVariants as outcome
-use Rattle.fence_takeover.specs.Beginnings.{Begins, OpensAndPlaces, OpensAt}
+use Rattle.controller_run.specs.declared.end.RunEnd.{RunEnd}
+use Rattle.controller_run.specs.declared.end.RunEnd.TheVariants as run
+use Rattle.controller_run.specs.declared.outcome.RunOutcome.{RunOutcome}
+use Rattle.fence_takeover.specs.Beginnings.{Begins, OpensAt}
 use Rattle.fence_takeover.specs.declared.begun.NotBegun.{NotBegun}
 use Rattle.fence_takeover.specs.declared.begun.NotBegun.TheVariants as why
 use Rattle.text_commands.specs.Answers.{rollout_in}
 use Rattle.text_commands.specs.CommandEnds.{ending_of_journal, status_of}
 use Rattle.text_commands.specs.Reading.{IsCut, ReadsInput}
-use Rattle.text_commands.specs.Runs.{EndsWith, Follows, Gives, IsTold}
+use Rattle.text_commands.specs.Runs.{EndsWith, Follows, Gives}
 use Rattle.text_commands.specs.declared.command_end.CommandEnd.{CommandEnd}
-use Rattle.text_commands.specs.declared.command_end.CommandEnd.TheVariants.{Done, Usage, AboveLimit, Input, NotValid, NoPlan, Unshown, ReadFault, WriteFault, DiskFault, GuestFault, Refused, NotFinished, OutOfMemory}
+use Rattle.text_commands.specs.declared.command_end.CommandEnd.TheVariants.{ReadFault, WriteFault, DiskFault}
 use Rattle.text_commands.proofs.Answering.{is_answer, rollout-answers}
 use Rattle.text_commands.proofs.Statuses.{is-disk-fault, is-read-fault, is-write-fault}
 use Rattle.retarget_service.specs.JournalRoom.{journal_room}
-use Rattle.swanroll_top.specs.Rollouts.{FleetSeen, may_end}
+use Rattle.swanroll_top.specs.Rollouts.{FleetSeen, by_answer, may_end}
 use Rattle.swanroll_top.proofs.Outcomes.{journal-disk, journal-may, rose-later, stop-may}
-use Rattle.takeover_top.specs.Endings.{Told, ending_of_fence, ending_of_not_begun, ending_of_start, taken_or_ending}
-use Rattle.takeover_top.specs.Takings.{ByBeginning, ByInput, ByRollout, RunsOn, Takes, TakesRollout}
+use Rattle.takeover_top.specs.Endings.{Told, ending_of_fence, ending_of_not_begun, ending_of_start, taken_at, taken_or_ending}
+use Rattle.takeover_top.specs.Takings.{ByBeginning, ByInput, ByRollout, Takes, TakesRollout}
 use Rattle.takeover_top.specs.declared.ending.TakeoverEnding.{TakeoverEnding}
 use Rattle.takeover_top.specs.declared.ending.TakeoverEnding.TheVariants.{Ended, Later, Unsound}
 use Rattle.takeover_top.proofs.Promising.{IsEndedSo, memory-status, own-ending}
@@ -112,20 +114,20 @@ begun-write (why.Fence r end) = fence-write r end
 begun-write (why.Start r f) = start-write r f
 begun-write (why.Journal cause) = journal-write cause
 
-true-not : (b : Bool) → b ≡ true → b ≡ false → ⊥
-true-not b holds isnt = let both : true ≡ false = sym holds ∙ isnt in cc
+may-at : (total : ℕ) (end : RunEnd) (o : RunOutcome) (e : CommandEnd) (out now : Option (List ℕ)) → may_end e ≡ false → EndsWith (taken_at total end o) e out now → ⊥
+may-at total run.Finished o e out now isnt (inl done) = not_both (may_end e) (ap may_end done.0) isnt
+may-at total run.Finished o e out now isnt (inr cut) = not_both (may_end e) (ap may_end cut.0) isnt
+may-at total run.Held o e out now isnt ends = not_both (may_end e) (ap may_end ends.0) isnt
+may-at total (run.Stopped halt) o e out now isnt ends = not_both (may_end e) (ap may_end ends.0 ∙ stop-may o.plan halt.cause) isnt
+may-at total (run.NoPort switch) o e out now isnt ends = not_both (may_end e) (ap may_end ends.0) isnt
+may-at total run.Memory o e out now isnt ends = not_both (may_end e) (ap may_end ends.0) isnt
 
-ends-may : (total : ℕ) (a : RolloutEnd) (e : CommandEnd) (out now : Option (List ℕ)) → may_end e ≡ false → EndsWith (taken_or_ending total a) e out now → ⊥
-ends-may total (outcome.Finished operations found) e out now isnt (inl done) = true-not (may_end e) (ap may_end done.0) isnt
-ends-may total (outcome.Finished operations found) e out now isnt (inr cut) = true-not (may_end e) (ap may_end cut.0) isnt
-ends-may total (outcome.Held left) e out now isnt ends = true-not (may_end e) (ap may_end ends.0) isnt
-ends-may total (outcome.Stopped r halt) e out now isnt ends = true-not (may_end e) (ap may_end ends.0 ∙ stop-may r halt.cause) isnt
-ends-may total (outcome.NoPort r switch) e out now isnt ends = true-not (may_end e) (ap may_end ends.0) isnt
-ends-may total outcome.Memory e out now isnt ends = true-not (may_end e) (ap may_end ends.0) isnt
-ends-may total (outcome.Unopened cause) e out now isnt ends = true-not (may_end e) (ap may_end ends.0 ∙ journal-may cause) isnt
+ends-may : (total : ℕ) (a : Result RunOutcome JournalFault) (e : CommandEnd) (out now : Option (List ℕ)) → may_end e ≡ false → EndsWith (by_answer (taken_or_ending total) a) e out now → ⊥
+ends-may total (Ok o) e out now isnt ends = may-at total o.end o e out now isnt ends
+ends-may total (Err cause) e out now isnt ends = not_both (may_end e) (ap may_end ends.0 ∙ journal-may cause) isnt
 
-not-read : (total : ℕ) (a : RolloutEnd) (e : CommandEnd) (out now : Option (List ℕ)) → e ≡ ReadFault → Follows (taken_or_ending total a) e out now → ⊥
-not-read total a e out now is follows = ends-may total a ReadFault out now refl (subst (λ (x : CommandEnd). Follows (taken_or_ending total a) x out now) is follows)
+not-read : (total : ℕ) (a : Result RunOutcome JournalFault) (e : CommandEnd) (out now : Option (List ℕ)) → e ≡ ReadFault → Follows (by_answer (taken_or_ending total) a) e out now → ⊥
+not-read total a e out now is follows = ends-may total a ReadFault out now refl (subst (λ (x : CommandEnd). Follows (by_answer (taken_or_ending total) a) x out now) is follows)
 
 -- ---- step by step
 
@@ -143,14 +145,14 @@ module _ {D P : Type 0} (trace : D → DiskTrace) (tell : P → PortTrace)
     where
       by : (a : Result (Rollout × List ℕ) NotBegun) → Then a → ⊥
       by (Ok taken) runs = not-read _ runs.answer runs.ended sink.written sink_now.written (own-ending runs.ended ReadFault (sym runs.is ∙ is_e)) runs.follows
-      by (Err cause) ends = true-not (may ending) (ap may ends.0 ∙ begun-may cause) (ap may is_e)
+      by (Err cause) ends = not_both (may ending) (ap may ends.0 ∙ begun-may cause) (ap may is_e)
 
   rollout-write : ending ≡ Ended WriteFault → Rose sink.faults sink_now.faults
   rollout-write is_e = by takes.answer takes.ends
     where
       by : (a : Result (Rollout × List ℕ) NotBegun) → Then a → Rose sink.faults sink_now.faults
       by (Ok taken) runs = runs.write_fault (own-ending runs.ended WriteFault (sym runs.is ∙ is_e))
-      by (Err cause) ends = absurd (true-not (is_write ending) (ap is_write is_e) (ap is_write ends.0 ∙ begun-write cause))
+      by (Err cause) ends = absurd (not_both (is_write ending) (ap is_write is_e) (ap is_write ends.0 ∙ begun-write cause))
 
   fence-disk : (s : Rollout) (end : FenceEnd) → ending_of_fence s end ≡ Ended DiskFault → ⊥
   fence-disk s (fence.NoPort w) is = cc is
@@ -197,7 +199,7 @@ cut-kind source source_now e cut (inr is) = subst (λ (x : CommandEnd). IsCut so
 
 refused-kind : (input : List ℕ) (e x : CommandEnd) → e ≡ x → is_answer x ≡ false → (Gives {A = Rollout} (Err x) (rollout_in input) → rollout_in input ≡ Err x) → Gives {A = Rollout} (Err e) (rollout_in input) → ⊥
 refused-kind input e x is isnt reads gives =
-    true-not (is_answer x) (rollout-answers input x (reads (subst (λ (y : CommandEnd). Gives {A = Rollout} (Err y) (rollout_in input)) is gives))) isnt
+    not_both (is_answer x) (rollout-answers input x (reads (subst (λ (y : CommandEnd). Gives {A = Rollout} (Err y) (rollout_in input)) is gives))) isnt
 
 module _ {D P : Type 0} (trace : D → DiskTrace) (tell : P → PortTrace)
     (source source_now : SourceTrace) (limits : Limits) (policy : OpView → ℕ) (disk disk_now : D) (before now : FleetSeen P) (ending : TakeoverEnding) (sink sink_now : SinkTrace)

@@ -9,7 +9,7 @@ use Rattle.rollout_rules.specs.Wan.{Rollout}
 use Rattle.rollout_rules.specs.declared.op.Entry.{Entry}
 use Rattle.intent_journal.specs.declared.digest.Digest.{Digest}
 use Rattle.intent_journal.specs.Images.{is_blank, journal_in, kept_at, live_part, open_journal, slot_at}
-use Rattle.intent_journal.specs.Numbers.{byte_at, number_4}
+use Rattle.disk_model.specs.Numbers.{byte_at, number_4}
 use Rattle.intent_journal.specs.Openings.{found_by}
 use Rattle.intent_journal.specs.Parts.{Kept, Slot, digest_in, is_second, migration_in, numbers, part_rows, starts_in}
 use Rattle.intent_journal.specs.Phases.{kept_of}

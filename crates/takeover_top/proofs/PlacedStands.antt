@@ -1,20 +1,20 @@
 -- An image on which the journal of a takeover was placed is no refused one: its start and its empty list stand.
-use Rattle.std.proofs.Common.{◌≡◌, ◌==◌, ◌&&◌, ◌⊎◌, nat_lt, ℕ, Bool, true, false, List, [], length, drop, Option, Some, None, if◌then◌else◌, inl, inr, refl, sym, ap, ◌∙◌, subst}
+use Rattle.std.proofs.Common.{◌≡◌, ◌==◌, ◌&&◌, ℕ, Bool, true, false, List, [], length, drop, Option, Some, None, if◌then◌else◌, inl, inr, refl, sym, ap, ◌∙◌}
 use Rattle.std.proofs.lemmas.Bool.{cases_Bool, eq-eqb}
 use Rattle.std.proofs.lemmas.Slice.Eq.{bytes_eq-Decides}
 use Rattle.std.specs.Option.{option_map}
 use Rattle.std.specs.Prelude.{bytes_eq}
-use Rattle.rollout_rules.specs.History.{started}
+use Rattle.lists.proofs.Conditions.{some_same_is}
 use Rattle.rollout_rules.specs.Items.{item_count}
 use Rattle.rollout_rules.specs.Legal.{is_sound}
 use Rattle.rollout_rules.specs.Wan.{Rollout}
 use Rattle.intent_journal.specs.declared.digest.Digest.{Digest}
 use Rattle.intent_journal.specs.Images.{journal_in, kept_at, live_part, open_journal, slot_at}
-use Rattle.intent_journal.specs.Numbers.{byte_at}
-use Rattle.intent_journal.specs.Parts.{Kept, Slot, digest_in, migration_in, part_rows, starts_in}
+use Rattle.disk_model.specs.Numbers.{byte_at}
+use Rattle.intent_journal.specs.Parts.{Kept, Slot, digest_in, migration_in, part_rows}
 use Rattle.intent_journal.specs.Phases.{kept_of}
 use Rattle.intent_journal.specs.Reading.{live_side, nothing_read, with_rows}
-use Rattle.intent_journal.specs.Verdicts.{NoJournal, NoStart, OfAnother, Stands, is_own, is_start, judged_at, judged_journal, judged_list, judged_part, judged_start, start_of, verdict}
+use Rattle.intent_journal.specs.Verdicts.{NoJournal, NoStart, OfAnother, Stands, is_own, is_start, judged_at, judged_list, judged_start, start_of, verdict}
 use Rattle.intent_journal.proofs.Blanks.{live_part-side}
 use Rattle.takeover_top.proofs.Placed.{judged, of-part}
 
@@ -24,9 +24,6 @@ and-true false b is also = absurd (let no : ◌≡◌ {A = Bool} false true = is
 
 none-kept : (kept : Kept) → ◌≡◌ {A = Option Kept} None (Some kept) → ⊥
 none-kept kept is = cc is
-
-same-kept : (a b : Kept) → Some a ≡ Some b → a ≡ b
-same-kept a b is = cc is
 
 module _ (r : Rollout) (digest : Digest) (start image : List ℕ) (is : journal_in image ≡ Some (kept_of digest start [])) (long : length start ≡ item_count r.problem) (sound : is_sound r.problem r.plan start ≡ true) where
   abbrev kept : Kept
@@ -52,7 +49,7 @@ module _ (r : Rollout) (digest : Digest) (start image : List ℕ) (is : journal_
   live-of (Some side) live = record {
     side = side;
     live = live;
-    keeps = same-kept (kept_at (slot_at side image) image) kept (sym (live_part-side image ∙ ap (option_map (λ (n : ℕ). kept_at (slot_at n image) image)) live) ∙ part-is);
+    keeps = some_same_is (kept_at (slot_at side image) image) kept (sym (live_part-side image ∙ ap (option_map (λ (n : ℕ). kept_at (slot_at n image) image)) live) ∙ part-is);
   }
 
   found : IsLive

@@ -1,17 +1,16 @@
 -- What comes of fencing switches off over ports that are ready: their start, unless memory ran out, or the fleet or a port failed.
-use Rattle.std.proofs.Common.{◌≡◌, ◌⊎◌, ℕ, zero, suc, ◌<◌, ◌≤◌, ◌^◌, ◌==◌, Bool, true, List, [], ◌∷◌, ◌++◌, length, slice_index, Option, Some, None, is_some, option_map, if◌then◌else◌, Result, Ok, Err, inl, inr, refl, sym, ap, ap₂, ◌∙◌, subst, arith, lt-ltb}
+use Rattle.std.proofs.Common.{◌≡◌, ℕ, ◌<◌, ◌^◌, Bool, true, List, length, slice_index, Option, Some, None, is_some, option_map, if◌then◌else◌, Ok, Err, inl, inr, refl, sym, ap, ◌∙◌, subst, arith, lt-ltb}
 use Rattle.std.specs.Prelude.{IfSome}
 use Rattle.std.proofs.lemmas.Bool.{cases_lt, eq-eqb, false≢true, ne_eqb}
-use Rattle.std.specs.List.{Contains}
 use Rattle.rollout_rules.specs.Agent.{pair_of}
 use Rattle.rollout_rules.specs.History.{settled, started}
 use Rattle.rollout_rules.specs.Items.{item_at, item_count}
 use Rattle.rollout_rules.specs.Legal.{is_sound}
 use Rattle.rollout_rules.specs.Network.{IsNetwork}
 use Rattle.rollout_rules.specs.Operations.{operations}
-use Rattle.rollout_rules.specs.Sums.{list_below}
 use Rattle.rollout_rules.specs.Wan.{Rollout}
 use Rattle.rollout_rules.specs.declared.held.Held.{Held}
+use Rattle.rollout_rules.proofs.Rows.{list_below-same}
 use Rattle.rollout_laws.proofs.Histories.{sound-exist}
 use Rattle.rollback_service.proofs.Placings.{settled-start}
 use Rattle.wan_edge.specs.Ports.{PortTrace}
@@ -29,10 +28,6 @@ use Rattle.fence_takeover.specs.declared.end.FenceEnd.TheVariants as fence
 use Rattle.takeover_top.specs.ReadyToTake.{IsOfStart}
 use Rattle.takeover_top.proofs.PromptHomes.{asked-of, at-some, home-low, passing-has}
 use Rattle.takeover_top.proofs.PromptVisits.{AreHere, HasFailed, HaveTold, IsExcused, below-told, fails-only}
-
-below-same : (n : ℕ) (f g : ℕ → ℕ) → ((k : ℕ) → k < n → f k ≡ g k) → list_below n f ≡ list_below n g
-below-same zero f g same = refl
-below-same (suc n) f g same = ap₂ (λ (xs : List ℕ) (x : ℕ). xs ++ x ∷ []) (below-same n f g (λ k low. same k (omega (arith, low)))) (same n (omega arith))
 
 number-of : (migration number : ℕ) (held : Held) → IsOfStart migration number held → number_in migration (Some held) ≡ number
 number-of migration number held is = elim is.pair [
@@ -92,7 +87,7 @@ module _ {P : Type 0} (tell : P → PortTrace) (r : Rollout) (net : IsNetwork r.
 
     pub start-told : taken_start r.problem migration notes ≡ start
     start-told =
-        below-same (item_count r.problem) (λ n. number_in migration (noted_at notes n)) (settled (started start)) (λ n low. by-note n low (noted_at notes n) refl)
+        list_below-same (item_count r.problem) (λ n. number_in migration (noted_at notes n)) (settled (started start)) (λ n low. by-note n low (noted_at notes n) refl)
         ∙ settled-start (item_count r.problem) start long
 
     -- ---- what was told may be taken over

@@ -1,21 +1,23 @@
 -- Which switches are asked about which items, and that these are the switches at which a rollout has work.
-use Rattle.std.proofs.Common.{◌≡◌, ◌⊎◌, ℕ, zero, suc, ◌+◌, ◌*◌, ◌<◌, ◌≤◌, ◌^◌, ◌==◌, ◌&&◌, ◌||◌, nat_lt, not, Bool, true, false, List, [], ◌∷◌, ◌++◌, length, get_or, slice_get, slice_index, Option, Some, None, if◌then◌else◌, inl, inr, refl, sym, ap, ap₂, ◌∙◌, subst, arith, ltb-true, lt-ltb, eqb-true}
-use Rattle.std.proofs.lemmas.Bool.{and_parts, cases_Bool, cases_lt, eq-eqb, false≢true, ne_eqb}
+use Rattle.std.proofs.Common.{◌≡◌, ℕ, zero, suc, ◌+◌, ◌*◌, ◌<◌, ◌≤◌, ◌^◌, ◌==◌, ◌&&◌, ◌||◌, nat_lt, not, Bool, true, false, List, [], ◌∷◌, length, Option, Some, None, if◌then◌else◌, inl, inr, refl, sym, ap, ◌∙◌, subst, arith, ltb-true, lt-ltb}
+use Rattle.std.proofs.lemmas.Bool.{and_parts, cases_lt, eq-eqb, false≢true, ne_eqb}
 use Rattle.std.proofs.lemmas.List.Elements.{All-append, All-cons, All-contains, All-nil, Contains-append_left, Contains-append_right}
 use Rattle.std.specs.List.{All, AllByRecursion, Contains}
+use Rattle.lists.proofs.Conditions.{or_second}
 use Rattle.rollout_rules.specs.Items.{home_of, is_item, item_at, item_count}
 use Rattle.rollout_rules.specs.Network.{IsNetwork}
 use Rattle.rollout_rules.specs.Operations.{changes_behind, operations}
 use Rattle.rollout_rules.specs.Sums.{list_below, same_numbers, sum_below}
-use Rattle.rollout_rules.specs.Wan.{Plan, Problem, flow_at, hops, last_stage, rate_at, switch_of, tunnel_at, tunnel_of}
+use Rattle.rollout_rules.specs.Wan.{Plan, Problem, flow_at, hops, last_stage, rate_at, switch_of, tunnel_of}
 use Rattle.rollout_rules.specs.declared.item.Item.{Item}
 use Rattle.rollout_rules.specs.declared.item.Item.TheVariants as item
 use Rattle.rollout_rules.proofs.Below.{sum_below-zero}
 use Rattle.rollout_rules.proofs.Numbers.{is_item-item_at}
 use Rattle.rollout_rules.proofs.Tunnels.{tunnel_of-below}
-use Rattle.rollout_laws.proofs.Contents.{list_below-at, list_below-length}
+use Rattle.rollout_rules.proofs.Rows.{list_below-length}
+use Rattle.rollout_laws.proofs.Contents.{list_below-at}
 use Rattle.switch_ports.specs.Homes.{has_work, is_working_home, passing_below, some_below, working_homes, works_at}
-use Rattle.switch_ports.specs.Outboxes.{home_at, home_in, is_switch}
+use Rattle.switch_ports.specs.Outboxes.{home_at, is_switch}
 use Rattle.switch_ports.proofs.Numbers.{passing_inside}
 use Rattle.shared_book.specs.Homes.{homes_of}
 use Rattle.controller_run.proofs.AtHome.{read-home}
@@ -46,10 +48,6 @@ or-left : (a b : Bool) → a ≡ true → (a || b) ≡ true
 or-left true b is = refl
 or-left false b is = absurd (false≢true is)
 
-or-right : (a b : Bool) → b ≡ true → (a || b) ≡ true
-or-right true b is = refl
-or-right false b is = is
-
 and-true : (a b : Bool) → a ≡ true → b ≡ true → (a && b) ≡ true
 and-true true b is also = also
 and-true false b is also = absurd (false≢true is)
@@ -58,7 +56,7 @@ some-has : (n : ℕ) (test : ℕ → Bool) (m : ℕ) → m < n → test m ≡ tr
 some-has zero test m low is = absurd (omega (arith, low))
 some-has (suc n) test m low is = elim (cases_lt m n) [
   | inl below ↦ or-left (some_below n test) (test n) (some-has n test m below is)
-  | inr past ↦ let same : m ≡ n = omega (arith, low, past) in or-right (some_below n test) (test n) (ap test (sym same) ∙ is)
+  | inr past ↦ let same : m ≡ n = omega (arith, low, past) in or_second (some_below n test) (test n) (ap test (sym same) ∙ is)
 ]
 
 pub all-at : (P : ℕ → Type 0) (ns : List ℕ) (n : ℕ) → AllByRecursion P ns → Contains ns n → P n

@@ -1,45 +1,37 @@
 -- What switches tell over prompt ports that have answered all: each question is answered by the pair that is held.
-use Rattle.std.proofs.Common.{◌≡◌, ◌⊎◌, ℕ, suc, ◌+◌, ◌*◌, ◌<◌, ◌≤◌, ◌^◌, true, List, [], ◌∷◌, ◌++◌, map, length, take, drop, get_or, Option, Some, None, is_some, option_map, inl, inr, refl, sym, ap, ap₂, ◌∙◌, subst, arith, append_assoc, append-nil, length-append, take-append-drop}
-use Rattle.std.specs.Prelude.{◌≢◌, IfSome}
+use Rattle.std.proofs.Common.{◌≡◌, ◌⊎◌, ℕ, suc, ◌*◌, ◌<◌, ◌≤◌, ◌^◌, List, [], ◌∷◌, ◌++◌, map, length, take, drop, Option, Some, None, is_some, option_map, inl, inr, refl, sym, ap, ap₂, ◌∙◌, subst, arith, append_assoc, append-nil, length-append, take-append-drop}
+use Rattle.std.specs.Prelude.{IfSome}
 use Rattle.std.proofs.Math.Seq.{take-length}
 use Rattle.std.proofs.lemmas.Bool.{OnTrue_at, false≢true}
 use Rattle.std.proofs.lemmas.Grind.{flat_map-append}
-use Rattle.std.proofs.lemmas.List.Elements.{All-append, All-cons, All-head, All-nil, All-tail}
+use Rattle.std.proofs.lemmas.List.Elements.{All-append, All-head, All-tail}
 use Rattle.std.specs.List.{All, flat_map}
-use Rattle.wan_edge.specs.Frames.{AnswerFrame, CommandFrame, IsAnswer, IsCommand, Splits, answer_bytes, answer_kind, command_bytes, command_head}
-use Rattle.wan_edge.specs.Ports.{AnswersInOrder, AppendsFront, BeginsNoCommand, GoesOn, IsPromptState, PortTrace}
+use Rattle.wan_edge.specs.Frames.{AnswerFrame, CommandFrame, IsAnswer, IsCommand, Splits, answer_bytes, command_bytes}
+use Rattle.wan_edge.specs.Ports.{AnswersInOrder, AppendsFront, GoesOn, IsPromptState, PortTrace}
 use Rattle.wan_edge.specs.Streams.{Appends}
 use Rattle.wan_edge.specs.Switches.{Holdings, after_commands, answer_of, answers_to}
+use Rattle.wan_edge.proofs.Commands.{nothing_begins_no_command}
+use Rattle.wan_edge.proofs.Sizes.{command-some}
 use Rattle.wire_frames.proofs.OneSpelling.{one_command, same_parts}
+use Rattle.port_session.proofs.Hearing.{length-answers}
 use Rattle.switch_ports.specs.Views.{SessionTrace}
 use Rattle.switch_laws.proofs.Answered.{some_at}
 use Rattle.held_service.specs.Questions.{question_bytes, questions}
 use Rattle.held_service.proofs.Idle.{after-question, after-questions, answers-held, questions-fit}
 use Rattle.completion_laws.specs.Answering.{HasAnswered}
-use Rattle.completion_laws.proofs.PortTurns.{no-command}
-use Rattle.completion_laws.proofs.Prompt.{after-append, all-carried, answers-append, as-many, front-read, long-answers}
+use Rattle.completion_laws.proofs.Prompt.{after-append, all-carried, answers-append, as-many, front-read}
 
 -- ---- rows of frames
-
-some-bytes : (c : CommandFrame) → 0 < length (command_bytes c)
-unfolding command_bytes command_head
-some-bytes c = omega arith
 
 -- whole commands at the front of a row of commands
 commands-front : (xs cs : List CommandFrame) (behind : List ℕ) → All IsCommand xs → All IsCommand cs → flat_map command_bytes xs ++ behind ≡ flat_map command_bytes cs → (later : List CommandFrame) × (cs ≡ xs ++ later)
 commands-front [] cs behind xs_fit cs_fit e = (cs, refl)
 commands-front (x ∷ xs) [] behind xs_fit cs_fit e =
-    absurd (omega (arith, ap length e, length-append (command_bytes x ++ flat_map command_bytes xs) behind, length-append (command_bytes x) (flat_map command_bytes xs), some-bytes x))
+    absurd (omega (arith, ap length e, length-append (command_bytes x ++ flat_map command_bytes xs) behind, length-append (command_bytes x) (flat_map command_bytes xs), command-some x))
 commands-front (x ∷ xs) (c ∷ cs) behind xs_fit cs_fit e =
     let parts = one_command x c (flat_map command_bytes xs ++ behind) (flat_map command_bytes cs) (All-head IsCommand x xs xs_fit) (All-head IsCommand c cs cs_fit) (sym (append_assoc (command_bytes x) (flat_map command_bytes xs) behind) ∙ e) in
     let rest = commands-front xs cs behind (All-tail IsCommand x xs xs_fit) (All-tail IsCommand c cs cs_fit) parts.1 in
     (rest.0, ap₂ (λ (y : CommandFrame) (ys : List CommandFrame). y ∷ ys) (sym parts.0) rest.1)
-
--- a row of answers begins with no other byte
-pub other-first : (answers : List AnswerFrame) (byte : ℕ) (behind : List ℕ) → byte ≢ answer_kind → byte ∷ behind ≡ flat_map answer_bytes answers → ⊥
-unfolding answer_bytes
-other-first [] byte behind other e = absurd (omega (arith, ap length e))
-other-first (a ∷ answers) byte behind other e = other (ap (λ (bs : List ℕ). get_or bs 0 0) e)
 
 pub no-length : {X : Type 0} (xs : List X) → length xs ≡ 0 → xs ≡ []
 no-length [] none = refl
@@ -130,7 +122,7 @@ module _ (migration : ℕ) (fits : migration < 2 ^ 32) (first : SessionTrace) (n
     commands = cs;
     rest = [];
     whole = record { fit = was.fit; parts = sym (append-nil (flat_map command_bytes cs)) };
-    no_more = no-command;
+    no_more = nothing_begins_no_command;
     carried_out = length cs;
     holds = ap (after_commands first.port.start) (sym (take-length cs));
     to_come = [];
@@ -203,7 +195,7 @@ module _ (migration : ℕ) (fits : migration < 2 ^ 32) (first : SessionTrace) (n
 
       long : 13 * length (cs ++ questions migration asked) ≤ length (earlier ++ bytes)
       long =
-          omega (arith, ap length out-heard, long-answers (answers_to first.port.start (cs ++ questions migration asked)), as-many first.port.start (cs ++ questions migration asked))
+          omega (arith, ap length out-heard, length-answers (answers_to first.port.start (cs ++ questions migration asked)), as-many first.port.start (cs ++ questions migration asked))
 
       holds : now-told.0 ≡ after_commands first.port.start (cs ++ questions migration asked)
       holds = all-carried first.port.start now-told.0 (cs ++ questions migration asked) (earlier ++ bytes) all-fit (in-order (flat_map command_bytes (cs ++ questions migration asked)) out-offered) long

@@ -1,5 +1,5 @@
 -- Items at home at a switch that is ready to tell, and that its first round is whole.
-use Rattle.std.proofs.Common.{◌≡◌, ◌⊎◌, ℕ, ◌+◌, ◌*◌, ◌<◌, ◌≤◌, ◌^◌, true, List, [], ◌∷◌, ◌++◌, map, length, slice_index, Option, Some, option_map, inl, inr, refl, sym, ap, ◌∙◌, subst, arith, append-nil, length-append}
+use Rattle.std.proofs.Common.{◌≡◌, ◌⊎◌, ℕ, ◌<◌, ◌≤◌, ◌^◌, true, List, [], ◌∷◌, ◌++◌, map, length, slice_index, Option, Some, option_map, inl, inr, refl, sym, ap, ◌∙◌, subst, arith, append-nil, length-append}
 use Rattle.std.specs.Prelude.{IfSome}
 use Rattle.std.proofs.lemmas.Bool.{OnTrue_at}
 use Rattle.std.proofs.lemmas.Grind.{flat_map-append}
@@ -8,10 +8,12 @@ use Rattle.std.proofs.lemmas.List.Elements.{All-append, All-cons, All-filter, Al
 use Rattle.std.specs.List.{All, flat_map}
 use Rattle.rollout_rules.specs.Items.{item_count}
 use Rattle.rollout_rules.specs.Wan.{Rollout}
-use Rattle.wan_edge.specs.Frames.{AnswerFrame, CommandFrame, IsAnswer, IsCommand, IsCutAnswer, answer_bytes, command_bytes}
+use Rattle.wan_edge.specs.Frames.{AnswerFrame, CommandFrame, IsAnswer, IsCommand, answer_bytes, command_bytes}
 use Rattle.wan_edge.specs.Ports.{AllAnswered, PortTrace}
 use Rattle.wan_edge.specs.Switches.{Holdings, after_commands, answers_to, pair_given}
+use Rattle.wan_edge.proofs.Commands.{nothing_begins_no_command}
 use Rattle.wire_frames.proofs.OneSpelling.{same_parts}
+use Rattle.port_session.proofs.Hearing.{cut_short, length-answers}
 use Rattle.switch_ports.specs.Outboxes.{home_at}
 use Rattle.switch_ports.specs.Views.{SessionTrace}
 use Rattle.shared_book.specs.Homes.{homes_of}
@@ -19,10 +21,8 @@ use Rattle.switch_laws.proofs.Answered.{some_at}
 use Rattle.held_service.specs.Noting.{Notes, is_untold, with_answers}
 use Rattle.held_service.specs.Questions.{is_asked, question_bytes, questions}
 use Rattle.held_service.specs.Talks.{AskUntold, GaveAll, Round, Talks, asked_of}
-use Rattle.held_service.proofs.Bytes.{cut-short}
 use Rattle.held_service.proofs.Idle.{questions-fit}
-use Rattle.completion_laws.proofs.PortTurns.{no-command}
-use Rattle.completion_laws.proofs.Prompt.{answers-append, long-answers}
+use Rattle.completion_laws.proofs.Prompt.{answers-append}
 use Rattle.takeover_top.specs.ReadyToTake.{IsOfStart, IsReadyToTell}
 use Rattle.takeover_top.proofs.PromptNotes.{IsFull}
 use Rattle.takeover_top.proofs.PromptReplies.{reply, replies-are}
@@ -86,7 +86,7 @@ module _ (r : Rollout) (migration : ℕ) (fits : migration < 2 ^ 32) (start : Li
         let all : AllAnswered first.port.start (flat_map command_bytes commands) (earlier ++ gave.reads.bytes)
         = some_at (AllAnswered first.port.start (flat_map command_bytes commands)) gave.moment.heard (earlier ++ gave.reads.bytes) heard-is
         (some_at (λ o. IfSome gave.moment.heard (AllAnswered first.port.start o)) gave.moment.offered (flat_map command_bytes commands) offered-is gave.none_left) in
-        all commands [] (record { fit = all-fit; parts = sym (append-nil (flat_map command_bytes commands)) }) no-command
+        all commands [] (record { fit = all-fit; parts = sym (append-nil (flat_map command_bytes commands)) }) nothing_begins_no_command
 
     bytes-are : gave.reads.bytes ≡ flat_map answer_bytes (map (reply holdings) round.asked)
     bytes-are =
@@ -101,10 +101,10 @@ module _ (r : Rollout) (migration : ℕ) (fits : migration < 2 ^ 32) (start : Li
           arith,
           ap length (sym bytes-are ∙ gave.reads.whole.parts),
           length-append (flat_map answer_bytes round.answers) gave.kept,
-          long-answers round.answers,
-          long-answers (map (reply holdings) round.asked),
+          length-answers round.answers,
+          length-answers (map (reply holdings) round.asked),
           length-map round.asked (reply holdings),
-          cut-short gave.kept gave.cut,
+          cut_short gave.kept gave.cut,
         )
 
   whole-by : (round : Round) → All IsAtHome round.asked → (length round.asked ≤ length round.answers) ⊎ GaveAll migration first.port round → length round.asked ≤ length round.answers

@@ -1,11 +1,10 @@
 -- Talks with switches over prompt ports that have answered all: each tells what it holds, and its port has answered all again.
-use Rattle.std.proofs.Common.{◌≡◌, ℕ, ◌+◌, ◌<◌, ◌≤◌, ◌^◌, true, List, [], ◌∷◌, ◌++◌, map, length, slice_index, Option, Some, None, inl, inr, refl, sym, ap, ◌∙◌, subst, arith, length-append}
+use Rattle.std.proofs.Common.{◌≡◌, ℕ, ◌+◌, ◌<◌, ◌≤◌, ◌^◌, true, List, [], ◌∷◌, ◌++◌, map, length, slice_index, Option, Some, None, sym, ap, ◌∙◌, subst, arith, length-append}
 use Rattle.std.proofs.Math.Seq.{take-append-add}
 use Rattle.std.proofs.lemmas.Bool.{both_ways}
 use Rattle.std.proofs.lemmas.List.Elements.{All-append, All-filter, All-head, All-tail}
 use Rattle.std.specs.List.{All, Contains, flat_map}
 use Rattle.rollout_rules.specs.Wan.{Rollout}
-use Rattle.rollout_rules.specs.declared.held.Held.{Held}
 use Rattle.wan_edge.specs.Frames.{AnswerFrame, IsAnswer, answer_bytes}
 use Rattle.wan_edge.specs.Ports.{AppendsFront, GoesOn, PortTrace}
 use Rattle.wan_edge.specs.Streams.{Appends, Rose}
@@ -14,7 +13,7 @@ use Rattle.wan_edge.proofs.Chains.{Appends-chain}
 use Rattle.switch_ports.specs.Views.{SessionTrace}
 use Rattle.switch_ports.proofs.Stories.{goes_on_on}
 use Rattle.switch_ports.proofs.Told.{all_sent}
-use Rattle.completion_laws.proofs.PortTurns.{All-front}
+use Rattle.completion_laws.proofs.PortTurns.{All-front, other-first}
 use Rattle.held_service.specs.Hearing.{ReadsNone, ReadsOther}
 use Rattle.held_service.specs.Noting.{Notes, first_of, is_untold, untold, with_answers}
 use Rattle.held_service.specs.Questions.{is_asked, question_bytes, questions}
@@ -22,18 +21,15 @@ use Rattle.held_service.specs.Talks.{IsCutOff, IsNotTold, Round, StopsRound, Tal
 use Rattle.held_service.specs.declared.not_told.NotTold.{NotTold}
 use Rattle.held_service.specs.declared.not_told.NotTold.TheVariants as cause
 use Rattle.held_service.proofs.Bytes.{none-behind, other-behind, question-append}
+use Rattle.held_service.proofs.Heard.{rose-on}
 use Rattle.takeover_top.specs.ReadyToTake.{IsOfStart, IsReadyToTell}
 use Rattle.takeover_top.proofs.PromptNotes.{AreRight, right-all, whole-told}
 use Rattle.takeover_top.proofs.PromptRounds.{IsAtHome, all-asked, full-rounds, holdings, replies-fit, replies-own, replies-right}
-use Rattle.takeover_top.proofs.PromptReplies.{answered-all, answers-are, answers-came, front-came, holds-still, other-first, reply}
+use Rattle.takeover_top.proofs.PromptReplies.{answered-all, answers-are, answers-came, front-came, holds-still, reply}
 
 All-behind : {X : Type 0} (P : X → Type 0) (xs ys : List X) → All P (xs ++ ys) → All P ys
 All-behind P [] ys all = all
 All-behind P (x ∷ xs) ys all = All-behind P xs ys (All-tail P x (xs ++ ys) all)
-
-pub rose-on : (x y z : ℕ) → x ≤ y → Rose y z → Rose x z
-rose-on x y z le (inl more) = inl (omega (arith, le, more))
-rose-on x y z le (inr last) = inr last
 
 some-first : (items : List ℕ) (item : ℕ) → items ≡ [] → first_of items ≡ Some item → ⊥
 some-first items item none first = let no : ◌≡◌ {A = Option ℕ} None (Some item) = sym (ap first_of none) ∙ first in cc

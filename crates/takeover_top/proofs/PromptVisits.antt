@@ -1,14 +1,13 @@
 -- The switches of a rollout, asked one after the other over ports that are ready: all tell what a start says.
-use Rattle.std.proofs.Common.{◌≡◌, ◌⊎◌, ℕ, zero, suc, ◌<◌, ◌≤◌, ◌^◌, ◌==◌, Bool, true, false, List, [], ◌∷◌, map, length, slice_index, Option, Some, None, is_some, option_map, if◌then◌else◌, inl, inr, refl, sym, ap, ◌∙◌, subst, arith}
+use Rattle.std.proofs.Common.{◌≡◌, ℕ, zero, suc, ◌<◌, ◌≤◌, ◌^◌, Bool, true, List, [], ◌∷◌, map, length, slice_index, Option, Some, None, is_some, option_map, if◌then◌else◌, inl, inr, refl, sym, ap, ◌∙◌, subst, arith}
 use Rattle.std.specs.Prelude.{IfSome}
 use Rattle.std.proofs.lemmas.Bool.{cases_eq, eq-eqb, ne_eqb}
 use Rattle.std.proofs.lemmas.List.{length-replicate}
-use Rattle.std.proofs.lemmas.List.Elements.{All-contains, All-head, All-tail, Contains-get_or}
+use Rattle.std.proofs.lemmas.List.Elements.{All-head, All-tail, Contains-get_or}
 use Rattle.std.proofs.lemmas.Option.{same_Some}
 use Rattle.std.specs.List.{All, Contains}
-use Rattle.rollout_rules.specs.Items.{item_count}
 use Rattle.rollout_rules.specs.Network.{IsNetwork}
-use Rattle.rollout_rules.specs.Wan.{Problem, Rollout}
+use Rattle.rollout_rules.specs.Wan.{Rollout}
 use Rattle.rollout_rules.specs.declared.held.Held.{Held}
 use Rattle.wan_edge.specs.Fleets.{with_one, without}
 use Rattle.wan_edge.specs.Ports.{PortTrace}
@@ -17,23 +16,21 @@ use Rattle.port_session.specs.Sessions.{first_session}
 use Rattle.switch_ports.specs.Berths.{FleetPorts}
 use Rattle.switch_ports.specs.Homes.{working_homes}
 use Rattle.switch_ports.specs.Opening.{IsGiven}
-use Rattle.switch_ports.specs.Outboxes.{home_at}
 use Rattle.switch_ports.specs.Views.{view}
-use Rattle.switch_ports.proofs.Numbers.{passing_inside}
-use Rattle.shared_book.specs.Homes.{homes_of}
 use Rattle.held_service.specs.Noting.{Notes, no_notes, noted_at, untold, with_answers}
 use Rattle.held_service.specs.Questions.{asked_homes, asked_switches, has_items, items_at}
 use Rattle.held_service.specs.Talks.{IsNotTold, LeavesHeld, answers_of}
-use Rattle.held_service.specs.Visits.{AreVisits, Comes, Fails, FailsOne, IsVisit, StopsAt, TellsBelow, Visit, after_visit, berth}
+use Rattle.held_service.specs.Visits.{AreVisits, Comes, Fails, FailsOne, TellsBelow, Visit, after_visit, berth}
 use Rattle.held_service.specs.declared.not_told.NotTold.{NotTold}
 use Rattle.held_service.specs.declared.not_told.NotTold.TheVariants as cause
 use Rattle.held_service.proofs.Noted.{length-with}
 use Rattle.held_service.proofs.Visited.{tells-long}
+use Rattle.held_service.proofs.Heard.{rose-on}
 use Rattle.takeover_top.specs.ReadyToTake.{IsOfStart, IsReadyToTell}
-use Rattle.takeover_top.proofs.PromptHomes.{IsAskedAt, few-items, homes-at, homes-long, items-asked, passing-true, working-some}
+use Rattle.takeover_top.proofs.PromptHomes.{few-items, homes-at, homes-long, items-asked, passing-true, working-some}
 use Rattle.takeover_top.proofs.PromptNotes.{AreRight, each-told, told-still}
 use Rattle.takeover_top.proofs.PromptRounds.{IsAtHome}
-use Rattle.takeover_top.proofs.PromptTalks.{IsTalkExcused, fails-excused, ready-again, right-again, rose-on}
+use Rattle.takeover_top.proofs.PromptTalks.{IsTalkExcused, fails-excused, ready-again, right-again}
 
 none-noted : (count n : ℕ) → noted_at (no_notes count) n ≡ None
 none-noted zero n = refl

@@ -1,5 +1,5 @@
 -- Small fleets that a takeover may find, of which the worked examples speak.
-use Rattle.std.proofs.Common.{◌≡◌, ℕ, zero, suc, ◌<◌, List, [], ◌∷◌, ◌==◌, if◌then◌else◌, length, slice_index, Option, Some, None, refl, sym, ap, ◌∙◌, subst, inl, inr, arith, length-append}
+use Rattle.std.proofs.Common.{◌≡◌, ℕ, ◌<◌, List, [], ◌∷◌, ◌==◌, if◌then◌else◌, length, slice_index, Option, Some, None, refl, sym, ap, ◌∙◌, subst, inl, inr, arith, length-append}
 use Rattle.std.proofs.lemmas.List.Elements.{All-nil}
 use Rattle.std.specs.List.{flat_map}
 use Rattle.rollout_rules.specs.Agent.{pair_of}
@@ -8,21 +8,19 @@ use Rattle.rollout_rules.specs.Items.{item_count}
 use Rattle.rollout_rules.specs.Legal.{unsettled}
 use Rattle.rollout_rules.specs.declared.held.Held.{Held}
 use Rattle.plan_check.proofs.Rows.{list_below-at}
-use Rattle.wan_edge.specs.Frames.{AnswerFrame, CommandFrame, IsCommand, answer_bytes, command_bytes, command_head}
+use Rattle.wan_edge.specs.Frames.{CommandFrame, IsCommand, answer_bytes, command_bytes}
 use Rattle.wan_edge.specs.Ports.{PortTrace}
 use Rattle.wan_edge.specs.Switches.{Holdings, after_commands, answers_to}
+use Rattle.wan_edge.proofs.Sizes.{command-some}
 use Rattle.port_session.specs.Offers.{frames_of}
 use Rattle.port_session.specs.Sessions.{first_session}
+use Rattle.port_session.proofs.Hearing.{length-answers}
 use Rattle.switch_ports.specs.Views.{view}
 use Rattle.switch_laws.specs.Worked.{first_command, two_flows}
-use Rattle.completion_laws.proofs.Prompt.{as-many, long-answers}
+use Rattle.completion_laws.proofs.Prompt.{as-many}
 use Rattle.swanroll_top.specs.Worked.{in_rounds, itself, never_used, unanswered, waiting_at_first}
 use Rattle.takeover_top.specs.ReadyToTake.{IsOfStart, IsReadyToTake, IsReadyToTell}
 use Rattle.takeover_top.specs.WorkedTakeovers.{ahead, left_by_fifth, none_settled}
-
-some-bytes : (c : CommandFrame) → 0 < length (command_bytes c)
-unfolding command_bytes command_head
-some-bytes c = omega arith
 
 pub never-ready : IsReadyToTake itself (in_rounds 4) (waiting_at_first never_used) two_flows none_settled
 never-ready = record {
@@ -72,10 +70,10 @@ some-heard : (start : Holdings) (commands : List CommandFrame) (bytes : List ℕ
 some-heard start [] bytes some offered heard = let same : bytes ≡ [] = cc offered in omega (arith, some, ap (λ (xs : List ℕ). length xs) same)
 some-heard start (c ∷ commands) bytes some offered heard =
     let same : [] ≡ flat_map answer_bytes (answers_to start (c ∷ commands)) = cc heard in
-    omega (arith, ap (λ (xs : List ℕ). length xs) same, long-answers (answers_to start (c ∷ commands)), as-many start (c ∷ commands))
+    omega (arith, ap (λ (xs : List ℕ). length xs) same, length-answers (answers_to start (c ∷ commands)), as-many start (c ∷ commands))
 
 one-frame : 0 < length (frames_of 4 (first_command ∷ []))
-one-frame = omega (arith, some-bytes (4, first_command), length-append (command_bytes (4, first_command)) [])
+one-frame = omega (arith, command-some (4, first_command), length-append (command_bytes (4, first_command)) [])
 
 pub unanswered-not : IsReadyToTake itself (in_rounds 4) (waiting_at_first unanswered) two_flows none_settled → ⊥
 unanswered-not ready =
@@ -86,7 +84,7 @@ none-offered : (commands : List CommandFrame) → Some [] ≡ Some (flat_map com
 none-offered [] offered = refl
 none-offered (c ∷ commands) offered =
     let same : [] ≡ flat_map command_bytes (c ∷ commands) = cc offered in
-    absurd (omega (arith, ap (λ (xs : List ℕ). length xs) same, length-append (command_bytes c) (flat_map command_bytes commands), some-bytes c))
+    absurd (omega (arith, ap (λ (xs : List ℕ). length xs) same, length-append (command_bytes c) (flat_map command_bytes commands), command-some c))
 
 not-of-start : (number : ℕ) → IsOfStart 4 number (pair_of 5 1) → ⊥
 not-of-start number is = elim is.pair [

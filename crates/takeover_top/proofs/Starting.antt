@@ -1,23 +1,18 @@
 -- What is promised of a takeover, and of a run by its term, from the arguments of the program on.
-use Rattle.std.proofs.Common.{◌≡◌, ℕ, List, drop, String, Result, Ok, Err, Some, IfOk, refl, sym, ap, subst}
+use Rattle.std.proofs.Common.{◌≡◌, ℕ, List, drop, String, Result, Ok, Err, Some, refl, sym, subst}
 use Rattle.std.specs.declared.alloc.Global.{Global}
 use Rattle.rollout_rules.specs.declared.op.OpView.{OpView}
 use Rattle.text_commands.specs.CommandEnds.{ending_of_unread}
 use Rattle.text_commands.specs.Runs.{IsTold}
 use Rattle.text_commands.specs.declared.arguments.Unread.{Unread}
 use Rattle.text_commands.specs.declared.command_end.CommandEnd.{CommandEnd}
-use Rattle.swanroll_top.specs.Promise.{Promise, StartPromise}
+use Rattle.swanroll_top.specs.Promise.{StartPromise}
 use Rattle.swanroll_top.specs.Views.{Outside, Views, outside}
-use Rattle.swanroll_top.specs.Words.{asked_by}
 use Rattle.swanroll_top.proofs.Promises.{unread-started}
 use Rattle.takeover_top.specs.TakeoverPromise.{ByWords, StartsTakeover}
 use Rattle.takeover_top.specs.TakingWords.{taking_by}
-use Rattle.takeover_top.specs.TermPromise.{AtTermPromise, IsPlainRest, PlainPromise, RunsAtTerm, RunsPlain}
+use Rattle.takeover_top.specs.TermPromise.{AtTermPromise, IsPlainRest, PlainPromise}
 use Rattle.takeover_top.specs.TermWords.{WithoutTerm, run_term_by}
-
--- what holds of what was read
-pub of_ok : {A E : Type 0} (read : Result A E) (value : A) (P : A → Type 0) → read ≡ Ok value → IfOk read P → P value
-of_ok read value P is holds = subst (λ r. IfOk r P) is holds
 
 module _ {A S K D F P G : Type 0} (views : Views S K D F P G) (of_term : F → ℕ) (policies : List (List ℕ × (OpView → ℕ))) (arguments : Result A Unread) (list : A → List (String Global)) where
   pub read-taken : (all : A) (words : List (String Global)) (before after : Outside S K D F) (status : ℕ) → arguments ≡ Ok all → words ≡ drop 1 (list all) → ByWords views of_term (taking_by policies words) before status after

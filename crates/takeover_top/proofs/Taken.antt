@@ -1,5 +1,5 @@
 -- What stands after a takeover that was begun, by what came of the rollout that was run from its journal.
-use Rattle.std.proofs.Common.{◌≡◌, ◌⊎◌, ℕ, ◌<◌, List, [], length, true, false, Bool, Option, Some, None, IfSome, IsSome, Result, Ok, Err, refl, sym, ap, ◌∙◌, subst, inl, inr, arith}
+use Rattle.std.proofs.Common.{◌≡◌, ◌⊎◌, ℕ, ◌<◌, List, [], length, true, false, Bool, Option, Some, None, IfSome, IsSome, Result, Ok, Err, IfOk, refl, sym, ap, ◌∙◌, subst, inl, inr, arith}
 use Rattle.std.specs.List.{AllByRecursion}
 use Rattle.rollout_rules.specs.History.{History, started}
 use Rattle.rollout_rules.specs.Items.{item_count}
@@ -13,13 +13,14 @@ use Rattle.disk_mirror.specs.Openings.{IsTold, Opens}
 use Rattle.dependency_graph.specs.Graph.{op_total}
 use Rattle.intent_journal.specs.Phases.{IsFresh, kept_of}
 use Rattle.intent_journal.specs.Openings.{found_by}
+use Rattle.intent_journal.specs.declared.fault.JournalFault.{JournalFault}
 use Rattle.intent_journal.specs.Verdicts.{verdict}
 use Rattle.rollout_report.specs.Journals.{digest_for}
 use Rattle.switch_ports.specs.Berths.{FleetPorts}
+use Rattle.controller_run.specs.declared.end.RunEnd.{RunEnd}
 use Rattle.controller_run.specs.declared.running.Limits.{Limits}
-use Rattle.controller_run.specs.RolloutEnds.{HasRolled, IfRolled}
-use Rattle.controller_run.specs.declared.rollout_end.RolloutEnd.{RolloutEnd}
-use Rattle.controller_run.specs.declared.rollout_end.RolloutEnd.TheVariants as outcome
+use Rattle.controller_run.specs.RolloutEnds.{HasRolled}
+use Rattle.controller_run.specs.declared.outcome.RunOutcome.{RunOutcome}
 use Rattle.fence_takeover.specs.Fences.{IsFencedOff}
 use Rattle.rollback_service.specs.Placings.{HasPlaced, MayPlace}
 use Rattle.fence_takeover.specs.Beginnings.{MayBegin, taken_kept}
@@ -29,7 +30,7 @@ use Rattle.text_commands.specs.CommandEnds.{status_of}
 use Rattle.text_commands.specs.Runs.{Follows}
 use Rattle.text_commands.specs.declared.command_end.CommandEnd.{CommandEnd}
 use Rattle.text_commands.specs.declared.command_end.CommandEnd.TheVariants.{Done}
-use Rattle.swanroll_top.specs.Rollouts.{FleetSeen, RollsAs, RollsOut, RollsOutOf, ending_of_rollout}
+use Rattle.swanroll_top.specs.Rollouts.{FleetSeen, RollsAs, RollsOut, RollsOutOf, by_answer, ending_at}
 use Rattle.swanroll_top.specs.NextStarts.{NextStart}
 use Rattle.swanroll_top.specs.Targets.{BeginsNothing, EndsSafely, ReachesTarget, StaysSafe}
 use Rattle.swanroll_top.proofs.NextStarting.{rolls-next}
@@ -39,7 +40,7 @@ use Rattle.takeover_top.specs.Lines.{start_total, taken_line}
 use Rattle.takeover_top.specs.Takings.{RunsOn}
 use Rattle.takeover_top.specs.TakenTargets.{IsOfTaken, TakesSafely, TakesToTarget}
 use Rattle.takeover_top.specs.declared.ending.TakeoverEnding.{TakeoverEnding}
-use Rattle.takeover_top.proofs.Fitting.{begun-as, done-as, follows-as, operations-are, text_as}
+use Rattle.takeover_top.proofs.Fitting.{begun-as, done-as, ending_as, follows-as, text_as}
 use Rattle.takeover_top.proofs.Placed.{found-taken}
 
 -- a disk that isn't called is opened
@@ -79,7 +80,7 @@ module _ {D P : Type 0} (trace : D → DiskTrace) (tell : P → PortTrace)
   abbrev pub Own : List ℕ → Type 0
   Own bytes = bytes ≡ input
 
-  rolls-out : RollsOut trace tell r limits policy placed disk_now mid now (ending_of_rollout runs.answer) (Some []) (Some (text_as runs.answer))
+  rolls-out : RollsOut trace tell r limits policy placed disk_now mid now (ending_as runs.answer) (Some []) (Some (text_as runs.answer))
   rolls-out = record {
     network = runs.network;
     valid = runs.valid;
@@ -91,7 +92,7 @@ module _ {D P : Type 0} (trace : D → DiskTrace) (tell : P → PortTrace)
     follows = follows-as runs.answer;
   }
 
-  rolls-of : RollsOutOf trace tell Own limits policy placed disk_now mid now (ending_of_rollout runs.answer) (Some []) (Some (text_as runs.answer))
+  rolls-of : RollsOutOf trace tell Own limits policy placed disk_now mid now (ending_as runs.answer) (Some []) (Some (text_as runs.answer))
   rolls-of = record {
     input = input;
     given = refl;
@@ -106,18 +107,18 @@ module _ {D P : Type 0} (trace : D → DiskTrace) (tell : P → PortTrace)
     });
   }
 
-  rolls-as : RollsAs trace tell Own limits policy placed disk_now mid now (status_of (ending_of_rollout runs.answer)) (Some []) (Some (text_as runs.answer))
-  rolls-as = record { ending = ending_of_rollout runs.answer; told = ending_of_rollout runs.answer; told_as = inl refl; is_status = refl; rolls = inr rolls-of }
+  rolls-as : RollsAs trace tell Own limits policy placed disk_now mid now (status_of (ending_as runs.answer)) (Some []) (Some (text_as runs.answer))
+  rolls-as = record { ending = ending_as runs.answer; told = ending_as runs.answer; told_as = inl refl; is_status = refl; rolls = inr rolls-of }
 
   pub run-ends : EndsSafely trace tell limits Own placed mid.ports now.ports
-  run-ends = rolls-ends trace tell Own placed disk_now mid now limits policy (ending_of_rollout runs.answer) (Some []) (Some (text_as runs.answer)) (inr rolls-of)
+  run-ends = rolls-ends trace tell Own placed disk_now mid now limits policy (ending_as runs.answer) (Some []) (Some (text_as runs.answer)) (inr rolls-of)
 
   pub run-next : NextStart trace limits Own placed disk_now
-  run-next = rolls-next trace tell Own placed disk_now mid now limits policy (ending_of_rollout runs.answer) (Some []) (Some (text_as runs.answer)) (inr rolls-of)
+  run-next = rolls-next trace tell Own placed disk_now mid now limits policy (ending_as runs.answer) (Some []) (Some (text_as runs.answer)) (inr rolls-of)
 
   pub run-safe : IsOfTaken (status_of runs.ended) → StaysSafe trace tell limits Own placed mid.ports now.ports
   run-safe of =
-      rolls-safe trace tell Own placed disk_now mid now (Some []) (Some (text_as runs.answer)) limits policy (status_of (ending_of_rollout runs.answer)) rolls-as
+      rolls-safe trace tell Own placed disk_now mid now (Some []) (Some (text_as runs.answer)) limits policy (status_of (ending_as runs.answer)) rolls-as
       (begun-as (start_total (item_count r.problem) start) runs.ended sink.written sink_now.written runs.answer of runs.follows)
 
   -- and after one that is finished the target is reached, and the line has the numbers of operations
@@ -125,21 +126,21 @@ module _ {D P : Type 0} (trace : D → DiskTrace) (tell : P → PortTrace)
     pub reaches : ReachesTarget trace tell limits Own placed mid.ports now.ports (Some []) (Some (text_as runs.answer))
     pub line : Appends sink.written (taken_line (op_total r) (start_total (item_count r.problem) start)) sink_now.written
 
-  of-finished : (a : RolloutEnd) (operations count : ℕ) → a ≡ outcome.Finished operations count
-      → IfRolled a (HasRolled trace tell r (digest_for r limits.migration) policy limits.rounds placed mid.ports now.ports disk_now a) → operations ≡ op_total r
-  of-finished a operations count same rolled =
-      let has = subst (λ (x : RolloutEnd). IfRolled x (HasRolled trace tell r (digest_for r limits.migration) policy limits.rounds placed mid.ports now.ports disk_now x)) same rolled in
-      operations-are has.book.rollout (length has.book.history.entries) has.run.closed.history has.run.end operations count has.run.tells ∙ ap op_total has.opened.rollout
+  of-finished : (a : Result RunOutcome JournalFault) (o : RunOutcome) → a ≡ Ok o
+      → IfOk a (λ x. HasRolled trace tell r (digest_for r limits.migration) policy limits.rounds placed mid.ports now.ports disk_now x) → o.operations ≡ op_total r
+  of-finished a o same rolled =
+      let has = subst (λ (y : Result RunOutcome JournalFault). IfOk y (λ x. HasRolled trace tell r (digest_for r limits.migration) policy limits.rounds placed mid.ports now.ports disk_now x)) same rolled in
+      ap (λ (x : RunOutcome). x.operations) has.run.tells ∙ ap op_total has.opened.rollout
 
   pub run-done : runs.ended ≡ Done → IsDone
   run-done done =
       let total = start_total (item_count r.problem) start in
-      let finished = done-as total runs.answer sink.written sink_now.written (subst (λ (e : CommandEnd). Follows (taken_or_ending total runs.answer) e sink.written sink_now.written) done runs.follows) in
+      let finished = done-as total runs.answer sink.written sink_now.written (subst (λ (e : CommandEnd). Follows (by_answer (taken_or_ending total) runs.answer) e sink.written sink_now.written) done runs.follows) in
       record {
         reaches =
-            rolls-target trace tell Own placed disk_now mid now (Some []) (Some (text_as runs.answer)) limits policy (status_of (ending_of_rollout runs.answer)) rolls-as
-            (ap (λ (a : RolloutEnd). status_of (ending_of_rollout a)) finished.is);
-        line = subst (λ (n : ℕ). Appends sink.written (taken_line n total) sink_now.written) (of-finished runs.answer finished.operations finished.found finished.is runs.rolled) finished.line;
+            rolls-target trace tell Own placed disk_now mid now (Some []) (Some (text_as runs.answer)) limits policy (status_of (ending_as runs.answer)) rolls-as
+            (ap (λ (a : Result RunOutcome JournalFault). status_of (ending_as a)) finished.is ∙ ap (λ (end : RunEnd). status_of (ending_at end finished.outcome)) finished.end_is);
+        line = subst (λ (n : ℕ). Appends sink.written (taken_line n total) sink_now.written) (of-finished runs.answer finished.outcome finished.is runs.rolled) finished.line;
       }
 
 -- ---- and it began at what the switches told

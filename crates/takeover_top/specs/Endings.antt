@@ -6,8 +6,9 @@ use Rattle.dependency_graph.specs.declared.start_fault.StartFault.{StartFault}
 use Rattle.dependency_graph.specs.declared.start_fault.StartFault.TheVariants as fault
 use Rattle.fence_takeover.specs.declared.end.FenceEnd.{FenceEnd}
 use Rattle.fence_takeover.specs.declared.end.FenceEnd.TheVariants as fence
-use Rattle.controller_run.specs.declared.rollout_end.RolloutEnd.{RolloutEnd}
-use Rattle.controller_run.specs.declared.rollout_end.RolloutEnd.TheVariants as outcome
+use Rattle.controller_run.specs.declared.end.RunEnd.{RunEnd}
+use Rattle.controller_run.specs.declared.end.RunEnd.TheVariants as run
+use Rattle.controller_run.specs.declared.outcome.RunOutcome.{RunOutcome}
 use Rattle.fence_takeover.specs.declared.begun.NotBegun.{NotBegun}
 use Rattle.fence_takeover.specs.declared.begun.NotBegun.TheVariants as why
 use Rattle.text_commands.specs.CommandEnds.{ending_of_journal, status_of}
@@ -16,7 +17,7 @@ use Rattle.text_commands.specs.declared.command_end.CommandEnd.{CommandEnd}
 use Rattle.text_commands.specs.declared.command_end.CommandEnd.TheVariants.{NotFinished, OutOfMemory}
 use Rattle.text_commands.specs.declared.unfinished.Unfinished.TheVariants.{RoundsSpent, PortFault, Above, NotMine, NoAnswer}
 use Rattle.swanroll_top.specs.Live.{NotesText}
-use Rattle.swanroll_top.specs.Rollouts.{ending_of_rollout}
+use Rattle.swanroll_top.specs.Rollouts.{ending_at}
 use Rattle.takeover_top.specs.Lines.{later_line, start_line, taken_line}
 use Rattle.takeover_top.specs.declared.ending.TakeoverEnding.{TakeoverEnding}
 use Rattle.takeover_top.specs.declared.ending.TakeoverEnding.TheVariants.{Ended, Later, Unsound}
@@ -49,9 +50,12 @@ ending_of_not_begun (why.Journal cause) = Ended (ending_of_journal cause)
 -- ---- one that was
 
 -- the line of a takeover from a start with so many operations settled, or how the rollout from there ends without one
-abbrev pub taken_or_ending : ℕ → RolloutEnd → Result (List ℕ) CommandEnd
-taken_or_ending total (outcome.Finished operations found) = Ok (taken_line operations total)
-taken_or_ending total end = Err (ending_of_rollout end)
+abbrev pub taken_at : ℕ → RunEnd → RunOutcome → Result (List ℕ) CommandEnd
+taken_at total run.Finished outcome = Ok (taken_line outcome.operations total)
+taken_at total end outcome = Err (ending_at end outcome)
+
+abbrev pub taken_or_ending : ℕ → RunOutcome → Result (List ℕ) CommandEnd
+taken_or_ending total outcome = taken_at total outcome.end outcome
 
 -- ---- status and line
 

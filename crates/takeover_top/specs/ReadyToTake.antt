@@ -26,7 +26,8 @@ use Rattle.fence_takeover.specs.Beginnings.{MayBegin}
 use Rattle.text_commands.specs.Answers.{rollout_to}
 use Rattle.text_commands.specs.Runs.{TellsInput}
 use Rattle.swanroll_top.specs.Ready.{CountsNoFault}
-use Rattle.swanroll_top.specs.Views.{Outside, Views, seen}
+use Rattle.swanroll_top.specs.Views.{Outside, Views}
+use Rattle.swanroll_top.specs.Rollouts.{fleet_of}
 
 -- ---- what the switches hold
 
@@ -82,7 +83,7 @@ pub record IsReadyToTake {P : Type 0} (tell : P → PortTrace) (limits : Limits)
 pub record TakesNoFault {S K D F P G : Type 0} (views : Views S K D F P G) (before after : Outside S K D F) : Type 0 where
   pub source : Rose (views.source before.source).faults (views.source after.source).faults → ⊥
   pub sink : Rose (views.sink before.sink).faults (views.sink after.sink).faults → ⊥
-  pub rest : CountsNoFault views.port (views.disk before.disk).faults (views.disk after.disk).faults (seen (views.fleet before.fleet)) (seen (views.fleet after.fleet))
+  pub rest : CountsNoFault views.port (views.disk before.disk).faults (views.disk after.disk).faults (fleet_of (views.fleet before.fleet)) (fleet_of (views.fleet after.fleet))
 
 -- How a takeover ends that finds all that it needs: memory ran out, it is finished, or its policy holds back what is left, which is none that holds nothing back.
 abbrev pub EndsWell : (OpView → ℕ) → ℕ → Type 0

@@ -3,6 +3,8 @@
 -- before; the input is the document of the controller before; and no agent was started anew without what it held.
 use Rattle.std.specs.Prelude.{◌≡◌, ℕ, List, drop, String, Option, Some, None, Result, IfErr, IfOk}
 use Rattle.std.specs.declared.alloc.Global.{Global}
+use Rattle.switch_ports.specs.Berths.{ports_of}
+use Rattle.agent_service.specs.Services.{guests_of}
 use Rattle.rollout_rules.specs.Wan.{Rollout}
 use Rattle.rollout_rules.specs.declared.op.OpView.{OpView}
 use Rattle.wan_edge.specs.Streams.{Rose}
@@ -10,7 +12,8 @@ use Rattle.text_commands.specs.CommandEnds.{ending_of_unread}
 use Rattle.text_commands.specs.declared.arguments.Unread.{Unread}
 use Rattle.text_commands.specs.declared.command_end.CommandEnd.TheVariants.{Usage}
 use Rattle.swanroll_top.specs.Promise.{EndsUnread}
-use Rattle.swanroll_top.specs.Views.{Outside, Views, guests_of, input_of, seen, used, written_at}
+use Rattle.swanroll_top.specs.Views.{Outside, Views, input_of, used, written_at}
+use Rattle.swanroll_top.specs.Rollouts.{fleet_of}
 use Rattle.takeover_top.specs.Endings.{Told}
 use Rattle.takeover_top.specs.ReadyToTake.{EndsWell, IsGivenFor, IsReadyToTake, TakesNoFault}
 use Rattle.takeover_top.specs.Takings.{Takes}
@@ -25,33 +28,33 @@ pub record TakeoverPromise {S K D F P G : Type 0} (views : Views S K D F P G) (o
   pub ending : TakeoverEnding
   -- what it has brought about that ended so, from the bytes read to those written
   pub does : Takes views.disk views.port
-      (views.source before.source) (views.source after.source) taking.limits taking.policy before.disk after.disk (seen (views.fleet before.fleet)) (seen (views.fleet after.fleet)) ending (views.sink before.sink) (views.sink after.sink)
+      (views.source before.source) (views.source after.source) taking.limits taking.policy before.disk after.disk (fleet_of (views.fleet before.fleet)) (fleet_of (views.fleet after.fleet)) ending (views.sink before.sink) (views.sink after.sink)
   -- the status and the line are those of the ending, or of lack of memory for its line
   pub told : Told ending status (views.sink before.notes) (views.sink after.notes)
   -- no guest is asked for
   pub serves : guests_of (views.fleet after.fleet) ≡ guests_of (views.fleet before.fleet)
-  pub visiting : (views.fleet after.fleet).guests.visiting ≡ (views.fleet before.fleet).guests.visiting
+  pub visiting : (views.fleet after.fleet).visiting ≡ (views.fleet before.fleet).visiting
   -- a fault comes only where its object counted one
   pub read_fault : status ≡ 6 → Rose (views.source before.source).faults (views.source after.source).faults
   pub write_fault : status ≡ 7 → Rose (views.sink before.sink).faults (views.sink after.sink).faults
   pub disk_fault : status ≡ 8 → Rose (views.disk before.disk).faults (views.disk after.disk).faults
   -- whatever the status, nothing went out but questions, or the network is safe
   pub ends : EndsTaken views.disk views.port
-      taking.limits (input_of views (used before) (used after)) before.disk after.disk (views.fleet before.fleet).ports (views.fleet after.fleet).ports
+      taking.limits (input_of views (used before) (used after)) before.disk after.disk (ports_of (views.fleet before.fleet)) (ports_of (views.fleet after.fleet))
   -- it is safe after each takeover that was begun
   pub safe : IsOfTaken status
-      → TakesSafely views.disk views.port taking.limits (input_of views (used before) (used after)) before.disk after.disk (views.fleet before.fleet).ports (views.fleet after.fleet).ports
+      → TakesSafely views.disk views.port taking.limits (input_of views (used before) (used after)) before.disk after.disk (ports_of (views.fleet before.fleet)) (ports_of (views.fleet after.fleet))
   -- and after status 0 it is at the target
   pub target : status ≡ 0
-      → TakesToTarget views.disk views.port taking.limits (input_of views (used before) (used after)) before.disk after.disk (views.fleet before.fleet).ports (views.fleet after.fleet).ports
+      → TakesToTarget views.disk views.port taking.limits (input_of views (used before) (used after)) before.disk after.disk (ports_of (views.fleet before.fleet)) (ports_of (views.fleet after.fleet))
       (written_at views (used before)) (written_at views (used after))
   -- status 13 comes where the start isn't sound, and then nothing went out but questions, and the disk is as it was
   pub refused : status ≡ 13
-      → RefusesStart views.port taking.limits (input_of views (used before) (used after)) before.disk after.disk (views.fleet before.fleet).ports (views.fleet after.fleet).ports
+      → RefusesStart views.port taking.limits (input_of views (used before) (used after)) before.disk after.disk (ports_of (views.fleet before.fleet)) (ports_of (views.fleet after.fleet))
   -- Where the input is a rollout, the disk is blank or has a journal, the switches hold a sound start and their ports answer all at once, rounds are given, and
   -- no count of faults has risen, the status is 0, or 14 where the policy holds back what is left, or 12 for lack of memory.
   pub completes : (r : Rollout) (start : List ℕ) → IsGivenFor (views.source before.source) (views.source after.source) (views.disk before.disk).bytes r
-      → IsReadyToTake views.port taking.limits (views.fleet before.fleet).ports.waiting r start → TakesNoFault views before after → EndsWell taking.policy status
+      → IsReadyToTake views.port taking.limits (views.fleet before.fleet).waiting r start → TakesNoFault views before after → EndsWell taking.policy status
 
 -- words that are none of a takeover leave all as it was
 abbrev pub ByWords : {S K D F P G : Type 0} → Views S K D F P G → (F → ℕ) → Option Taking → Outside S K D F → ℕ → Outside S K D F → Type 0

@@ -1,5 +1,5 @@
 -- What `takeover` brings about, step by step, from its input to its line. A disk and a port are given by what they tell.
-use Rattle.std.specs.Prelude.{◌≡◌, ℕ, ◌≤◌, ◌<◌, ◌^◌, List, Result, Ok, Err, IsErrOf}
+use Rattle.std.specs.Prelude.{◌≡◌, ℕ, ◌≤◌, ◌<◌, ◌^◌, List, Result, Ok, Err, IfOk, IfErr, IsErrOf}
 use Rattle.rollout_rules.specs.Items.{item_count}
 use Rattle.rollout_rules.specs.Network.{IsNetwork}
 use Rattle.rollout_rules.specs.Wan.{Rollout}
@@ -8,11 +8,12 @@ use Rattle.wan_edge.specs.Ports.{PortTrace}
 use Rattle.wan_edge.specs.Streams.{Rose, SinkTrace, SourceTrace}
 use Rattle.disk_model.specs.Traces.{DiskTrace}
 use Rattle.intent_journal.specs.Openings.{IsLeft}
+use Rattle.intent_journal.specs.declared.fault.JournalFault.{JournalFault}
 use Rattle.rollout_report.specs.Journals.{digest_for}
 use Rattle.controller_run.specs.declared.running.Limits.{Limits}
-use Rattle.controller_run.specs.RolloutEnds.{HasRolled, IfRolled, OnUnopened}
-use Rattle.controller_run.specs.declared.rollout_end.RolloutEnd.{RolloutEnd}
-use Rattle.controller_run.specs.declared.rollout_end.RolloutEnd.TheVariants as outcome
+use Rattle.controller_run.specs.RolloutEnds.{HasRolled}
+use Rattle.controller_run.specs.declared.end.RunEnd.TheVariants as run
+use Rattle.controller_run.specs.declared.outcome.RunOutcome.{RunOutcome}
 use Rattle.fence_takeover.specs.declared.end.FenceEnd.TheVariants as fence
 use Rattle.fence_takeover.specs.Beginnings.{Begins}
 use Rattle.fence_takeover.specs.declared.begun.NotBegun.{NotBegun}
@@ -24,7 +25,7 @@ use Rattle.text_commands.specs.Safety.{IsValid}
 use Rattle.text_commands.specs.declared.command_end.CommandEnd.{CommandEnd}
 use Rattle.text_commands.specs.declared.command_end.CommandEnd.TheVariants.{DiskFault, ReadFault, WriteFault}
 use Rattle.retarget_service.specs.JournalRoom.{journal_room}
-use Rattle.swanroll_top.specs.Rollouts.{FleetSeen}
+use Rattle.swanroll_top.specs.Rollouts.{FleetSeen, by_answer}
 use Rattle.takeover_top.specs.Endings.{ending_of_not_begun, taken_or_ending}
 use Rattle.takeover_top.specs.Lines.{start_total}
 use Rattle.takeover_top.specs.declared.ending.TakeoverEnding.{TakeoverEnding}
@@ -39,14 +40,14 @@ pub record RunsOn {D P : Type 0} (trace : D → DiskTrace) (tell : P → PortTra
   pub network : IsNetwork r.problem
   pub valid : IsValid r.problem r.plan
   pub small : limits.migration < 2 ^ 32
-  pub answer : RolloutEnd
-  pub rolled : IfRolled answer (HasRolled trace tell r (digest_for r limits.migration) policy limits.rounds placed mid.ports now.ports disk_now answer)
-  pub unopened : OnUnopened answer (λ cause. IsLeft trace r (digest_for r limits.migration) placed cause disk_now × (now ≡ mid))
-  pub no_port : (other : Rollout) (switch : ℕ) → answer ≡ outcome.NoPort other switch → Rose mid.faults now.faults
+  pub answer : Result RunOutcome JournalFault
+  pub rolled : IfOk answer (λ outcome. HasRolled trace tell r (digest_for r limits.migration) policy limits.rounds placed mid.ports now.ports disk_now outcome)
+  pub unopened : IfErr answer (λ cause. IsLeft trace r (digest_for r limits.migration) placed cause disk_now × (now ≡ mid))
+  pub no_port : IfOk answer (λ outcome. (switch : ℕ) → outcome.end ≡ run.NoPort switch → Rose mid.faults now.faults)
   -- the line is that of the answer, with the sum of the start
   pub ended : CommandEnd
   pub is : ending ≡ Ended ended
-  pub follows : Follows (taken_or_ending (start_total (item_count r.problem) start) answer) ended sink.written sink_now.written
+  pub follows : Follows (by_answer (taken_or_ending (start_total (item_count r.problem) start)) answer) ended sink.written sink_now.written
   -- a fault comes only where its object counted one
   pub disk_fault : ended ≡ DiskFault → Rose (trace placed).faults (trace disk_now).faults
   pub write_fault : ended ≡ WriteFault → Rose sink.faults sink_now.faults

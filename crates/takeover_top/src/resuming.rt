@@ -2,7 +2,7 @@
 ghost use Rattle.std.specs.Prelude.{◌≡◌, Some, drop, IfOk, IfSome};
 ghost use Rattle.order_policy.specs.Named.{answers_in};
 ghost use Rattle.rollout_log.specs.Logs.{IsLog};
-ghost use Rattle.swanroll_top.specs.Views.{fleet_told, guest_told, outside, views_of};
+ghost use Rattle.swanroll_top.specs.Views.{guest_told, outside, views_of};
 ghost use Rattle.takeover_top.specs.TermPromise.{AtTermPromise};
 ghost use Rattle.takeover_top.specs.TermWords.{run_term_by};
 
@@ -50,10 +50,9 @@ where
     F::Port: Drop + Send,
     requires { IfOk arguments
         (λ all. run_term_by (drop 1 all.items) ≡ Some (F.of_term fleet.old)) }
-    ensures runs { AtTermPromise (views_of S.told K.told (λ logged. D.told logged.disk)
-        (fleet_told F.waiting F.kept F.lent F.named F.coming F.served F.visiting F.faults)
-        F.Port.told (guest_told F.Guest.Source.told F.Guest.Sink.told))
-        F.of_term (answers_in policies.now) arguments (λ all. all.items)
+    ensures runs { AtTermPromise (views_of S.told K.told (λ logged. D.told logged.disk) F.told
+        F.Port.told (guest_told F.Guest.Source.told F.Guest.Sink.told)) F.of_term
+        (answers_in policies.now) arguments (λ all. all.items)
         (outside source.old sink.old notes.old disk fleet.old) result.status
         (outside source.new sink.new notes.new result.disk fleet.new) }
     ensures logs { IfSome (L.told result.disk.log).written (IsLog D.told) }

@@ -3,6 +3,7 @@ ghost use Rattle.std.specs.Prelude.{◌≡◌, length};
 ghost use Rattle.rollout_rules.specs.Items.{item_count};
 ghost use Rattle.order_policy.specs.Answers.{rank_by};
 ghost use Rattle.wan_edge.specs.Streams.{Rose};
+ghost use Rattle.wan_edge.specs.Fleets.{GuestsStay};
 ghost use Rattle.text_commands.specs.Runs.{Follows, Gives};
 ghost use Rattle.swanroll_top.specs.Rollouts.{IsDiskFault, fleet_of};
 ghost use Rattle.takeover_top.specs.Endings.{taken_or_ending};
@@ -11,11 +12,12 @@ ghost use Rattle.takeover_top.specs.Takings.{RunsOn, Takes, TakesInput, TakesRol
 use crate::ending::{TakeoverEnding, ending_of_not_begun};
 use crate::lines::taken_line;
 use crate::start_total::start_total;
-use controller_run::{Limits, RolloutEnd, RolloutResult, run_rollout};
+use controller_run::{Limits, RolloutResult, RunEnd, RunOutcome, run_rollout};
 use dependency_graph::checked_plan_is_valid;
 use disk_mirror::Openable;
 use fence_takeover::{Begun, begin_takeover};
 use fenced_ports::OneTerm;
+use intent_journal::Unopened;
 use lists::{Ids, Text};
 use order_policy::Policy;
 use retarget_service::journal_room;
@@ -55,13 +57,9 @@ pub(crate) fn take<
 where
     F::Port: Drop + Send,
     ensures takes { Takes D.told F.Port.told (S.told source.old) (S.told source.new) limits
-        (rank_by policy.now.answers) disk result.disk
-        (fleet_of F.waiting F.kept F.lent F.named F.faults fleet.old)
-        (fleet_of F.waiting F.kept F.lent F.named F.faults fleet.new) result.ending
-        (K.told sink.old) (K.told sink.new) }
-    ensures guests { (F.coming fleet.new ≡ F.coming fleet.old)
-        × (F.served fleet.new ≡ F.served fleet.old)
-        × (F.visiting fleet.new ≡ F.visiting fleet.old) }
+        (rank_by policy.now.answers) disk result.disk (fleet_of (F.told fleet.old))
+        (fleet_of (F.told fleet.new)) result.ending (K.told sink.old) (K.told sink.new) }
+    ensures guests { GuestsStay (F.told fleet.old) (F.told fleet.new) }
 {
     match read_input(alloc, source) {
         Ok(input) => take_input(rt, alloc, limits, policy, input, sink, disk, fleet),
@@ -85,12 +83,9 @@ fn take_input<R: Wait + Threads + Sync, K: Sink, D: Openable + Drop + Send, F: F
 where
     F::Port: Drop + Send,
     ensures takes { TakesInput D.told F.Port.told input limits (rank_by policy.now.answers) disk
-        result.disk (fleet_of F.waiting F.kept F.lent F.named F.faults fleet.old)
-        (fleet_of F.waiting F.kept F.lent F.named F.faults fleet.new) result.ending
+        result.disk (fleet_of (F.told fleet.old)) (fleet_of (F.told fleet.new)) result.ending
         (K.told sink.old) (K.told sink.new) }
-    ensures guests { (F.coming fleet.new ≡ F.coming fleet.old)
-        × (F.served fleet.new ≡ F.served fleet.old)
-        × (F.visiting fleet.new ≡ F.visiting fleet.old) }
+    ensures guests { GuestsStay (F.told fleet.old) (F.told fleet.new) }
 {
     match rollout_of(alloc, input) {
         Ok(plan) => take_plan(rt, alloc, limits, policy, plan, sink, disk, fleet),
@@ -115,12 +110,9 @@ fn take_plan<R: Wait + Threads + Sync, K: Sink, D: Openable + Drop + Send, F: Fl
 where
     F::Port: Drop + Send,
     ensures takes { TakesRollout D.told F.Port.told plan limits (rank_by policy.now.answers) disk
-        result.disk (fleet_of F.waiting F.kept F.lent F.named F.faults fleet.old)
-        (fleet_of F.waiting F.kept F.lent F.named F.faults fleet.new) result.ending
+        result.disk (fleet_of (F.told fleet.old)) (fleet_of (F.told fleet.new)) result.ending
         (K.told sink.old) (K.told sink.new) }
-    ensures guests { (F.coming fleet.new ≡ F.coming fleet.old)
-        × (F.served fleet.new ≡ F.served fleet.old)
-        × (F.visiting fleet.new ≡ F.visiting fleet.old) }
+    ensures guests { GuestsStay (F.told fleet.old) (F.told fleet.new) }
 {
     let room = journal_room(&plan);
     let Begun { disk, answer } = begin_takeover(
@@ -157,42 +149,55 @@ where
     F::Port: Drop + Send,
     requires numbers { length start ≡ item_count plan.problem }
     ensures runs { RunsOn D.told F.Port.told plan limits (rank_by policy.now.answers) start disk
-        result.disk (fleet_of F.waiting F.kept F.lent F.named F.faults fleet.old)
-        (fleet_of F.waiting F.kept F.lent F.named F.faults fleet.new) result.ending
+        result.disk (fleet_of (F.told fleet.old)) (fleet_of (F.told fleet.new)) result.ending
         (K.told sink.old) (K.told sink.new) }
-    ensures guests { (F.coming fleet.new ≡ F.coming fleet.old)
-        × (F.served fleet.new ≡ F.served fleet.old)
-        × (F.visiting fleet.new ≡ F.visiting fleet.old) }
+    ensures guests { GuestsStay (F.told fleet.old) (F.told fleet.new) }
 {
     checked_plan_is_valid(&plan);
     let total = start_total(start.as_slice(), item_count(plan.problem()));
     drop(start);
-    let RolloutResult { disk, answer } = run_rollout(rt, alloc, plan, policy, limits, disk, fleet);
-    Taken {
-        ending: TakeoverEnding::Ended(write_outcome(alloc, total, answer, sink)),
-        disk,
+    match run_rollout(rt, alloc, plan, policy, limits, disk, fleet) {
+        Ok(rolled) => {
+            let RolloutResult { disk, outcome } = rolled;
+            Taken {
+                ending: TakeoverEnding::Ended(write_outcome(alloc, total, outcome, sink)),
+                disk,
+            }
+        }
+        Err(unopened) => {
+            let Unopened { disk, cause } = unopened;
+            Taken {
+                ending: TakeoverEnding::Ended(CommandEnd::from(cause)),
+                disk,
+            }
+        }
     }
 }
 
 // Writes the line of a takeover that is finished, or says how it ends without one.
-fn write_outcome<K: Sink>(alloc: Global, total: u64, answer: RolloutEnd, sink: &mut K) -> CommandEnd
-    ensures follows { Follows (taken_or_ending total answer) result (K.told sink.old).written
+fn write_outcome<K: Sink>(
+    alloc: Global,
+    total: u64,
+    outcome: RunOutcome,
+    sink: &mut K,
+) -> CommandEnd
+    ensures follows { Follows (taken_or_ending total outcome) result (K.told sink.old).written
         (K.told sink.new).written }
-    ensures disk { result ≡ CommandEnd.DiskFault → IsDiskFault answer }
+    ensures disk { result ≡ CommandEnd.DiskFault → IsDiskFault outcome.end }
     ensures write_fault { result ≡ CommandEnd.WriteFault
         → Rose (K.told sink.old).faults (K.told sink.new).faults }
 {
-    match line_of(alloc, total, answer) {
+    match line_of(alloc, total, outcome) {
         Ok(line) => write_text(sink, line.as_str()),
         Err(ending) => ending,
     }
 }
 
-fn line_of(alloc: Global, total: u64, answer: RolloutEnd) -> Result<Text, CommandEnd>
-    ensures { Gives result (taken_or_ending total answer) }
+fn line_of(alloc: Global, total: u64, outcome: RunOutcome) -> Result<Text, CommandEnd>
+    ensures { Gives result (taken_or_ending total outcome) }
 {
-    match answer {
-        RolloutEnd::Finished { operations, .. } => Ok(taken_line(alloc, operations, total)?),
-        end => Err(ending_of_rollout(end)),
+    match outcome.end {
+        RunEnd::Finished => Ok(taken_line(alloc, outcome.operations, total)?),
+        _ => Err(ending_of_rollout(outcome)),
     }
 }

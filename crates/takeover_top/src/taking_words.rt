@@ -35,7 +35,8 @@ pub fn takeover_asked(
     policies: &Policies<Policy>,
 ) -> Option<u32>
     ensures asked { IfOk arguments.now
-        (λ all. result ≡ option_map term_of (taking_by (answers_in policies.now) (drop 1 all.items))) }
+        (λ all. result
+        ≡ option_map term_of (taking_by (answers_in policies.now) (drop 1 all.items))) }
     ensures some { IfSome result (λ term. 0 < term) }
 {
     match arguments {

@@ -2,7 +2,7 @@
 ghost use Rattle.std.specs.Prelude.{◌≡◌, Some, drop, option_map, IfOk, IfSome};
 ghost use Rattle.order_policy.specs.Named.{answers_in};
 ghost use Rattle.rollout_log.specs.Logs.{IsLog};
-ghost use Rattle.swanroll_top.specs.Views.{fleet_told, guest_told, outside, views_of};
+ghost use Rattle.swanroll_top.specs.Views.{guest_told, outside, views_of};
 ghost use Rattle.takeover_top.specs.TakeoverPromise.{ByWords, StartsTakeover};
 ghost use Rattle.takeover_top.specs.TakingWords.{taking_by, term_of};
 
@@ -74,10 +74,9 @@ where
     requires { IfOk arguments
         (λ all. option_map term_of (taking_by (answers_in policies.now) (drop 1 all.items))
         ≡ Some (F.of_term fleet.old)) }
-    ensures takes { StartsTakeover (views_of S.told K.told (λ logged. D.told logged.disk)
-        (fleet_told F.waiting F.kept F.lent F.named F.coming F.served F.visiting F.faults)
-        F.Port.told (guest_told F.Guest.Source.told F.Guest.Sink.told))
-        F.of_term (answers_in policies.now) arguments (λ all. all.items)
+    ensures takes { StartsTakeover (views_of S.told K.told (λ logged. D.told logged.disk) F.told
+        F.Port.told (guest_told F.Guest.Source.told F.Guest.Sink.told)) F.of_term
+        (answers_in policies.now) arguments (λ all. all.items)
         (outside source.old sink.old notes.old disk fleet.old) result.status
         (outside source.new sink.new notes.new result.disk fleet.new) }
     ensures logs { IfSome (L.told result.disk.log).written (IsLog D.told) }
@@ -111,12 +110,10 @@ where
     requires { IfOk arguments
         (λ all. option_map term_of (taking_by (answers_in policies.now) (drop 1 all.items))
         ≡ Some (F.of_term fleet.old)) }
-    ensures { StartsTakeover (views_of S.told K.told D.told
-        (fleet_told F.waiting F.kept F.lent F.named F.coming F.served F.visiting F.faults)
-        F.Port.told (guest_told F.Guest.Source.told F.Guest.Sink.told))
-        F.of_term (answers_in policies.now) arguments (λ all. all.items)
-        (outside source.old sink.old notes.old disk fleet.old) result.status
-        (outside source.new sink.new notes.new result.disk fleet.new) }
+    ensures { StartsTakeover (views_of S.told K.told D.told F.told F.Port.told
+        (guest_told F.Guest.Source.told F.Guest.Sink.told)) F.of_term (answers_in policies.now)
+        arguments (λ all. all.items) (outside source.old sink.old notes.old disk fleet.old)
+        result.status (outside source.new sink.new notes.new result.disk fleet.new) }
 {
     match arguments {
         Ok(arguments) => {
@@ -152,10 +149,9 @@ where
     F::Port: Drop + Send,
     requires term { option_map term_of (taking_by (answers_in policies.now) words.now)
         ≡ Some (F.of_term fleet.old) }
-    ensures { ByWords (views_of S.told K.told D.told
-        (fleet_told F.waiting F.kept F.lent F.named F.coming F.served F.visiting F.faults)
-        F.Port.told (guest_told F.Guest.Source.told F.Guest.Sink.told))
-        F.of_term (taking_by (answers_in policies.now) words.now)
+    ensures { ByWords (views_of S.told K.told D.told F.told F.Port.told
+        (guest_told F.Guest.Source.told F.Guest.Sink.told)) F.of_term
+        (taking_by (answers_in policies.now) words.now)
         (outside source.old sink.old notes.old disk fleet.old) result.status
         (outside source.new sink.new notes.new result.disk fleet.new) }
 {

@@ -1,7 +1,7 @@
 -- A reader's answer after a step of the grammar: the fault of the step, or what the next step says.
-use Rattle.std.proofs.Common.{◌≡◌, ℕ, suc, ◌+◌, Result, Ok, ap, sym, subst, ◌∙◌, arith}
+use Rattle.std.proofs.Common.{◌≡◌, ℕ, ◌+◌, Result, Ok, ap, sym, subst, ◌∙◌}
 use Rattle.serde_json.specs.Data.{Data, Items, no_items, item}
-use Rattle.serde_json.specs.Events.{items_len}
+use Rattle.json_data.proofs.Lengths.{items_len-item, items_len-none}
 use Rattle.target_json.specs.Results.{◌>>=◌, add_from, Refuses}
 use Rattle.target_json.specs.declared.fault.TargetFault.{TargetFault}
 use Rattle.target_json.specs.declared.fault.TargetFault.TheVariants.{NotJson, At, Memory}
@@ -31,12 +31,6 @@ add_from-next f n left rest d a b all is adds one = sym (ap (λ g. g >>= λ c. a
 -- where none is left, all are added
 pub add_from-over : {A : Type 0} (f : ℕ → Data → A → Result A TargetFault) (n : ℕ) (left : Items) (a : A) (all : Result A TargetFault) → left ≡ no_items → add_from f n left a ≡ all → all ≡ Ok a
 add_from-over f n left a all is adds = sym adds ∙ ap (λ ds. add_from f n ds a) is
-
-pub items_len-item : (left rest : Items) (d : Data) → left ≡ item d rest → items_len left ≡ items_len rest + 1
-items_len-item left rest d is = let one : suc (items_len rest) ≡ items_len rest + 1 = omega arith in ap items_len is ∙ one
-
-pub items_len-none : (left : Items) → left ≡ no_items → items_len left ≡ 0
-items_len-none left is = ap items_len is
 
 -- these, and how long a list is
 pub ruleset steps = (Refuses-step, Refuses-next, Refuses-at, add_from-next, add_from-over, items_len-item, items_len-none)

@@ -1,5 +1,5 @@
 -- The plan that is chosen for a problem, with what shows that fewer rate steps are impossible.
-use Rattle.std.proofs.Common.{◌≡◌, ℕ, ◌-◌, ◌<◌, ◌≤◌, ◌==◌, nat_le, List, [], ◌∷◌, ◌++◌, true, false, Result, Ok, Err, IfOk, None, ap, sym, ◌∙◌, subst, arith, le-leb}
+use Rattle.std.proofs.Common.{◌≡◌, ℕ, ◌<◌, ◌≤◌, ◌==◌, List, true, Result, Ok, Err, IfOk, None, ap, sym, ◌∙◌, subst, arith, le-leb}
 use Rattle.std.proofs.lemmas.Bool.{lt-leb}
 use Rattle.rollout_rules.specs.Wan.{Problem, Plan, Rollout}
 use Rattle.rollout_rules.specs.Network.{IsNetwork}
@@ -19,8 +19,7 @@ use Rattle.lp_proof.specs.Least.{least_of}
 use Rattle.lp_proof.specs.declared.least.Least.{Least}
 use Rattle.lp_proof.proofs.Built.{accepted-shows}
 use Rattle.lp_proof.proofs.NoFewer.{takes_at_least}
-use Rattle.problem_json.specs.WritingLeast.{claimed_text}
-use Rattle.text_commands.specs.Answers.{chosen_by, least_planned, or_unchosen, proved, shown_text, where_few, with_least, with_proof}
+use Rattle.text_commands.specs.Answers.{chosen_by, least_planned, or_unchosen, proved, where_few, with_least, with_proof}
 use Rattle.text_commands.specs.CommandEnds.{ending_without}
 use Rattle.text_commands.specs.Runs.{Gives}
 use Rattle.text_commands.specs.Safety.{HasLeast, IsLeast, IsSafePlan, IsValid}
@@ -54,10 +53,6 @@ module _ (p other : Problem) (plan : Plan) (q : ℕ) (same : other ≡ p) where
 
   pub accepted-least : (proof : Proof) → IsNetwork p → shows_least other q proof ≡ true → TakesAtLeast p q
   accepted-least proof net e = takes_at_least p q proof net (accepted-shows p q proof (subst (λ x. shows_least x q proof ≡ true) same e))
-
-pub shown-is : (p : Problem) (plan : Plan) (q steps : ℕ) (proof : Proof) (text : List ℕ) → steps ≡ q - 1 → text ≡ claimed_text p plan (record { steps = steps; proof = proof }) ++ 10 ∷ []
-    → ◌≡◌ {A = Result (List ℕ) CommandEnd} (Ok (shown_text p plan q proof)) (Ok text)
-shown-is p plan q steps proof text e is = ap Ok (sym (is ∙ ap (λ n. claimed_text p plan (record { steps = n; proof = proof }) ++ 10 ∷ []) e))
 
 -- ---- no more rate steps than were chosen
 

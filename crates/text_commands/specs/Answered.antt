@@ -1,8 +1,9 @@
 -- The text of what a command answers.
 use Rattle.std.specs.Prelude.{ℕ, List, Result, Ok, Err}
 use Rattle.text_commands.specs.Answers.{explanation_of, loads_of, rollout_text}
+use Rattle.text_commands.specs.Shown.{plan_shown}
 use Rattle.text_commands.specs.declared.answer.Answer.{Answer}
-use Rattle.text_commands.specs.declared.answer.Answer.TheVariants.{Made, Document, Loads, Explained}
+use Rattle.text_commands.specs.declared.answer.Answer.TheVariants.{Made, Document, Loads, Explained, Shown}
 use Rattle.text_commands.specs.declared.command_end.CommandEnd.{CommandEnd}
 
 abbrev pub text_in : Answer → List ℕ
@@ -10,6 +11,7 @@ text_in (Made text) = text
 text_in (Document rollout) = rollout_text rollout
 text_in (Loads rollout) = loads_of rollout
 text_in (Explained rollout) = explanation_of rollout
+text_in (Shown shown) = plan_shown shown
 
 -- the text of an answer, or the ending without one
 abbrev pub told : Result Answer CommandEnd → Result (List ℕ) CommandEnd

@@ -76,22 +76,20 @@ IsChosenBy planner p (Err u) = (u.problem ≡ p) × Refuses u.cause (chosen_by p
 abbrev pub rollout_text : Rollout → List ℕ
 rollout_text o = document_text o.problem o.plan ++ 10 ∷ []
 
--- the text of a rollout, or the ending without one
-abbrev pub documented : Result Rollout CommandEnd → Result (List ℕ) CommandEnd
-documented (Ok o) = Ok (rollout_text o)
-documented (Err e) = Err e
-
 -- the text of what was found, or the ending without it
 abbrev pub told_by : {A : Type 0} → (A → List ℕ) → Result A CommandEnd → Result (List ℕ) CommandEnd
 told_by text (Ok a) = Ok (text a)
 told_by text (Err e) = Err e
 
--- the loads of a rollout, and what it has to be done
+-- the loads of a rollout, what it has to be done, and its document with what is said of fewer rate steps, and a line feed
 abbrev pub loads_of : Rollout → List ℕ
 loads_of o = loads_text o.problem o.plan
 
 abbrev pub explanation_of : Rollout → List ℕ
 explanation_of o = explain_text o.problem o.plan
+
+abbrev pub shown_document : Rollout → Claim → List ℕ
+shown_document o claim = claimed_text o.problem o.plan claim ++ 10 ∷ []
 
 -- the document of a problem with the plan chosen for it, and a line feed
 abbrev pub with_choice : Problem → Result Choice Cause → Result (List ℕ) CommandEnd

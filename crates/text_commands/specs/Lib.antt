@@ -7,6 +7,7 @@ pub mod CommandEnds
 pub mod Lines
 pub mod Words
 pub mod Answers
+pub mod Shown
 pub mod Answered
 pub mod Ready
 pub mod Safety

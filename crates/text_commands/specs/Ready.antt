@@ -1,19 +1,23 @@
 -- An answer that is ready to be written: its text, and that what was looked up for it is that of its plan.
-use Rattle.std.specs.Prelude.{ℕ, List}
+use Rattle.std.specs.Prelude.{◌≡◌, ℕ, List}
 use Rattle.plan_texts.specs.LookedUp.{AreLoadsOf, IsLookupOf}
-use Rattle.problem_json.specs.WritingNames.{AreNamesOf}
+use Rattle.wan_text.specs.Named.{AreNamesOf}
+use Rattle.problem_json.specs.WritingLeast.{claim_text}
 use Rattle.text_commands.specs.Answers.{explanation_of, loads_of, rollout_text}
+use Rattle.text_commands.specs.Shown.{plan_shown}
 use Rattle.text_commands.specs.declared.ready.Ready.{Ready}
-use Rattle.text_commands.specs.declared.ready.Ready.TheVariants.{Made, Document, Loads, Explained}
+use Rattle.text_commands.specs.declared.ready.Ready.TheVariants.{Made, Document, Loads, Explained, Shown}
 
 abbrev pub ready_text : Ready → List ℕ
 ready_text (Made text) = text
 ready_text (Document names o) = rollout_text o
 ready_text (Loads rows o) = loads_of o
 ready_text (Explained lookup o) = explanation_of o
+ready_text (Shown names said s) = plan_shown s
 
 abbrev pub IsReady : Ready → Type 0
 IsReady (Made text) = Unit {0}
 IsReady (Document names o) = AreNamesOf names o.problem
 IsReady (Loads rows o) = AreLoadsOf rows o
 IsReady (Explained lookup o) = IsLookupOf lookup o
+IsReady (Shown names said s) = AreNamesOf names s.plan.problem × (said ≡ claim_text s.claim)

@@ -1,3 +1,4 @@
+use crate::shown::ShownPlan;
 use lists::Text;
 use wan_model::CheckedPlan;
 
@@ -11,4 +12,6 @@ pub enum Answer {
     Loads(CheckedPlan),
     /// One that is explained.
     Explained(CheckedPlan),
+    /// One whose document with what shows that fewer rate steps are impossible, and a line feed, is the text.
+    Shown(ShownPlan),
 }

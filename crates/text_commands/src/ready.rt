@@ -1,14 +1,18 @@
 ghost use Rattle.std.specs.Prelude.{◌≡◌, IfOk};
+ghost use Rattle.problem_json.specs.WritingLeast.{claim_text};
 ghost use Rattle.text_commands.specs.Answered.{text_in};
 ghost use Rattle.text_commands.specs.Answers.{explanation_of, loads_of, rollout_text};
 ghost use Rattle.text_commands.specs.Ready.{IsReady, ready_text};
+ghost use Rattle.text_commands.specs.Shown.{plan_shown};
 
 use crate::answer::Answer;
+use crate::shown::ShownPlan;
 use lists::{Memory, Text};
 use plan_texts::{LoadRows, Lookup};
-use problem_json::Names;
+use problem_json::claim_piece;
 use std::alloc::Global;
 use wan_model::CheckedPlan;
+use wan_text::Names;
 
 /// An answer with all that its text takes memory for.
 #[derive(Drop)]
@@ -17,6 +21,7 @@ pub(crate) enum Ready {
     Document(Names, CheckedPlan),
     Loads(LoadRows, CheckedPlan),
     Explained(Lookup, CheckedPlan),
+    Shown(Names, Text, ShownPlan),
 }
 
 /// Makes an answer ready to be written. An Err is want of memory.
@@ -29,6 +34,7 @@ pub(crate) fn made_ready(alloc: Global, answer: Answer) -> Result<Ready, Memory>
         Answer::Document(plan) => document_ready(alloc, plan),
         Answer::Loads(plan) => loads_ready(alloc, plan),
         Answer::Explained(plan) => explanation_ready(alloc, plan),
+        Answer::Shown(shown) => shown_ready(alloc, shown),
     }
 }
 
@@ -66,6 +72,33 @@ fn explanation_ready(alloc: Global, plan: CheckedPlan) -> Result<Ready, Memory>
         Ok(lookup) => Ok(Ready::Explained(lookup, plan)),
         Err(refused) => {
             drop(plan);
+            Err(refused)
+        }
+    }
+}
+
+fn shown_ready(alloc: Global, shown: ShownPlan) -> Result<Ready, Memory>
+    ensures text { IfOk result (λ ready. ready_text ready ≡ plan_shown shown) }
+    ensures ready { IfOk result (λ ready. IsReady ready) }
+{
+    match claim_piece(alloc, &shown.claim) {
+        Ok(said) => shown_with(alloc, said, shown),
+        Err(refused) => {
+            drop(shown);
+            Err(refused)
+        }
+    }
+}
+
+fn shown_with(alloc: Global, said: Text, shown: ShownPlan) -> Result<Ready, Memory>
+    requires { said ≡ claim_text shown.claim }
+    ensures text { IfOk result (λ ready. ready_text ready ≡ plan_shown shown) }
+    ensures ready { IfOk result (λ ready. IsReady ready) }
+{
+    match Names::of(alloc, shown.plan.problem()) {
+        Ok(names) => Ok(Ready::Shown(names, said, shown)),
+        Err(refused) => {
+            drop(shown);
             Err(refused)
         }
     }

@@ -10,9 +10,9 @@ mod plan;
 mod rehearse;
 mod sim;
 
-ghost use Rattle.std.specs.Prelude.{◌≡◌, IfOk};
+ghost use Rattle.std.specs.Prelude.{IfOk};
 ghost use Rattle.text_commands.specs.Answered.{told};
-ghost use Rattle.text_commands.specs.Answers.{answer_in, documented, explanation_of, loads_of, told_by};
+ghost use Rattle.text_commands.specs.Answers.{answer_in};
 ghost use Rattle.text_commands.specs.Runs.{Gives};
 ghost use Rattle.text_commands.specs.Safety.{DoesSafely};
 ghost use Rattle.text_commands.specs.Words.{text_asked};
@@ -21,11 +21,9 @@ use crate::answer::Answer;
 use crate::command_end::CommandEnd;
 use crate::words::TextCommand;
 pub use checking::rollout_of;
-use lists::Text;
 pub use plan::{by_slack, document_of};
 use std::alloc::Global;
 use wan_edge::Nums8;
-use wan_model::CheckedPlan;
 
 /// What a command answers to its input, or how the run ends without an answer. The bytes are given up as soon as they
 /// are read.
@@ -38,51 +36,15 @@ pub fn answer_of(
     ensures safe { IfOk result (λ answer. DoesSafely (text_asked command.entry) input) }
 {
     match command {
-        TextCommand::Plan(planner) => document(plan::plan(alloc, planner, input)),
-        TextCommand::Check => made(check::check(alloc, input)),
-        TextCommand::Loads => of_loads(loads::loads(alloc, input)),
-        TextCommand::Back => document(back::back(alloc, input)),
-        TextCommand::Explain => of_explanation(explain::explain(alloc, input)),
-        TextCommand::Least => made(least::least(alloc, input)),
-        TextCommand::Sim(policy) => made(sim::sim(alloc, policy, input)),
+        TextCommand::Plan(planner) => plan::plan(alloc, planner, input).map(Answer::Document),
+        TextCommand::Check => check::check(alloc, input).map(Answer::Made),
+        TextCommand::Loads => loads::loads(alloc, input).map(Answer::Loads),
+        TextCommand::Back => back::back(alloc, input).map(Answer::Document),
+        TextCommand::Explain => explain::explain(alloc, input).map(Answer::Explained),
+        TextCommand::Least => least::least(alloc, input).map(Answer::Shown),
+        TextCommand::Sim(policy) => sim::sim(alloc, policy, input).map(Answer::Made),
         TextCommand::Rehearse(shape, policy) => {
-            made(rehearse::rehearse(alloc, &shape, policy, input))
+            rehearse::rehearse(alloc, &shape, policy, input).map(Answer::Made)
         }
-    }
-}
-
-fn made(text: Result<Text, CommandEnd>) -> Result<Answer, CommandEnd>
-    ensures { told result ≡ text }
-{
-    match text {
-        Ok(text) => Ok(Answer::Made(text)),
-        Err(ending) => Err(ending),
-    }
-}
-
-fn document(plan: Result<CheckedPlan, CommandEnd>) -> Result<Answer, CommandEnd>
-    ensures { told result ≡ documented plan }
-{
-    match plan {
-        Ok(plan) => Ok(Answer::Document(plan)),
-        Err(ending) => Err(ending),
-    }
-}
-
-fn of_loads(found: Result<CheckedPlan, CommandEnd>) -> Result<Answer, CommandEnd>
-    ensures { told result ≡ told_by loads_of found }
-{
-    match found {
-        Ok(found) => Ok(Answer::Loads(found)),
-        Err(ending) => Err(ending),
-    }
-}
-
-fn of_explanation(found: Result<CheckedPlan, CommandEnd>) -> Result<Answer, CommandEnd>
-    ensures { told result ≡ told_by explanation_of found }
-{
-    match found {
-        Ok(found) => Ok(Answer::Explained(found)),
-        Err(ending) => Err(ending),
     }
 }

@@ -1,6 +1,6 @@
 ghost use Rattle.std.specs.Prelude.{◌≡◌, [], Ok};
 ghost use Rattle.wan_edge.specs.Streams.{Rose};
-ghost use Rattle.problem_json.specs.WritingNames.{AreNamesOf};
+ghost use Rattle.wan_text.specs.Named.{AreNamesOf};
 ghost use Rattle.text_commands.specs.Answered.{text_in};
 ghost use Rattle.text_commands.specs.Answers.{rollout_text};
 ghost use Rattle.text_commands.specs.Ready.{IsReady, ready_text};
@@ -9,13 +9,15 @@ ghost use Rattle.text_commands.specs.Runs.{EndsWith, Follows};
 use crate::answer::Answer;
 use crate::command_end::CommandEnd;
 use crate::ready::{Ready, made_ready};
+use crate::shown::push_shown;
 use plan_texts::{push_explanation, push_loads};
-use problem_json::{Names, push_document};
+use problem_json::push_document;
 use sink_pieces::{Kept, PieceSink};
 use std::alloc::Global;
 use text_writer::Pieces;
 use wan_edge::{Sink, write_all};
 use wan_model::CheckedPlan;
+use wan_text::Names;
 
 /// Writes all of a text.
 pub fn write_text<K: Sink>(sink: &mut K, text: &str) -> CommandEnd
@@ -85,6 +87,7 @@ fn push_ready<P: Pieces>(pieces: &mut P, ready: &Ready)
         Ready::Document(names, plan) => push_rollout(pieces, names, plan),
         Ready::Loads(rows, plan) => push_loads(pieces, plan, rows),
         Ready::Explained(lookup, plan) => push_explanation(pieces, plan, lookup),
+        Ready::Shown(names, said, shown) => push_shown(pieces, names, said.as_str(), shown),
     }
 }
 

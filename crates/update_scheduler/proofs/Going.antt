@@ -1,32 +1,26 @@
 -- Going once through items, one by one.
-use Rattle.std.proofs.Common.{◌≡◌, ℕ, suc, ◌+◌, ◌<◌, ◌≤◌, Bool, true, false, if◌then◌else◌, List, [], ◌∷◌, ◌++◌, map, drop, length, length-append, append-nil, get_or, All, refl, sym, ap, ◌∙◌, subst, arith, inl, inr}
+use Rattle.std.proofs.Common.{◌≡◌, ℕ, ◌+◌, ◌<◌, ◌≤◌, List, [], ◌∷◌, ◌++◌, drop, length, length-append, get_or, All, refl, sym, ap, ◌∙◌, subst, arith, inl, inr}
 use Rattle.std.proofs.lemmas.Bool.{cases_Bool}
 use Rattle.std.proofs.lemmas.List.{map-append, append_assoc, drop_more}
 use Rattle.rollout_rules.specs.Items.{item_count}
-use Rattle.rollout_rules.specs.History.{History, with_entries}
 use Rattle.rollout_rules.specs.Legal.{may_begin}
 use Rattle.rollout_rules.specs.Release.{next_op, begin_each}
 use Rattle.rollout_rules.specs.declared.op.Op.{Op}
-use Rattle.rollout_rules.specs.declared.op.Entry.{Entry}
-use Rattle.rollout_rules.specs.declared.op.Entry.TheVariants.{Begin}
+use Rattle.rollout_laws.proofs.Histories.{with_none}
 use Rattle.dependency_graph.specs.Graph.{Followed}
 use Rattle.update_scheduler.specs.declared.candidate.Candidate.{Candidate}
 use Rattle.update_scheduler.specs.Benches.{op_of, ops_of}
 use Rattle.update_scheduler.specs.Candidates.{items_of}
 use Rattle.update_scheduler.specs.Tried.{begun_by, tried}
 
--- no entries are no change
-pub with-none : (h : History) → with_entries h [] ≡ h
-with-none h = let same = append-nil h.entries in λ i. record { start = h.start; entries = same i }
-
 pub tried-none : (g : Followed) → tried g [] ≡ g
-tried-none g = let same = with-none g.history in λ i. record { rollout = g.rollout; history = same i }
+tried-none g = let same = with_none g.history in λ i. record { rollout = g.rollout; history = same i }
 
 -- The first item is tried, and then the others after what it has begun.
 pub begun-cons : (g : Followed) (n : ℕ) (ns : List ℕ) → begun_by g (n ∷ ns) ≡ begun_by g (n ∷ []) ++ begun_by (tried g (n ∷ [])) ns
 begun-cons g n ns = elim (cases_Bool (may_begin g.rollout.problem g.rollout.plan g.history (next_op g.history n))) as (λ c. begun_by g (n ∷ ns) ≡ begun_by g (n ∷ []) ++ begun_by (tried g (n ∷ [])) ns) [
   | inl may ↦ rw may refl
-  | inr stays ↦ rw stays (ap (λ h. begin_each g.rollout.problem g.rollout.plan h ns) (sym (with-none g.history)))
+  | inr stays ↦ rw stays (ap (λ h. begin_each g.rollout.problem g.rollout.plan h ns) (sym (with_none g.history)))
 ]
 
 pub tried-cons : (g : Followed) (n : ℕ) (ns : List ℕ) → tried g (n ∷ ns) ≡ tried (tried g (n ∷ [])) ns

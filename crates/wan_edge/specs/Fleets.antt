@@ -5,6 +5,27 @@ use Rattle.wan_edge.specs.Streams.{SinkTrace, SourceTrace}
 use Rattle.wan_edge.specs.declared.waited.Waited.{Waited}
 use Rattle.wan_edge.specs.declared.waited.Waited.TheVariants.{Came, NoMore, Seat}
 
+-- All that a fleet tells: the port that stands ready for each switch, and the guests still to be given, in order, each where they are told; the ports given
+-- back, by switch, and the guests given back, in order; whether the port of a switch was given and not given back; the name under which the port of a switch
+-- waits, where that is told, or by which it was last given; how many guests were given and not given back; and how often a call has failed.
+pub record FleetTrace (P G : Type 0) : Type 0 where
+  pub waiting : Option (ℕ → Option P)
+  pub coming : Option (List G)
+  pub kept : ℕ → Option P
+  pub served : List G
+  pub lent : ℕ → Bool
+  pub named : ℕ → Option (List ℕ)
+  pub visiting : ℕ
+  pub faults : ℕ
+
+-- of its guests all is as it was
+abbrev pub GuestsStay : {P G : Type 0} → FleetTrace P G → FleetTrace P G → Type 0
+GuestsStay before now = (now.coming ≡ before.coming) × (now.served ≡ before.served) × (now.visiting ≡ before.visiting)
+
+-- of its ports all is as it was
+abbrev pub PortsStay : {P G : Type 0} → FleetTrace P G → FleetTrace P G → Type 0
+PortsStay before now = (now.waiting ≡ before.waiting) × (now.kept ≡ before.kept) × (now.lent ≡ before.lent) × (now.named ≡ before.named)
+
 -- what stands at each number, the one at this number taken away
 abbrev pub without : {X : Type 0} → (ℕ → Option X) → ℕ → ℕ → Option X
 without places number = λ n. if n == number then None else places n

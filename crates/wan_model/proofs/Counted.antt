@@ -1,22 +1,14 @@
 -- Items by number: how many there are, and which entry a number is.
-use Rattle.std.proofs.Common.{◌≡◌, ℕ, zero, suc, ◌+◌, ◌-◌, ◌*◌, ◌^◌, ◌<◌, ◌≤◌, true, List, length, drop, get_or, lt-ltb, ltb-true, refl, sym, ◌∙◌, subst, arith}
+use Rattle.std.proofs.Common.{◌≡◌, ℕ, suc, ◌+◌, ◌-◌, ◌^◌, ◌<◌, ◌≤◌, true, List, length, drop, get_or, lt-ltb, ltb-true, refl, sym, ◌∙◌, subst, arith}
 use Rattle.std.proofs.lemmas.Bool.{le-ltb}
 use Rattle.std.proofs.lemmas.List.{at_drop_more, at_drop_all}
-use Rattle.rollout_rules.specs.Sums.{sum_below}
 use Rattle.rollout_rules.specs.Wan.{Problem, Tunnel, no_tunnel, hops}
 use Rattle.rollout_rules.specs.Network.{IsNetwork}
 use Rattle.rollout_rules.specs.Items.{is_item, item_count, item_at, number_of, entry_from}
 use Rattle.rollout_rules.specs.declared.item.Item.TheVariants as item
-use Rattle.rollout_rules.proofs.Below.{sum_below-up}
+use Rattle.rollout_rules.proofs.Below.{sum_below-most, sum_below-up}
 use Rattle.rollout_rules.proofs.Numbers.{is_item-item_at}
 use Rattle.rollout_rules.proofs.OverItems.{IsEntry, entry-is_item}
-
-sum_below-most : (n m : ℕ) (f : ℕ → ℕ) → ((k : ℕ) → k < n → f k ≤ m) → sum_below n f ≤ n * m
-sum_below-most zero m f le = omega arith
-sum_below-most (suc n) m f le = omega (arith, sum_below-most n m f (λ k lt. le k (omega arith)), le n (omega arith), suc_times)
-  where
-    suc_times : suc n * m ≡ n * m + m
-    suc_times = grind arith
 
 -- the number of a tunnel's first entry is small
 pub first-few : (p : Problem) (t : ℕ) → IsNetwork p → t ≤ length p.tunnels → number_of p (item.Entry t 0) < 2 ^ 20

@@ -6,14 +6,15 @@ use Rattle.rollout_rules.specs.Sums.{same_numbers}
 use Rattle.rollout_rules.specs.Wan.{Problem, Switch, Link, Flow, no_switch, no_link, no_flow, switch_at, link_at, flow_at}
 use Rattle.rollout_rules.specs.Network.{AreSwitches, AreLinks, AreFlows}
 use Rattle.rollout_rules.specs.Building.{find_switch, find_flow, find_link}
-use Rattle.wan_model.proofs.Positions.{same_numbers-refl, found_at, found_nowhere, same_name}
+use Rattle.rollout_rules.proofs.Alike.{same_numbers-is}
+use Rattle.wan_model.proofs.Positions.{same_numbers-refl, found_at, found_nowhere}
 
 module _ (p : Problem) where
   pub switch_found : (w : ℕ) → AreSwitches p → w < length p.switches → find_switch p (switch_at p w).name ≡ Some w
   switch_found w are lt =
       let test = λ (s : Switch). same_numbers s.name (switch_at p w).name in
       found_at test p.switches no_switch w lt (same_numbers-refl (switch_at p w).name)
-      (λ v before. false_from_ne_true _ (λ same. let one : v ≡ w = are.once v w (omega arith) lt (same_name _ _ same) in absurd (omega arith)))
+      (λ v before. false_from_ne_true _ (λ same. let one : v ≡ w = are.once v w (omega arith) lt (same_numbers-is _ _ same) in absurd (omega arith)))
 
   pub switch_is_new : (w : ℕ) → AreSwitches p → w < length p.switches → find_switch (record p { switches = take w p.switches }) (switch_at p w).name ≡ None
   switch_is_new w are lt =
@@ -21,7 +22,7 @@ module _ (p : Problem) where
       let len : length (take w p.switches) ≡ w = length-take-le w p.switches (omega arith) in
       found_nowhere test (take w p.switches) no_switch
       (λ v before. ap test (get_or-take w p.switches v no_switch (omega arith))
-      ∙ false_from_ne_true _ (λ same. let one : v ≡ w = are.once v w (omega arith) lt (same_name _ _ same) in absurd (omega arith)))
+      ∙ false_from_ne_true _ (λ same. let one : v ≡ w = are.once v w (omega arith) lt (same_numbers-is _ _ same) in absurd (omega arith)))
 
   pub flow_is_new : (f : ℕ) → AreFlows p → f < length p.flows → find_flow (record p { flows = take f p.flows }) (flow_at p f).name ≡ None
   flow_is_new f are lt =
@@ -29,7 +30,7 @@ module _ (p : Problem) where
       let len : length (take f p.flows) ≡ f = length-take-le f p.flows (omega arith) in
       found_nowhere test (take f p.flows) no_flow
       (λ g before. ap test (get_or-take f p.flows g no_flow (omega arith))
-      ∙ false_from_ne_true _ (λ same. let one : g ≡ f = are.once g f (omega arith) lt (same_name _ _ same) in absurd (omega arith)))
+      ∙ false_from_ne_true _ (λ same. let one : g ≡ f = are.once g f (omega arith) lt (same_numbers-is _ _ same) in absurd (omega arith)))
 
   -- whether a link has the ends of link l
   joins : ℕ → Link → Bool

@@ -4,7 +4,6 @@ use Rattle.std.proofs.Common.{◌≡◌, ℕ, suc, nat_lt, ◌+◌, ◌<◌, Boo
 use Rattle.std.proofs.lemmas.Bool.{cases_lt, cond-true, cond-false, le-ltb, or_from}
 use Rattle.std.proofs.lemmas.List.{length-map, map_push}
 use Rattle.std.proofs.lemmas.List.Sums.{fails_before_first, position_or_len_is}
-use Rattle.std.proofs.lemmas.Slice.Eq.{bytes_eq-Decides}
 use Rattle.std.proofs.lemmas.Option.{none-some}
 use Rattle.std.specs.List.{list_any, position_or_len}
 use Rattle.std.specs.Cmp.Lexicographic.{nat_list_eq_equiv}
@@ -63,9 +62,6 @@ same_numbers-bytes_eq (x ∷ xs) (y ∷ ys) = ap₂ (λ a b. a && b) (nat_eq_equ
 
 pub same_numbers-refl : (xs : List ℕ) → same_numbers xs xs ≡ true
 same_numbers-refl xs = same_numbers-bytes_eq xs xs ∙ nat_list_eq_equiv.refl xs
-
-pub same_name : (xs ys : List ℕ) → same_numbers xs ys ≡ true → xs ≡ ys
-same_name xs ys e = sym ((bytes_eq-Decides ys xs).0 (sym (same_numbers-bytes_eq xs ys) ∙ e))
 
 -- what a set of keys holds after an insert of one that it hasn't: that one after the others
 pub insert_key-absent : {K : Type 0} (eq : K → K → Bool) (keys : List K) (k : K) → position (eq k) keys ≡ None → insert_key eq keys k ≡ keys ++ k ∷ []

@@ -1,19 +1,15 @@
 -- A network with other rates is one still.
-use Rattle.std.proofs.Common.{◌≡◌, ℕ, zero, suc, ◌+◌, ◌-◌, ◌<◌, ◌≤◌, List, [], ◌∷◌, ◌++◌, length, map, get_or, slice_index, Option, None, inl, inr, refl, sym, ap, ◌∙◌, subst, arith, length-append}
+use Rattle.std.proofs.Common.{◌≡◌, ℕ, zero, suc, ◌+◌, ◌-◌, ◌<◌, List, [], ◌∷◌, length, map, get_or, slice_index, Option, None, inl, inr, sym, ap, ◌∙◌, subst, arith}
 use Rattle.std.proofs.lemmas.Bool.{cases_lt}
 use Rattle.std.proofs.lemmas.List.{get_or_append_left, get_or_push, ext_get_or, length-map, get_or-map}
 use Rattle.rollout_rules.specs.Sums.{list_below}
 use Rattle.rollout_rules.specs.Wan.{Problem, Tunnel, no_tunnel, flow_at, tunnel_at, tunnel_of}
 use Rattle.rollout_rules.specs.Network.{IsNetwork, IsPath, IsWidth, IsRate, IsTunnel}
-use Rattle.wan_model.specs.Rates.{rate_in, rated, with_rates, AreRates}
+use Rattle.rollout_rules.proofs.Rows.{list_below-length}
+use Rattle.wan_model.specs.Rates.{rated, with_rates, AreRates}
 use Rattle.wan_model.specs.Sides.{rate_on}
 use Rattle.wan_model.specs.declared.side.Side.{Side}
 use Rattle.wan_model.specs.declared.side.Side.TheVariants.{Old, New}
-
--- a list by numbers has so many elements, and each at its number
-pub list_below-length : {A : Type 0} (n : ℕ) (f : ℕ → A) → length (list_below n f) ≡ n
-list_below-length zero f = refl
-list_below-length (suc n) f = omega (arith, length-append (list_below n f) (f n ∷ []), list_below-length n f)
 
 pub list_below-at : {A : Type 0} (n : ℕ) (f : ℕ → A) (d : A) (k : ℕ) → k < n → get_or (list_below n f) k d ≡ f k
 list_below-at zero f d k lt = absurd (omega arith)

@@ -5,10 +5,12 @@
 //! without a name.
 #![tactic(auto)]
 
+mod names;
 mod peaks;
 mod spot;
 mod switch;
 
+pub use names::{Names, quoted};
 pub use peaks::{push_link_peak, push_table_peak};
 pub use spot::push_spot;
 pub use switch::{push_link, push_name, push_switch};

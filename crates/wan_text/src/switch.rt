@@ -87,7 +87,7 @@ pub fn push_name(alloc: Global, text: &mut Text, name: &str) -> Result<(), Memor
     Ok(())
 }
 
-fn quote(alloc: Global, name: &str) -> Result<String, Memory>
+pub(crate) fn quote(alloc: Global, name: &str) -> Result<String, Memory>
     ensures { IfOk result (λ s. string_bytes s ≡ name_text name.now) }
 {
     let value = Value::from(String::from_str(alloc, name)?);

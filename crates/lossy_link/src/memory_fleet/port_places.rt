@@ -138,7 +138,8 @@ impl<P: Drop> PortPlaces<P> {
         requires { IsSome (port_place_at self.old switch) }
         ensures waited { result ≡ waiting_at self.old switch }
         ensures updates { (n : ℕ)
-            → port_place_at self.new n ≡ (if n == switch then Some berth else port_place_at self.old n) }
+            → port_place_at self.new n
+            ≡ (if n == switch then Some berth else port_place_at self.old n) }
     {
         match self.set(switch, berth).unwrap() {
             Some(before) => before.port,
@@ -152,7 +153,8 @@ impl<P: Drop> PortPlaces<P> {
         ensures before { IfOk result (λ before. before ≡ port_place_at self.old switch) }
         ensures updates { OnOk result
             ((n : ℕ)
-            → port_place_at self.new n ≡ (if n == switch then Some berth else port_place_at self.old n)) }
+            → port_place_at self.new n
+            ≡ (if n == switch then Some berth else port_place_at self.old n)) }
         ensures err { OnErr result (self.new ≡ self.old) }
         ensures memory { OnErr result (port_place_at self.old switch ≡ None) }
         ensures succeeds { IsSome (port_place_at self.old switch) → IsOk result }

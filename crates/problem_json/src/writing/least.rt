@@ -4,12 +4,12 @@ ghost use Rattle.fraction_lp.specs.declared.proof.Proof.TheVariants as said;
 ghost use Rattle.problem_json.specs.Writing.{list_data};
 ghost use Rattle.problem_json.specs.WritingLeast.{sign_text, fraction_text, fraction_data, claim_data};
 
-use crate::names::quoted;
 use crate::writing::pieces::{push_comma, push_number};
 use fraction_lp::{Fraction, Proof};
 use lists::Memory;
 use std::alloc::Global;
 use text_writer::Pieces;
+use wan_text::quoted;
 
 /// Adds that so many rate steps are impossible, and what shows it. An Err is lack of memory for a fraction.
 pub fn push_claim<P: Pieces>(

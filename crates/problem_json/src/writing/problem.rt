@@ -3,14 +3,14 @@ ghost use Rattle.rollout_rules.specs.Sums.{list_below};
 ghost use Rattle.rollout_rules.specs.Wan.{Problem};
 ghost use Rattle.rollout_rules.specs.Network.{IsNetwork};
 ghost use Rattle.serde_json.specs.Written.{compact_text};
-ghost use Rattle.problem_json.specs.Writing.{quoted_name, switch_data, link_data, name_data, rate_data, tunnel_data, flow_data, list_data, problem_data, format_text, width_text};
-ghost use Rattle.problem_json.specs.WritingNames.{AreNamesOf};
+ghost use Rattle.problem_json.specs.Writing.{switch_data, link_data, name_data, rate_data, tunnel_data, flow_data, list_data, problem_data, format_text, width_text};
+ghost use Rattle.wan_text.specs.Named.{AreNamesOf, quoted_name};
 
-use crate::names::Names;
 use crate::writing::pieces::{push_comma, push_number};
 use lists::Text;
 use text_writer::Pieces;
 use wan_model::{Flow, Link, Problem, Switch, Tunnel};
+use wan_text::Names;
 
 /// Adds a problem, row by row.
 pub fn push_problem<P: Pieces>(text: &mut P, names: &Names, problem: &Problem)

@@ -1,7 +1,7 @@
 ghost use Rattle.std.specs.Prelude.{◌≡◌, ℕ, ◌≤◌, IfOk};
 ghost use Rattle.rollout_rules.specs.Wan.{last_stage};
 ghost use Rattle.rollback_plan.specs.Turning.{back};
-ghost use Rattle.text_commands.specs.Answers.{answer_in, documented, turned_back};
+ghost use Rattle.text_commands.specs.Answers.{answer_in, rollout_text, told_by, turned_back};
 ghost use Rattle.text_commands.specs.Runs.{Gives};
 ghost use Rattle.text_commands.specs.Safety.{IsTurned, IsValid, MayBeginBack, TurnsSafely};
 ghost use Rattle.text_commands.specs.Words.{the_way_back};
@@ -20,7 +20,7 @@ use wan_model::CheckedPlan;
 /// The command `back`: the rollout back, to the old split of the valid document that the bytes are. What is written is
 /// its document, and a line feed.
 pub fn back(alloc: Global, input: Nums8) -> Result<CheckedPlan, CommandEnd>
-    ensures gives { Gives (documented result) (answer_in the_way_back input) }
+    ensures gives { Gives (told_by rollout_text result) (answer_in the_way_back input) }
     ensures safe { IfOk result (λ rollout. TurnsSafely input) }
 {
     let document = read_input(alloc, input)?;
@@ -29,7 +29,7 @@ pub fn back(alloc: Global, input: Nums8) -> Result<CheckedPlan, CommandEnd>
 
 #[tactic(auto, using(crate::proofs::Documents::turning))]
 fn turned_back(alloc: Global, document: Document) -> Result<CheckedPlan, CommandEnd>
-    ensures gives { Gives (documented result) (turned_back document) }
+    ensures gives { Gives (told_by rollout_text result) (turned_back document) }
     ensures safe { IfOk result (λ rollout. IsTurned document.problem document.plan) }
 {
     let plan = check_document(alloc, document)?;

@@ -1,53 +1,60 @@
-ghost use Rattle.std.specs.Prelude.{◌≡◌, [], ◌∷◌, ◌++◌, Ok, IfOk};
+ghost use Rattle.std.specs.Prelude.{◌≡◌, ◌-◌, Ok, IfOk};
 ghost use Rattle.lp_proof.specs.RateSteps.{TakesAtLeast};
 ghost use Rattle.lp_proof.specs.Least.{least_of};
-ghost use Rattle.problem_json.specs.WritingLeast.{claimed_text};
-ghost use Rattle.text_commands.specs.Answers.{answer_in, chosen_by, least_planned, proved, shown_text, with_proof};
+ghost use Rattle.text_commands.specs.Answers.{answer_in, chosen_by, least_planned, proved, shown_document, told_by, with_proof};
 ghost use Rattle.text_commands.specs.Runs.{Gives};
 ghost use Rattle.text_commands.specs.Safety.{HasLeast, IsLeast, PlansLeast};
+ghost use Rattle.text_commands.specs.Shown.{plan_shown};
 ghost use Rattle.text_commands.specs.Words.{the_least};
 ghost use Rattle.text_commands.specs.declared.words.Planner.TheVariants.{Slack};
 
 use crate::command_end::CommandEnd;
+use crate::shown::ShownPlan;
 use crate::texts::check::one_less;
-use crate::texts::plan::{by_slack, every_rollout_is_safe, read_input};
+use crate::texts::plan::{by_slack, every_rollout_is_safe, plan_of, read_input};
 use crate::unshown::Unshown;
 use dependency_graph::checked_plan_is_valid;
-use lists::{Memory, Text};
 use lp_proof::{Least, Proof, prove_least, rate_steps};
-use problem_json::{Claim, write_claimed};
+use problem_json::Claim;
 use std::alloc::Global;
 use wan_edge::Nums8;
 use wan_model::{CheckedPlan, Problem};
 
-/// The command `least`: the document of the problem that the bytes are with the plan that is chosen for it
-/// and, at the key `least`, what shows that no plan has fewer rate steps, and a line feed.
-pub fn least(alloc: Global, input: Nums8) -> Result<Text, CommandEnd>
-    ensures gives { Gives result (answer_in the_least input) }
-    ensures safe { IfOk result (λ text. PlansLeast input) }
+/// The command `least`: the plan that is chosen for the problem that the bytes are, and what shows that no plan has
+/// fewer rate steps. What is written is its document with that at the key `least`, and a line feed.
+pub fn least(alloc: Global, input: Nums8) -> Result<ShownPlan, CommandEnd>
+    ensures gives { Gives (told_by plan_shown result) (answer_in the_least input) }
+    ensures safe { IfOk result (λ shown. PlansLeast input) }
 {
     let problem = read_input(alloc, input)?;
     plan_and_prove(alloc, problem)
 }
 
-fn plan_and_prove(alloc: Global, problem: Problem) -> Result<Text, CommandEnd>
-    ensures gives { Gives result (least_planned problem) }
-    ensures safe { IfOk result (λ text. IsLeast problem) }
+fn plan_and_prove(alloc: Global, problem: Problem) -> Result<ShownPlan, CommandEnd>
+    ensures gives { Gives (told_by plan_shown result) (least_planned problem) }
+    ensures safe { IfOk result (λ shown. IsLeast problem) }
 {
     let chosen = by_slack(alloc, problem)?;
     every_rollout_is_safe(&chosen.plan);
-    let text = prove_steps(alloc, &chosen.plan, chosen.rate_steps);
-    drop(chosen);
-    text
+    match prove_steps(alloc, &chosen.plan, chosen.rate_steps) {
+        Ok(claim) => Ok(ShownPlan {
+            plan: plan_of(chosen),
+            claim,
+        }),
+        Err(ending) => {
+            drop(chosen);
+            Err(ending)
+        }
+    }
 }
 
-/// The document of the plan that was chosen, where it has no more rate steps than were chosen, and it is shown
-/// that fewer are impossible.
-fn prove_steps(alloc: Global, plan: &CheckedPlan, q: u32) -> Result<Text, CommandEnd>
+/// What shows that fewer rate steps are impossible than were chosen, where the plan has no more.
+fn prove_steps(alloc: Global, plan: &CheckedPlan, q: u32) -> Result<Claim, CommandEnd>
     requires { chosen_by Slack plan.now.problem
         ≡ Ok (record { plan = plan.now.plan; rate_steps = q }) }
-    ensures gives { Gives result (proved plan.now.problem plan.now.plan q) }
-    ensures least { IfOk result (λ text. HasLeast plan.now.problem plan.now.plan) }
+    ensures gives { Gives (told_by (shown_document plan.now) result)
+        (proved plan.now.problem plan.now.plan q) }
+    ensures least { IfOk result (λ claim. HasLeast plan.now.problem plan.now.plan) }
 {
     let steps = rate_steps(plan);
     if steps > q {
@@ -57,16 +64,16 @@ fn prove_steps(alloc: Global, plan: &CheckedPlan, q: u32) -> Result<Text, Comman
 }
 
 /// The same, by what is found of the steps that were chosen.
-fn seek_proof(alloc: Global, plan: &CheckedPlan, q: u32) -> Result<Text, CommandEnd>
+fn seek_proof(alloc: Global, plan: &CheckedPlan, q: u32) -> Result<Claim, CommandEnd>
     requires { chosen_by Slack plan.now.problem
         ≡ Ok (record { plan = plan.now.plan; rate_steps = q }) }
-    ensures gives { Gives result
+    ensures gives { Gives (told_by (shown_document plan.now) result)
         (with_proof plan.now.problem plan.now.plan q (least_of plan.now.problem q)) }
-    ensures least { IfOk result (λ text. TakesAtLeast plan.now.problem q) }
+    ensures least { IfOk result (λ claim. TakesAtLeast plan.now.problem q) }
 {
     checked_plan_is_valid(plan);
     match prove_least(alloc, plan.problem(), q) {
-        Least::Shown(proof) => show_proof(alloc, plan, q, proof),
+        Least::Shown(proof) => Ok(claim_with(q, proof)),
         Least::Fewer(other) => {
             drop(other);
             Err(CommandEnd::Unshown(Unshown::Fewer))
@@ -82,22 +89,12 @@ fn seek_proof(alloc: Global, plan: &CheckedPlan, q: u32) -> Result<Text, Command
     }
 }
 
-/// The document of a plan with a proof that one rate step less than so many is impossible, and a line feed.
-fn show_proof(alloc: Global, plan: &CheckedPlan, q: u32, proof: Proof) -> Result<Text, CommandEnd>
-    ensures { Gives result (Ok (shown_text plan.now.problem plan.now.plan q proof)) }
+/// That one rate step less than so many is impossible, with its proof.
+fn claim_with(q: u32, proof: Proof) -> Claim
+    ensures { result ≡ record { steps = q - 1; proof = proof } }
 {
-    let claim = Claim {
+    Claim {
         steps: one_less(q),
         proof,
-    };
-    Ok(claimed_of(alloc, plan, &claim)?)
-}
-
-fn claimed_of(alloc: Global, plan: &CheckedPlan, claim: &Claim) -> Result<Text, Memory>
-    ensures { IfOk result
-        (λ text. text ≡ claimed_text plan.now.problem plan.now.plan claim.now ++ 10 ∷ []) }
-{
-    let mut text = write_claimed(alloc, plan.problem(), plan.plan(), claim)?;
-    text.push_str("\n")?;
-    Ok(text)
+    }
 }

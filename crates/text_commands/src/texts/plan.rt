@@ -2,7 +2,7 @@ ghost use Rattle.std.specs.Prelude.{◌≡◌, [], ◌∷◌, ◌++◌, IfOk};
 ghost use Rattle.problem_json.specs.Writing.{document_text};
 ghost use Rattle.problem_json.specs.Grammar.{problem_in};
 ghost use Rattle.problem_json.specs.GrammarResults.{Reads};
-ghost use Rattle.text_commands.specs.Answers.{answer_in, documented, planned, IsChosenBy};
+ghost use Rattle.text_commands.specs.Answers.{answer_in, planned, rollout_text, told_by, IsChosenBy};
 ghost use Rattle.text_commands.specs.Runs.{Gives};
 ghost use Rattle.text_commands.specs.Safety.{IsPlanned, IsSafePlan, IsValid, PlansSafely};
 ghost use Rattle.text_commands.specs.Words.{a_plan};
@@ -22,7 +22,7 @@ use wan_model::{CheckedPlan, Problem};
 /// The command `plan`: the plan that the planner chooses for the problem that the bytes are. What is written is its
 /// document, and a line feed.
 pub fn plan(alloc: Global, planner: Planner, input: Nums8) -> Result<CheckedPlan, CommandEnd>
-    ensures gives { Gives (documented result) (answer_in (a_plan planner) input) }
+    ensures gives { Gives (told_by rollout_text result) (answer_in (a_plan planner) input) }
     ensures safe { IfOk result (λ rollout. PlansSafely planner input) }
 {
     let problem = read_input(alloc, input)?;
@@ -37,7 +37,7 @@ pub fn read_input(alloc: Global, input: Nums8) -> Result<Problem, InputFault>
 }
 
 fn plan_text(alloc: Global, planner: Planner, problem: Problem) -> Result<CheckedPlan, CommandEnd>
-    ensures gives { Gives (documented result) (planned planner problem) }
+    ensures gives { Gives (told_by rollout_text result) (planned planner problem) }
     ensures safe { IfOk result (λ rollout. IsPlanned planner problem) }
 {
     let chosen = chosen_by(alloc, planner, problem)?;
@@ -45,7 +45,8 @@ fn plan_text(alloc: Global, planner: Planner, problem: Problem) -> Result<Checke
     Ok(plan_of(chosen))
 }
 
-fn plan_of(chosen: Chosen) -> CheckedPlan
+/// The plan that was chosen, without the number of its rate steps.
+pub fn plan_of(chosen: Chosen) -> CheckedPlan
     ensures { result ≡ chosen.plan }
 {
     let Chosen {

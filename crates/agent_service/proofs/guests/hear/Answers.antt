@@ -1,5 +1,5 @@
 use Rattle.std.proofs.Common.{inr, length, refl, ap, arith}
-use Rattle.agent_service.specs.Services.{HearsOne, table_of}
+use Rattle.agent_service.specs.Services.{HearsOne, guests_of, table_of}
 use Rattle.agent_service.specs.declared.service.ServiceFault.TheVariants.{Memory}
 use Rattle.agent_service.proofs.Rows.{length_removed, not_fleet, rooms_removed, settled_is}
 use Rattle.agent_service.proofs.guests.hear.Goals as goal
@@ -30,8 +30,8 @@ settle-now-requires-clause-visiting g c = omega (arith, c.requires.place, c.requ
 
 pub returns-then-wants_room-clause-stops : goal.returns-then-wants_room-clause-stops
 returns-then-wants_room-clause-stops g c =
-    let before = table_of c.args.agent.now c.args.seated.now.items c.args.talks.now.items (record { coming = g.F.Fleet.coming c.args.fleet.now; served = g.F.Fleet.served c.args.fleet.now }) c.args.service in
-    let hears_one : HearsOne (record { source = g.F.Guest.Source.told; sink = g.F.Guest.Sink.told }) before c.serve_read-heard.result (table_of c.serve_read-heard.new.agent c.settle-now.new.seated.items c.settle-now.new.talks.items (record { coming = g.F.Fleet.coming c.settle-now.new.fleet; served = g.F.Fleet.served c.settle-now.new.fleet }) c.settle-now.result) = record {
+    let before = table_of c.args.agent.now c.args.seated.now.items c.args.talks.now.items (guests_of (g.F.Fleet.told c.args.fleet.now)) c.args.service in
+    let hears_one : HearsOne (record { source = g.F.Guest.Source.told; sink = g.F.Guest.Sink.told }) before c.serve_read-heard.result (table_of c.serve_read-heard.new.agent c.settle-now.new.seated.items c.settle-now.new.talks.items (guests_of (g.F.Fleet.told c.settle-now.new.fleet)) c.settle-now.result) = record {
       place = c.args.place;
       guest = c.remove-guest.result;
       talk = c.remove-talk.result;
@@ -45,7 +45,7 @@ returns-then-wants_room-clause-stops g c =
       write_cause = c.serve_read-heard.ensures.write_cause;
       few = c.keeps_few_items.ensures.few;
       behind = settled_is before c.args.place c.serve_read-heard.new.agent c.serve_read-heard.new.guest c.serve_read-heard.result c.remove-guest.new.self.items c.settle-now.new.seated.items c.remove-talk.new.self.items c.settle-now.new.talks.items
-          (g.F.Fleet.coming c.settle-now.new.fleet) (g.F.Fleet.served c.settle-now.new.fleet) c.settle-now.result c.remove-guest.ensures.items c.remove-talk.ensures.items c.settle-now.ensures.seated c.settle-now.ensures.talks
+          (g.F.Fleet.told c.settle-now.new.fleet).coming (g.F.Fleet.told c.settle-now.new.fleet).served c.settle-now.result c.remove-guest.ensures.items c.remove-talk.ensures.items c.settle-now.ensures.seated c.settle-now.ensures.talks
           c.settle-now.ensures.coming c.settle-now.ensures.back c.settle-now.ensures.counted;
     } in
     (c.serve_read-heard.result, c.settle-now.result, c.wants_room.ensures.yes c.if-wants_room.true, hears_one)
@@ -59,8 +59,8 @@ returns-then-wants_room-clause-visiting g c =
 
 pub returns-clause-turn : goal.returns-clause-turn
 returns-clause-turn g c =
-    let before = table_of c.args.agent.now c.args.seated.now.items c.args.talks.now.items (record { coming = g.F.Fleet.coming c.args.fleet.now; served = g.F.Fleet.served c.args.fleet.now }) c.args.service in
-    let hears_one : HearsOne (record { source = g.F.Guest.Source.told; sink = g.F.Guest.Sink.told }) before c.serve_read-heard.result (table_of c.serve_read-heard.new.agent c.settle-now.new.seated.items c.settle-now.new.talks.items (record { coming = g.F.Fleet.coming c.settle-now.new.fleet; served = g.F.Fleet.served c.settle-now.new.fleet }) c.settle-now.result) = record {
+    let before = table_of c.args.agent.now c.args.seated.now.items c.args.talks.now.items (guests_of (g.F.Fleet.told c.args.fleet.now)) c.args.service in
+    let hears_one : HearsOne (record { source = g.F.Guest.Source.told; sink = g.F.Guest.Sink.told }) before c.serve_read-heard.result (table_of c.serve_read-heard.new.agent c.settle-now.new.seated.items c.settle-now.new.talks.items (guests_of (g.F.Fleet.told c.settle-now.new.fleet)) c.settle-now.result) = record {
       place = c.args.place;
       guest = c.remove-guest.result;
       talk = c.remove-talk.result;
@@ -74,7 +74,7 @@ returns-clause-turn g c =
       write_cause = c.serve_read-heard.ensures.write_cause;
       few = c.keeps_few_items.ensures.few;
       behind = settled_is before c.args.place c.serve_read-heard.new.agent c.serve_read-heard.new.guest c.serve_read-heard.result c.remove-guest.new.self.items c.settle-now.new.seated.items c.remove-talk.new.self.items c.settle-now.new.talks.items
-          (g.F.Fleet.coming c.settle-now.new.fleet) (g.F.Fleet.served c.settle-now.new.fleet) c.settle-now.result c.remove-guest.ensures.items c.remove-talk.ensures.items c.settle-now.ensures.seated c.settle-now.ensures.talks
+          (g.F.Fleet.told c.settle-now.new.fleet).coming (g.F.Fleet.told c.settle-now.new.fleet).served c.settle-now.result c.remove-guest.ensures.items c.remove-talk.ensures.items c.settle-now.ensures.seated c.settle-now.ensures.talks
           c.settle-now.ensures.coming c.settle-now.ensures.back c.settle-now.ensures.counted;
     } in
     inr (record { heard = c.serve_read-heard.result; found = c.wants_room.ensures.no c.if-wants_room.false; hears = hears_one })

@@ -1,5 +1,5 @@
 use Rattle.std.proofs.Common.{◌∙◌, [], refl, sym, ap₂, inl, arith}
-use Rattle.agent_service.specs.Services.{after_leaving, first_table}
+use Rattle.agent_service.specs.Services.{after_leaving, first_table, guests_of}
 use Rattle.agent_service.specs.declared.service.ServiceFault.TheVariants.{Memory}
 use Rattle.agent_service.proofs.Rows.{cause_until, not_fleet}
 use Rattle.agent_service.proofs.guests.serve_with.Goals as goal
@@ -25,12 +25,12 @@ pub returns-in-Ok-clause-visiting : goal.returns-in-Ok-clause-visiting
 returns-in-Ok-clause-visiting g c = omega (arith, c.keep_seated.ensures.visiting, c.serve_seated-answer.ensures.visiting)
 
 pub returns-in-Ok-clause-cause : goal.returns-in-Ok-clause-cause
-returns-in-Ok-clause-cause g c = cause_until c.serve_seated-answer.result (g.F.Fleet.faults c.args.fleet.now) (g.F.Fleet.faults c.serve_seated-answer.new.fleet) (g.F.Fleet.faults c.keep_seated.new.fleet) c.keep_seated.ensures.count c.serve_seated-answer.ensures.cause
+returns-in-Ok-clause-cause g c = cause_until c.serve_seated-answer.result (g.F.Fleet.told c.args.fleet.now).faults (g.F.Fleet.told c.serve_seated-answer.new.fleet).faults (g.F.Fleet.told c.keep_seated.new.fleet).faults c.keep_seated.ensures.count c.serve_seated-answer.ensures.cause
 
 -- no memory was found for the seats
 pub returns-in-Err-clause-served : goal.returns-in-Err-clause-served
 returns-in-Err-clause-served g c =
-    let first = first_table c.args.agent.now (record { coming = g.F.Fleet.coming c.args.fleet.now; served = g.F.Fleet.served c.args.fleet.now }) in
+    let first = first_table c.args.agent.now (guests_of (g.F.Fleet.told c.args.fleet.now)) in
     record { course = []; end = first; last = first; goes = refl; ends = inl (refl, refl); coming = refl; back = refl }
 
 pub returns-in-Err-clause-cause : goal.returns-in-Err-clause-cause

@@ -1,14 +1,14 @@
 use Rattle.std.proofs.Common.{◌≡◌, ◌∙◌, None, length, vec_capacity, ap, refl, rules, arith}
 use Rattle.fenced_agent.specs.Agents.{fenced_holding}
-use Rattle.agent_service.specs.Services.{counted, first_table, table_of}
+use Rattle.agent_service.specs.Services.{counted, first_table, guests_of, table_of}
 use Rattle.agent_service.proofs.KeptRows.{all_kept, come_on, come_still, next_durable, none_durable, none_kept, turn_kept}
 use Rattle.agent_service.proofs.Rows.{no_turn, nobody_even, nobody_seated, seats_of, turn_lighter, turn_more}
 use Rattle.agent_service.proofs.kept.keep_each.Goals as goal
 
 pub loop-service-init : goal.loop-service-init
 loop-service-init g c = record {
-  so_far = no_turn _ _ _ (nobody_seated c.args.agent.now c.args.seated.now.items c.args.talks.now.items (record { coming = g.F.Fleet.coming c.args.fleet.now; served = g.F.Fleet.served c.args.fleet.now }) c.requires.nobody.0 c.requires.nobody.1);
-  even = nobody_even c.args.agent.now c.args.seated.now.items c.args.talks.now.items (record { coming = g.F.Fleet.coming c.args.fleet.now; served = g.F.Fleet.served c.args.fleet.now }) c.requires.nobody.0 c.requires.nobody.1;
+  so_far = no_turn _ _ _ (nobody_seated c.args.agent.now c.args.seated.now.items c.args.talks.now.items (guests_of (g.F.Fleet.told c.args.fleet.now)) c.requires.nobody.0 c.requires.nobody.1);
+  even = nobody_even c.args.agent.now c.args.seated.now.items c.args.talks.now.items (guests_of (g.F.Fleet.told c.args.fleet.now)) c.requires.nobody.0 c.requires.nobody.1;
   within = omega arith;
   guest_room = c.requires.places.0;
   talk_room = c.requires.places.1;
@@ -27,8 +27,8 @@ loop-service-init g c = record {
 pub keep_turn-requires-clause-seats : goal.keep_turn-requires-clause-seats
 keep_turn-requires-clause-seats g c =
     let i = c.loop-service.invariant in
-    let table = table_of c.loop-service.agent c.loop-service.seated.items c.loop-service.talks.items (record { coming = g.F.Fleet.coming c.loop-service.fleet; served = g.F.Fleet.served c.loop-service.fleet }) c.loop-service.service in
-    seats_of table (vec_capacity c.loop-service.seated) (vec_capacity c.loop-service.talks) (g.F.Fleet.visiting c.loop-service.fleet) c.args.guests i.even i.guest_room i.talk_room (omega (arith, i.visiting)) (omega (arith, c.loop-service-test)) (omega (arith, c.ranges.guests.fits))
+    let table = table_of c.loop-service.agent c.loop-service.seated.items c.loop-service.talks.items (guests_of (g.F.Fleet.told c.loop-service.fleet)) c.loop-service.service in
+    seats_of table (vec_capacity c.loop-service.seated) (vec_capacity c.loop-service.talks) (g.F.Fleet.told c.loop-service.fleet).visiting c.args.guests i.even i.guest_room i.talk_room (omega (arith, i.visiting)) (omega (arith, c.loop-service-test)) (omega (arith, c.ranges.guests.fits))
 
 pub keep_turn-requires-clause-kept : goal.keep_turn-requires-clause-kept
 keep_turn-requires-clause-kept g c = c.loop-service.invariant.kept
@@ -36,20 +36,20 @@ keep_turn-requires-clause-kept g c = c.loop-service.invariant.kept
 pub loop-service-preserved : goal.loop-service-preserved
 loop-service-preserved g c =
     let i = c.loop-service.invariant in
-    let before = table_of c.loop-service.agent c.loop-service.seated.items c.loop-service.talks.items (record { coming = g.F.Fleet.coming c.loop-service.fleet; served = g.F.Fleet.served c.loop-service.fleet }) c.loop-service.service in
-    let now = table_of c.keep_turn.new.agent c.keep_turn.new.seated.items c.keep_turn.new.talks.items (record { coming = g.F.Fleet.coming c.keep_turn.new.fleet; served = g.F.Fleet.served c.keep_turn.new.fleet }) c.loop-service.service in
+    let before = table_of c.loop-service.agent c.loop-service.seated.items c.loop-service.talks.items (guests_of (g.F.Fleet.told c.loop-service.fleet)) c.loop-service.service in
+    let now = table_of c.keep_turn.new.agent c.keep_turn.new.seated.items c.keep_turn.new.talks.items (guests_of (g.F.Fleet.told c.keep_turn.new.fleet)) c.loop-service.service in
     let found = c.in_ok-next.next in
     let kept = c.in-Some.kept in
     let next = turn_kept (record { source = g.F.Guest.Source.told; sink = g.F.Guest.Sink.told }) before now found kept c.in-Some.is c.in_ok-next.ensures.turn in
     let lightens = turn_lighter (record { source = g.F.Guest.Source.told; sink = g.F.Guest.Sink.told }) before (counted now kept.1) i.even next in
     record {
-      so_far = turn_more (record { source = g.F.Guest.Source.told; sink = g.F.Guest.Sink.told }) (first_table c.args.agent.now (record { coming = g.F.Fleet.coming c.args.fleet.now; served = g.F.Fleet.served c.args.fleet.now })) before (counted now kept.1) i.so_far next;
+      so_far = turn_more (record { source = g.F.Guest.Source.told; sink = g.F.Guest.Sink.told }) (first_table c.args.agent.now (guests_of (g.F.Fleet.told c.args.fleet.now))) before (counted now kept.1) i.so_far next;
       even = lightens.keeps;
       within = omega (arith, lightens.one, c.loop-service-test);
       guest_room = omega (arith, i.guest_room, c.keep_turn.ensures.places.0);
       talk_room = omega (arith, i.talk_room, c.keep_turn.ensures.places.1);
       kept = next_durable (g.D.Disk.told c.keep_turn.new.disk) c.loop-service.here found kept (fenced_holding c.keep_turn.new.agent) c.in-Some.is c.in_ok-next.ensures.kept;
-      run = come_on g.D.Disk.told c.args.disk.now c.loop-service.disk c.keep_turn.new.disk (record { source = g.F.Guest.Source.told; sink = g.F.Guest.Sink.told }) (first_table c.args.agent.now (record { coming = g.F.Fleet.coming c.args.fleet.now; served = g.F.Fleet.served c.args.fleet.now })) before i.so_far i.told (g.met.D.Disk.shows_one c.loop-service.disk) (g.met.D.Disk.counts_now c.loop-service.disk) i.run c.keep_turn.ensures.any_moment;
+      run = come_on g.D.Disk.told c.args.disk.now c.loop-service.disk c.keep_turn.new.disk (record { source = g.F.Guest.Source.told; sink = g.F.Guest.Sink.told }) (first_table c.args.agent.now (guests_of (g.F.Fleet.told c.args.fleet.now))) before i.so_far i.told (g.met.D.Disk.shows_one c.loop-service.disk) (g.met.D.Disk.counts_now c.loop-service.disk) i.run c.keep_turn.ensures.any_moment;
       told = c.keep_turn.ensures.told ∙ i.told;
       visiting = omega (arith, i.visiting, c.keep_turn.ensures.visiting);
       waiting = c.keep_turn.ensures.ports.0 ∙ i.waiting;
@@ -62,8 +62,8 @@ loop-service-preserved g c =
 
 pub loop-service-smaller : goal.loop-service-smaller
 loop-service-smaller g c =
-    let before = table_of c.loop-service.agent c.loop-service.seated.items c.loop-service.talks.items (record { coming = g.F.Fleet.coming c.loop-service.fleet; served = g.F.Fleet.served c.loop-service.fleet }) c.loop-service.service in
-    let now = table_of c.keep_turn.new.agent c.keep_turn.new.seated.items c.keep_turn.new.talks.items (record { coming = g.F.Fleet.coming c.keep_turn.new.fleet; served = g.F.Fleet.served c.keep_turn.new.fleet }) c.loop-service.service in
+    let before = table_of c.loop-service.agent c.loop-service.seated.items c.loop-service.talks.items (guests_of (g.F.Fleet.told c.loop-service.fleet)) c.loop-service.service in
+    let now = table_of c.keep_turn.new.agent c.keep_turn.new.seated.items c.keep_turn.new.talks.items (guests_of (g.F.Fleet.told c.keep_turn.new.fleet)) c.loop-service.service in
     let kept = c.in-Some.kept in
     let next = turn_kept (record { source = g.F.Guest.Source.told; sink = g.F.Guest.Sink.told }) before now c.in_ok-next.next kept c.in-Some.is c.in_ok-next.ensures.turn in
     let lightens = turn_lighter (record { source = g.F.Guest.Source.told; sink = g.F.Guest.Sink.told }) before (counted now kept.1) c.loop-service.invariant.even next in
@@ -73,7 +73,7 @@ loop-service-smaller g c =
 pub returns-in_err-next-clause-any_moment : goal.returns-in_err-next-clause-any_moment
 returns-in_err-next-clause-any_moment g c =
     let i = c.loop-service.invariant in
-    come_on g.D.Disk.told c.args.disk.now c.loop-service.disk c.keep_turn.new.disk (record { source = g.F.Guest.Source.told; sink = g.F.Guest.Sink.told }) (first_table c.args.agent.now (record { coming = g.F.Fleet.coming c.args.fleet.now; served = g.F.Fleet.served c.args.fleet.now })) (table_of c.loop-service.agent c.loop-service.seated.items c.loop-service.talks.items (record { coming = g.F.Fleet.coming c.loop-service.fleet; served = g.F.Fleet.served c.loop-service.fleet }) c.loop-service.service)
+    come_on g.D.Disk.told c.args.disk.now c.loop-service.disk c.keep_turn.new.disk (record { source = g.F.Guest.Source.told; sink = g.F.Guest.Sink.told }) (first_table c.args.agent.now (guests_of (g.F.Fleet.told c.args.fleet.now))) (table_of c.loop-service.agent c.loop-service.seated.items c.loop-service.talks.items (guests_of (g.F.Fleet.told c.loop-service.fleet)) c.loop-service.service)
     i.so_far i.told (g.met.D.Disk.shows_one c.loop-service.disk) (g.met.D.Disk.counts_now c.loop-service.disk) i.run c.keep_turn.ensures.any_moment
 
 pub returns-in_err-next-clause-visiting : goal.returns-in_err-next-clause-visiting
@@ -83,15 +83,15 @@ returns-in_err-next-clause-visiting g c = omega (arith, c.loop-service.invariant
 pub returns-in_default-clause-any_moment : goal.returns-in_default-clause-any_moment
 returns-in_default-clause-any_moment g c =
     let i = c.loop-service.invariant in
-    come_on g.D.Disk.told c.args.disk.now c.loop-service.disk c.keep_turn.new.disk (record { source = g.F.Guest.Source.told; sink = g.F.Guest.Sink.told }) (first_table c.args.agent.now (record { coming = g.F.Fleet.coming c.args.fleet.now; served = g.F.Fleet.served c.args.fleet.now })) (table_of c.loop-service.agent c.loop-service.seated.items c.loop-service.talks.items (record { coming = g.F.Fleet.coming c.loop-service.fleet; served = g.F.Fleet.served c.loop-service.fleet }) c.loop-service.service)
+    come_on g.D.Disk.told c.args.disk.now c.loop-service.disk c.keep_turn.new.disk (record { source = g.F.Guest.Source.told; sink = g.F.Guest.Sink.told }) (first_table c.args.agent.now (guests_of (g.F.Fleet.told c.args.fleet.now))) (table_of c.loop-service.agent c.loop-service.seated.items c.loop-service.talks.items (guests_of (g.F.Fleet.told c.loop-service.fleet)) c.loop-service.service)
     i.so_far i.told (g.met.D.Disk.shows_one c.loop-service.disk) (g.met.D.Disk.counts_now c.loop-service.disk) i.run c.keep_turn.ensures.any_moment
 
 pub returns-in_default-clause-keeps : goal.returns-in_default-clause-keeps
 returns-in_default-clause-keeps g c =
     let found = c.in_ok-next.next in
     let none : found ≡ None = search rules in
-    none_kept (record { source = g.F.Guest.Source.told; sink = g.F.Guest.Sink.told }) (first_table c.args.agent.now (record { coming = g.F.Fleet.coming c.args.fleet.now; served = g.F.Fleet.served c.args.fleet.now })) (table_of c.loop-service.agent c.loop-service.seated.items c.loop-service.talks.items (record { coming = g.F.Fleet.coming c.loop-service.fleet; served = g.F.Fleet.served c.loop-service.fleet }) c.loop-service.service)
-    (table_of c.keep_turn.new.agent c.keep_turn.new.seated.items c.keep_turn.new.talks.items (record { coming = g.F.Fleet.coming c.keep_turn.new.fleet; served = g.F.Fleet.served c.keep_turn.new.fleet }) c.loop-service.service) c.args.guests found c.loop-service.invariant.so_far (omega (arith, c.loop-service-test)) none c.in_ok-next.ensures.turn
+    none_kept (record { source = g.F.Guest.Source.told; sink = g.F.Guest.Sink.told }) (first_table c.args.agent.now (guests_of (g.F.Fleet.told c.args.fleet.now))) (table_of c.loop-service.agent c.loop-service.seated.items c.loop-service.talks.items (guests_of (g.F.Fleet.told c.loop-service.fleet)) c.loop-service.service)
+    (table_of c.keep_turn.new.agent c.keep_turn.new.seated.items c.keep_turn.new.talks.items (guests_of (g.F.Fleet.told c.keep_turn.new.fleet)) c.loop-service.service) c.args.guests found c.loop-service.invariant.so_far (omega (arith, c.loop-service-test)) none c.in_ok-next.ensures.turn
 
 pub returns-in_default-clause-durable : goal.returns-in_default-clause-durable
 returns-in_default-clause-durable g c =
@@ -104,7 +104,7 @@ returns-in_default-clause-visiting g c = omega (arith, c.loop-service.invariant.
 
 -- all that were asked for were served
 pub returns-clause-keeps : goal.returns-clause-keeps
-returns-clause-keeps g c = all_kept (record { source = g.F.Guest.Source.told; sink = g.F.Guest.Sink.told }) (first_table c.args.agent.now (record { coming = g.F.Fleet.coming c.args.fleet.now; served = g.F.Fleet.served c.args.fleet.now })) (table_of c.loop-service.agent c.loop-service.seated.items c.loop-service.talks.items (record { coming = g.F.Fleet.coming c.loop-service.fleet; served = g.F.Fleet.served c.loop-service.fleet }) c.loop-service.service) c.args.guests c.loop-service.invariant.so_far c.loop-service.invariant.within (omega (arith, c.loop-service-test))
+returns-clause-keeps g c = all_kept (record { source = g.F.Guest.Source.told; sink = g.F.Guest.Sink.told }) (first_table c.args.agent.now (guests_of (g.F.Fleet.told c.args.fleet.now))) (table_of c.loop-service.agent c.loop-service.seated.items c.loop-service.talks.items (guests_of (g.F.Fleet.told c.loop-service.fleet)) c.loop-service.service) c.args.guests c.loop-service.invariant.so_far c.loop-service.invariant.within (omega (arith, c.loop-service-test))
 
 pub returns-clause-durable : goal.returns-clause-durable
 returns-clause-durable g c = (c.loop-service.here, c.loop-service.invariant.kept)

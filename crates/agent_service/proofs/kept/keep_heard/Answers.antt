@@ -3,7 +3,7 @@ use Rattle.fenced_agent.specs.Agents.{fenced_holding}
 use Rattle.switch_agent.specs.declared.serve_fault.ServeFault.TheVariants.{Memory}
 use Rattle.agent_state.specs.declared.place.Place.{Place}
 use Rattle.agent_service.specs.KeptServices.{IsKeptBehind, KeepsTurn}
-use Rattle.agent_service.specs.Services.{HearsOne, count_behind, table_of}
+use Rattle.agent_service.specs.Services.{HearsOne, count_behind, guests_of, table_of}
 use Rattle.agent_service.specs.declared.service.Service.{Service}
 use Rattle.agent_service.proofs.KeptRows.{no_room_stops, settled_kept}
 use Rattle.agent_service.proofs.Rows.{length_removed, rooms_removed, settled_is}
@@ -37,9 +37,9 @@ keep_settled-requires-clause-visiting g c = omega (arith, c.requires.at, c.requi
 pub returns-in-Ok-clause-turn : goal.returns-in-Ok-clause-turn
 returns-in-Ok-clause-turn g c =
     let heard = c.in-Ok.read.1 in
-    let before = table_of c.args.agent.now c.args.seated.now.items c.args.talks.now.items (record { coming = g.F.Fleet.coming c.args.fleet.now; served = g.F.Fleet.served c.args.fleet.now }) c.args.service in
-    let now = table_of c.serve_kept.new.agent c.keep_settled.new.seated.items c.keep_settled.new.talks.items (record { coming = g.F.Fleet.coming c.keep_settled.new.fleet; served = g.F.Fleet.served c.keep_settled.new.fleet }) c.args.service in
-    let hears_one : HearsOne (record { source = g.F.Guest.Source.told; sink = g.F.Guest.Sink.told }) before heard (table_of c.serve_kept.new.agent c.keep_settled.new.seated.items c.keep_settled.new.talks.items (record { coming = g.F.Fleet.coming c.keep_settled.new.fleet; served = g.F.Fleet.served c.keep_settled.new.fleet }) (count_behind c.args.service heard.served heard.talk)) = record {
+    let before = table_of c.args.agent.now c.args.seated.now.items c.args.talks.now.items (guests_of (g.F.Fleet.told c.args.fleet.now)) c.args.service in
+    let now = table_of c.serve_kept.new.agent c.keep_settled.new.seated.items c.keep_settled.new.talks.items (guests_of (g.F.Fleet.told c.keep_settled.new.fleet)) c.args.service in
+    let hears_one : HearsOne (record { source = g.F.Guest.Source.told; sink = g.F.Guest.Sink.told }) before heard (table_of c.serve_kept.new.agent c.keep_settled.new.seated.items c.keep_settled.new.talks.items (guests_of (g.F.Fleet.told c.keep_settled.new.fleet)) (count_behind c.args.service heard.served heard.talk)) = record {
       place = c.args.at;
       guest = c.remove-guest.result;
       talk = c.remove-talk.result;
@@ -53,7 +53,7 @@ returns-in-Ok-clause-turn g c =
       write_cause = c.in-Ok.ensures.write_cause;
       few = c.keeps_few_items.ensures.few;
       behind = settled_is before c.args.at c.serve_kept.new.agent c.serve_kept.new.guest heard c.remove-guest.new.self.items c.keep_settled.new.seated.items c.remove-talk.new.self.items c.keep_settled.new.talks.items
-          (g.F.Fleet.coming c.keep_settled.new.fleet) (g.F.Fleet.served c.keep_settled.new.fleet) (count_behind c.args.service heard.served heard.talk) c.remove-guest.ensures.items c.remove-talk.ensures.items c.keep_settled.ensures.seated c.keep_settled.ensures.talks
+          (g.F.Fleet.told c.keep_settled.new.fleet).coming (g.F.Fleet.told c.keep_settled.new.fleet).served (count_behind c.args.service heard.served heard.talk) c.remove-guest.ensures.items c.remove-talk.ensures.items c.keep_settled.ensures.seated c.keep_settled.ensures.talks
           c.keep_settled.ensures.coming c.keep_settled.ensures.back refl;
     } in
     settled_kept c.keep_settled.result c.in-Ok.read.0 (count_behind c.args.service heard.served heard.talk) (heard.served.fault ≢ Some Memory) (λ (found : Option (Place × Service)). KeepsTurn (record { source = g.F.Guest.Source.told; sink = g.F.Guest.Sink.told }) before found now) c.keep_settled.ensures.found
@@ -70,7 +70,7 @@ returns-in-Ok-clause-visiting g c = omega (arith, c.keep_settled.ensures.visitin
 
 pub returns-in-Ok-clause-cause : goal.returns-in-Ok-clause-cause
 returns-in-Ok-clause-cause g c =
-    no_room_stops c.keep_settled.result (g.F.Fleet.faults c.args.fleet.now) (g.F.Fleet.faults c.keep_settled.new.fleet) (g.D.Disk.told c.args.disk.now).faults (g.D.Disk.told c.serve_kept.new.disk).faults c.keep_settled.ensures.stops
+    no_room_stops c.keep_settled.result (g.F.Fleet.told c.args.fleet.now).faults (g.F.Fleet.told c.keep_settled.new.fleet).faults (g.D.Disk.told c.args.disk.now).faults (g.D.Disk.told c.serve_kept.new.disk).faults c.keep_settled.ensures.stops
 
 -- the file failed: the guest was given back
 pub keep_guest-requires : goal.keep_guest-requires

@@ -1,5 +1,5 @@
 use Rattle.fenced_agent.specs.Agents.{fenced_holding}
-use Rattle.agent_service.specs.Services.{table_of}
+use Rattle.agent_service.specs.Services.{guests_of, table_of}
 use Rattle.agent_service.proofs.KeptRows.{come_still, seats_durable, seats_kept}
 use Rattle.agent_service.proofs.kept.keep_next.Goals as goal
 
@@ -23,8 +23,8 @@ sit_down-requires-clause-visiting g c = c.requires.seats.known
 
 pub returns-in-Ok-clause-turn : goal.returns-in-Ok-clause-turn
 returns-in-Ok-clause-turn g c =
-    let before = table_of c.args.agent.now c.args.seated.now.items c.args.talks.now.items (record { coming = g.F.Fleet.coming c.args.fleet.now; served = g.F.Fleet.served c.args.fleet.now }) c.args.service in
-    let now = table_of c.args.agent.now c.sit_down.new.seated.items c.sit_down.new.talks.items (record { coming = g.F.Fleet.coming c.sit_down.new.fleet; served = g.F.Fleet.served c.sit_down.new.fleet }) c.args.service in
+    let before = table_of c.args.agent.now c.args.seated.now.items c.args.talks.now.items (guests_of (g.F.Fleet.told c.args.fleet.now)) c.args.service in
+    let now = table_of c.args.agent.now c.sit_down.new.seated.items c.sit_down.new.talks.items (guests_of (g.F.Fleet.told c.sit_down.new.fleet)) c.args.service in
     seats_kept (record { source = g.F.Guest.Source.told; sink = g.F.Guest.Sink.told }) before now c.args.place c.in-Ok.found c.with_place.result c.with_place.ensures c.requires.comes (c.in-Ok.ensures.sits c.args.agent.now)
 
 pub returns-in-Ok-clause-kept : goal.returns-in-Ok-clause-kept

@@ -12,7 +12,7 @@ loop-guest-preserved g c =
     let i = c.loop-guest.invariant in
     let parts = c.in-Some.ensures.items in
     let long = length_push c.pop.new.self.items c.in-Some.guest in
-    let served = g.F.Fleet.served c.loop-guest.fleet in
+    let served = (g.F.Fleet.told c.loop-guest.fleet).served in
     record {
       back = ap (λ (back : List _). after_leaving back c.pop.new.self.items) c.keep_guest.ensures.back ∙ sym (leaving_push served c.pop.new.self.items c.in-Some.guest) ∙ sym (ap (after_leaving served) parts) ∙ i.back;
       visiting = omega (arith, i.visiting, c.keep_guest.ensures.place, ap length parts, long);

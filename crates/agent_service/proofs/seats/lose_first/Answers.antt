@@ -11,7 +11,7 @@ returns-clause-lost g c = λ items. record {
     items = items;
     guests = c.remove-first.ensures.items i;
     talks = c.remove-talk.ensures.items i;
-    coming = g.F.Fleet.coming c.args.fleet.now;
+    coming = (g.F.Fleet.told c.args.fleet.now).coming;
     back = c.keep_guest.ensures.back i;
     count = c.with_refused.ensures i;
   };

@@ -8,12 +8,12 @@ use Rattle.agent_service.proofs.seats.seat.Goals as goal
 pub returns-clause-sits : goal.returns-clause-sits
 returns-clause-sits g c = λ items.
     let room = c.make_room-now in
-    let between = table_of items room.new.seated.items room.new.talks.items (record { coming = g.F.Fleet.coming c.args.fleet.now; served = g.F.Fleet.served room.new.fleet }) room.result in
+    let between = table_of items room.new.seated.items room.new.talks.items (record { coming = (g.F.Fleet.told c.args.fleet.now).coming; served = (g.F.Fleet.told room.new.fleet).served }) room.result in
     let talks = c.push_reserved-2.ensures.items ∙ ap (λ (t : ReadSoFar). room.new.talks.items ++ t ∷ []) c.new-talk.ensures in
     record {
       between = between;
       room = room.ensures.room items;
-      sits = seated_is between c.args.guest items c.push_reserved.new.self.items c.push_reserved-2.new.self.items (g.F.Fleet.coming room.new.fleet) (g.F.Fleet.served room.new.fleet) room.result refl c.push_reserved.ensures.items talks room.ensures.coming refl refl;
+      sits = seated_is between c.args.guest items c.push_reserved.new.self.items c.push_reserved-2.new.self.items (g.F.Fleet.told room.new.fleet).coming (g.F.Fleet.told room.new.fleet).served room.result refl c.push_reserved.ensures.items talks room.ensures.coming refl refl;
     }
 
 pub returns-clause-visiting : goal.returns-clause-visiting

@@ -11,7 +11,7 @@ pub returns-in-Some-clause-talks : goal.returns-in-Some-clause-talks
 returns-in-Some-clause-talks g c = c.push_reserved-in-Some.ensures.items ∙ ap (λ (t : Option ReadSoFar). talks_behind c.args.talks.now.items t) (sym c.in-Some.is)
 
 pub returns-in-Some-clause-back : goal.returns-in-Some-clause-back
-returns-in-Some-clause-back g c = ap (λ (t : Option ReadSoFar). back_behind (g.F.Fleet.served c.args.fleet.now) c.args.guest t) (sym c.in-Some.is)
+returns-in-Some-clause-back g c = ap (λ (t : Option ReadSoFar). back_behind (g.F.Fleet.told c.args.fleet.now).served c.args.guest t) (sym c.in-Some.is)
 
 pub returns-in-Some-clause-counted : goal.returns-in-Some-clause-counted
 returns-in-Some-clause-counted g c = c.with_commands.ensures ∙ ap (λ (t : Option ReadSoFar). count_behind c.args.service c.args.heard.served t) (sym c.in-Some.is)
@@ -26,7 +26,7 @@ pub returns-in-None-clause-talks : goal.returns-in-None-clause-talks
 returns-in-None-clause-talks g c = ap (λ (t : Option ReadSoFar). talks_behind c.args.talks.now.items t) (sym c.in-None.is)
 
 pub returns-in-None-clause-back : goal.returns-in-None-clause-back
-returns-in-None-clause-back g c = c.keep_guest.ensures.back ∙ ap (λ (t : Option ReadSoFar). back_behind (g.F.Fleet.served c.args.fleet.now) c.args.guest t) (sym c.in-None.is)
+returns-in-None-clause-back g c = c.keep_guest.ensures.back ∙ ap (λ (t : Option ReadSoFar). back_behind (g.F.Fleet.told c.args.fleet.now).served c.args.guest t) (sym c.in-None.is)
 
 pub returns-in-None-clause-counted : goal.returns-in-None-clause-counted
 returns-in-None-clause-counted g c = c.with_guest.ensures ∙ ap (λ (t : Option ReadSoFar). count_behind c.args.service c.args.heard.served t) (sym c.in-None.is)

@@ -1,7 +1,7 @@
 use Rattle.std.proofs.Common.{◌≡◌, ◌==◌, ◌∙◌, ℕ, List, None, ap, subst, arith, length, length-drop}
 use Rattle.fenced_agent.specs.Agents.{fenced_holding}
 use Rattle.agent_state.specs.Batches.{open_gate}
-use Rattle.agent_state.specs.Numbers.{byte_at}
+use Rattle.disk_model.specs.Numbers.{byte_at}
 use Rattle.agent_state.specs.Opened.{Walks, batch_at}
 use Rattle.agent_state.proofs.Openings.{found}
 use Rattle.agent_state.proofs.opening.read_state.Goals as goal

@@ -15,7 +15,7 @@ use Rattle.controller_run.proofs.running.run.Goals as goal
 
 pub run_over-requires-clause-lent : goal.run_over-requires-clause-lent
 run_over-requires-clause-lent g c κs within =
-    opened_lent g.F.Port.Port.told c.plan.result.now.problem (working_homes c.plan.result.now.problem c.plan.result.now.plan) (ports_of g.F.Fleet.waiting g.F.Fleet.kept g.F.Fleet.lent g.F.Fleet.named c.args.fleet.now) (ports_of g.F.Fleet.waiting g.F.Fleet.kept g.F.Fleet.lent g.F.Fleet.named c.open_ports.new.fleet) c.in-Ok.berths.items c.in-Ok.ensures.opened
+    opened_lent g.F.Port.Port.told c.plan.result.now.problem (working_homes c.plan.result.now.problem c.plan.result.now.plan) (ports_of (g.F.Fleet.told c.args.fleet.now)) (ports_of (g.F.Fleet.told c.open_ports.new.fleet)) c.in-Ok.berths.items c.in-Ok.ensures.opened
 
 pub returns-in-Ok-clause-ran : goal.returns-in-Ok-clause-ran
 returns-in-Ok-clause-ran g c =
@@ -25,9 +25,9 @@ returns-in-Ok-clause-ran g c =
     let book = c.run_over.result.0.chronicle in
     let tell = g.F.Port.Port.told in
     let homes = working_homes before_book.rollout.problem before_book.rollout.plan in
-    let before = ports_of g.F.Fleet.waiting g.F.Fleet.kept g.F.Fleet.lent g.F.Fleet.named c.args.fleet.now in
-    let opened = ports_of g.F.Fleet.waiting g.F.Fleet.kept g.F.Fleet.lent g.F.Fleet.named c.open_ports.new.fleet in
-    let now = ports_of g.F.Fleet.waiting g.F.Fleet.kept g.F.Fleet.lent g.F.Fleet.named c.run_over.new.fleet in
+    let before = ports_of (g.F.Fleet.told c.args.fleet.now) in
+    let opened = ports_of (g.F.Fleet.told c.open_ports.new.fleet) in
+    let now = ports_of (g.F.Fleet.told c.run_over.new.fleet) in
     let berths = c.in-Ok.berths.items in
     let runs : List (SessionView g.row.F-Port.Denot) → Type 0 = λ ports. Runs g.D.Disk.told tell o (g.D.Disk.told before_book.disk).moment (g.D.Disk.told before_book.disk).faults c.args.limits.migration c.args.limits.rounds (first_sessions berths) end book ports in
     let opens : Opens g.F.Port.Port.told before_book.rollout.problem homes before berths opened = subst (λ (r : Rollout). Opens g.F.Port.Port.told r.problem (working_homes r.problem r.plan) before berths opened) (c.plan.ensures ∙ ap (λ gr. gr.rollout) c.graph.ensures.value) c.in-Ok.ensures.opened in

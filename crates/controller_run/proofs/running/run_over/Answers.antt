@@ -4,9 +4,9 @@ use Rattle.port_session.specs.Sessions.{SessionView}
 use Rattle.switch_ports.specs.Berths.{ports_of}
 use Rattle.switch_ports.specs.Hands.{first_sessions}
 use Rattle.shared_book.specs.Opened.{opening_of}
+use Rattle.shared_book.proofs.Staying.{stays_alone}
 use Rattle.controller_run.specs.Runs.{Runs}
 use Rattle.controller_run.specs.Workers.{workers_ports}
-use Rattle.controller_run.proofs.Stayed.{stays_alone}
 use Rattle.controller_run.proofs.Over.{is_over, left_apart, left_lent, moved_switches, runs_over}
 use Rattle.controller_run.proofs.running.run_over.Goals as goal
 
@@ -23,7 +23,7 @@ keep_all_ports-requires-clause-lent g c =
     let dealt = c.in-Ok.team in
     let now = c.run_workers-book.result.team in
     let ports = workers_ports now.own.ports now.own.spare.items now.crews.items in
-    left_lent (g.F.Fleet.lent c.args.fleet.now) c.args.berths.items ports
+    left_lent (g.F.Fleet.told c.args.fleet.now).lent c.args.berths.items ports
     (moved_switches c.args.berths.items (workers_ports dealt.own.ports dealt.own.spare.items dealt.crews.items) ports c.in-Ok.ensures.same c.run_workers-book.ensures.switches) c.requires.lent
 
 pub returns-in-Ok-clause-ran : goal.returns-in-Ok-clause-ran
@@ -38,7 +38,7 @@ returns-in-Ok-clause-ran g c =
     let talks = first_sessions c.args.berths.items in
     let tell = g.F.Port.Port.told in
     let runs : List (SessionView g.row.F-Port.Denot) → List (SessionView g.row.F-Port.Denot) → Type 0 = λ whole left. Runs g.D.Disk.told tell o (g.D.Disk.told c.args.book.chronicle.disk).moment (g.D.Disk.told c.args.book.chronicle.disk).faults c.args.limits.migration c.args.limits.rounds whole end book left in
-    is_over (ports_of g.F.Fleet.waiting g.F.Fleet.kept g.F.Fleet.lent g.F.Fleet.named c.args.fleet.now) (ports_of g.F.Fleet.waiting g.F.Fleet.kept g.F.Fleet.lent g.F.Fleet.named c.keep_all_ports.new.fleet) c.args.berths.items (runs talks) (runs dealt ports) (book ≡ c.args.book.chronicle) dealt ports
+    is_over (ports_of (g.F.Fleet.told c.args.fleet.now)) (ports_of (g.F.Fleet.told c.keep_all_ports.new.fleet)) c.args.berths.items (runs talks) (runs dealt ports) (book ≡ c.args.book.chronicle) dealt ports
     (runs_over g.D.Disk.told tell o (g.D.Disk.told c.args.book.chronicle.disk).moment (g.D.Disk.told c.args.book.chronicle.disk).faults c.args.limits.migration c.args.limits.rounds end book ports talks dealt c.in-Ok.ensures.same)
     c.keep_all_ports.ensures.ports (moved_switches c.args.berths.items dealt ports c.in-Ok.ensures.same c.run_workers-book.ensures.switches) c.in-Ok.ensures.same c.requires.apart end c.run_workers-book.ensures.ran
 

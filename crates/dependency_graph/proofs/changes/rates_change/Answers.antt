@@ -1,7 +1,8 @@
 use Rattle.std.proofs.Common.{◌≡◌, ◌<◌, ◌+◌, ◌∙◌, true, not, sym, ap, ap₂, subst, arith, ne_eqb, ◌==◌}
 use Rattle.rollout_rules.specs.Sums.{all_below}
 use Rattle.rollout_rules.specs.Wan.{rate_at, tunnel_of, flow_at}
-use Rattle.dependency_graph.proofs.Contents.{same-below, all_below_stops}
+use Rattle.rollout_rules.proofs.Below.{all_below_stops}
+use Rattle.dependency_graph.proofs.Contents.{same-below}
 use Rattle.dependency_graph.proofs.changes.rates_change.Goals as goal
 
 pub returns-then-rate : goal.returns-then-rate

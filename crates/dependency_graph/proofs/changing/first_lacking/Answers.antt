@@ -1,8 +1,8 @@
 use Rattle.std.proofs.Common.{◌≡◌, ℕ, ◌<◌, Bool, false, List, sym, ap, subst, slice_index, length, ◌∙◌}
 use Rattle.rollout_rules.specs.Sums.{all_below}
+use Rattle.rollout_rules.proofs.Below.{all_below_stops}
 use Rattle.dependency_graph.specs.Cells.{rises, cell_holds}
 use Rattle.dependency_graph.specs.Waiting.{Fails}
-use Rattle.dependency_graph.proofs.Contents.{all_below_stops}
 use Rattle.dependency_graph.proofs.changing.first_lacking.Goals as goal
 
 pub returns-then-not-holds-clause-none : goal.returns-then-not-holds-clause-none

@@ -1,9 +1,8 @@
 use Rattle.std.proofs.Common.{◌≡◌, ◌+◌, ◌∙◌, false, ◌||◌, nat_le, nat_lt, sym, ap, arith, lt-ltb, le-ltb}
 use Rattle.std.proofs.lemmas.Bool.{or_left, lt-leb}
 use Rattle.rollout_rules.specs.Items.{capacity_of}
-use Rattle.rollout_rules.proofs.Below.{all_below-from}
+use Rattle.rollout_rules.proofs.Below.{all_below-from, all_below_stops}
 use Rattle.dependency_graph.specs.Cells.{cell, resource_at, cell_holds}
-use Rattle.dependency_graph.proofs.Contents.{all_below_stops}
 use Rattle.dependency_graph.proofs.RowSteps.{cells-inside}
 use Rattle.dependency_graph.proofs.changing.holds.Goals as goal
 

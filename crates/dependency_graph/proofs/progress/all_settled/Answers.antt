@@ -1,7 +1,7 @@
 use Rattle.std.proofs.Common.{◌<◌, ◌∙◌, slice_index, sym, arith, ne_eqb, ◌==◌}
 use Rattle.rollout_rules.specs.Items.{item_count, item_at}
 use Rattle.rollout_rules.specs.Operations.{operations}
-use Rattle.dependency_graph.proofs.Contents.{all_below_stops}
+use Rattle.rollout_rules.proofs.Below.{all_below_stops}
 use Rattle.dependency_graph.proofs.progress.all_settled.Goals as goal
 
 pub returns-then-settled-operations : goal.returns-then-settled-operations

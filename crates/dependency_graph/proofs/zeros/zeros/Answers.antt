@@ -2,7 +2,7 @@ use Rattle.std.proofs.Common.{◌≡◌, ◌∙◌, length, true, sym, ap, subst
 use Rattle.rollout_rules.specs.Sums.{list_below}
 use Rattle.rollout_rules.specs.Items.{item_count}
 use Rattle.rollout_rules.specs.Legal.{is_sound}
-use Rattle.rollout_laws.proofs.Contents.{list_below-length}
+use Rattle.rollout_rules.proofs.Rows.{list_below-length}
 use Rattle.rollout_laws.proofs.SoundStarts.{no_start-sound}
 use Rattle.dependency_graph.proofs.zeros.zeros.Goals as goal
 

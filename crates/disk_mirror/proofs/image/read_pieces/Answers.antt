@@ -1,6 +1,7 @@
 use Rattle.std.proofs.Common.{arith}
 use Rattle.disk_mirror.proofs.Alone.{more_calls, no_call}
-use Rattle.disk_mirror.proofs.Pieces.{ends, front_empty, goes_on}
+use Rattle.disk_model.proofs.Pieces.{front_empty}
+use Rattle.disk_mirror.proofs.Pieces.{ends, goes_on}
 use Rattle.disk_mirror.proofs.image.read_pieces.Goals as goal
 
 pub loop-turn-init : goal.loop-turn-init

@@ -1,6 +1,6 @@
 use Rattle.std.proofs.Common.{◌<◌, length, IfSome}
 use Rattle.disk_mirror.specs.Images.{IsLeftAlone}
-use Rattle.disk_mirror.proofs.Pieces.{IsFront}
+use Rattle.disk_model.proofs.Pieces.{IsFront}
 use Rattle.disk_mirror.proofs.image.read_pieces.Given as goal
 
 abbrev pub invariant-loop-turn : goal.invariant-loop-turn

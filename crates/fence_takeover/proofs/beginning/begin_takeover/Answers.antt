@@ -6,14 +6,14 @@ use Rattle.fence_takeover.proofs.beginning.begin_takeover.Goals as goal
 
 pub begin_at-requires : goal.begin_at-requires
 begin_at-requires g c =
-    let before = ports_of g.F.Fleet.waiting g.F.Fleet.kept g.F.Fleet.lent g.F.Fleet.named c.args.fleet.now in
-    let now = ports_of g.F.Fleet.waiting g.F.Fleet.kept g.F.Fleet.lent g.F.Fleet.named c.fence.new.fleet in
+    let before = ports_of (g.F.Fleet.told c.args.fleet.now) in
+    let now = ports_of (g.F.Fleet.told c.fence.new.fleet) in
     taken-long g.F.Port.Port.told c.args.plan c.args.migration c.args.rounds before now c.in-Ok.start c.in-Ok.ensures.fences
 
 pub returns-in-Ok-clause-begins : goal.returns-in-Ok-clause-begins
 returns-in-Ok-clause-begins g c =
-    let before = ports_of g.F.Fleet.waiting g.F.Fleet.kept g.F.Fleet.lent g.F.Fleet.named c.args.fleet.now in
-    let now = ports_of g.F.Fleet.waiting g.F.Fleet.kept g.F.Fleet.lent g.F.Fleet.named c.fence.new.fleet in
+    let before = ports_of (g.F.Fleet.told c.args.fleet.now) in
+    let now = ports_of (g.F.Fleet.told c.fence.new.fleet) in
     begins-told g.D.Disk.told c.args.plan c.args.migration c.in-Ok.start c.args.disk c.args.room g.F.Port.Port.told c.args.rounds before now c.begin_at.result.answer c.begin_at.result.disk c.in-Ok.ensures.fences c.begin_at.ensures
 
 pub returns-in-Ok-clause-cause : goal.returns-in-Ok-clause-cause

@@ -11,8 +11,8 @@ pub returns-in-Ok-clause-fences : goal.returns-in-Ok-clause-fences
 returns-in-Ok-clause-fences g c =
     let r = c.args.plan.now in
     let tell = g.F.Port.Port.told in
-    let before = ports_of g.F.Fleet.waiting g.F.Fleet.kept g.F.Fleet.lent g.F.Fleet.named c.args.fleet.now in
-    let now = ports_of g.F.Fleet.waiting g.F.Fleet.kept g.F.Fleet.lent g.F.Fleet.named c.held_pairs.new.fleet in
+    let before = ports_of (g.F.Fleet.told c.args.fleet.now) in
+    let now = ports_of (g.F.Fleet.told c.held_pairs.new.fleet) in
     let tells = subst (λ (notes : List (Option Held)). TellsAll tell r.problem r.plan c.args.migration c.args.rounds before now notes) (sym c.as_slice.ensures.value) c.in-Ok.ensures.ok in
     fences-told tell r.problem r.plan c.args.migration c.args.rounds before now c.as_slice.result.now c.taken_start.result tells c.taken_start.ensures.ok c.taken_start.ensures.err
 
@@ -24,8 +24,8 @@ returns-in-Ok-clause-cause g c = λ w is.
 pub returns-in-Err-clause-fences : goal.returns-in-Err-clause-fences
 returns-in-Err-clause-fences g c =
     let r = c.args.plan.now in
-    let before = ports_of g.F.Fleet.waiting g.F.Fleet.kept g.F.Fleet.lent g.F.Fleet.named c.args.fleet.now in
-    let now = ports_of g.F.Fleet.waiting g.F.Fleet.kept g.F.Fleet.lent g.F.Fleet.named c.held_pairs.new.fleet in
+    let before = ports_of (g.F.Fleet.told c.args.fleet.now) in
+    let now = ports_of (g.F.Fleet.told c.held_pairs.new.fleet) in
     fences-untold g.F.Port.Port.told r.problem r.plan c.args.migration c.args.rounds before now c.in-Err.why c.end_of.result c.end_of.ensures c.in-Err.ensures.err
 
 pub returns-in-Err-clause-cause : goal.returns-in-Err-clause-cause

@@ -7,8 +7,8 @@ returns-in-Ok-clause-value c = beside-told c.args.problem.now c.in-Ok.chosen c.b
 pub returns-in-Ok-clause-valid : goal.returns-in-Ok-clause-valid
 returns-in-Ok-clause-valid c = beside-valid c.args.problem.now c.in-Ok.chosen c.beside.result c.in-Ok.ensures.valid c.beside.ensures
 
-pub returns-in-Err-clause-value : goal.returns-in-Err-clause-value
-returns-in-Err-clause-value c = in_place-told c.args.problem.now c.in-Err.cause c.in_place.result c.in-Err.ensures.value c.in_place.ensures
+pub returns-clause-value : goal.returns-clause-value
+returns-clause-value c = in_place-told c.args.problem.now c.in-Err.cause c.in_place.result c.in-Err.ensures.value c.in_place.ensures
 
-pub returns-in-Err-clause-valid : goal.returns-in-Err-clause-valid
-returns-in-Err-clause-valid c = in_place-valid c.args.problem.now c.in-Err.cause c.in_place.result c.in_place.ensures
+pub returns-clause-valid : goal.returns-clause-valid
+returns-clause-valid c = in_place-valid c.args.problem.now c.in-Err.cause c.in_place.result c.in_place.ensures

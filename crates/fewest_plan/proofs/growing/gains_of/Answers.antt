@@ -1,6 +1,6 @@
 use Rattle.std.proofs.Common.{length, ap, ◌∙◌, arith}
 use Rattle.std.proofs.lemmas.Result.{IfOk-weaker}
-use Rattle.plan_check.proofs.Rows.{list_below-length}
+use Rattle.rollout_rules.proofs.Rows.{list_below-length}
 use Rattle.fewest_plan.specs.Growth.{growth}
 use Rattle.fewest_plan.proofs.Gaining.{growing-is}
 use Rattle.fewest_plan.proofs.growing.gains_of.Goals as goal

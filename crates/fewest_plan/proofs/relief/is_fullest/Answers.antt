@@ -1,5 +1,5 @@
 use Rattle.std.proofs.Common.{◌≡◌, ◌<◌, false, length, sym, arith}
-use Rattle.plan_check.proofs.Below.{all_below_stops}
+use Rattle.rollout_rules.proofs.Below.{all_below_stops}
 use Rattle.fewest_plan.specs.Relief.{is_near}
 use Rattle.fewest_plan.proofs.relief.is_fullest.Goals as goal
 

@@ -1,7 +1,8 @@
 use Rattle.std.proofs.Common.{◌≡◌, ◌<◌, length, slice_index, None, ap, ◌∙◌, arith}
 use Rattle.std.proofs.lemmas.Result.{IfOk-weaker}
 use Rattle.rollout_rules.specs.Sums.{list_below}
-use Rattle.plan_check.proofs.Rows.{list_below-length, list_below-at}
+use Rattle.rollout_rules.proofs.Rows.{list_below-length}
+use Rattle.plan_check.proofs.Rows.{list_below-at}
 use Rattle.fewest_plan.specs.Fewest.{in_parts}
 use Rattle.fewest_plan.proofs.rule.least_by_item.Goals as goal
 

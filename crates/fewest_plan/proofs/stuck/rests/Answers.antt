@@ -1,5 +1,5 @@
 use Rattle.std.proofs.Common.{◌≡◌, ◌<◌, false, length, sym, arith}
-use Rattle.plan_check.proofs.Below.{all_below_stops}
+use Rattle.rollout_rules.proofs.Below.{all_below_stops}
 use Rattle.fewest_plan.specs.Stuck.{rests_at}
 use Rattle.fewest_plan.proofs.stuck.rests.Goals as goal
 

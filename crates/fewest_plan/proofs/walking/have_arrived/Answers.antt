@@ -1,6 +1,6 @@
 use Rattle.std.proofs.Common.{◌≡◌, length, sym, ap, ◌∙◌, ◌==◌, slice_index, arith, ne_eqb}
 use Rattle.rollout_rules.specs.Sums.{all_below}
-use Rattle.plan_check.proofs.Below.{all_below_stops}
+use Rattle.rollout_rules.proofs.Below.{all_below_stops}
 use Rattle.fewest_plan.proofs.walking.have_arrived.Goals as goal
 
 pub returns-then-share-whole : goal.returns-then-share-whole

@@ -12,7 +12,7 @@ use Rattle.held_service.proofs.collecting.collect.Goals as goal
 
 pub returns-in_err-row-clause-err : goal.returns-in_err-row-clause-err
 returns-in_err-row-clause-err g c =
-    let ports = ports_of g.F.Fleet.waiting g.F.Fleet.kept g.F.Fleet.lent g.F.Fleet.named c.args.fleet.now in
+    let ports = ports_of (g.F.Fleet.told c.args.fleet.now) in
     if_err c.from_residual.result cause.Memory (λ (why : NotTold). Fails g.F.Port.Port.told c.args.plan.now.problem c.args.plan.now.plan c.args.migration c.args.rounds why ports ports) c.from_residual.ensures.1
     (inl (record { why_is = refl; now_is = refl }))
 
@@ -25,8 +25,8 @@ note_all-requires-clause-none g c =
 
 pub returns-in_err-note_all-clause-err : goal.returns-in_err-note_all-clause-err
 returns-in_err-note_all-clause-err g c =
-    let before = ports_of g.F.Fleet.waiting g.F.Fleet.kept g.F.Fleet.lent g.F.Fleet.named c.args.fleet.now in
-    let now = ports_of g.F.Fleet.waiting g.F.Fleet.kept g.F.Fleet.lent g.F.Fleet.named c.note_all.new.fleet in
+    let before = ports_of (g.F.Fleet.told c.args.fleet.now) in
+    let now = ports_of (g.F.Fleet.told c.note_all.new.fleet) in
     let why = c.in_err-note_all.field-0.0 in
     if_err c.from_residual-in_err-note_all.result why (λ (w : NotTold). Fails g.F.Port.Port.told c.args.plan.now.problem c.args.plan.now.plan c.args.migration c.args.rounds w before now) c.from_residual-in_err-note_all.ensures.1
     c.in_err-note_all.ensures.err

@@ -9,7 +9,7 @@ use Rattle.held_service.proofs.collecting.held_pairs.Goals as goal
 
 pub returns-in_err-index-clause-err : goal.returns-in_err-index-clause-err
 returns-in_err-index-clause-err g c =
-    let ports = ports_of g.F.Fleet.waiting g.F.Fleet.kept g.F.Fleet.lent g.F.Fleet.named c.args.fleet.now in
+    let ports = ports_of (g.F.Fleet.told c.args.fleet.now) in
     if_err c.from_residual.result cause.Memory (λ (why : NotTold). Fails g.F.Port.Port.told c.args.plan.now.problem c.args.plan.now.plan c.args.migration c.args.rounds why ports ports) c.from_residual.ensures.1
     (inl (record { why_is = refl; now_is = refl }))
 
@@ -18,7 +18,7 @@ returns-in_err-index-clause-cause g c = λ w is. absurd (wants-with-port w c.fro
 
 pub returns-in_err-homes-clause-err : goal.returns-in_err-homes-clause-err
 returns-in_err-homes-clause-err g c =
-    let ports = ports_of g.F.Fleet.waiting g.F.Fleet.kept g.F.Fleet.lent g.F.Fleet.named c.args.fleet.now in
+    let ports = ports_of (g.F.Fleet.told c.args.fleet.now) in
     if_err c.from_residual-in_err-homes.result cause.Memory (λ (why : NotTold). Fails g.F.Port.Port.told c.args.plan.now.problem c.args.plan.now.plan c.args.migration c.args.rounds why ports ports) c.from_residual-in_err-homes.ensures.1
     (inl (record { why_is = refl; now_is = refl }))
 

@@ -2,7 +2,7 @@ use Rattle.std.proofs.Common.{◌≡◌, List, [], ◌∷◌, ◌++◌, Option, 
 use Rattle.rollout_rules.specs.Items.{item_count}
 use Rattle.rollout_rules.specs.Sums.{list_below}
 use Rattle.rollout_rules.specs.Wan.{Rollout}
-use Rattle.shared_book.proofs.HomeRows.{below-more}
+use Rattle.rollout_rules.proofs.Rows.{list_below-more}
 use Rattle.held_service.specs.Questions.{asked_home}
 use Rattle.held_service.proofs.homes.asked_homes.Goals as goal
 
@@ -14,7 +14,7 @@ loop-number-preserved c =
     let r = c.args.plan.now in
     c.in_ok-push.ensures.ok
     ∙ ap₂ (λ (hs : List (Option ℕ)) (h : Option ℕ). hs ++ h ∷ []) c.loop-number.invariant c.asked_home.ensures
-    ∙ sym (below-more c.loop-number.number (asked_home r.problem r.plan))
+    ∙ sym (list_below-more c.loop-number.number (asked_home r.problem r.plan))
 
 pub returns : goal.returns
 returns c =

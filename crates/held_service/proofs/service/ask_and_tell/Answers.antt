@@ -8,7 +8,7 @@ use Rattle.held_service.proofs.service.ask_and_tell.Goals as goal
 
 pub returns-in_err-row-clause-asks : goal.returns-in_err-row-clause-asks
 returns-in_err-row-clause-asks g c =
-    let ports = ports_of g.F.Fleet.waiting g.F.Fleet.kept g.F.Fleet.lent g.F.Fleet.named c.args.fleet.now in
+    let ports = ports_of (g.F.Fleet.told c.args.fleet.now) in
     wants-all g.F.Port.Port.told c.args.plan.now.problem c.args.plan.now.plan c.args.rounds ports ports c.from_residual.result refl c.from_residual.ensures.1
 
 pub returns-in_err-row-clause-cause : goal.returns-in_err-row-clause-cause

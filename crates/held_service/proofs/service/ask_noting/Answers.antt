@@ -1,7 +1,7 @@
 use Rattle.std.proofs.Common.{List, ℕ, Option, length, sym, ap, ◌∙◌}
 use Rattle.rollout_rules.specs.Items.{item_count}
 use Rattle.rollout_rules.specs.Wan.{Rollout}
-use Rattle.shared_book.proofs.HomeRows.{length-below}
+use Rattle.rollout_rules.proofs.Rows.{list_below-length}
 use Rattle.switch_ports.specs.Berths.{ports_of}
 use Rattle.held_service.specs.Noting.{no_notes}
 use Rattle.held_service.specs.Questions.{asked_home}
@@ -11,24 +11,24 @@ use Rattle.held_service.proofs.service.ask_noting.Goals as goal
 pub ask_each-requires-clause-count : goal.ask_each-requires-clause-count
 ask_each-requires-clause-count g c =
     let r = c.args.plan.now in
-    c.item_count-count.ensures ∙ ap (λ (o : Rollout). item_count o.problem) c.requires.index ∙ sym (length-below (item_count r.problem) (asked_home r.problem r.plan)) ∙ ap (λ (hs : List (Option ℕ)). length hs) (sym c.requires.homes)
+    c.item_count-count.ensures ∙ ap (λ (o : Rollout). item_count o.problem) c.requires.index ∙ sym (list_below-length (item_count r.problem) (asked_home r.problem r.plan)) ∙ ap (λ (hs : List (Option ℕ)). length hs) (sym c.requires.homes)
 
 pub ask_each-requires-clause-none : goal.ask_each-requires-clause-none
 ask_each-requires-clause-none g c =
     let r = c.args.plan.now in
-    c.requires.none ∙ ap no_notes (sym (length-below (item_count r.problem) (asked_home r.problem r.plan)) ∙ ap (λ (hs : List (Option ℕ)). length hs) (sym c.requires.homes))
+    c.requires.none ∙ ap no_notes (sym (list_below-length (item_count r.problem) (asked_home r.problem r.plan)) ∙ ap (λ (hs : List (Option ℕ)). length hs) (sym c.requires.homes))
 
 pub told_text-requires-clause-rows : goal.told_text-requires-clause-rows
 told_text-requires-clause-rows g c =
     let r = c.args.plan.now in
     tells-long g.F.Port.Port.told c.problem.result.now c.args.homes.now 0 c.args.rounds (length c.problem.result.now.switches) _ _ c.ask_each.new.notes c.in-Ok.ensures.asks
-    ∙ ap (λ (hs : List (Option ℕ)). length hs) c.requires.homes ∙ length-below (item_count r.problem) (asked_home r.problem r.plan)
+    ∙ ap (λ (hs : List (Option ℕ)). length hs) c.requires.homes ∙ list_below-length (item_count r.problem) (asked_home r.problem r.plan)
 
 pub returns-in-Ok-clause-asks : goal.returns-in-Ok-clause-asks
 returns-in-Ok-clause-asks g c =
     let r = c.args.plan.now in
-    let before = ports_of g.F.Fleet.waiting g.F.Fleet.kept g.F.Fleet.lent g.F.Fleet.named c.args.fleet.now in
-    let now = ports_of g.F.Fleet.waiting g.F.Fleet.kept g.F.Fleet.lent g.F.Fleet.named c.ask_each.new.fleet in
+    let before = ports_of (g.F.Fleet.told c.args.fleet.now) in
+    let now = ports_of (g.F.Fleet.told c.ask_each.new.fleet) in
     tells-text g.F.Port.Port.told r.problem r.plan c.args.rounds before now c.ask_each.new.notes c.told_text.result
     (all-in g.F.Port.Port.told c.problem.result.now r.problem r.plan c.args.homes.now 0 c.args.rounds before now c.ask_each.new.notes c.problem.ensures c.requires.homes c.in-Ok.ensures.asks) c.told_text.ensures.ok c.told_text.ensures.err
 
@@ -38,8 +38,8 @@ returns-in-Ok-clause-cause g c = λ w is. absurd (text-with-port w c.told_text.r
 pub returns-in-Err-clause-asks : goal.returns-in-Err-clause-asks
 returns-in-Err-clause-asks g c =
     let r = c.args.plan.now in
-    let before = ports_of g.F.Fleet.waiting g.F.Fleet.kept g.F.Fleet.lent g.F.Fleet.named c.args.fleet.now in
-    let now = ports_of g.F.Fleet.waiting g.F.Fleet.kept g.F.Fleet.lent g.F.Fleet.named c.ask_each.new.fleet in
+    let before = ports_of (g.F.Fleet.told c.args.fleet.now) in
+    let now = ports_of (g.F.Fleet.told c.ask_each.new.fleet) in
     stops-in g.F.Port.Port.told c.problem.result.now r.problem r.plan c.args.homes.now 0 c.args.rounds c.in-Err.why before now c.problem.ensures c.requires.homes c.in-Err.ensures.asks
 
 pub returns-in-Err-clause-cause : goal.returns-in-Err-clause-cause

@@ -5,7 +5,7 @@ use Rattle.held_service.proofs.service.held_text.Goals as goal
 
 pub returns-in_err-index-clause-asks : goal.returns-in_err-index-clause-asks
 returns-in_err-index-clause-asks g c =
-    let ports = ports_of g.F.Fleet.waiting g.F.Fleet.kept g.F.Fleet.lent g.F.Fleet.named c.args.fleet.now in
+    let ports = ports_of (g.F.Fleet.told c.args.fleet.now) in
     wants-all g.F.Port.Port.told c.args.plan.now.problem c.args.plan.now.plan c.args.rounds ports ports c.from_residual.result refl c.from_residual.ensures.1
 
 pub returns-in_err-index-clause-cause : goal.returns-in_err-index-clause-cause
@@ -13,7 +13,7 @@ returns-in_err-index-clause-cause g c = λ w is. absurd (wants-with-port w c.fro
 
 pub returns-in_err-homes-clause-asks : goal.returns-in_err-homes-clause-asks
 returns-in_err-homes-clause-asks g c =
-    let ports = ports_of g.F.Fleet.waiting g.F.Fleet.kept g.F.Fleet.lent g.F.Fleet.named c.args.fleet.now in
+    let ports = ports_of (g.F.Fleet.told c.args.fleet.now) in
     wants-all g.F.Port.Port.told c.args.plan.now.problem c.args.plan.now.plan c.args.rounds ports ports c.from_residual-in_err-homes.result refl c.from_residual-in_err-homes.ensures.1
 
 pub returns-in_err-homes-clause-cause : goal.returns-in_err-homes-clause-cause

@@ -14,11 +14,11 @@ invariant-loop-switch g l = record {
       l.migration
       l.rounds
       l.switch
-      (ports_of g.F.Fleet.waiting g.F.Fleet.kept g.F.Fleet.lent g.F.Fleet.named l.fn.fleet)
-      (ports_of g.F.Fleet.waiting g.F.Fleet.kept g.F.Fleet.lent g.F.Fleet.named l.fleet)
+      (ports_of (g.F.Fleet.told l.fn.fleet))
+      (ports_of (g.F.Fleet.told l.fleet))
       l.notes;
-  coming : g.F.Fleet.coming l.fleet ≡ g.F.Fleet.coming l.fn.fleet;
-  served : g.F.Fleet.served l.fleet ≡ g.F.Fleet.served l.fn.fleet;
-  visiting : g.F.Fleet.visiting l.fleet ≡ g.F.Fleet.visiting l.fn.fleet;
-  count : g.F.Fleet.faults l.fn.fleet ≤ g.F.Fleet.faults l.fleet;
+  coming : (g.F.Fleet.told l.fleet).coming ≡ (g.F.Fleet.told l.fn.fleet).coming;
+  served : (g.F.Fleet.told l.fleet).served ≡ (g.F.Fleet.told l.fn.fleet).served;
+  visiting : (g.F.Fleet.told l.fleet).visiting ≡ (g.F.Fleet.told l.fn.fleet).visiting;
+  count : (g.F.Fleet.told l.fn.fleet).faults ≤ (g.F.Fleet.told l.fleet).faults;
 }

@@ -1,5 +1,5 @@
 use Rattle.std.proofs.Common.{refl, ap, ◌∙◌, ◌+◌, nat_eq}
-use Rattle.intent_journal.specs.Numbers.{byte_at}
+use Rattle.disk_model.specs.Numbers.{byte_at}
 use Rattle.intent_journal.specs.Parts.{Slot}
 use Rattle.intent_journal.proofs.Readings.{found_is, sides_of}
 use Rattle.intent_journal.proofs.judging.found_at.Goals as goal

@@ -1,5 +1,5 @@
 use Rattle.std.proofs.Common.{◌≡◌, ◌++◌, length}
-use Rattle.intent_journal.specs.Numbers.{bytes_4}
+use Rattle.disk_model.specs.Numbers.{bytes_4}
 use Rattle.intent_journal.specs.Parts.{number_bytes}
 use Rattle.intent_journal.specs.States.{AreSmall}
 use Rattle.intent_journal.proofs.new_part.head_bytes.Given as goal

@@ -1,5 +1,5 @@
 use Rattle.std.proofs.Common.{◌≡◌, ◌<◌, false, length, sym, arith}
-use Rattle.plan_check.proofs.Below.{all_below_stops}
+use Rattle.rollout_rules.proofs.Below.{all_below_stops}
 use Rattle.lp_proof.specs.RateSteps.{stays_at}
 use Rattle.lp_proof.proofs.counting.all_stay.Goals as goal
 

@@ -1,6 +1,6 @@
 use Rattle.std.proofs.Common.{◌≡◌, ◌<◌, false, length, sym, arith}
+use Rattle.rollout_rules.proofs.Below.{all_below_stops}
 use Rattle.plan_check.specs.LeastSlack.{has_slack_at}
-use Rattle.plan_check.proofs.Below.{all_below_stops}
 use Rattle.plan_check.proofs.slack.all_have_slack.Goals as goal
 
 pub returns-then-not-has_slack_at : goal.returns-then-not-has_slack_at

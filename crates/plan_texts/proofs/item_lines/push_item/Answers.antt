@@ -4,7 +4,7 @@ use Rattle.rollout_rules.specs.Items.{is_item, item_count, item_at}
 use Rattle.rollout_rules.specs.Operations.{operations}
 use Rattle.rollout_rules.specs.declared.item.Item.{Item}
 use Rattle.rollout_rules.proofs.Numbers.{is_item-item_at}
-use Rattle.plan_texts.specs.Named.{AreNamesOf}
+use Rattle.wan_text.specs.Named.{AreNamesOf}
 use Rattle.plan_texts.specs.Explain.{item_line, op_lines, all_of_item, item_lines}
 use Rattle.plan_texts.proofs.Pushes.{at_value, both, said_so}
 use Rattle.plan_texts.proofs.item_lines.push_item.Goals as goal

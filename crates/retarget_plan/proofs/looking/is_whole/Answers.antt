@@ -1,7 +1,7 @@
 use Rattle.std.proofs.Common.{◌≡◌, ◌<◌, sym, ◌∙◌, arith}
 use Rattle.rollout_rules.specs.History.{Places, places_of}
 use Rattle.rollout_rules.specs.Wan.{hops}
-use Rattle.dependency_graph.proofs.Contents.{all_below_stops}
+use Rattle.rollout_rules.proofs.Below.{all_below_stops}
 use Rattle.wan_model.proofs.Counted.{first-few}
 use Rattle.retarget_plan.proofs.Looked.{all-met, all-next, as_first, entry-counted, entry-same, first-counted}
 use Rattle.retarget_plan.proofs.looking.is_whole.Goals as goal

@@ -1,9 +1,10 @@
 use Rattle.std.proofs.Common.{inr, refl}
-use Rattle.retarget_top.proofs.Placings.{unbegun-empty, unbegun-placed}
+use Rattle.retarget_service.proofs.Writings.{known-empty}
+use Rattle.retarget_top.proofs.Placings.{unbegun-placed}
 use Rattle.retarget_top.proofs.placing.replace.Goals as goal
 
 pub write_and_place-requires : goal.write_and_place-requires
-write_and_place-requires g c = unbegun-empty c.args.plan c.in-Ok.known.graph c.in-Ok.ensures.graph
+write_and_place-requires g c = known-empty c.args.plan c.in-Ok.known.graph c.in-Ok.ensures.graph
 
 pub returns-in-Ok : goal.returns-in-Ok
 returns-in-Ok g c = record {

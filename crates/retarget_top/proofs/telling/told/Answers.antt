@@ -1,6 +1,6 @@
 use Rattle.std.proofs.Common.{◌≡◌, List, ℕ, inl, inr, refl, subst, ◌∙◌}
+use Rattle.lists.proofs.Results.{of_ok}
 use Rattle.retarget_top.specs.Lines.{NotesText}
-use Rattle.retarget_top.proofs.FirstWords.{of_ok}
 use Rattle.retarget_top.proofs.telling.told.Goals as goal
 
 pub returns-in-Ok : goal.returns-in-Ok

@@ -1,6 +1,6 @@
 use Rattle.std.proofs.Common.{◌<◌, ◌∙◌, sym, arith}
 use Rattle.rollout_rules.specs.Items.{item_count}
-use Rattle.dependency_graph.proofs.Contents.{all_below_stops}
+use Rattle.rollout_rules.proofs.Below.{all_below_stops}
 use Rattle.rollback_plan.specs.Levels.{is_levelled_at}
 use Rattle.rollback_plan.proofs.reaching.levelled.Goals as goal
 

@@ -1,10 +1,12 @@
-use Rattle.std.proofs.Common.{◌≡◌, ℕ, refl, subst}
+use Rattle.std.proofs.Common.{◌≡◌, ◌∙◌, ℕ, refl, sym, subst}
 use Rattle.rollout_rules.specs.Release.{held_back}
 use Rattle.order_policy.specs.Answers.{rank_by}
 use Rattle.order_policy.proofs.Ranks.{answers_by}
 use Rattle.order_policy.proofs.Boxed.{boxed}
 use Rattle.switch_ports.specs.Berths.{ports_of}
 use Rattle.shared_book.proofs.Firsts.{is-opened}
+use Rattle.controller_run.specs.declared.end.RunEnd.TheVariants as run
+use Rattle.controller_run.proofs.RolloutEnds.{end-behind}
 use Rattle.rollback_plan.specs.Levels.{levelling}
 use Rattle.rollback_service.specs.Levellings.{LevelsBy}
 use Rattle.rollback_service.proofs.Boxes.{levelling-most, ranks_by}
@@ -40,4 +42,8 @@ returns-in-Ok-clause-run g c =
 pub returns-in-Err-clause-run : goal.returns-in-Err-clause-run
 returns-in-Err-clause-run g c =
     never-run g.D.Disk.told g.F.Port.Port.told
-    c.args.stage c.args.limits.migration c.args.limits.rounds c.args.chronicle (ports_of g.F.Fleet.waiting g.F.Fleet.kept g.F.Fleet.lent g.F.Fleet.named c.args.fleet.now) c.into_parts-graph.result.1 c.into_parts-graph.ensures.disk
+    c.args.stage c.args.limits.migration c.args.limits.rounds c.args.chronicle (ports_of (g.F.Fleet.told c.args.fleet.now)) c.unrun.result.disk c.unrun.result.outcome
+    c.requires c.unrun.ensures.disk c.unrun.ensures.outcome
+
+pub returns-in-Err-clause-no_port : goal.returns-in-Err-clause-no_port
+returns-in-Err-clause-no_port g c = λ switch is. absurd (let no : run.Memory ≡ run.NoPort switch = sym (end-behind c.args.chronicle run.Memory c.unrun.result.outcome c.unrun.ensures.outcome) ∙ is in cc)

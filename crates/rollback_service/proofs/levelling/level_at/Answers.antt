@@ -8,7 +8,7 @@ use Rattle.shared_book.proofs.Firsts.{is-opened}
 use Rattle.rollback_plan.specs.Levels.{levelling}
 use Rattle.rollback_service.specs.Levellings.{LevelsBy}
 use Rattle.rollback_service.proofs.Boxes.{levelling-most, ranks_by}
-use Rattle.rollback_service.proofs.Levellings.{never-at}
+use Rattle.rollback_service.proofs.Levellings.{never-at, never-lacks}
 use Rattle.rollback_service.proofs.levelling.level_at.OwnLists as lists
 use Rattle.rollback_service.proofs.levelling.level_at.Goals as goal
 
@@ -40,4 +40,8 @@ returns-in-Ok-clause-run g c =
 pub returns-in-Err-clause-run : goal.returns-in-Err-clause-run
 returns-in-Err-clause-run g c =
     never-at g.D.Disk.told g.F.Port.Port.told
-    c.args.stage c.args.start c.args.limits.migration c.args.limits.rounds c.args.chronicle (ports_of g.F.Fleet.waiting g.F.Fleet.kept g.F.Fleet.lent g.F.Fleet.named c.args.fleet.now) c.into_parts-graph.result.1 c.into_parts-graph.ensures.disk
+    c.args.stage c.args.start c.args.limits.migration c.args.limits.rounds c.args.chronicle (ports_of (g.F.Fleet.told c.args.fleet.now)) c.unrun-disk.result.disk c.unrun-disk.result.outcome
+    c.requires c.unrun-disk.ensures.disk c.unrun-disk.ensures.outcome
+
+pub returns-in-Err-clause-no_port : goal.returns-in-Err-clause-no_port
+returns-in-Err-clause-no_port g c = λ switch lacks. absurd (never-lacks c.args.chronicle c.unrun-disk.result.outcome switch c.unrun-disk.ensures.outcome lacks)

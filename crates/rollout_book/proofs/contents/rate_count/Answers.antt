@@ -2,7 +2,7 @@ use Rattle.std.proofs.Common.{length, ap, sym, ◌∙◌}
 use Rattle.rollout_rules.specs.Items.{content}
 use Rattle.rollout_rules.specs.Wan.{flow_at, rate_at, tunnel_of}
 use Rattle.rollout_rules.specs.declared.item.Item.{Item}
-use Rattle.rollout_laws.proofs.Contents.{list_below-length}
+use Rattle.rollout_rules.proofs.Rows.{list_below-length}
 use Rattle.rollout_book.proofs.contents.rate_count.Goals as goal
 
 pub returns-in-Flow-clause-count : goal.returns-in-Flow-clause-count

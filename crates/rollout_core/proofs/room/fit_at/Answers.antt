@@ -4,9 +4,9 @@ use Rattle.rollout_rules.specs.Sums.{all_below}
 use Rattle.rollout_rules.specs.Wan.{Problem}
 use Rattle.rollout_rules.specs.Items.{capacity_of}
 use Rattle.rollout_rules.specs.Room.{room}
+use Rattle.rollout_rules.proofs.Below.{all_below_stops}
 use Rattle.dependency_graph.specs.Ahead.{places_begun}
 use Rattle.dependency_graph.specs.Cells.{resource_count, resource_at}
-use Rattle.dependency_graph.proofs.Contents.{all_below_stops}
 use Rattle.dependency_graph.proofs.Starts.{fits_at-numbers}
 use Rattle.rollout_core.proofs.room.fit_at.Goals as goal
 

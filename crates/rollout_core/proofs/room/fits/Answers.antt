@@ -4,9 +4,8 @@ use Rattle.rollout_rules.specs.Sums.{all_below}
 use Rattle.rollout_rules.specs.Wan.{last_stage}
 use Rattle.rollout_rules.specs.Items.{item_count}
 use Rattle.rollout_rules.specs.Room.{least_stage, fits_at}
-use Rattle.rollout_rules.proofs.Below.{all_below-from, least_below-top}
+use Rattle.rollout_rules.proofs.Below.{all_below-from, all_below_stops, least_below-top}
 use Rattle.dependency_graph.specs.Ahead.{stand_with, places_begun}
-use Rattle.dependency_graph.proofs.Contents.{all_below_stops}
 use Rattle.dependency_graph.proofs.Touched.{least-numbers}
 use Rattle.rollout_core.proofs.room.fits.Goals as goal
 

@@ -1,6 +1,6 @@
 use Rattle.std.proofs.Common.{length, sym, ap, ◌∙◌, ◌==◌, arith, ne_eqb}
 use Rattle.rollout_rules.specs.Wan.{tunnel_at, old_rate, new_rate}
-use Rattle.plan_check.proofs.Below.{all_below_stops}
+use Rattle.rollout_rules.proofs.Below.{all_below_stops}
 use Rattle.scratch_plan.proofs.equality.has_equal_rates.Goals as goal
 
 pub returns-then-old_rate-new_rate-clause-value : goal.returns-then-old_rate-new_rate-clause-value

@@ -1,13 +1,12 @@
 use Rattle.std.proofs.Common.{◌≡◌, ◌<◌, ℕ, true, List, [], ◌∷◌, ◌++◌, Option, length, get_or, ap, ap₂, sym, subst, ◌∙◌, arith}
 use Rattle.rollout_rules.specs.Items.{home_of, is_item, item_at, item_count}
-use Rattle.rollout_rules.specs.Sums.{list_below}
 use Rattle.rollout_rules.specs.Wan.{Problem}
 use Rattle.rollout_rules.specs.declared.item.Item.{Item}
 use Rattle.rollout_rules.specs.declared.item.Item.TheVariants as variants
 use Rattle.rollout_rules.proofs.Numbers.{is_item-item_at}
+use Rattle.rollout_rules.proofs.Rows.{list_below-more}
 use Rattle.dependency_graph.specs.Index.{AreItems}
 use Rattle.shared_book.specs.Homes.{home_at}
-use Rattle.shared_book.proofs.HomeRows.{below-more}
 use Rattle.shared_book.proofs.homes.homes.Goals as goal
 
 -- the item that is read is the one with its number
@@ -34,4 +33,4 @@ loop-item-preserved c =
     let n = c.loop-item.item-index in
     let read = listed p _ _ n c.in_ok-items.ensures.list c.as_slice-item-items.ensures c.loop-item-test.true in
     let home = c.home_of_item.ensures.home ∙ ap (λ (q : Problem). home_of q (get_or c.as_slice-item-items.result.now n (variants.Flow 0))) c.problem.ensures ∙ ap (home_of p) read in
-    c.in_ok-push.ensures.ok ∙ ap₂ (λ (hs : List (Option ℕ)) (h : Option ℕ). hs ++ h ∷ []) c.loop-item.invariant home ∙ sym (below-more n (home_at p))
+    c.in_ok-push.ensures.ok ∙ ap₂ (λ (hs : List (Option ℕ)) (h : Option ℕ). hs ++ h ∷ []) c.loop-item.invariant home ∙ sym (list_below-more n (home_at p))

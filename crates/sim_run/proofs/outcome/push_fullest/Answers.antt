@@ -1,7 +1,8 @@
 use Rattle.std.proofs.Common.{◌≡◌, ℕ, ◌<◌, ◌^◌, ◌++◌, codes, length, get_or, Option, sym, ap, ◌∙◌, subst, arith}
 use Rattle.std.proofs.lemmas.Result.{on_ok_weaker}
 use Rattle.rollout_rules.specs.Sums.{list_below}
-use Rattle.rollout_laws.proofs.Contents.{list_below-at, list_below-length}
+use Rattle.rollout_rules.proofs.Rows.{list_below-length}
+use Rattle.rollout_laws.proofs.Contents.{list_below-at}
 use Rattle.rollout_report.specs.Peaks.{PeakLists, link_peak}
 use Rattle.sim_run.specs.TrialText.{fullest_text, fullness_text}
 use Rattle.sim_run.proofs.outcome.push_fullest.Goals as goal

@@ -11,7 +11,7 @@ returns-in-Ok-clause-runs g c = short-rollouts _ _ _ _ _ c.in-Ok.ensures.read _ 
 pub returns-in-Ok-clause-asks : goal.returns-in-Ok-clause-asks
 returns-in-Ok-clause-asks g c =
     input-asks g.F.Port.Port.told
-    c.args.rounds (fleet_of g.F.Fleet.waiting g.F.Fleet.kept g.F.Fleet.lent g.F.Fleet.named g.F.Fleet.faults c.args.fleet.now) (fleet_of g.F.Fleet.waiting g.F.Fleet.kept g.F.Fleet.lent g.F.Fleet.named g.F.Fleet.faults c.ask_input.new.fleet) _ _ _ _ _ _ c.in-Ok.ensures.read c.ask_input.ensures.asks
+    c.args.rounds (fleet_of (g.F.Fleet.told c.args.fleet.now)) (fleet_of (g.F.Fleet.told c.ask_input.new.fleet)) _ _ _ _ _ _ c.in-Ok.ensures.read c.ask_input.ensures.asks
 
 pub returns-in-Ok-clause-read_fault : goal.returns-in-Ok-clause-read_fault
 returns-in-Ok-clause-read_fault g c = λ e. absurd (never _ ReadFault _ _ _ refl refl c.ask_input.ensures.follows e)

@@ -11,7 +11,7 @@ returns-in-Ok-clause-runs g c = short-rollouts _ _ _ _ _ c.in-Ok.ensures.read _ 
 pub returns-in-Ok-clause-rolls : goal.returns-in-Ok-clause-rolls
 returns-in-Ok-clause-rolls g c =
     input-reverts g.D.Disk.told g.F.Port.Port.told
-    c.args.origin c.args.limits c.args.disk c.roll_back_input.result.disk (fleet_of g.F.Fleet.waiting g.F.Fleet.kept g.F.Fleet.lent g.F.Fleet.named g.F.Fleet.faults c.args.fleet.now) (fleet_of g.F.Fleet.waiting g.F.Fleet.kept g.F.Fleet.lent g.F.Fleet.named g.F.Fleet.faults c.roll_back_input.new.fleet) _ _ _ _ _ _ c.in-Ok.ensures.read c.roll_back_input.ensures.rolls
+    c.args.origin c.args.limits c.args.disk c.roll_back_input.result.disk (fleet_of (g.F.Fleet.told c.args.fleet.now)) (fleet_of (g.F.Fleet.told c.roll_back_input.new.fleet)) _ _ _ _ _ _ c.in-Ok.ensures.read c.roll_back_input.ensures.rolls
 
 pub returns-in-Ok-clause-read_fault : goal.returns-in-Ok-clause-read_fault
 returns-in-Ok-clause-read_fault g c = λ e. absurd (never _ ReadFault _ _ _ refl refl c.roll_back_input.ensures.follows e)

@@ -1,7 +1,7 @@
 use Rattle.std.proofs.Common.{◌∙◌, refl, sym, ap, inl, inr}
 use Rattle.swanroll_top.specs.Rollouts.{fleet_of, may_end}
-use Rattle.swanroll_top.proofs.Outcomes.{journal-may}
-use Rattle.swanroll_top.proofs.Reverting.{journal-not-cut, levels-rose, none-rose}
+use Rattle.swanroll_top.proofs.Outcomes.{journal-may, journal-not-cut}
+use Rattle.swanroll_top.proofs.Reverting.{levels-rose, none-rose}
 use Rattle.swanroll_top.proofs.rollback.roll_back_opened.Goals as goal
 
 pub close-requires-clause-start : goal.close-requires-clause-start
@@ -25,7 +25,7 @@ pub returns-in-Ok-clause-disk_fault : goal.returns-in-Ok-clause-disk_fault
 returns-in-Ok-clause-disk_fault g c = λ e.
     levels-rose g.D.Disk.told g.F.Port.Port.told
     c.args.plan c.args.origin c.args.limits c.args.disk c.close.result.disk
-    (fleet_of g.F.Fleet.waiting g.F.Fleet.kept g.F.Fleet.lent g.F.Fleet.named g.F.Fleet.faults c.args.fleet.now) (fleet_of g.F.Fleet.waiting g.F.Fleet.kept g.F.Fleet.lent g.F.Fleet.named g.F.Fleet.faults c.run_levelling.new.fleet)
+    (fleet_of (g.F.Fleet.told c.args.fleet.now)) (fleet_of (g.F.Fleet.told c.run_levelling.new.fleet))
     c.close.result.ending _ _ e
     (record {
       levelled = c.in-Ok.levelled.disk;
@@ -44,7 +44,7 @@ returns-in-Err-clause-rolls g c = record {
     cause = c.in-Err.unopened.cause;
     left = c.in-Err.ensures.left;
     is = c.from.ensures;
-    fleet_is = ap (λ fleet. fleet_of g.F.Fleet.waiting g.F.Fleet.kept g.F.Fleet.lent g.F.Fleet.named g.F.Fleet.faults fleet) c.in-Err.ensures.untouched;
+    fleet_is = ap (λ fleet. fleet_of (g.F.Fleet.told fleet)) c.in-Err.ensures.untouched;
     silent = refl;
   });
 }
@@ -59,12 +59,12 @@ pub returns-in-Err-clause-disk_fault : goal.returns-in-Err-clause-disk_fault
 returns-in-Err-clause-disk_fault g c = λ e.
     none-rose g.D.Disk.told g.F.Port.Port.told
     c.args.plan c.args.origin c.args.limits c.args.disk c.in-Err.unopened.disk
-    (fleet_of g.F.Fleet.waiting g.F.Fleet.kept g.F.Fleet.lent g.F.Fleet.named g.F.Fleet.faults c.args.fleet.now) (fleet_of g.F.Fleet.waiting g.F.Fleet.kept g.F.Fleet.lent g.F.Fleet.named g.F.Fleet.faults c.run_levelling.new.fleet)
+    (fleet_of (g.F.Fleet.told c.args.fleet.now)) (fleet_of (g.F.Fleet.told c.run_levelling.new.fleet))
     c.from.result (g.K.Sink.told c.args.sink.now).written (g.K.Sink.told c.args.sink.now).written e
     (record {
       cause = c.in-Err.unopened.cause;
       left = c.in-Err.ensures.left;
       is = c.from.ensures;
-      fleet_is = ap (λ fleet. fleet_of g.F.Fleet.waiting g.F.Fleet.kept g.F.Fleet.lent g.F.Fleet.named g.F.Fleet.faults fleet) c.in-Err.ensures.untouched;
+      fleet_is = ap (λ fleet. fleet_of (g.F.Fleet.told fleet)) c.in-Err.ensures.untouched;
       silent = refl;
     })

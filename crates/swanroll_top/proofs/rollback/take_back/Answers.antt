@@ -1,7 +1,7 @@
 use Rattle.std.proofs.Common.{◌∙◌, refl, sym, ap}
 use Rattle.swanroll_top.specs.Rollouts.{may_end}
-use Rattle.swanroll_top.proofs.Outcomes.{journal-may}
-use Rattle.swanroll_top.proofs.Reverting.{journal-not-cut, placed-takes, unplaced-takes}
+use Rattle.swanroll_top.proofs.Outcomes.{journal-may, journal-not-cut}
+use Rattle.swanroll_top.proofs.Reverting.{placed-takes, unplaced-takes}
 use Rattle.swanroll_top.proofs.rollback.take_back.Goals as goal
 
 pub returns-in-Ok-clause-takes : goal.returns-in-Ok-clause-takes

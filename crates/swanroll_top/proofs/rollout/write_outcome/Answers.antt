@@ -17,10 +17,10 @@ pub returns-in-Err-clause-follows : goal.returns-in-Err-clause-follows
 returns-in-Err-clause-follows g c = gives-follows _ _ _ c.in-Err.ensures
 
 pub returns-in-Err-clause-ends : goal.returns-in-Err-clause-ends
-returns-in-Err-clause-ends g c = err-ends c.args.answer _ _ c.in-Err.ensures
+returns-in-Err-clause-ends g c = err-ends c.args.outcome _ _ c.in-Err.ensures
 
 pub returns-in-Err-clause-disk : goal.returns-in-Err-clause-disk
-returns-in-Err-clause-disk g c = λ e. err-disk c.args.answer _ c.in-Err.ensures e
+returns-in-Err-clause-disk g c = λ e. err-disk c.args.outcome _ c.in-Err.ensures e
 
 pub returns-in-Err-clause-write_fault : goal.returns-in-Err-clause-write_fault
-returns-in-Err-clause-write_fault g c = λ e. absurd (err-not-cut c.args.answer _ c.in-Err.ensures e)
+returns-in-Err-clause-write_fault g c = λ e. absurd (err-not-cut c.args.outcome _ c.in-Err.ensures e)

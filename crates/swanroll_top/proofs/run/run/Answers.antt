@@ -44,7 +44,7 @@ returns-in-Agent g c = ran-as _ _ _ _ _ _ (ap asked c.in-Agent.is) (record {
     unread = refl;
     disk = refl;
     fleet = tt;
-    ports = same-ports g.F.Fleet.waiting g.F.Fleet.kept g.F.Fleet.lent g.F.Fleet.named c.args.fleet.now c.agent.new.fleet c.agent.ensures.ports.0 c.agent.ensures.ports.1 c.agent.ensures.ports.2 c.agent.ensures.ports.3;
+    ports = same-ports (g.F.Fleet.told c.args.fleet.now) (g.F.Fleet.told c.agent.new.fleet) c.agent.ensures.ports;
   };
   visiting = c.agent.ensures.visiting;
 })

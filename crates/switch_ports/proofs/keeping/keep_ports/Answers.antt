@@ -9,8 +9,8 @@ loop-berth-preserved g c =
     let parts = c.in-Some.ensures.items in
     record {
       apart = rest_apart c.pop.new.self.items c.loop-berth.berths.items (c.in-Some.berth ∷ []) parts i.apart;
-      lent = rest_lent (g.F.Fleet.lent c.loop-berth.fleet) (g.F.Fleet.lent c.keep.new.self) c.pop.new.self.items c.loop-berth.berths.items c.in-Some.berth parts c.keep.ensures.place i.apart i.lent;
-      rest = keep_one (ports_of g.F.Fleet.waiting g.F.Fleet.kept g.F.Fleet.lent g.F.Fleet.named c.loop-berth.fleet) (ports_of g.F.Fleet.waiting g.F.Fleet.kept g.F.Fleet.lent g.F.Fleet.named c.keep.new.self)
+      lent = rest_lent (g.F.Fleet.told c.loop-berth.fleet).lent (g.F.Fleet.told c.keep.new.self).lent c.pop.new.self.items c.loop-berth.berths.items c.in-Some.berth parts c.keep.ensures.place i.apart i.lent;
+      rest = keep_one (ports_of (g.F.Fleet.told c.loop-berth.fleet)) (ports_of (g.F.Fleet.told c.keep.new.self))
           c.pop.new.self.items c.loop-berth.berths.items c.in-Some.berth parts c.keep.ensures.ready c.keep.ensures.back c.keep.ensures.place c.keep.ensures.names ∙ i.rest;
       coming = c.keep.ensures.guests.0 ∙ i.coming;
       served = c.keep.ensures.guests.1 ∙ i.served;

@@ -6,12 +6,12 @@ use Rattle.switch_ports.proofs.keeping.keep_ports.Given as goal
 abbrev pub invariant-loop-berth : goal.invariant-loop-berth
 invariant-loop-berth g l = record {
   apart : AreApart l.berths.items;
-  lent : AreLent (g.F.Fleet.lent l.fleet) l.berths.items;
-  rest : after_keeping (ports_of g.F.Fleet.waiting g.F.Fleet.kept g.F.Fleet.lent g.F.Fleet.named l.fleet) l.berths.items ≡ after_keeping (ports_of g.F.Fleet.waiting g.F.Fleet.kept g.F.Fleet.lent g.F.Fleet.named l.fn.fleet) l.fn.berths.items;
-  coming : g.F.Fleet.coming l.fleet ≡ g.F.Fleet.coming l.fn.fleet;
-  served : g.F.Fleet.served l.fleet ≡ g.F.Fleet.served l.fn.fleet;
-  visiting : g.F.Fleet.visiting l.fleet ≡ g.F.Fleet.visiting l.fn.fleet;
-  count : g.F.Fleet.faults l.fn.fleet ≤ g.F.Fleet.faults l.fleet;
+  lent : AreLent (g.F.Fleet.told l.fleet).lent l.berths.items;
+  rest : after_keeping (ports_of (g.F.Fleet.told l.fleet)) l.berths.items ≡ after_keeping (ports_of (g.F.Fleet.told l.fn.fleet)) l.fn.berths.items;
+  coming : (g.F.Fleet.told l.fleet).coming ≡ (g.F.Fleet.told l.fn.fleet).coming;
+  served : (g.F.Fleet.told l.fleet).served ≡ (g.F.Fleet.told l.fn.fleet).served;
+  visiting : (g.F.Fleet.told l.fleet).visiting ≡ (g.F.Fleet.told l.fn.fleet).visiting;
+  count : (g.F.Fleet.told l.fn.fleet).faults ≤ (g.F.Fleet.told l.fleet).faults;
 }
 
 abbrev pub decreases-loop-berth : goal.decreases-loop-berth

@@ -7,12 +7,12 @@ use Rattle.switch_ports.proofs.keeping.keep_worker.Given as goal
 abbrev pub invariant-loop-berth : goal.invariant-loop-berth
 invariant-loop-berth g l = record {
   apart : AreApart (berths_of l.ports);
-  lent : AreLent (g.F.Fleet.lent l.fleet) (berths_of l.ports);
-  rest : after_keeping (ports_of g.F.Fleet.waiting g.F.Fleet.kept g.F.Fleet.lent g.F.Fleet.named l.fleet) (berths_of l.ports) ≡ after_keeping (ports_of g.F.Fleet.waiting g.F.Fleet.kept g.F.Fleet.lent g.F.Fleet.named l.fn.fleet) (berths_of l.fn.ports);
-  coming : g.F.Fleet.coming l.fleet ≡ g.F.Fleet.coming l.fn.fleet;
-  served : g.F.Fleet.served l.fleet ≡ g.F.Fleet.served l.fn.fleet;
-  visiting : g.F.Fleet.visiting l.fleet ≡ g.F.Fleet.visiting l.fn.fleet;
-  count : g.F.Fleet.faults l.fn.fleet ≤ g.F.Fleet.faults l.fleet;
+  lent : AreLent (g.F.Fleet.told l.fleet).lent (berths_of l.ports);
+  rest : after_keeping (ports_of (g.F.Fleet.told l.fleet)) (berths_of l.ports) ≡ after_keeping (ports_of (g.F.Fleet.told l.fn.fleet)) (berths_of l.fn.ports);
+  coming : (g.F.Fleet.told l.fleet).coming ≡ (g.F.Fleet.told l.fn.fleet).coming;
+  served : (g.F.Fleet.told l.fleet).served ≡ (g.F.Fleet.told l.fn.fleet).served;
+  visiting : (g.F.Fleet.told l.fleet).visiting ≡ (g.F.Fleet.told l.fn.fleet).visiting;
+  count : (g.F.Fleet.told l.fn.fleet).faults ≤ (g.F.Fleet.told l.fleet).faults;
 }
 
 abbrev pub decreases-loop-berth : goal.decreases-loop-berth

@@ -11,14 +11,14 @@ keep_worker-requires-clause-apart g c =
 
 pub keep_worker-requires-clause-lent : goal.keep_worker-requires-clause-lent
 keep_worker-requires-clause-lent g c =
-    row_lent (g.F.Fleet.lent c.loop-ports.fleet) (all_berths c.pop.new.self.items) (berths_of c.in-Some.ports) (all_berths c.loop-ports.workers.items)
+    row_lent (g.F.Fleet.told c.loop-ports.fleet).lent (all_berths c.pop.new.self.items) (berths_of c.in-Some.ports) (all_berths c.loop-ports.workers.items)
     (ap all_berths c.in-Some.ensures.items ∙ rows_append c.pop.new.self.items c.in-Some.ports) c.loop-ports.invariant.lent
 
 pub loop-ports-preserved : goal.loop-ports-preserved
 loop-ports-preserved g c =
     let i = c.loop-ports.invariant in
-    let before = ports_of g.F.Fleet.waiting g.F.Fleet.kept g.F.Fleet.lent g.F.Fleet.named c.loop-ports.fleet in
-    let after = ports_of g.F.Fleet.waiting g.F.Fleet.kept g.F.Fleet.lent g.F.Fleet.named c.keep_worker.new.fleet in
+    let before = ports_of (g.F.Fleet.told c.loop-ports.fleet) in
+    let after = ports_of (g.F.Fleet.told c.keep_worker.new.fleet) in
     let rest = all_berths c.pop.new.self.items in
     let row = berths_of c.in-Some.ports in
     let all = all_berths c.loop-ports.workers.items in

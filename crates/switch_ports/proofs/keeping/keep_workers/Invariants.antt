@@ -7,12 +7,12 @@ use Rattle.switch_ports.proofs.keeping.keep_workers.Given as goal
 abbrev pub invariant-loop-ports : goal.invariant-loop-ports
 invariant-loop-ports g l = record {
   apart : AreApart (all_berths l.workers.items);
-  lent : AreLent (g.F.Fleet.lent l.fleet) (all_berths l.workers.items);
-  rest : after_keeping (ports_of g.F.Fleet.waiting g.F.Fleet.kept g.F.Fleet.lent g.F.Fleet.named l.fleet) (all_berths l.workers.items) ≡ after_keeping (ports_of g.F.Fleet.waiting g.F.Fleet.kept g.F.Fleet.lent g.F.Fleet.named l.fn.fleet) (all_berths l.fn.workers.items);
-  coming : g.F.Fleet.coming l.fleet ≡ g.F.Fleet.coming l.fn.fleet;
-  served : g.F.Fleet.served l.fleet ≡ g.F.Fleet.served l.fn.fleet;
-  visiting : g.F.Fleet.visiting l.fleet ≡ g.F.Fleet.visiting l.fn.fleet;
-  count : g.F.Fleet.faults l.fn.fleet ≤ g.F.Fleet.faults l.fleet;
+  lent : AreLent (g.F.Fleet.told l.fleet).lent (all_berths l.workers.items);
+  rest : after_keeping (ports_of (g.F.Fleet.told l.fleet)) (all_berths l.workers.items) ≡ after_keeping (ports_of (g.F.Fleet.told l.fn.fleet)) (all_berths l.fn.workers.items);
+  coming : (g.F.Fleet.told l.fleet).coming ≡ (g.F.Fleet.told l.fn.fleet).coming;
+  served : (g.F.Fleet.told l.fleet).served ≡ (g.F.Fleet.told l.fn.fleet).served;
+  visiting : (g.F.Fleet.told l.fleet).visiting ≡ (g.F.Fleet.told l.fn.fleet).visiting;
+  count : (g.F.Fleet.told l.fn.fleet).faults ≤ (g.F.Fleet.told l.fleet).faults;
 }
 
 abbrev pub decreases-loop-ports : goal.decreases-loop-ports

@@ -24,8 +24,8 @@ open_each-opened-requires-clause-once g c =
 
 pub returns-in-Ok-clause-opened : goal.returns-in-Ok-clause-opened
 returns-in-Ok-clause-opened g c =
-    let before = ports_of g.F.Fleet.waiting g.F.Fleet.kept g.F.Fleet.lent g.F.Fleet.named c.args.fleet.now in
-    let now = ports_of g.F.Fleet.waiting g.F.Fleet.kept g.F.Fleet.lent g.F.Fleet.named c.open_each-opened.new.fleet in
+    let before = ports_of (g.F.Fleet.told c.args.fleet.now) in
+    let now = ports_of (g.F.Fleet.told c.open_each-opened.new.fleet) in
     let berths = c.open_each-opened.new.berths.items in
     let p = c.args.plan.now.problem in
     subst (λ (hs : List ℕ). Opens g.F.Port.Port.told p hs before berths now) (c.as_slice-2.ensures ∙ c.in_ok-homes.ensures)
@@ -48,15 +48,15 @@ keep_ports-requires-clause-apart g c =
 pub keep_ports-requires-clause-lent : goal.keep_ports-requires-clause-lent
 keep_ports-requires-clause-lent g c =
     let until = c.in-Err.ensures.until in
-    opened_lent g.F.Port.Port.told c.problem.result.now until.earlier (ports_of g.F.Fleet.waiting g.F.Fleet.kept g.F.Fleet.lent g.F.Fleet.named c.args.fleet.now) (ports_of g.F.Fleet.waiting g.F.Fleet.kept g.F.Fleet.lent g.F.Fleet.named c.open_each-opened.new.fleet)
+    opened_lent g.F.Port.Port.told c.problem.result.now until.earlier (ports_of (g.F.Fleet.told c.args.fleet.now)) (ports_of (g.F.Fleet.told c.open_each-opened.new.fleet))
     c.open_each-opened.new.berths.items until.opens
 
 pub returns-clause-refused : goal.returns-clause-refused
 returns-clause-refused g c =
     let homes = working_homes c.args.plan.now.problem c.args.plan.now.plan in
-    let before = ports_of g.F.Fleet.waiting g.F.Fleet.kept g.F.Fleet.lent g.F.Fleet.named c.args.fleet.now in
-    let now = ports_of g.F.Fleet.waiting g.F.Fleet.kept g.F.Fleet.lent g.F.Fleet.named c.open_each-opened.new.fleet in
-    let after = ports_of g.F.Fleet.waiting g.F.Fleet.kept g.F.Fleet.lent g.F.Fleet.named c.keep_ports.new.fleet in
+    let before = ports_of (g.F.Fleet.told c.args.fleet.now) in
+    let now = ports_of (g.F.Fleet.told c.open_each-opened.new.fleet) in
+    let after = ports_of (g.F.Fleet.told c.keep_ports.new.fleet) in
     subst (λ (q : Problem). StopsAt g.F.Port.Port.told q homes c.in-Err.switch before after) c.problem.ensures
     (stops_at g.F.Port.Port.told c.problem.result.now c.as_slice-2.result.now homes c.in-Err.switch before now after c.open_each-opened.new.berths.items
     (c.as_slice-2.ensures ∙ c.in_ok-homes.ensures) c.in-Err.ensures.until c.keep_ports.ensures.ports)

@@ -2,7 +2,7 @@ use Rattle.std.proofs.Common.{◌≡◌, ◌∙◌, ◌==◌, ◌||◌, ℕ, Boo
 use Rattle.rollout_rules.specs.Sums.{all_below}
 use Rattle.rollout_rules.specs.Items.{item_at, item_count}
 use Rattle.rollout_rules.specs.Operations.{operations}
-use Rattle.dependency_graph.proofs.Contents.{all_below_stops}
+use Rattle.rollout_rules.proofs.Below.{all_below_stops}
 use Rattle.takeover_rules.specs.Takeovers.{is_fenced}
 use Rattle.takeover_core.proofs.fences.is_all_fenced.Goals as goal
 

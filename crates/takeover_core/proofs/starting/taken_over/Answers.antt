@@ -6,9 +6,9 @@ use Rattle.rollout_rules.specs.Items.{item_count}
 use Rattle.rollout_rules.specs.Legal.{is_sound}
 use Rattle.rollout_rules.specs.World.{are_first_pairs, first_world, now}
 use Rattle.rollout_rules.specs.declared.held.Held.{Held}
+use Rattle.rollout_rules.proofs.Rows.{list_below-length}
 use Rattle.rollout_laws.specs.Kept.{IsKept}
 use Rattle.rollout_laws.specs.SafeWorlds.{applied, pairs_held}
-use Rattle.rollout_laws.proofs.Contents.{list_below-length}
 use Rattle.rollout_laws.proofs.Again.{applied_is_sound, may_go_on}
 use Rattle.rollout_core.specs.Worlds.{Standing}
 use Rattle.takeover_core.proofs.starting.taken_over.Goals as goal

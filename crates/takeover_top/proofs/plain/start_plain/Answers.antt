@@ -1,6 +1,7 @@
 use Rattle.std.proofs.Common.{drop}
+use Rattle.lists.proofs.Results.{of_ok}
 use Rattle.takeover_top.specs.TermWords.{IsPlain, run_term_by}
-use Rattle.takeover_top.proofs.Starting.{of_ok, read-plain, unread-plain}
+use Rattle.takeover_top.proofs.Starting.{read-plain, unread-plain}
 use Rattle.takeover_top.proofs.plain.start_plain.Goals as goal
 
 pub plain_words-words-requires : goal.plain_words-words-requires

@@ -1,6 +1,7 @@
 use Rattle.std.proofs.Common.{◌≡◌, Some, drop}
+use Rattle.lists.proofs.Results.{of_ok}
 use Rattle.takeover_top.specs.TermWords.{run_term_by}
-use Rattle.takeover_top.proofs.Starting.{of_ok, read-at, unread-at}
+use Rattle.takeover_top.proofs.Starting.{read-at, unread-at}
 use Rattle.takeover_top.proofs.TermOnce.{without-one}
 use Rattle.takeover_top.proofs.resuming.run_at_term.Goals as goal
 

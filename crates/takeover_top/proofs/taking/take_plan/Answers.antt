@@ -12,16 +12,16 @@ use Rattle.takeover_top.proofs.taking.take_plan.Goals as goal
 
 pub run_on-requires-clause-numbers : goal.run_on-requires-clause-numbers
 run_on-requires-clause-numbers g c κs within =
-    let before = ports_of g.F.Fleet.waiting g.F.Fleet.kept g.F.Fleet.lent g.F.Fleet.named c.args.fleet.now in
-    let mid = ports_of g.F.Fleet.waiting g.F.Fleet.kept g.F.Fleet.lent g.F.Fleet.named c.begin_takeover-disk.new.fleet in
+    let before = ports_of (g.F.Fleet.told c.args.fleet.now) in
+    let mid = ports_of (g.F.Fleet.told c.begin_takeover-disk.new.fleet) in
     taken-count g.F.Port.Port.told g.D.Disk.told c.args.plan c.args.limits.migration c.args.limits.rounds c.journal_room-room.result before mid c.args.disk c.begin_takeover-disk.result.disk (c.in-Ok.plan, c.in-Ok.start)
     (subst (λ (a : Result (Rollout × List ℕ) NotBegun). Begins a g.F.Port.Port.told g.D.Disk.told c.args.plan c.args.limits.migration c.args.limits.rounds c.journal_room-room.result before mid c.args.disk c.begin_takeover-disk.result.disk) c.in-Ok.is c.begin_takeover-disk.ensures.begins)
 
 pub returns-in-Ok-clause-takes : goal.returns-in-Ok-clause-takes
 returns-in-Ok-clause-takes g c =
-    let before = ports_of g.F.Fleet.waiting g.F.Fleet.kept g.F.Fleet.lent g.F.Fleet.named c.args.fleet.now in
-    let mid = fleet_of g.F.Fleet.waiting g.F.Fleet.kept g.F.Fleet.lent g.F.Fleet.named g.F.Fleet.faults c.begin_takeover-disk.new.fleet in
-    let now = fleet_of g.F.Fleet.waiting g.F.Fleet.kept g.F.Fleet.lent g.F.Fleet.named g.F.Fleet.faults c.run_on.new.fleet in
+    let before = ports_of (g.F.Fleet.told c.args.fleet.now) in
+    let mid = fleet_of (g.F.Fleet.told c.begin_takeover-disk.new.fleet) in
+    let now = fleet_of (g.F.Fleet.told c.run_on.new.fleet) in
     record {
       answer = c.begin_takeover-disk.result.answer;
       begun = c.begin_takeover-disk.result.disk;
@@ -43,8 +43,8 @@ returns-in-Ok-clause-guests g c =
 
 pub returns-in-Err-clause-takes : goal.returns-in-Err-clause-takes
 returns-in-Err-clause-takes g c =
-    let before = ports_of g.F.Fleet.waiting g.F.Fleet.kept g.F.Fleet.lent g.F.Fleet.named c.args.fleet.now in
-    let mid = fleet_of g.F.Fleet.waiting g.F.Fleet.kept g.F.Fleet.lent g.F.Fleet.named g.F.Fleet.faults c.begin_takeover-disk.new.fleet in
+    let before = ports_of (g.F.Fleet.told c.args.fleet.now) in
+    let mid = fleet_of (g.F.Fleet.told c.begin_takeover-disk.new.fleet) in
     record {
       answer = c.begin_takeover-disk.result.answer;
       begun = c.begin_takeover-disk.result.disk;

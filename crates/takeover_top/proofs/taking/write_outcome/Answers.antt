@@ -15,7 +15,7 @@ pub returns-in-Err-clause-follows : goal.returns-in-Err-clause-follows
 returns-in-Err-clause-follows g c = gives-follows _ _ _ c.in-Err.ensures
 
 pub returns-in-Err-clause-disk : goal.returns-in-Err-clause-disk
-returns-in-Err-clause-disk g c = λ e. err-disk c.args.answer _ (err-same c.args.total c.args.answer _ c.in-Err.ensures) e
+returns-in-Err-clause-disk g c = λ e. err-disk c.args.outcome _ (err-same c.args.total c.args.outcome _ c.in-Err.ensures) e
 
 pub returns-in-Err-clause-write_fault : goal.returns-in-Err-clause-write_fault
-returns-in-Err-clause-write_fault g c = λ e. absurd (err-not-cut c.args.answer _ (err-same c.args.total c.args.answer _ c.in-Err.ensures) e)
+returns-in-Err-clause-write_fault g c = λ e. absurd (err-not-cut c.args.outcome _ (err-same c.args.total c.args.outcome _ c.in-Err.ensures) e)

@@ -1,9 +1,10 @@
-use Rattle.std.proofs.Common.{◌≡◌, List, String, Some, drop, sym, ap, subst, ◌∙◌}
+use Rattle.std.proofs.Common.{◌≡◌, List, String, Some, drop, ap, ◌∙◌}
 use Rattle.std.specs.declared.alloc.Global.{Global}
 use Rattle.std.specs.Option.{option_map}
+use Rattle.lists.proofs.Results.{of_ok}
 use Rattle.order_policy.specs.Named.{answers_in}
 use Rattle.takeover_top.specs.TakingWords.{taking_by, term_of}
-use Rattle.takeover_top.proofs.Starting.{of_ok, read-taken, unread-taken}
+use Rattle.takeover_top.proofs.Starting.{read-taken, unread-taken}
 use Rattle.takeover_top.proofs.top.take_over_from.Goals as goal
 
 pub take_over_by-requires-clause-term : goal.take_over_by-requires-clause-term

@@ -12,6 +12,12 @@ push_loads-requires g c = subst (λ r. IsReady r) c.in-Loads.is c.requires
 pub push_explanation-requires : goal.push_explanation-requires
 push_explanation-requires g c = subst (λ r. IsReady r) c.in-Explained.is c.requires
 
+pub push_shown-requires-clause-names : goal.push_shown-requires-clause-names
+push_shown-requires-clause-names g c = (subst (λ r. IsReady r) c.in-Shown.is c.requires).0
+
+pub push_shown-requires-clause-said : goal.push_shown-requires-clause-said
+push_shown-requires-clause-said g c = c.as_str-in-Shown.ensures ∙ (subst (λ r. IsReady r) c.in-Shown.is c.requires).1
+
 pub returns-in-Made : goal.returns-in-Made
 returns-in-Made g c = said_so g.P.Pieces.pushes (c.as_str.ensures ∙ sym (ap (λ r. ready_text r) c.in-Made.is)) c.push_str.ensures
 
@@ -23,3 +29,6 @@ returns-in-Loads g c = said_so g.P.Pieces.pushes (sym (ap (λ r. ready_text r) c
 
 pub returns-in-Explained : goal.returns-in-Explained
 returns-in-Explained g c = said_so g.P.Pieces.pushes (sym (ap (λ r. ready_text r) c.in-Explained.is)) c.push_explanation.ensures
+
+pub returns-in-Shown : goal.returns-in-Shown
+returns-in-Shown g c = said_so g.P.Pieces.pushes (sym (ap (λ r. ready_text r) c.in-Shown.is)) c.push_shown.ensures

@@ -1,6 +1,7 @@
 use Rattle.std.proofs.Common.{◌+◌, ◌≤◌, sym, ap, subst, arith, length}
+use Rattle.wan_model.proofs.Counted.{first-few}
 use Rattle.dependency_graph.specs.Index.{AreFirstEntries}
-use Rattle.dependency_graph.proofs.Growing.{firsts-push, first-few, number_of-next}
+use Rattle.dependency_graph.proofs.Growing.{firsts-push, number_of-next}
 use Rattle.dependency_graph.proofs.index.numbers.first_entries.Goals as goal
 
 pub overflow_add-next : goal.overflow_add-next

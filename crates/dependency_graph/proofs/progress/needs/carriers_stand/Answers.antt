@@ -1,6 +1,6 @@
 use Rattle.std.proofs.Common.{◌<◌, ◌∙◌, sym, ap, arith}
-use Rattle.dependency_graph.proofs.Contents.{all_below_stops}
 use Rattle.rollout_rules.specs.Wan.{flow_at, tunnel_of}
+use Rattle.rollout_rules.proofs.Below.{all_below_stops}
 use Rattle.dependency_graph.specs.Fits.{carrier_stands}
 use Rattle.dependency_graph.specs.Ahead.{places_with}
 use Rattle.dependency_graph.proofs.progress.needs.carriers_stand.Goals as goal

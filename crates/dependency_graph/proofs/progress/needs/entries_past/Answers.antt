@@ -1,8 +1,8 @@
 use Rattle.std.proofs.Common.{◌<◌, ◌∙◌, length, sym, ap, arith, nat_le}
-use Rattle.dependency_graph.proofs.Contents.{all_below_stops}
 use Rattle.rollout_rules.specs.Wan.{hops}
 use Rattle.rollout_rules.specs.History.{stand}
 use Rattle.rollout_rules.specs.Needs.{installed_since}
+use Rattle.rollout_rules.proofs.Below.{all_below_stops}
 use Rattle.rollout_rules.specs.declared.item.Item.TheVariants as item
 use Rattle.dependency_graph.specs.Ahead.{places_with}
 use Rattle.dependency_graph.proofs.progress.needs.entries_past.Goals as goal

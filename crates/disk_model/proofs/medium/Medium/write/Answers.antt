@@ -1,6 +1,6 @@
-use Rattle.std.proofs.Common.{◌≡◌, ◌∷◌, ◌++◌, [], ◌≤◌, length, sym, ◌∙◌, ap, subst, rules}
+use Rattle.std.proofs.Common.{◌≡◌, ◌∷◌, ◌++◌, [], ◌∙◌, ap, rules}
 use Rattle.disk_model.specs.Logs.{applied}
-use Rattle.disk_model.specs.Memory.{Medium, after_write}
+use Rattle.disk_model.specs.Memory.{after_write}
 use Rattle.disk_model.specs.Writes.{written}
 use Rattle.disk_model.proofs.Logged.{logged, logs}
 use Rattle.disk_model.proofs.medium.Medium.write.Goals as goal

@@ -2,11 +2,11 @@ use Rattle.std.proofs.Common.{◌≡◌, true, ap, subst, arith, rules}
 use Rattle.switch_agent.specs.Items.{holding}
 use Rattle.rollout_rules.specs.Agent.{is_at_most}
 use Rattle.rollout_rules.specs.declared.held.Held.{Held}
+use Rattle.rollout_rules.proofs.Pairs.{at_most-refl}
 use Rattle.wan_edge.specs.Frames.{CommandFrame}
 use Rattle.wan_edge.specs.Switches.{answer_of}
 use Rattle.lossy_link.specs.Traffic.{SaysAtMost}
 use Rattle.lossy_link.specs.declared.waiting.Waiting.{Waiting}
-use Rattle.lossy_link.proofs.Pairs.{at_most-refl}
 use Rattle.lossy_link.proofs.Traffics.{answered_delivered, answered_held, answered_set_out}
 use Rattle.lossy_link.proofs.line.Line.send.Goals as goal
 

@@ -3,16 +3,17 @@ use Rattle.std.specs.Prelude.{OnErr}
 use Rattle.std.proofs.lemmas.List.{length-take-le}
 use Rattle.wan_edge.specs.Frames.{Answer, IsCutAnswer}
 use Rattle.wan_edge.specs.Ports.{FailsToHear, GoesOn, Hears, LooksAt, PortTrace, Steps}
-use Rattle.wan_edge.specs.Streams.{Appends, Rose}
+use Rattle.wan_edge.specs.Streams.{Appends}
 use Rattle.wan_edge.proofs.Chains.{Appends-nothing, stays}
 use Rattle.std.specs.List.{All}
+use Rattle.wan_edge.proofs.Faults.{rose_since}
 use Rattle.port_session.specs.Reading.{Stream}
-use Rattle.port_session.specs.Sessions.{HearsAnswers, IsHeard, Listening, SessionView, listening}
+use Rattle.port_session.specs.Sessions.{HearsAnswers, Listening, SessionView, listening}
 use Rattle.port_session.specs.Standing.{EndsWith, StandsIn}
 use Rattle.port_session.specs.declared.fault.SessionFault.{SessionFault}
 use Rattle.port_session.specs.declared.fault.SessionFault.TheVariants as fault
 use Rattle.port_session.proofs.Chaining.{if_err}
-use Rattle.port_session.proofs.Hearing.{heard_all, heard_late, heard_quiet, hears_further, hears_none, hears_nothing, hears_on, nearer, rose_on}
+use Rattle.port_session.proofs.Hearing.{heard_all, heard_late, heard_quiet, hears_further, hears_none, hears_nothing, hears_on, nearer}
 use Rattle.port_session.proofs.Standing.{ends-still, told-stand}
 use Rattle.port_session.proofs.session.Session.read_all.Goals as goal
 
@@ -179,7 +180,7 @@ returns-in_err-n-clause-cause g c =
     let i = c.loop-buffer.invariant in
     let same = as_ready c.is_ready.result (tell inside.port) (tell c.is_ready.new.self) c.if-not-is_ready.false c.is_ready.ensures in
     let fails = fails_from (tell inside.port) (tell c.is_ready.new.self) (tell c.hear.new.self) same c.in_err-n.ensures.nothing in
-    λ port. rose_on (tell c.args.self.now.port).faults (tell inside.port).faults (tell c.hear.new.self).faults i.port.count fails.cause
+    λ port. rose_since (tell c.args.self.now.port).faults (tell inside.port).faults (tell c.hear.new.self).faults i.port.count fails.cause
 
 pub returns-in_err-n-clause-idle : goal.returns-in_err-n-clause-idle
 returns-in_err-n-clause-idle g c =

@@ -1,8 +1,9 @@
 use Rattle.std.proofs.Common.{◌+◌}
 use Rattle.json_data.specs.View.{view, items_view}
+use Rattle.json_data.proofs.Lengths.{items_len-item}
 use Rattle.problem_json.specs.GrammarNetwork.{with_one_tunnel}
 use Rattle.problem_json.proofs.Growth.{grows_on, one_fewer}
-use Rattle.problem_json.proofs.Steps.{add_each-next, items_len-item}
+use Rattle.problem_json.proofs.Steps.{add_each-next}
 use Rattle.problem_json.proofs.read.flows.add_tunnels.Goals as goal
 
 pub each-preserved : goal.each-preserved

@@ -1,8 +1,8 @@
-use Rattle.std.proofs.Common.{◌≡◌, ◌<◌, ◌≤◌, length, subst, ap, arith}
+use Rattle.std.proofs.Common.{◌≡◌, ◌<◌, length, subst, ap, arith}
 use Rattle.rollout_rules.specs.Sums.{list_below}
 use Rattle.serde_json.specs.Written.{compact_text}
+use Rattle.rollout_rules.proofs.Rows.{list_below-length}
 use Rattle.problem_json.specs.Writing.{flow_data, list_data}
-use Rattle.problem_json.proofs.Adding.{length-list_below}
 use Rattle.problem_json.proofs.Rows.{begins, ends, goes_on, of_below}
 use Rattle.problem_json.proofs.writing.problem.push_flows.Goals as goal
 
@@ -21,4 +21,4 @@ returns g c =
     let p = c.args.problem.now in
     let ds = list_below (length p.flows) (flow_data p) in
     let all : length c.flows-number-end.result.now ≡ length p.flows = ap length c.flows-number-end.ensures.list in
-    ends g.P.Pieces.pushes (compact_text (list_data ds)) ds c.loop-number.number (omega (arith, all, c.loop-number-test.false, length-list_below (length p.flows) (flow_data p))) c.loop-number.invariant c.push_str-2.ensures
+    ends g.P.Pieces.pushes (compact_text (list_data ds)) ds c.loop-number.number (omega (arith, all, c.loop-number-test.false, list_below-length (length p.flows) (flow_data p))) c.loop-number.invariant c.push_str-2.ensures

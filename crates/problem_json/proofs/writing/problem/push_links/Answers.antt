@@ -2,7 +2,8 @@ use Rattle.std.proofs.Common.{◌≡◌, ◌<◌, ◌≤◌, length, map, get_or
 use Rattle.std.proofs.lemmas.List.{get_or_read_under, length-map}
 use Rattle.rollout_rules.specs.Wan.{Link, link_at, no_link}
 use Rattle.serde_json.specs.Written.{compact_text}
-use Rattle.problem_json.specs.Writing.{link_data, list_data, quoted_name}
+use Rattle.problem_json.specs.Writing.{link_data, list_data}
+use Rattle.wan_text.specs.Named.{quoted_name}
 use Rattle.problem_json.proofs.Rows.{begins, ends, goes_on, of_element}
 use Rattle.problem_json.proofs.writing.problem.push_links.Goals as goal
 

@@ -1,7 +1,8 @@
 use Rattle.std.proofs.Common.{◌≡◌, map}
 use Rattle.rollout_rules.specs.Wan.{Problem}
 use Rattle.serde_json.specs.Written.{compact_text}
-use Rattle.problem_json.specs.Writing.{list_data, name_data, quoted_name}
+use Rattle.problem_json.specs.Writing.{list_data, name_data}
+use Rattle.wan_text.specs.Named.{quoted_name}
 use Rattle.problem_json.proofs.Rows.{Leads}
 use Rattle.problem_json.proofs.writing.problem.push_path.Given as goal
 

@@ -2,8 +2,8 @@ use Rattle.std.proofs.Common.{◌≡◌, ◌<◌, ◌≤◌, ◌+◌, ◌-◌, �
 use Rattle.rollout_rules.specs.Sums.{list_below}
 use Rattle.serde_json.specs.Data.{Data}
 use Rattle.serde_json.specs.Written.{compact_text}
+use Rattle.rollout_rules.proofs.Rows.{list_below-length}
 use Rattle.problem_json.specs.Writing.{tunnel_data, list_data}
-use Rattle.problem_json.proofs.Adding.{length-list_below}
 use Rattle.problem_json.proofs.Rows.{Leads, at_value, begins, ends, goes_on, of_below}
 use Rattle.problem_json.proofs.writing.problem.push_tunnels.Goals as goal
 
@@ -33,5 +33,5 @@ returns g c =
     let tunnel : ℕ → Data = λ j. tunnel_data c.args.problem.now (c.args.begin + j) in
     let ds = list_below count tunnel in
     let k = c.loop-number.number - c.args.begin in
-    let over : length ds ≤ k = omega (arith, c.loop-number.auto.number, c.loop-number-test.false, length-list_below count tunnel) in
+    let over : length ds ≤ k = omega (arith, c.loop-number.auto.number, c.loop-number-test.false, list_below-length count tunnel) in
     ends g.P.Pieces.pushes (compact_text (list_data ds)) ds k over c.loop-number.invariant c.push_str-2.ensures

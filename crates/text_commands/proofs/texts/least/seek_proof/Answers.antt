@@ -1,7 +1,5 @@
-use Rattle.std.proofs.Common.{sym, subst}
-use Rattle.lp_proof.specs.RateSteps.{TakesAtLeast}
-use Rattle.text_commands.specs.Runs.{Gives}
-use Rattle.text_commands.proofs.Claims.{ok-anyway}
+use Rattle.std.proofs.Common.{Ok, ap, sym, ◌∙◌}
+use Rattle.text_commands.specs.Answers.{shown_document}
 use Rattle.text_commands.proofs.Leasts.{accepted-least, answer-is, choice-free, choice-still}
 use Rattle.text_commands.proofs.texts.least.seek_proof.Goals as goal
 
@@ -13,12 +11,12 @@ prove_least-requires-clause-still c = choice-still c.args.plan.now.problem _ c.a
 
 pub returns-in-Shown-clause-gives : goal.returns-in-Shown-clause-gives
 returns-in-Shown-clause-gives c =
-    subst (λ r. Gives c.show_proof.result r) (sym (answer-is c.args.plan.now.problem _ c.args.plan.now.plan c.args.q c.problem.ensures _ c.in-Shown.ensures.value)) c.show_proof.ensures
+    answer-is c.args.plan.now.problem _ c.args.plan.now.plan c.args.q c.problem.ensures _ c.in-Shown.ensures.value
+    ∙ ap (λ claim. Ok (shown_document c.args.plan.now claim)) (sym c.claim_with.ensures)
 
 pub returns-in-Shown-clause-least : goal.returns-in-Shown-clause-least
 returns-in-Shown-clause-least c =
-    ok-anyway c.show_proof.result (TakesAtLeast c.args.plan.now.problem c.args.q)
-    (accepted-least c.args.plan.now.problem _ c.args.plan.now.plan c.args.q c.problem.ensures _ c.checked_plan_is_valid.ensures.network c.in-Shown.ensures.worth)
+    accepted-least c.args.plan.now.problem _ c.args.plan.now.plan c.args.q c.problem.ensures _ c.checked_plan_is_valid.ensures.network c.in-Shown.ensures.worth
 
 pub returns-in-Fewer-clause-gives : goal.returns-in-Fewer-clause-gives
 returns-in-Fewer-clause-gives c = answer-is c.args.plan.now.problem _ c.args.plan.now.plan c.args.q c.problem.ensures _ c.in-Fewer.ensures.value

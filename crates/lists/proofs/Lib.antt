@@ -1,0 +1,4 @@
+pub mod Conditions
+pub mod Numbers
+pub mod Rows
+pub mod Results

@@ -1,6 +1,0 @@
-use Rattle.std.proofs.Common.{◌∙◌}
-use Rattle.plan_texts.proofs.Called.{switch-called}
-use Rattle.plan_texts.proofs.names.Names.switch.Goals as goal
-
-pub returns : goal.returns
-returns c p are = c.name_at.ensures ∙ switch-called _ p c.args.number (c.as_slice.ensures ∙ are.switches)

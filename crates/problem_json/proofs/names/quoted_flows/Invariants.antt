@@ -1,6 +1,0 @@
-use Rattle.std.proofs.Common.{◌≡◌, map, take}
-use Rattle.problem_json.specs.Writing.{quoted_flow}
-use Rattle.problem_json.proofs.names.quoted_flows.Given as goal
-
-abbrev pub invariant-loop-flow : goal.invariant-loop-flow
-invariant-loop-flow l = l.names ≡ map quoted_flow (take l.flow-index l.flows)
