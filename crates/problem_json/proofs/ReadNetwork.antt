@@ -1,7 +1,6 @@
 -- The switches and the links of a network, read again one by one.
-use Rattle.std.proofs.Common.{◌≡◌, ℕ, ◌+◌, ◌<◌, [], length, take, is_none, Option, Some, ok_or, Ok, refl, sym, ap, ◌∙◌}
-use Rattle.std.proofs.lemmas.List.{take_more}
-use Rattle.rollout_rules.specs.Wan.{Problem, switch_at, link_at, no_switch, no_link}
+use Rattle.std.proofs.Common.{◌≡◌, ℕ, ◌+◌, ◌<◌, [], length, is_none, Option, Some, ok_or, Ok, refl, ap, ◌∙◌}
+use Rattle.rollout_rules.specs.Wan.{Problem, switch_at, link_at}
 use Rattle.rollout_rules.specs.Network.{IsNetwork}
 use Rattle.rollout_rules.specs.declared.limits.TheConstants.{LARGEST_TABLE, LARGEST_CAPACITY}
 use Rattle.rollout_rules.specs.Building.{find_switch, find_link}

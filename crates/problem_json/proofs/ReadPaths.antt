@@ -1,12 +1,12 @@
 -- The path of a tunnel, read again switch by switch, and the links along it.
-use Rattle.std.proofs.Common.{◌≡◌, ℕ, zero, suc, ◌+◌, ◌-◌, ◌<◌, ◌≤◌, Bool, true, false, ◌==◌, List, [], ◌∷◌, length, map, take, slice_index, is_some, Some, unwrap_or, Ok, refl, sym, ap, ap₂, ◌∙◌, arith}
+use Rattle.std.proofs.Common.{◌≡◌, ℕ, zero, suc, ◌+◌, ◌-◌, ◌<◌, ◌≤◌, Bool, true, false, ◌==◌, List, [], ◌∷◌, length, map, take, slice_index, is_some, Some, Ok, refl, sym, ap, ◌∙◌, arith}
 use Rattle.std.proofs.lemmas.Bool.{or_right, not_from_false, false_from_ne_true, eqb-true, le-leb}
 use Rattle.std.proofs.lemmas.List.{take_more, take_all, get_or-take, length-take-le, length-map}
 use Rattle.std.specs.List.{list_any}
-use Rattle.rollout_rules.specs.Wan.{Problem, link_at}
+use Rattle.rollout_rules.specs.Wan.{Problem}
 use Rattle.rollout_rules.specs.Network.{IsNetwork, IsPath}
 use Rattle.rollout_rules.specs.declared.limits.TheConstants.{MOST_HOPS}
-use Rattle.rollout_rules.specs.Building.{find_link, links_along}
+use Rattle.rollout_rules.specs.Building.{find_link}
 use Rattle.serde_json.specs.Data.{Data}
 use Rattle.serde_json.specs.Events.{items_len}
 use Rattle.serde_json.specs.View.{items_of}

@@ -1,11 +1,9 @@
 -- The tunnels of a flow, read again one by one.
-use Rattle.std.proofs.Common.{◌≡◌, ℕ, zero, suc, ◌+◌, ◌-◌, ◌<◌, true, ◌==◌, List, [], ◌∷◌, ◌++◌, length, map, take, slice_index, slice_set, Ok, refl, sym, ap, ap₂, ◌∙◌, arith}
-use Rattle.std.proofs.lemmas.Bool.{or_left, or_right, and_from, eq-eqb}
-use Rattle.std.proofs.lemmas.List.{take_more, get_or-take, get_or_at, set_at, length-take-le, length_push}
-use Rattle.rollout_rules.specs.Wan.{Problem, Flow, Tunnel, no_flow, no_tunnel, flow_at, tunnel_at, tunnel_of, hops, switch_of}
-use Rattle.rollout_rules.specs.Network.{IsNetwork, IsTunnel}
-use Rattle.rollout_rules.specs.Building.{last_flow, with_one_more, with_tunnel, has_ends, links_along}
-use Rattle.rollout_rules.proofs.Tunnels.{tunnels_of, tunnel_of-below, flow-tunnel_of}
+use Rattle.std.proofs.Common.{◌≡◌, ℕ, zero, suc, ◌+◌, ◌-◌, ◌<◌, true, ◌==◌, List, [], ◌∷◌, ◌++◌, length, map, take, Ok, refl, ap, ◌∙◌, arith}
+use Rattle.rollout_rules.specs.Wan.{Problem, tunnel_at, tunnel_of}
+use Rattle.rollout_rules.specs.Network.{IsNetwork}
+use Rattle.rollout_rules.specs.Building.{has_ends}
+use Rattle.rollout_rules.proofs.Tunnels.{tunnels_of}
 use Rattle.wan_model.specs.Fronts.{begun}
 use Rattle.wan_model.proofs.Fronts.{last_is, the_tunnel, ends_are, has, tunnel_is_added}
 use Rattle.problem_json.specs.GrammarValues.{member_in, rate_of}

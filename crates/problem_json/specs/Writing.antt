@@ -1,7 +1,7 @@
 -- A document as data: a problem and a plan, and the text that they are written as.
 use Rattle.std.specs.Prelude.{◌≡◌, ℕ, ◌^◌, ◌<◌, List, [], ◌++◌, decimal, slice_index, slice_index_or, map, length, codes, Option, Some, None, option_map, option_and_then, ◌==◌, if◌then◌else◌, Ok}
 use Rattle.rollout_rules.specs.Sums.{list_below}
-use Rattle.rollout_rules.specs.Wan.{Switch, Link, Flow, Problem, Plan, Stage, no_stage, switch_at, tunnel_at, flow_at, tunnel_of}
+use Rattle.rollout_rules.specs.Wan.{Switch, Link, Problem, Plan, Stage, no_stage, switch_at, tunnel_at, flow_at, tunnel_of}
 use Rattle.serde_json.specs.Data.{Data, Members, null, boolean, number, string, array, object, unsigned, no_members, member}
 use Rattle.serde_json.specs.Find.{get}
 use Rattle.serde_json.specs.Read.{read}

@@ -27,7 +27,7 @@ use pieces::utf8_text;
 pub use plan::push_plan;
 pub use problem::push_problem;
 use rollout_rules::Act;
-use room::{plan_bytes, problem_bytes, script_bytes};
+use room::{plan_bytes, problem_bytes};
 pub use round_trip::{
     a_plan_that_is_read_is_within, written_claim_is_read, written_problem_is_read,
 };
@@ -147,34 +147,9 @@ pub fn push_claimed<P: Pieces>(
     text.push_str("}");
 }
 
-/// The text of a problem with a plan for it and a script, likewise: the key `script` stands last, a list of
-/// events, each a list of its name and of what the name asks for.
-pub fn write_scripted(
-    alloc: Global,
-    problem: &Problem,
-    plan: &Plan,
-    script: &[Act],
-) -> Result<Text, Memory>
-    ensures text { IfOk result (λ text. text ≡ scripted_text problem.now plan.now script.now) }
-    ensures reads { IfOk result (λ text. IsPlanWithin plan.now
-        → length script.now ≤ MOST_ACTS
-        → scripted_in text
-        ≡ Ok (record {
-          document = record { problem = problem.now; plan = plan.now };
-          script = script.now;
-        })) }
-{
-    let names = Names::of(alloc, problem)?;
-    let bytes = problem_bytes(problem)
-        .saturating_add(plan_bytes(plan))
-        .saturating_add(script_bytes(script));
-    let mut text = WholeText::with_capacity(alloc, bytes)?;
-    push_scripted(&mut text, &names, problem, plan, script);
-    Ok(utf8_text(text.finish()?))
-}
-
-/// Pushes the same text, by the names of the problem. It takes no memory.
-fn push_scripted<P: Pieces>(
+/// Pushes the text of a problem with a plan for it and a script, likewise: the key `script` stands last, a list of
+/// events, each a list of its name and of what the name asks for. It takes no memory.
+pub fn push_scripted<P: Pieces>(
     text: &mut P,
     names: &Names,
     problem: &Problem,
@@ -186,6 +161,12 @@ fn push_scripted<P: Pieces>(
     ensures network { IsNetwork problem.now }
     ensures words { IsPlanOfWords plan.now }
     ensures acts { AreActsWithin (length script.now) script.now }
+    ensures reads { IsPlanWithin plan.now → length script.now ≤ MOST_ACTS
+        → scripted_in (scripted_text problem.now plan.now script.now)
+        ≡ Ok (record {
+          document = record { problem = problem.now; plan = plan.now };
+          script = script.now;
+        }) }
 {
     text.push_str(r#"{"plan":"#);
     push_plan(text, plan);

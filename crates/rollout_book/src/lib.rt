@@ -26,5 +26,6 @@ mod turning;
 pub use book::Book;
 pub use commands::CommandList;
 pub use fault::BookFault;
+pub use hearing::hear_each;
 pub use journaled_rounds::JournaledRounds;
 pub use turn::Turn;

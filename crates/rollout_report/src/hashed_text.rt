@@ -1,7 +1,7 @@
 ghost use Rattle.std.specs.Prelude.{◌++◌};
 ghost use Rattle.sha2.specs.Hashers.{Holds256};
 ghost use Rattle.sha2.specs.Sha256.{sha256};
-ghost use Rattle.rollout_report.specs.Hashed.{Hashes, Hashes-chain, Hashes-nothing};
+ghost use Rattle.rollout_report.specs.Hashed.{Hashes, Hashes-chain, Hashes-nothing, Hashes-utf8};
 
 use sha2::{Digest as Hash, Sha256};
 use text_writer::Pieces;
@@ -45,4 +45,6 @@ impl Pieces for HashedText {
     ghost nothing_pushed = { Hashes-nothing };
 
     ghost pushed_further = { Hashes-chain };
+
+    ghost pushed_utf8 = { Hashes-utf8 };
 }

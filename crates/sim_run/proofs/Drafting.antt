@@ -8,12 +8,9 @@ use Rattle.rollout_rules.specs.declared.op.OpView.{OpView}
 use Rattle.rollout_rules.specs.declared.event.Act.{Act}
 use Rattle.rollout_rules.specs.declared.event.Act.TheVariants as act
 use Rattle.case_gen.specs.Draws.{seeded}
-use Rattle.problem_json.specs.GrammarDocuments.{scripted_in}
-use Rattle.problem_json.specs.WithinLimits.{IsPlanWithin}
-use Rattle.problem_json.specs.WritingScripts.{scripted_text}
 use Rattle.sim_run.specs.Acts.{Rehearsal, acted, can_happen, first_rehearsal}
 use Rattle.sim_run.specs.Drafts.{Draft, HasDrafted, HasSketched, Sketch, draft_in, drained_draft, drawn_script, is_over, joined, joins, one_more, raised_draft, sketched, turned_draft, whole_draft, whole_of, with_chosen}
-use Rattle.sim_run.specs.DrawnTexts.{IsWritten, IsWrittenFrom}
+use Rattle.sim_run.specs.DrawnFor.{IsScriptFor}
 use Rattle.sim_run.specs.Rehearsing.{Rehearsing}
 use Rattle.sim_run.specs.Trials.{all_operations, next_act}
 use Rattle.sim_run.specs.declared.script_shape.ScriptShape.{ScriptShape}
@@ -217,20 +214,11 @@ module _ (policy : OpView → ℕ) where
     unfolding whole_draft
     its-script = whole.script
 
-    pub written-few : (list : List Act) → list ≡ more → length list ≤ MOST_ACTS
-    written-few list is = omega (arith, ap (λ (l : List Act). length l) (is ∙ its-script), script-few first.rollout.problem first.rollout.plan policy draws events)
+    pub drawn-rollout : s.rollout ≡ first.rollout
+    drawn-rollout = ap (λ (q : Rehearsing). q.rollout) whole.rehearsal
 
-    pub written : (shape : ScriptShape) → draws ≡ seeded shape.seed → (o : Rollout) → o ≡ s.rollout → (list : List Act) → list ≡ more → (text : List ℕ) → IsWritten o list text
-        → events ≡ shape.events → IsWrittenFrom policy shape first.rollout text
-    written shape seed o is list same text so many =
-        let rollout : o ≡ first.rollout = is ∙ ap (λ (q : Rehearsing). q.rollout) whole.rehearsal in
-        let script : list ≡ drawn_script first.rollout.problem first.rollout.plan policy (seeded shape.seed) shape.events =
-        same ∙ its-script ∙ ap₂ (λ (l : Lcg) (n : ℕ). drawn_script first.rollout.problem first.rollout.plan policy l n) seed many in
-        subst (λ (l : List Act). IsWritten first.rollout l text) script (subst (λ (x : Rollout). IsWritten x list text) rollout so)
-
--- the text of a document, by its parts
-pub document-written : (o : Rollout) (p : Problem) (plan : Plan) (script : List Act) (text : List ℕ) → p ≡ o.problem → plan ≡ o.plan → length script ≤ MOST_ACTS → text ≡ scripted_text p plan script
-    → (IsPlanWithin plan → length script ≤ MOST_ACTS → scripted_in text ≡ Ok (record { document = record { problem = p; plan = plan }; script = script })) → IsWritten o script text
-document-written o p plan script text problem_is plan_is few is reads =
-    let rollout : record { problem = p; plan = plan } ≡ o = ap₂ (λ (q : Problem) (r : Plan). record { problem = q; plan = r }) problem_is plan_is in
-    subst (λ (x : Rollout). IsWritten x script text) rollout (record { is = is; again = λ within. reads within few })
+    pub drawn-script : (shape : ScriptShape) → draws ≡ seeded shape.seed → events ≡ shape.events → IsScriptFor policy shape first.rollout more
+    drawn-script shape seed many = record {
+      is = its-script ∙ ap₂ (λ (l : Lcg) (n : ℕ). drawn_script first.rollout.problem first.rollout.plan policy l n) seed many;
+      few = omega (arith, ap (λ (l : List Act). length l) its-script, script-few first.rollout.problem first.rollout.plan policy draws events);
+    }

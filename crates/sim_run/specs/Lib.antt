@@ -12,5 +12,5 @@ pub mod Trials
 pub mod TrialText
 pub mod Trying
 pub mod Drafts
-pub mod DrawnTexts
+pub mod DrawnFor
 pub mod Named

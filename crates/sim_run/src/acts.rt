@@ -105,6 +105,18 @@ impl<K: SimRounds> Rehearsal<K> {
         self.controller.graph()
     }
 
+    /// Gives back what keeps the rollout.
+    pub(crate) fn into_rounds(self) -> K
+        ensures { (K.keeping result).graph.rollout ≡ self.rollout }
+    {
+        let Rehearsal {
+            controller,
+            network,
+        } = self;
+        drop(network);
+        controller.into_rounds()
+    }
+
     /// How many commands were sent.
     pub(crate) fn sent_count(&self) -> usize
         ensures { result ≡ length self.now.state.world.sent }

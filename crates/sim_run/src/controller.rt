@@ -73,6 +73,21 @@ impl<K: SimRounds> Controller<K> {
         self.rounds.graph()
     }
 
+    /// Gives back what keeps the rollout.
+    pub(crate) fn into_rounds(self) -> K
+        ensures { (K.keeping result).graph.rollout ≡ self.rollout }
+    {
+        let Controller {
+            rounds,
+            earlier,
+            answers,
+            is_up: _,
+        } = self;
+        drop(earlier);
+        drop(answers);
+        rounds
+    }
+
     /// The operations in flight, by item.
     pub(crate) fn flying(&self) -> &[Op]
         requires { IsTrue self.now.live }

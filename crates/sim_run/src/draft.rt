@@ -1,11 +1,10 @@
-//! A script that is drawn, act by act, and the document with it.
-ghost use Rattle.std.specs.Prelude.{◌≡◌, ◌<◌, ◌≤◌, [], ◌∷◌, ◌++◌, length, IfOk, IsTrue, OnOk};
-ghost use Rattle.rollout_rules.specs.declared.limits.TheConstants.{MOST_ACTS};
+//! A script that is drawn, act by act.
+ghost use Rattle.std.specs.Prelude.{◌≡◌, ◌<◌, [], ◌∷◌, ◌++◌, length, IfOk, IsTrue, OnOk};
 ghost use Rattle.order_policy.specs.Answers.{rank_by};
 ghost use Rattle.case_gen.specs.Draws.{seeded};
 ghost use Rattle.sim_run.specs.Acts.{acted, can_happen, first_rehearsal};
 ghost use Rattle.sim_run.specs.Drafts.{HasDrafted, HasSketched, IsDrawnScript, draft_in, drained_draft, drawn_script, is_over, joined, joins, one_more, raised_draft, sketched, turned_draft, whole_of};
-ghost use Rattle.sim_run.specs.DrawnTexts.{IsWritten, IsWrittenFrom};
+ghost use Rattle.sim_run.specs.DrawnFor.{IsDrawnFor, IsScriptFor};
 
 use crate::acts::Rehearsal;
 use crate::drain::is_finished;
@@ -15,35 +14,41 @@ use crate::plain::Plain;
 use crate::script_shape::ScriptShape;
 use case_gen::Draws;
 use dependency_graph::checked_plan_is_valid;
-use lists::{Memory, Text};
+use lists::Memory;
 use order_policy::Policy;
-use problem_json::write_scripted;
 use rollout_rules::{Act, MOST_ACTS, Script};
 use std::alloc::Global;
 use wan_model::CheckedPlan;
 
-/// Draws a script of a plan under a policy, and gives the text of the plan's document with it. As many acts as
-/// the shape has events are drawn as those of a trial are, from its seed on, and then the rollout is drained.
-/// The script has the acts that happen, in order, and at most [`MOST_ACTS`] of them. An Err is lack of memory.
+/// A plan, and a script that was drawn for it.
+#[derive(Debug, Drop)]
+pub struct DrawnScript {
+    pub plan: CheckedPlan,
+    pub script: Script,
+}
+
+/// Draws a script of a plan under a policy. As many acts as the shape has events are drawn as those of a trial
+/// are, from its seed on, and then the rollout is drained. The script has the acts that happen, in order, and at
+/// most [`MOST_ACTS`] of them. An Err is lack of memory.
 ///
 /// Time: what each act touches, and for each turn of the drain the items.
-pub fn write_rehearsal(
+pub fn draw_script(
     alloc: Global,
     plan: CheckedPlan,
     policy: &Policy,
     shape: &ScriptShape,
-) -> Result<Text, Memory>
-    ensures text { IfOk result
-        (λ text. IsWrittenFrom (rank_by policy.now.answers) shape.now plan text) }
-    ensures drawn { IfOk result
-        (λ text. IsDrawnScript plan.problem plan.plan (rank_by policy.now.answers)
+) -> Result<DrawnScript, Memory>
+    ensures script { IfOk result
+        (λ drawn. IsDrawnFor (rank_by policy.now.answers) shape.now plan drawn) }
+    ensures happens { IfOk result
+        (λ drawn. IsDrawnScript plan.problem plan.plan (rank_by policy.now.answers)
         (seeded shape.now.seed) shape.now.events
         (drawn_script plan.problem plan.plan (rank_by policy.now.answers) (seeded shape.now.seed)
         shape.now.events)) }
 {
     script_is_drawn(&plan, policy, shape);
-    let text = rehearse(alloc, plan, policy, shape)?;
-    Ok(text)
+    let drawn = rehearse(alloc, plan, policy, shape)?;
+    Ok(drawn)
 }
 
 /// What the plan's type keeps makes its script one that was drawn.
@@ -62,9 +67,9 @@ fn rehearse(
     plan: CheckedPlan,
     policy: &Policy,
     shape: &ScriptShape,
-) -> Result<Text, Memory>
+) -> Result<DrawnScript, Memory>
     ensures { IfOk result
-        (λ text. IsWrittenFrom (rank_by policy.now.answers) shape.now plan text) }
+        (λ drawn. IsDrawnFor (rank_by policy.now.answers) shape.now plan drawn) }
 {
     match Rehearsal::<Plain>::new(alloc, plan) {
         Ok(rehearsal) => of_rehearsal(alloc, rehearsal, policy, shape),
@@ -72,51 +77,50 @@ fn rehearse(
     }
 }
 
-/// The text from a first rehearsal on, which ends with it.
+/// The script from a first rehearsal on, which ends with it.
 fn of_rehearsal(
     alloc: Global,
     mut rehearsal: Rehearsal<Plain>,
     policy: &Policy,
     shape: &ScriptShape,
-) -> Result<Text, Memory>
+) -> Result<DrawnScript, Memory>
     requires live { IsTrue rehearsal.live }
     requires first { rehearsal.state
         ≡ first_rehearsal rehearsal.rollout.problem rehearsal.rollout.plan }
     ensures { IfOk result
-        (λ text. IsWrittenFrom (rank_by policy.now.answers) shape.now rehearsal.rollout text) }
+        (λ drawn. IsDrawnFor (rank_by policy.now.answers) shape.now rehearsal.rollout drawn) }
 {
-    let text = text_of(alloc, &mut rehearsal, policy, shape);
-    drop(rehearsal);
-    text
+    match script_of(alloc, &mut rehearsal, policy, shape) {
+        Ok(script) => Ok(DrawnScript {
+            plan: rehearsal.into_rounds().into_plan(),
+            script,
+        }),
+        Err(refused) => {
+            drop(rehearsal);
+            Err(refused)
+        }
+    }
 }
 
-fn text_of(
+fn script_of(
     alloc: Global,
     rehearsal: &mut Rehearsal<Plain>,
     policy: &Policy,
     shape: &ScriptShape,
-) -> Result<Text, Memory>
+) -> Result<Script, Memory>
     requires live { IsTrue rehearsal.old.live }
     requires first { rehearsal.old.state
         ≡ first_rehearsal rehearsal.old.rollout.problem rehearsal.old.rollout.plan }
-    ensures { IfOk result
-        (λ text. IsWrittenFrom (rank_by policy.now.answers) shape.now rehearsal.old.rollout text) }
+    ensures rollout { OnOk result (rehearsal.new.rollout ≡ rehearsal.old.rollout) }
+    ensures script { IfOk result
+        (λ script. IsScriptFor (rank_by policy.now.answers) shape.now rehearsal.old.rollout
+        script) }
 {
     let mut script = Script::new(alloc);
     let mut draws = Draws::new(shape.seed);
     draw_events(rehearsal, policy, &mut draws, &mut script, shape.events)?;
     drain_script(rehearsal, policy, &mut script)?;
-    let text = document_of(alloc, rehearsal.graph().plan(), script.as_slice())?;
-    Ok(text)
-}
-
-/// The text of a plan's document with a script.
-fn document_of(alloc: Global, plan: &CheckedPlan, script: &[Act]) -> Result<Text, Memory>
-    requires { length script.now ≤ MOST_ACTS }
-    ensures { IfOk result (λ text. IsWritten plan.now script.now text) }
-{
-    let text = write_scripted(alloc, plan.problem(), plan.plan(), script)?;
-    Ok(text)
+    Ok(script)
 }
 
 /// Draws an act for each of so many events; those that join are done, and stand in the script.

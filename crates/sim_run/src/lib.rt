@@ -15,8 +15,8 @@
 //! definition `trial_text`, of which two texts of an independent reference are worked examples. That its
 //! events are a script is a law of the definitions ([`a_trial_is_a_script`]).
 //!
-//! [`write_rehearsal`] draws a script in the same way, of a plan that is given, and writes its document with
-//! it: what of it happens, [`a_drawn_script_happens`] says.
+//! [`draw_script`] draws a script in the same way, of a plan that is given: what of it happens,
+//! [`a_drawn_script_happens`] says.
 #![tactic(auto)]
 
 mod act_line;
@@ -40,7 +40,7 @@ mod sim_rounds;
 mod trial;
 pub mod worked;
 
-pub use draft::write_rehearsal;
+pub use draft::{DrawnScript, draw_script};
 pub use laws::{
     a_drawn_script_happens, a_trial_ends_finished, a_trial_is_a_script, every_rehearsal_is_safe,
 };

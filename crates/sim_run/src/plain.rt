@@ -1,7 +1,5 @@
-ghost use Rattle.std.specs.Prelude.{◌≡◌, ◌<◌, ◌++◌, All, IfOk, IsTrue};
-ghost use Rattle.rollout_rules.specs.Items.{item_count};
+ghost use Rattle.std.specs.Prelude.{◌≡◌, IfOk, IsTrue};
 ghost use Rattle.rollout_rules.specs.Legal.{is_legal};
-ghost use Rattle.rollout_book.specs.Aliens.{told_by};
 ghost use Rattle.update_scheduler.specs.Rounds.{first_turn};
 ghost use Rattle.intent_journal.specs.Openings.{unbegun};
 
@@ -9,7 +7,7 @@ use crate::sim_rounds::SimRounds;
 use dependency_graph::{Graph, checked_plan_is_valid};
 use lists::Memory;
 use order_policy::Policy;
-use rollout_book::Turn;
+use rollout_book::{Turn, hear_each};
 use rollout_rules::{Entry, EntryList, Op};
 use std::alloc::{AllocError, Global};
 use std::marker::Model;
@@ -37,6 +35,21 @@ impl Model for Plain {
     ghost view = { λ p. record { graph = graph_of p.rounds; live = p.is_live } };
 
     ghost invariant = { λ p. IsPlain p.rounds p.entries p.is_live };
+}
+
+impl Plain {
+    /// Gives the plan back.
+    pub(crate) fn into_plan(self) -> CheckedPlan
+        ensures { result ≡ self.graph.rollout }
+    {
+        let Plain {
+            rounds,
+            entries,
+            is_live: _,
+        } = self;
+        drop(entries);
+        rounds.into_graph().into_plan()
+    }
 }
 
 impl SimRounds for Plain {
@@ -77,19 +90,6 @@ impl SimRounds for Plain {
 
     fn start(&mut self) -> Result<usize, Memory> {
         Ok(self.entries.as_slice().len())
-    }
-}
-
-/// Hears answers, of items that exist.
-fn hear_each(rounds: &mut Rounds, answers: &[Answer])
-    requires { All (λ answer. answer.item < item_count rounds.old.rollout.problem) answers.now }
-    ensures { rounds.new ≡ record rounds.old { heard = rounds.old.heard ++ told_by answers.now } }
-{
-    for answer in answers {
-        rounds.hear(Op {
-            item: answer.item,
-            number: answer.held,
-        });
     }
 }
 

@@ -1,5 +1,5 @@
 ghost use Rattle.std.specs.Prelude.{◌≡◌, false};
-ghost use Rattle.sink_pieces.specs.Pushing.{Ends, Pushes, Pushes-chain, Pushes-nothing, standing};
+ghost use Rattle.sink_pieces.specs.Pushing.{Ends, Pushes, Pushes-chain, Pushes-nothing, Pushes-utf8, standing};
 
 use crate::kept::Kept;
 use crate::passing::{take_in, write_out};
@@ -73,4 +73,6 @@ impl<'a, K: Sink> Pieces for PieceSink<'a, K> {
     ghost nothing_pushed = { Pushes-nothing K.told K.as_source };
 
     ghost pushed_further = { Pushes-chain K.told K.as_source };
+
+    ghost pushed_utf8 = { Pushes-utf8 K.told K.as_source };
 }

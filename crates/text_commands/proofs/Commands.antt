@@ -14,6 +14,8 @@ use Rattle.sim_run.specs.declared.script_shape.ScriptShape.{ScriptShape}
 use Rattle.text_commands.specs.Answers.{planned, least_planned, judged, loaded, turned_back, rehearsed, drawn_up, checked, answer_in, explained, rollout_in}
 use Rattle.text_commands.specs.CommandEnds.{ending_of}
 use Rattle.text_commands.specs.Runs.{Gives}
+use Rattle.sim_run.specs.declared.draft.DrawnScript.{DrawnScript}
+use Rattle.text_commands.specs.Drawn.{IsReadBack}
 use Rattle.text_commands.specs.Safety.{IsPlanned, PlansSafely, ChecksValid, LoadsSafely, TurnsSafely, RehearsesSafely, RehearsesTruly, IsDrawnUp, IsLoaded, IsTurned, IsClaimed, ExplainsTruly, IsExplained, IsLeast, PlansLeast}
 use Rattle.text_commands.specs.declared.command_end.CommandEnd.{CommandEnd}
 use Rattle.text_commands.specs.Words.{a_plan, a_check, the_loads, the_way_back, a_rehearsal, a_script, the_explanation, the_least}
@@ -115,10 +117,10 @@ pub read-rehearses-safely : {A : Type 0} (policy : OpView → ℕ) (input : List
 read-rehearses-safely policy input s (Ok text) read safe = record { scripted = s; read = read; safe = safe }
 read-rehearses-safely policy input s (Err e) read safe = tt
 
-pub read-rehearses-truly : {A : Type 0} (shape : ScriptShape) (policy : OpView → ℕ) (input : List ℕ) (d : DocumentRead) (answer : Result A CommandEnd) → document_in input ≡ Ok d → IsPlanWithin d.plan
-    → IfOk answer (λ text. IsPlanWithin d.plan → IsDrawnUp shape policy d) → IfOk answer (λ text. RehearsesTruly shape policy input)
-read-rehearses-truly shape policy input d (Ok text) read within drawn = record { document = d; read = read; drawn = drawn within }
-read-rehearses-truly shape policy input d (Err e) read within drawn = tt
+pub read-rehearses-truly : (shape : ScriptShape) (policy : OpView → ℕ) (input : List ℕ) (d : DocumentRead) (answer : Result DrawnScript CommandEnd) → document_in input ≡ Ok d → IsPlanWithin d.plan
+    → IfOk answer (λ drawn. IsReadBack drawn → IsPlanWithin d.plan → IsDrawnUp shape policy d) → IfOk answer (λ drawn. IsReadBack drawn → RehearsesTruly shape policy input)
+read-rehearses-truly shape policy input d (Ok drawn) read within known = λ back. record { document = d; read = read; drawn = known back within }
+read-rehearses-truly shape policy input d (Err e) read within known = tt
 
 pub rollout-refuses : (input : List ℕ) (e : InputFault) → grammar.Refuses e (document_in input) → Gives {A = Rollout} (Err (ending_of e)) (rollout_in input)
 unfolding rollout_in

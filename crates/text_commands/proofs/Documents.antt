@@ -1,8 +1,9 @@
 -- A document whose plan is checked, and what is made of it.
-use Rattle.std.proofs.Common.{◌≡◌, ℕ, ◌≤◌, ◌++◌, ◌∷◌, [], List, true, Option, Some, None, Ok, Err, ap, sym, ◌∙◌, subst}
+use Rattle.std.proofs.Common.{◌≡◌, ℕ, ◌≤◌, ◌++◌, ◌∷◌, [], List, true, Option, Some, None, Ok, Err, ap, ap₂, sym, ◌∙◌, subst}
 use Rattle.rollout_rules.specs.Wan.{Problem, Plan, Rollout, last_stage}
 use Rattle.rollout_rules.specs.Valid.{is_valid_plan}
 use Rattle.rollout_rules.specs.declared.op.OpView.{OpView}
+use Rattle.rollout_rules.specs.declared.event.Act.{Act}
 use Rattle.plan_check.specs.FirstBroken.{first_broken}
 use Rattle.plan_texts.specs.Explain.{explain_text}
 use Rattle.plan_texts.specs.Loads.{loads_text}
@@ -12,15 +13,18 @@ use Rattle.plan_check.specs.declared.fault.PlanFault.{PlanFault}
 use Rattle.plan_check.specs.declared.fault.PlanFault.TheVariants as plan_fault
 use Rattle.problem_json.specs.Writing.{document_text}
 use Rattle.rollback_plan.specs.Turning.{back_problem, back_plan, back}
-use Rattle.problem_json.specs.GrammarDocuments.{DocumentRead, ScriptedRead, scripted_in}
+use Rattle.problem_json.specs.GrammarDocuments.{DocumentRead, ScriptedRead}
 use Rattle.problem_json.specs.WithinLimits.{IsPlanWithin}
-use Rattle.sim_run.specs.DrawnTexts.{IsWrittenFrom}
+use Rattle.problem_json.specs.WritingScripts.{scripted_text}
+use Rattle.sim_run.specs.DrawnFor.{IsDrawnFor}
+use Rattle.sim_run.specs.declared.draft.DrawnScript.{DrawnScript}
 use Rattle.sim_run.specs.Rehearsed.{IsSafeRehearsal}
 use Rattle.sim_run.specs.Script.{script_text}
 use Rattle.sim_run.specs.declared.script_shape.ScriptShape.{ScriptShape}
 use Rattle.text_commands.specs.Answers.{◌>>=◌, unless_broken, checked, loaded, turned_back, rehearsed, drawn_up, rehearsal_text, script_for, explained}
+use Rattle.text_commands.specs.Drawn.{IsReadAs, IsReadBack, script_drawn}
 use Rattle.text_commands.specs.Runs.{Gives}
-use Rattle.text_commands.specs.Safety.{HoldsItsLoads, MayBeginBack, IsLoaded, IsSealed, IsSafePlan, IsTurned, IsValid, IsExplained, TellsEachNext, IsDrawn, IsDrawnUp, IsRehearsed}
+use Rattle.text_commands.specs.Safety.{HoldsItsLoads, MayBeginBack, IsLoaded, IsSealed, IsSafePlan, IsTurned, IsValid, IsExplained, TellsEachNext, IsDrawn, IsDrawnUp, IsReadAgain, IsRehearsed}
 use Rattle.text_commands.specs.declared.command_end.CommandEnd.{CommandEnd}
 use Rattle.text_commands.specs.declared.command_end.CommandEnd.TheVariants.{NotValid}
 use Rattle.text_commands.proofs.Steps.{step-gives}
@@ -120,26 +124,28 @@ sealed-rehearsal policy s o sealed safe = rw sealed.same at safe
 
 -- ---- a script that is drawn for a valid plan
 
--- the text with its line feed, of the text without
-pub written-rehearsed : (shape : ScriptShape) (policy : OpView → ℕ) (o : Rollout) (bare text : List ℕ) → IsWrittenFrom policy shape o bare → IsDrawn shape policy o → text ≡ bare ++ 10 ∷ [] → IsRehearsed shape policy o text
-written-rehearsed shape policy o bare text written drawn ends = record {
-  is = ends ∙ ap (λ t. t ++ 10 ∷ []) written.is;
-  again = λ within.
-      subst (λ t. scripted_in t ≡ Ok (record { document = record { problem = o.problem; plan = o.plan }; script = script_for shape policy o })) written.is (written.again within);
-  drawn = drawn;
-}
+-- what was drawn is read back as the script of its rollout
+read-again : (shape : ScriptShape) (policy : OpView → ℕ) (o : Rollout) (drawn : DrawnScript) → IsDrawnFor policy shape o drawn → IsReadBack drawn → IsPlanWithin o.plan → IsReadAgain shape policy o
+read-again shape policy o drawn is back =
+    let script = subst (λ (l : List Act). IsPlanWithin drawn.plan.plan → IsReadAs drawn.plan l) is.script.is (λ within. back within is.script.few) in
+    subst (λ (r : Rollout). IsPlanWithin r.plan → IsReadAs r (script_for shape policy o)) is.rollout script
 
-pub checked-drawn : (shape : ScriptShape) (policy : OpView → ℕ) (d : DocumentRead) (o : Rollout) (text : List ℕ) → checked d ≡ Ok o → IsRehearsed shape policy o text → drawn_up shape policy d ≡ Ok text
+pub checked-drawn : (shape : ScriptShape) (policy : OpView → ℕ) (d : DocumentRead) (o : Rollout) (drawn : DrawnScript) → checked d ≡ Ok o → IsDrawnFor policy shape o drawn
+    → drawn_up shape policy d ≡ Ok (script_drawn drawn)
 unfolding drawn_up
-checked-drawn shape policy d o text e is = ap (λ r. r >>= λ o. Ok (rehearsal_text shape policy o)) e ∙ sym (ap Ok is.is)
+checked-drawn shape policy d o drawn e is =
+    ap (λ r. r >>= λ o. Ok (rehearsal_text shape policy o)) e
+    ∙ sym (ap₂ (λ (r : Rollout) (l : List Act). Ok (scripted_text r.problem r.plan l ++ 10 ∷ [])) is.rollout is.script.is)
 
 pub refused-drawn : (shape : ScriptShape) (policy : OpView → ℕ) (d : DocumentRead) (e : CommandEnd) → Gives {A = Rollout} (Err e) (checked d) → Gives {A = List ℕ} (Err e) (drawn_up shape policy d)
 unfolding drawn_up
 refused-drawn shape policy d e h = step-gives e (checked d) (λ o. Ok (rehearsal_text shape policy o)) h
 
-pub sealed-drawn : (shape : ScriptShape) (policy : OpView → ℕ) (d : DocumentRead) (o : Rollout) (text : List ℕ) → IsSealed d o → IsRehearsed shape policy o text → IsPlanWithin d.plan → IsDrawnUp shape policy d
-sealed-drawn shape policy d o text sealed is within =
-    let same = subst (λ (x : Rollout). IsRehearsed shape policy x text) sealed.same is in
+pub sealed-drawn : (shape : ScriptShape) (policy : OpView → ℕ) (d : DocumentRead) (o : Rollout) (drawn : DrawnScript) → IsSealed d o → IsDrawnFor policy shape o drawn → IsDrawn shape policy o
+    → IsReadBack drawn → IsPlanWithin d.plan → IsDrawnUp shape policy d
+sealed-drawn shape policy d o drawn sealed is happens back within =
+    let known : IsRehearsed shape policy o = record { again = read-again shape policy o drawn is back; drawn = happens } in
+    let same = subst (λ (x : Rollout). IsRehearsed shape policy x) sealed.same known in
     record { valid = sealed.valid; again = same.again within; drawn = same.drawn }
 
 pub ruleset checking = (unbroken-checked, valid-sealed)

@@ -1,6 +1,7 @@
 pub mod Steps
 pub mod Planned
 pub mod Documents
+pub mod Drawing
 pub mod Claims
 pub mod Leasts
 pub mod Commands

@@ -8,6 +8,7 @@ pub mod Lines
 pub mod Words
 pub mod Answers
 pub mod Shown
+pub mod Drawn
 pub mod Answered
 pub mod Ready
 pub mod Safety

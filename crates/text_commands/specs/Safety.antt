@@ -22,11 +22,11 @@ use Rattle.rollback_plan.specs.Levels.{back_start}
 use Rattle.rollback_plan.specs.Turning.{back_problem, back_plan}
 use Rattle.case_gen.specs.Draws.{seeded}
 use Rattle.problem_json.specs.WithinLimits.{IsPlanWithin}
-use Rattle.problem_json.specs.WritingScripts.{scripted_text}
 use Rattle.sim_run.specs.Drafts.{IsDrawnScript}
 use Rattle.sim_run.specs.Rehearsed.{IsSafeRehearsal}
 use Rattle.sim_run.specs.declared.script_shape.ScriptShape.{ScriptShape}
-use Rattle.text_commands.specs.Answers.{chosen_by, rehearsal_text, script_for}
+use Rattle.text_commands.specs.Answers.{chosen_by, script_for}
+use Rattle.text_commands.specs.Drawn.{IsReadAs}
 use Rattle.text_commands.specs.Words.{TextAsked, a_plan, a_check, the_loads, the_way_back, a_rehearsal, a_script, the_explanation, the_least}
 use Rattle.text_commands.specs.declared.words.Planner.{Planner}
 
@@ -144,17 +144,14 @@ pub record RehearsesSafely (policy : OpView → ℕ) (input : List ℕ) : Type 0
 
 -- the document of a rollout with the script that is drawn for it, which is read again as both
 abbrev pub IsReadAgain : ScriptShape → (OpView → ℕ) → Rollout → Type 0
-IsReadAgain shape policy o =
-    scripted_in (scripted_text o.problem o.plan (script_for shape policy o))
-    ≡ Ok (record { document = record { problem = o.problem; plan = o.plan }; script = script_for shape policy o })
+IsReadAgain shape policy o = IsReadAs o (script_for shape policy o)
 
 -- each act of that script happens, the rehearsal is safe, and it ends finished where there is room
 abbrev pub IsDrawn : ScriptShape → (OpView → ℕ) → Rollout → Type 0
 IsDrawn shape policy o = IsDrawnScript o.problem o.plan policy (seeded shape.seed) shape.events (script_for shape policy o)
 
--- the text of a rollout with that script
-pub record IsRehearsed (shape : ScriptShape) (policy : OpView → ℕ) (o : Rollout) (text : List ℕ) : Type 0 where
-  pub is : text ≡ rehearsal_text shape policy o
+-- what is known of a rollout with that script
+pub record IsRehearsed (shape : ScriptShape) (policy : OpView → ℕ) (o : Rollout) : Type 0 where
   pub again : IsPlanWithin o.plan → IsReadAgain shape policy o
   pub drawn : IsDrawn shape policy o
 

@@ -12,6 +12,7 @@
 mod answer;
 mod arguments;
 mod command_end;
+mod drawn;
 mod fault_lines;
 mod journal_line;
 pub mod laws;

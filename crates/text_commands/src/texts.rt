@@ -10,9 +10,10 @@ mod plan;
 mod rehearse;
 mod sim;
 
-ghost use Rattle.std.specs.Prelude.{IfOk};
-ghost use Rattle.text_commands.specs.Answered.{told};
+ghost use Rattle.std.specs.Prelude.{IfOk, IfSome};
+ghost use Rattle.text_commands.specs.Answered.{drawn_in, told};
 ghost use Rattle.text_commands.specs.Answers.{answer_in};
+ghost use Rattle.text_commands.specs.Drawn.{IsReadBack};
 ghost use Rattle.text_commands.specs.Runs.{Gives};
 ghost use Rattle.text_commands.specs.Safety.{DoesSafely};
 ghost use Rattle.text_commands.specs.Words.{text_asked};
@@ -26,14 +27,15 @@ use std::alloc::Global;
 use wan_edge::Nums8;
 
 /// What a command answers to its input, or how the run ends without an answer. The bytes are given up as soon as they
-/// are read.
+/// are read. That a script which was drawn is read again is known once its text was pushed.
 pub fn answer_of(
     alloc: Global,
     command: TextCommand<'_>,
     input: Nums8,
 ) -> Result<Answer, CommandEnd>
     ensures gives { Gives (told result) (answer_in (text_asked command.entry) input) }
-    ensures safe { IfOk result (λ answer. DoesSafely (text_asked command.entry) input) }
+    ensures safe { IfOk result (λ answer. IfSome (drawn_in answer) IsReadBack
+        → DoesSafely (text_asked command.entry) input) }
 {
     match command {
         TextCommand::Plan(planner) => plan::plan(alloc, planner, input).map(Answer::Document),
@@ -44,7 +46,7 @@ pub fn answer_of(
         TextCommand::Least => least::least(alloc, input).map(Answer::Shown),
         TextCommand::Sim(policy) => sim::sim(alloc, policy, input).map(Answer::Made),
         TextCommand::Rehearse(shape, policy) => {
-            rehearse::rehearse(alloc, &shape, policy, input).map(Answer::Made)
+            rehearse::rehearse(alloc, &shape, policy, input).map(Answer::Rehearsed)
         }
     }
 }

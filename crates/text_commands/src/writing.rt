@@ -1,13 +1,15 @@
-ghost use Rattle.std.specs.Prelude.{◌≡◌, [], Ok};
+ghost use Rattle.std.specs.Prelude.{◌≡◌, [], IfSome, Ok};
 ghost use Rattle.wan_edge.specs.Streams.{Rose};
 ghost use Rattle.wan_text.specs.Named.{AreNamesOf};
-ghost use Rattle.text_commands.specs.Answered.{text_in};
+ghost use Rattle.text_commands.specs.Answered.{drawn_in, text_in};
 ghost use Rattle.text_commands.specs.Answers.{rollout_text};
-ghost use Rattle.text_commands.specs.Ready.{IsReady, ready_text};
+ghost use Rattle.text_commands.specs.Drawn.{IsReadBack};
+ghost use Rattle.text_commands.specs.Ready.{IsReady, drawn_ready, ready_text};
 ghost use Rattle.text_commands.specs.Runs.{EndsWith, Follows};
 
 use crate::answer::Answer;
 use crate::command_end::CommandEnd;
+use crate::drawn::push_drawn;
 use crate::ready::{Ready, made_ready};
 use crate::shown::push_shown;
 use plan_texts::{push_explanation, push_loads};
@@ -39,6 +41,7 @@ pub fn write_told<K: Sink>(alloc: Global, answer: Answer, sink: &mut K) -> Comma
         (K.told sink.new).written }
     ensures cause { result ≡ CommandEnd.WriteFault
         → Rose (K.told sink.old).faults (K.told sink.new).faults }
+    ensures read { result ≡ CommandEnd.Done → IfSome (drawn_in answer) IsReadBack }
 {
     let Ok(ready) = made_ready(alloc, answer) else {
         return CommandEnd::OutOfMemory;
@@ -53,6 +56,7 @@ fn write_ready<K: Sink>(alloc: Global, sink: &mut K, ready: &Ready) -> CommandEn
         (K.told sink.new).written }
     ensures cause { result ≡ CommandEnd.WriteFault
         → Rose (K.told sink.old).faults (K.told sink.new).faults }
+    ensures read { result ≡ CommandEnd.Done → IfSome (drawn_ready ready.now) IsReadBack }
 {
     match Kept::new(alloc) {
         Ok(mut kept) => write_by(sink, &mut kept, ready),
@@ -68,6 +72,7 @@ fn write_by<K: Sink>(sink: &mut K, kept: &mut Kept, ready: &Ready) -> CommandEnd
         (K.told sink.new).written }
     ensures cause { result ≡ CommandEnd.WriteFault
         → Rose (K.told sink.old).faults (K.told sink.new).faults }
+    ensures read { IfSome (drawn_ready ready.now) IsReadBack }
 {
     let mut pieces = PieceSink::new(sink, kept);
     push_ready(&mut pieces, ready);
@@ -77,10 +82,11 @@ fn write_by<K: Sink>(sink: &mut K, kept: &mut Kept, ready: &Ready) -> CommandEnd
     }
 }
 
-/// Pushes it.
+/// Pushes it. A script that was drawn is read again from what was pushed.
 fn push_ready<P: Pieces>(pieces: &mut P, ready: &Ready)
     requires { IsReady ready.now }
-    ensures { P.pushes pieces.old (ready_text ready.now) pieces.new }
+    ensures text { P.pushes pieces.old (ready_text ready.now) pieces.new }
+    ensures read { IfSome (drawn_ready ready.now) IsReadBack }
 {
     match ready {
         Ready::Made(text) => pieces.push_str(text.as_str()),
@@ -88,6 +94,7 @@ fn push_ready<P: Pieces>(pieces: &mut P, ready: &Ready)
         Ready::Loads(rows, plan) => push_loads(pieces, plan, rows),
         Ready::Explained(lookup, plan) => push_explanation(pieces, plan, lookup),
         Ready::Shown(names, said, shown) => push_shown(pieces, names, said.as_str(), shown),
+        Ready::Rehearsed(names, drawn) => push_drawn(pieces, names, drawn),
     }
 }
 

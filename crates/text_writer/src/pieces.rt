@@ -1,4 +1,4 @@
-ghost use Rattle.std.specs.Prelude.{List, ℕ, [], ◌++◌};
+ghost use Rattle.std.specs.Prelude.{List, ℕ, [], ◌++◌, IsUtf8};
 
 /// What takes a text piece by piece. A failure isn't told at a push: it is kept, each later push passes its piece
 /// over, and who made the object asks it in the end.
@@ -17,4 +17,7 @@ pub trait Pieces {
         → pushes a first b
         → pushes b second c
         → pushes a (first ++ second) c };
+
+    /// What is pushed is UTF-8: each piece is.
+    ghost pushed_utf8: { (a b : Self) (bytes : List ℕ) → pushes a bytes b → IsUtf8 bytes };
 }

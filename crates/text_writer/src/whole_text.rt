@@ -1,5 +1,5 @@
 ghost use Rattle.std.specs.Prelude.{◌≡◌, [], Some, IfOk};
-ghost use Rattle.text_writer.specs.Kept.{Adds, Adds-nothing, Adds-chain};
+ghost use Rattle.text_writer.specs.Kept.{AddsText, AddsText-nothing, AddsText-chain, AddsText-utf8};
 
 use crate::Pieces;
 use lists::{Memory, Text};
@@ -46,7 +46,7 @@ impl WholeText {
 }
 
 impl Pieces for WholeText {
-    ghost pushes = { Adds };
+    ghost pushes = { AddsText };
 
     fn push_str(&mut self, piece: &str) {
         if !self.refused {
@@ -54,7 +54,9 @@ impl Pieces for WholeText {
         }
     }
 
-    ghost nothing_pushed = { Adds-nothing };
+    ghost nothing_pushed = { AddsText-nothing };
 
-    ghost pushed_further = { Adds-chain };
+    ghost pushed_further = { AddsText-chain };
+
+    ghost pushed_utf8 = { AddsText-utf8 };
 }

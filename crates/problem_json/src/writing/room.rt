@@ -1,6 +1,5 @@
 //! About how many bytes a text has: room for it is taken at once, so that it isn't moved as it grows.
 
-use rollout_rules::Act;
 use wan_model::{Plan, Problem, Switch};
 
 // About as many bytes has a row beside the names in it, and a name beside its letters; and at most so many
@@ -10,9 +9,6 @@ const ROW: usize = 64;
 const QUOTES: usize = 3;
 
 const TUNNEL: usize = 27;
-
-// Most events of a script have fewer bytes.
-const EVENT: usize = 16;
 
 /// Of a problem: its rows and the names in them, which are taken to be as long as the switches' on average.
 pub(super) fn problem_bytes(problem: &Problem) -> usize {
@@ -40,11 +36,6 @@ pub(super) fn plan_bytes(plan: &Plan) -> usize {
     };
     let tunnels = stage.rates.as_slice().len();
     stages.len().saturating_mul(tunnels.saturating_mul(TUNNEL))
-}
-
-/// Of a script: its events.
-pub(super) fn script_bytes(script: &[Act]) -> usize {
-    script.len().saturating_mul(EVENT)
 }
 
 fn letters(switches: &[Switch]) -> usize {

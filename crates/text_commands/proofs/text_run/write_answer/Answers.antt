@@ -9,3 +9,6 @@ returns-in-Err-clause-safe g c = λ e. absurd (no-done _ _ (rw e at c.in-Err.ens
 
 pub returns-in-Ok-clause-follows : goal.returns-in-Ok-clause-follows
 returns-in-Ok-clause-follows g c = rw c.in-Ok.ensures.gives c.write_told.ensures.written
+
+pub returns-in-Ok-clause-safe : goal.returns-in-Ok-clause-safe
+returns-in-Ok-clause-safe g c = λ e. c.in-Ok.ensures.safe (c.write_told.ensures.read e)

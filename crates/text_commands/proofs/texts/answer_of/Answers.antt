@@ -3,8 +3,8 @@ use Rattle.text_commands.specs.Answers.{answer_in, explanation_of, loads_of, rol
 use Rattle.text_commands.specs.Shown.{plan_shown}
 use Rattle.text_commands.specs.Safety.{DoesSafely}
 use Rattle.text_commands.specs.Words.{TextAsked, text_asked}
-use Rattle.text_commands.specs.declared.answer.Answer.TheVariants.{Document, Loads, Explained, Shown}
-use Rattle.text_commands.proofs.Answered.{mapped-told, made-told, told-gives, told-safe, found-safe}
+use Rattle.text_commands.specs.declared.answer.Answer.TheVariants.{Document, Loads, Explained, Shown, Rehearsed}
+use Rattle.text_commands.proofs.Answered.{mapped-told, made-told, told-gives, told-safe, found-safe, drawn-safe}
 use Rattle.text_commands.proofs.texts.answer_of.Goals as goal
 
 pub returns-in-Plan-clause-gives : goal.returns-in-Plan-clause-gives
@@ -65,8 +65,8 @@ returns-in-Sim-clause-safe g c =
 
 pub returns-in-Rehearse-clause-gives : goal.returns-in-Rehearse-clause-gives
 returns-in-Rehearse-clause-gives g c =
-    told-gives _ _ _ _ (made-told _ _ c.map-in-Rehearse.ensures.cases) (ap (λ (asked : TextAsked). answer_in asked c.args.input) (sym (ap (λ m. text_asked m) c.in-Rehearse.is))) c.rehearse.ensures.gives
+    told-gives _ _ _ _ (mapped-told Rehearsed _ _ c.map-in-Rehearse.ensures.cases) (ap (λ (asked : TextAsked). answer_in asked c.args.input) (sym (ap (λ m. text_asked m) c.in-Rehearse.is))) c.rehearse.ensures.gives
 
 pub returns-in-Rehearse-clause-safe : goal.returns-in-Rehearse-clause-safe
 returns-in-Rehearse-clause-safe g c =
-    told-safe _ _ _ _ (made-told _ _ c.map-in-Rehearse.ensures.cases) (subst (λ (asked : TextAsked). DoesSafely asked c.args.input) (sym (ap (λ m. text_asked m) c.in-Rehearse.is))) c.rehearse.ensures.safe
+    drawn-safe _ _ _ _ c.map-in-Rehearse.ensures.cases (subst (λ (asked : TextAsked). DoesSafely asked c.args.input) (sym (ap (λ m. text_asked m) c.in-Rehearse.is))) c.rehearse.ensures.safe

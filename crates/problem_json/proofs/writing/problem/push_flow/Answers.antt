@@ -1,8 +1,8 @@
-use Rattle.std.proofs.Common.{◌≡◌, ◌+◌, ◌-◌, codes, length, slice_index_or, suc, ap, refl, ◌∙◌, arith}
+use Rattle.std.proofs.Common.{◌≡◌, ◌+◌, ◌-◌, length, slice_index_or, suc, ap, refl, ◌∙◌, arith}
 use Rattle.std.proofs.lemmas.List.{get_or_read_under}
 use Rattle.json.specs.Print.{escape_byte}
 use Rattle.rollout_rules.specs.Sums.{list_below}
-use Rattle.rollout_rules.specs.Wan.{Flow, flow_at, no_flow, tunnel_of}
+use Rattle.rollout_rules.specs.Wan.{Flow, flow_at, no_flow}
 use Rattle.rollout_rules.proofs.Below.{sum_below-up}
 use Rattle.rollout_rules.proofs.Tunnels.{tunnels_of}
 use Rattle.serde_json.specs.Data.{string}

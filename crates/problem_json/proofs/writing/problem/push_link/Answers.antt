@@ -1,4 +1,4 @@
-use Rattle.std.proofs.Common.{◌≡◌, ◌<◌, codes, decimal, length, subst, sym, ap, ◌∙◌}
+use Rattle.std.proofs.Common.{◌≡◌, ◌<◌, decimal, length, subst, sym, ap, ◌∙◌}
 use Rattle.json.specs.Print.{escape_byte}
 use Rattle.rollout_rules.specs.Wan.{Link}
 use Rattle.serde_json.specs.Written.{compact_text}

@@ -1,4 +1,4 @@
-use Rattle.std.proofs.Common.{◌≤◌, length, map, get_or, ap, ◌∙◌, arith}
+use Rattle.std.proofs.Common.{◌≤◌, length, map, get_or, ◌∙◌, arith}
 use Rattle.std.proofs.lemmas.List.{length-map}
 use Rattle.serde_json.specs.Written.{compact_text}
 use Rattle.problem_json.specs.Writing.{list_data, name_data}

@@ -9,7 +9,7 @@ use Rattle.sim_run.proofs.plain.PlainSimRounds.round.Goals as goal
 pub hear_each-requires : goal.hear_each-requires
 hear_each-requires g c =
     let told = subst (λ (p : Keeping). All (MayTell p.graph) (told_by c.args.answers.now)) (sym c.self.view_is) c.requires.told in
-    items-known (graph_of c.self.inside.rounds) c.args.answers.now told
+    record { items = items-known (graph_of c.self.inside.rounds) c.args.answers.now told }
 
 pub returns-clause-state : goal.returns-clause-state
 returns-clause-state g c =
