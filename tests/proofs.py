@@ -1,12 +1,15 @@
-"""What a prover would take minutes to say, or wouldn't say, in a second: that no line of a clause has more than 100 columns, and that no
-modules of proofs or definitions cite each other in a circle.
+"""What a prover would take minutes to say, or wouldn't say, in seconds: that no line of a clause has more than 100 columns, that no modules of
+proofs or definitions cite each other in a circle, and that no lemma is stated in two modules of proofs.
 
     python3 tests/proofs.py
 
-Left out are the two crates of definitions and laws of a rollout, whose statements stay as they are, and rows of worked texts, which can't be broken.
+Left out of the first are the two crates of definitions and laws of a rollout, whose statements stay as they are, and rows of worked texts, which can't
+be broken. Two lemmas are one where they state the same of the same names, whatever they call what they bind. Those in the middle of a module, which stand
+on what it is about, are left out.
 """
 
 import glob
+import itertools
 import os
 import re
 
@@ -16,6 +19,12 @@ CRATES = os.path.join(os.path.dirname(os.path.abspath(__file__)), "..", "crates"
 COLUMNS = 100
 STAY = {"rollout_rules", "rollout_laws"}
 CLAUSE = re.compile(r"\s*(requires|ensures)\b")
+USE = re.compile(r"^\s*(?:pub )?use Rattle\.(\w+)\.[\w.+-]*?(?:\.\{([^}]*)\}| as (\S+))\s*$", re.M)
+HEAD = re.compile(r"(?:pub )?([^\s:()]+) : (.*)")
+BOUND = re.compile(r"[({λ]\s*([^:(){}λ.]+?)\s*:")
+SAYS = re.compile(r"[≡≢≤<⊥]|(?<![^\s(])(?:Is|Are|Has|All)[A-Z_ ]")
+WORD = re.compile(r"[^\s(){}\[\],;.]+")
+KEPT = {"Type", "if", "then", "else", "let", "in"}
 
 
 def clause_lines(text):
@@ -60,12 +69,64 @@ def circle(modules):
     return None
 
 
+def imported(text):
+    """The names that a module imports, each with the crate and the name that it has there."""
+    names = {}
+    for crate, listed, alias in USE.findall(text):
+        for name in listed.split(",") if listed else [alias]:
+            own, _, other = name.strip().partition(" as ")
+            names[other or own] = f"{crate}.{own}"
+    return names
+
+
+def lemmas(text):
+    """The lemmas at the margin of a module: the name of each and what it states, on one line."""
+    lines = text.split("\n")
+    for number, line in enumerate(lines):
+        found = HEAD.match(line)
+        if found and not line.startswith("--"):
+            rest = itertools.takewhile(lambda after: after[:1].isspace(), lines[number + 1:])
+            stated = " ".join([found[2], *map(str.strip, rest)])
+            if "→" in stated and SAYS.search(stated) and not stated.endswith("Type 0"):
+                yield found[1], stated
+
+
+def known_by(stated, names, module):
+    """What a lemma states, with what it binds by its number and each other name by where it comes from."""
+    bound = {}
+    for name in " ".join(BOUND.findall(stated)).split():
+        bound.setdefault(name, f"${len(bound)}")
+
+    def told(found):
+        word, is_field = found[0], stated[:found.start()].endswith(".")
+        if is_field or word in KEPT:
+            return word
+        return bound.get(word) or names.get(word) or (f"{module}.{word}" if word[0].isalpha() else word)
+
+    return WORD.sub(told, stated)
+
+
+def homes():
+    """What each lemma states, with the modules that state it."""
+    found = {}
+    for path in sorted(glob.glob(f"{CRATES}/*/proofs/**/*.antt", recursive=True)):
+        with open(path, encoding="utf-8") as file:
+            text = file.read()
+        module, names = os.path.relpath(path, CRATES)[:-5], imported(text)
+        for name, stated in lemmas(text):
+            found.setdefault(known_by(stated, names, module), {}).setdefault(module, name)
+    return found
+
+
 def outcomes():
     for crate in sorted(os.listdir(CRATES)):
         if crate not in STAY:
             yield f"clauses of {crate}", wide_line(crate)
         yield f"modules of {crate}", circle(cited(crate))
+    for places in homes().values():
+        (module, name), *others = places.items()
+        yield f"{name} of {module}", f"{others[0][1]} of {others[0][0]} states the same" if others else None
 
 
 if __name__ == "__main__":
-    report("proofs", "crates' clauses and modules", outcomes())
+    report("proofs", "clauses and modules of crates, and lemmas", outcomes())

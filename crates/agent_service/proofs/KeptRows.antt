@@ -6,6 +6,7 @@ use Rattle.wan_edge.specs.Frames.{CommandFrame, command_bytes}
 use Rattle.wan_edge.specs.Streams.{Appends, AppendsPart, KeepsTelling, Reads, Rose, SinkTrace, SourceTrace}
 use Rattle.wan_edge.specs.Switches.{Holdings}
 use Rattle.wan_edge.proofs.Sizes.{command-some}
+use Rattle.wan_edge.proofs.Faults.{rose_until}
 use Rattle.fenced_agent.specs.Agents.{FencedHoldings, FencedItems, after_all_termed, fenced_holding}
 use Rattle.fenced_agent.specs.Frames.{IsTermedCommand, TermedCommand, fence_bytes}
 use Rattle.disk_model.specs.Moments.{LeavesOnly}
@@ -22,7 +23,7 @@ use Rattle.agent_talks.proofs.Chains.{after_all_termed-append}
 use Rattle.agent_state.specs.Stored.{AreBytes, IsBeforeOrAfter, IsKept, IsReadAs, with_all, with_batch}
 use Rattle.agent_state.specs.declared.place.Place.{Place}
 use Rattle.agent_state.proofs.KeptFiles.{kept_reads}
-use Rattle.agent_state.proofs.Passages.{chained_run, still_run, weaker_run}
+use Rattle.disk_model.proofs.Passages.{chained_run, still_run, weaker_run}
 use Rattle.agent_state.proofs.Quiet.{causes_later}
 use Rattle.agent_state.proofs.Refusals.{at_disk_later, causes_at_disk}
 use Rattle.agent_service.specs.Keeping.{HasCome, IsOnDisk, StoresAll}
@@ -32,7 +33,7 @@ use Rattle.agent_state.specs.Opened.{ReadsAlike}
 use Rattle.agent_service.specs.declared.keep_fault.KeepFault.{KeepFault}
 use Rattle.agent_service.specs.declared.keep_fault.KeepFault.TheVariants.{Fleet, NoRoom, State}
 use Rattle.agent_service.specs.declared.service.Service.{Service}
-use Rattle.agent_service.proofs.Rows.{TurnsSoFar, none_came, rose_until}
+use Rattle.agent_service.proofs.Rows.{TurnsSoFar, none_came}
 
 -- ---- batches
 

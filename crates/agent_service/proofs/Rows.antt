@@ -7,7 +7,7 @@ use Rattle.wan_edge.specs.Fleets.{WaitsFor}
 use Rattle.wan_edge.specs.Streams.{Rose}
 use Rattle.wan_edge.specs.declared.waited.Waited.{Waited}
 use Rattle.wan_edge.specs.declared.waited.Waited.TheVariants.{Came, NoMore, Seat}
-use Rattle.wan_edge.proofs.Faults.{rose_since}
+use Rattle.wan_edge.proofs.Faults.{rose_since, rose_until}
 use Rattle.fenced_agent.specs.Agents.{FencedItems}
 use Rattle.agent_talks.specs.Serving.{GoesFurther}
 use Rattle.switch_agent.specs.ReadStates.{ReadSoFar, most, new_read_state, room_of}
@@ -374,17 +374,9 @@ memory_no_fleet is = cc
 pub not_fleet : (why : ServiceFault) → why ≡ NoMemory → why ≡ Fleet → ⊥
 not_fleet why memory fleet = memory_no_fleet (sym memory ∙ fleet)
 
-pub rose_until : (a b c : ℕ) → Rose a b → b ≤ c → Rose a c
-rose_until a b c (inl more) no_less = inl (omega (arith, no_less, more))
-rose_until a b c (inr most_faults) no_less = inr (omega (arith, no_less, most_faults))
-
 pub cause_until : {X : Type 0} (result : Result X ServiceFault) (a b c : ℕ) → b ≤ c → IfErr result (λ why. why ≡ Fleet → Rose a b) → IfErr result (λ why. why ≡ Fleet → Rose a c)
 cause_until (Ok x) a b c no_less cause = tt
 cause_until (Err why) a b c no_less cause = λ is. rose_until a b c (cause is) no_less
-
--- what holds where something was found
-pub found_holds : {X : Type 0} (P : X → Type 0) (found : Option X) (x : X) → found ≡ Some x → IfSome found P → P x
-found_holds P found x is holds = subst (λ (f : Option _). IfSome f P) is holds
 
 pub fleet_cause : (result : Result Service ServiceFault) (P : Type 0) → IfErr result (λ why. why ≡ Fleet → P) → IsErrOf result Fleet → P
 fleet_cause result P cause is = subst (λ (r : Result Service ServiceFault). IfErr r (λ why. why ≡ Fleet → P)) is cause refl

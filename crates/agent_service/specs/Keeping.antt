@@ -5,7 +5,8 @@ use Rattle.wan_edge.specs.Frames.{CommandFrame}
 use Rattle.disk_model.specs.Traces.{DiskTrace}
 use Rattle.fenced_agent.specs.Agents.{FencedHoldings, after_all_termed}
 use Rattle.fenced_agent.specs.Frames.{IsTermedCommand, TermedCommand}
-use Rattle.agent_state.specs.Disks.{Causes, Holds}
+use Rattle.disk_model.specs.Crashes.{Holds}
+use Rattle.agent_state.specs.Disks.{Causes}
 use Rattle.agent_state.specs.Stored.{AreBytes, IsBatch, IsKept, IsReadAs, StoredBatch, with_all, with_batch}
 use Rattle.agent_state.specs.declared.fault.StateFault.{StateFault}
 use Rattle.agent_state.specs.declared.place.Place.{Place}

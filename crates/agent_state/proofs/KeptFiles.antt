@@ -9,12 +9,11 @@ use Rattle.wan_edge.specs.Streams.{KeepsTelling}
 use Rattle.wan_edge.specs.Switches.{Holdings, holding_nothing}
 use Rattle.switch_agent.specs.Items.{Items, held_by, holding, last_command}
 use Rattle.fenced_agent.specs.Agents.{FencedHoldings, FencedItems, fenced_holding}
-use Rattle.disk_model.specs.Crashes.{Only}
+use Rattle.disk_model.specs.Crashes.{Holds, Only}
 use Rattle.disk_model.specs.Moments.{LeavesOnly}
 use Rattle.disk_model.specs.Traces.{DiskTrace}
 use Rattle.disk_model.proofs.Running.{LeavesOnly-weaker}
 use Rattle.agent_state.specs.Batches.{IsBody}
-use Rattle.agent_state.specs.Disks.{Holds}
 use Rattle.agent_state.specs.Renewals.{new_gate, new_home}
 use Rattle.agent_state.specs.States.{Home, IsAtRest, IsCommitted, IsEither}
 use Rattle.agent_state.specs.Stored.{IsBatch, IsBeforeOrAfter, IsKept, IsReadAs, Leaves, StoredBatch, floor_behind, home_of, kept_floor, last_batch, last_commands, last_of, nothing_yet, part_bytes, with_all, with_batch}

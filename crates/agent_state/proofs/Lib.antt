@@ -3,7 +3,6 @@ pub mod Heads
 pub mod KeptFiles
 pub mod Lasts
 pub mod Openings
-pub mod Passages
 pub mod Quiet
 pub mod Reading
 pub mod Refusals

@@ -4,7 +4,7 @@ use Rattle.std.proofs.lemmas.Bool.{cases_eq, eq-eqb, eqb-true}
 use Rattle.std.proofs.lemmas.Bool.Decides.{nat_tests}
 use Rattle.std.proofs.lemmas.List.{append-nil, get_or-drop, length-take-le}
 use Rattle.fenced_agent.specs.Agents.{FencedHoldings}
-use Rattle.disk_model.specs.Crashes.{IsDurable}
+use Rattle.disk_model.specs.Crashes.{Holds, IsDurable}
 use Rattle.disk_model.specs.Moments.{LeavesOnly}
 use Rattle.disk_model.specs.Traces.{DiskTrace}
 use Rattle.disk_model.specs.Whole.{IsQuiet}
@@ -12,8 +12,8 @@ use Rattle.disk_model.specs.Writes.{Torn, written}
 use Rattle.disk_model.proofs.Parting.{Torn-byte, Torn-drop}
 use Rattle.disk_model.proofs.Running.{LeavesOnly-chain, LeavesOnly-weaker}
 use Rattle.disk_model.proofs.Tearing.{Torn-written}
+use Rattle.disk_model.proofs.FourBytes.{byte_first, written_one}
 use Rattle.agent_state.specs.Batches.{batches_of, open_gate}
-use Rattle.agent_state.specs.Disks.{Holds}
 use Rattle.agent_state.specs.Images.{batches_in, first_start, is_state, live_start, made, made_length, state_kind}
 use Rattle.disk_model.specs.Numbers.{byte_at, number_4}
 use Rattle.agent_state.specs.Opened.{HasLive, IsBlank, IsFound, ReadsAlike, Walks, batch_at}
@@ -22,8 +22,7 @@ use Rattle.agent_state.specs.Stored.{IsKept, IsReadAs, home_of, nothing_yet}
 use Rattle.agent_state.specs.declared.place.Place.{Place}
 use Rattle.agent_state.proofs.Heads.{long_image, part_apart, part_reads, place_low}
 use Rattle.agent_state.proofs.Reading.{Stands-nothing, batches_closed}
-use Rattle.agent_state.proofs.Renewed.{written_one}
-use Rattle.agent_state.proofs.Walked.{from_gate, none_behind}
+use Rattle.agent_state.proofs.Walked.{none_behind}
 
 -- ---- what was read
 
@@ -121,7 +120,7 @@ found place next gate cut held image long live walks none next_is cut_is =
         start = live.start;
         low = live.low;
         some = omega arith;
-        part = sym (take-append-drop gate part) ∙ ap (λ (l : List ℕ). take gate part ++ l) (from_gate part gate walks.within);
+        part = sym (take-append-drop gate part) ∙ ap (λ (l : List ℕ). take gate part ++ l) (byte_first part gate walks.within);
       };
       kept = walks.kept;
       stands = walks.stands;

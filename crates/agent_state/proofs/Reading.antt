@@ -1,24 +1,11 @@
 -- The batches that stand in a row of bytes.
-use Rattle.std.proofs.Common.{◌≡◌, ◌≢◌, ◌==◌, ◌&&◌, nat_lt, false, if◌then◌else◌, ℕ, zero, suc, ◌+◌, ◌<◌, ◌≤◌, ◌^◌, true, List, [], ◌∷◌, ◌++◌, length, take, drop, replicate, refl, sym, ◌∙◌, ap, arith, length-append, length-drop}
+use Rattle.std.proofs.Common.{◌≡◌, ◌≢◌, ◌==◌, ◌&&◌, nat_lt, false, if◌then◌else◌, ℕ, zero, suc, ◌+◌, ◌<◌, ◌≤◌, ◌^◌, true, List, [], ◌∷◌, ◌++◌, length, take, drop, refl, sym, ◌∙◌, ap, arith, length-append, length-drop}
 use Rattle.std.proofs.lemmas.Bool.{lt-ltb}
 use Rattle.std.proofs.lemmas.Bool.Decides.{nat_tests}
 use Rattle.std.proofs.lemmas.List.{append_assoc, append-nil, drop_at, take_at}
-use Rattle.std.proofs.lemmas.Nat.{from_be_bytes-to_be_bytes_4}
-use Rattle.std.specs.Int.{w32, from_be_bytes, to_be_bytes}
+use Rattle.disk_model.proofs.FourBytes.{length-bytes_4, number_4-bytes_4}
 use Rattle.agent_state.specs.Batches.{IsBody, Stands, batch_body, batches, batches_of, open_gate}
 use Rattle.disk_model.specs.Numbers.{bytes_4, number_4}
-
-pub length-bytes_4 : (n : ℕ) → length (bytes_4 n) ≡ 4
-unfolding bytes_4
-length-bytes_4 n = refl
-
--- the number that was written is read
-pub number_4-bytes_4 : (n : ℕ) (tail : List ℕ) → n < 2 ^ 32 → number_4 (bytes_4 n ++ tail) ≡ n
-unfolding number_4 bytes_4
-number_4-bytes_4 n tail small =
-    ap (λ (l : List ℕ). from_be_bytes w32 (take 4 l)) (append_assoc (to_be_bytes w32 n) tail (replicate 4 0))
-    ∙ ap (from_be_bytes w32) (take_at (to_be_bytes w32 n) (tail ++ replicate 4 0) 4 refl)
-    ∙ from_be_bytes-to_be_bytes_4 n small
 
 pub length-batch_body : (batch : List ℕ) → length (batch_body batch) ≡ 4 + length batch
 length-batch_body batch = omega (arith, length-append (bytes_4 (length batch)) batch, length-bytes_4 (length batch))

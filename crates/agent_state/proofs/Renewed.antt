@@ -1,27 +1,20 @@
 -- What the three writes leave by which a file is written anew, whole and torn.
-use Rattle.std.proofs.Common.{◌≡◌, inl, inr, ◌⊎◌, ⊎_elim, ◌==◌, Bool, true, false, ℕ, ◌+◌, ◌-◌, ◌<◌, ◌≤◌, ◌^◌, List, [], ◌∷◌, ◌++◌, length, drop, get_or, refl, sym, subst, ◌∙◌, ap, arith, length-append, length-drop}
-use Rattle.std.proofs.lemmas.List.{append_assoc, get_or-drop}
+use Rattle.std.proofs.Common.{◌≡◌, inl, inr, ◌⊎◌, ⊎_elim, ◌==◌, Bool, true, false, ℕ, ◌+◌, ◌-◌, ◌<◌, ◌≤◌, ◌^◌, List, [], ◌∷◌, ◌++◌, length, drop, refl, sym, subst, ◌∙◌, ap, arith, length-append, length-drop}
+use Rattle.std.proofs.lemmas.List.{append_assoc}
 use Rattle.disk_model.specs.Writes.{Torn, written}
 use Rattle.disk_model.proofs.Parting.{Torn-beyond}
 use Rattle.disk_model.proofs.Tearing.{Torn-written, drop-written}
 use Rattle.disk_model.proofs.Tears.{torn_wider}
+use Rattle.disk_model.proofs.FourBytes.{length-bytes_4, number_4-bytes_4, written_one}
 use Rattle.agent_state.specs.Batches.{batch_body, open_gate}
 use Rattle.agent_state.specs.Images.{first_start, is_second, number_place}
-use Rattle.disk_model.specs.Numbers.{byte_at, bytes_4, number_4}
+use Rattle.disk_model.specs.Numbers.{bytes_4, number_4}
 use Rattle.agent_state.specs.Renewals.{IsLaid, IsNamed, new_gate, new_home, other_of, side_byte}
 use Rattle.agent_state.specs.States.{Home, IsAtRest, IsEither}
 use Rattle.agent_state.specs.Stored.{part_bytes}
 use Rattle.agent_state.proofs.Committing.{torn_rest}
 use Rattle.agent_state.proofs.Heads.{part_apart, part_before, place_high, place_low, rest_reads, same_byte, same_number}
-use Rattle.agent_state.proofs.Reading.{Stands-more, Stands-nothing, length-bytes_4, number_4-bytes_4, length-batch_body}
-
--- the byte that was written
-pub written_one : (at byte : ℕ) (image : List ℕ) → byte_at at (written at (byte ∷ []) image) ≡ byte
-written_one at byte image =
-    let is : at + 0 ≡ at = omega arith in
-    ap (λ (i : ℕ). get_or (written at (byte ∷ []) image) i 0) (sym is)
-    ∙ sym (get_or-drop at (written at (byte ∷ []) image) 0 0)
-    ∙ ap (λ (l : List ℕ). get_or l 0 0) (drop-written at (byte ∷ []) image)
+use Rattle.agent_state.proofs.Reading.{Stands-more, Stands-nothing, length-batch_body}
 
 module _ (home : Home) (gate : ℕ) (kept : List (List ℕ)) (image : List ℕ) (rest : IsAtRest home gate kept image) where
   -- a torn write aside of the live part leaves it at rest

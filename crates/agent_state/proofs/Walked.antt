@@ -1,17 +1,17 @@
 -- Batches that were read one after the other, and the commands in them.
-use Rattle.std.proofs.Common.{◌≡◌, ◌==◌, ◌&&◌, nat_lt, if◌then◌else◌, Bool, true, false, ℕ, suc, ◌+◌, ◌-◌, ◌<◌, ◌≤◌, ◌^◌, List, [], ◌∷◌, ◌++◌, length, take, drop, replicate, Some, None, refl, sym, subst, ◌∙◌, ap, arith, length-append, length-drop}
+use Rattle.std.proofs.Common.{◌≡◌, ◌==◌, ◌&&◌, nat_lt, if◌then◌else◌, Bool, true, false, ℕ, suc, ◌+◌, ◌-◌, ◌<◌, ◌^◌, List, [], ◌∷◌, ◌++◌, length, take, drop, Some, None, refl, sym, subst, ◌∙◌, ap, arith, length-append, length-drop}
 use Rattle.std.specs.List.{flat_map}
-use Rattle.std.specs.Int.{w32, from_be_bytes}
-use Rattle.std.proofs.Math.Seq.{drop-cons, take-add}
+use Rattle.std.proofs.Math.Seq.{take-add}
 use Rattle.std.proofs.lemmas.Bool.{eqb-true, ltb-true}
 use Rattle.std.proofs.lemmas.Grind.{flat_map-append}
-use Rattle.std.proofs.lemmas.List.{append_assoc, append-nil, drop-append-le, drop-drop, drop-take, drop_at, length-take-le, take-append-drop, take-append-le, take_all, take_at}
+use Rattle.std.proofs.lemmas.List.{append_assoc, append-nil, drop-append-le, drop-drop, drop-take, drop_at, length-take-le, take-append-drop, take_all, take_at}
 use Rattle.std.proofs.lemmas.List.Elements.{All-append, All-cons, All-nil}
 use Rattle.wan_edge.specs.Frames.{CommandFrame, IsCommand, command_bytes}
 use Rattle.wan_edge.specs.Switches.{Holdings}
 use Rattle.fenced_agent.specs.Agents.{FencedHoldings, restored}
-use Rattle.fenced_agent.specs.Frames.{fence_bytes, term_of}
+use Rattle.fenced_agent.specs.Frames.{fence_bytes}
 use Rattle.switch_agent.specs.Items.{with_stored}
+use Rattle.disk_model.proofs.FourBytes.{byte_first, number_4-front}
 use Rattle.agent_state.specs.Batches.{Stands, batches_of, open_gate}
 use Rattle.disk_model.specs.Numbers.{byte_at, number_4}
 use Rattle.agent_state.specs.Opened.{HasFloor, Restores, RestoresBatch, Walks, batch_at}
@@ -94,12 +94,6 @@ has_floor floor front bytes small is same = record {
 
 -- ---- the batches of a part
 
-pub number_4-front : (front tail : List ℕ) → 4 ≤ length front → number_4 (front ++ tail) ≡ number_4 front
-unfolding number_4
-number_4-front front tail long =
-    ap (λ (l : List ℕ). from_be_bytes w32 (take 4 l)) (append_assoc front tail (replicate 4 0))
-    ∙ ap (from_be_bytes w32) (take-append-le 4 front (tail ++ replicate 4 0) long ∙ sym (take-append-le 4 front (replicate 4 0) long))
-
 -- a body as it stands after an open gate
 pub batches_raw : (body tail : List ℕ) (n : ℕ) → number_4 body ≡ n → length body ≡ 4 + n → 0 < length tail → batches_of (open_gate ∷ (body ++ tail)) ≡ drop 4 body ∷ batches_of tail
 batches_raw body tail n is long some =
@@ -123,11 +117,6 @@ Stands-raw front kept body n stands is long = record {
       ∙ ap (λ (l : List (List ℕ)). kept ++ l) (batches_raw body tail n is long some)
       ∙ sym (append_assoc kept (drop 4 body ∷ []) (batches_of tail));
 }
-
-pub from_gate : (part : List ℕ) (gate : ℕ) → gate < length part → drop gate part ≡ byte_at gate part ∷ drop (gate + 1) part
-from_gate part gate within =
-    let next : suc gate ≡ gate + 1 = omega arith in
-    drop-cons part gate 0 within ∙ ap (λ (k : ℕ). byte_at gate part ∷ drop k part) next
 
 -- what the tests of a batch say
 pub record HasBatch (part : List ℕ) (gate n : ℕ) : Type 0 where
@@ -170,7 +159,7 @@ Walks-next part gate n held now so_far is restores =
     sym (number_4-front body (drop (4 + n) rest) (omega (arith, long))) ∙ ap number_4 (take-append-drop (4 + n) rest) ∙ has.number in
     let next : gate + (5 + n) ≡ gate + suc (4 + n) = omega arith in
     let front : take (gate + (5 + n)) part ≡ take gate part ++ open_gate ∷ body =
-    ap (λ (k : ℕ). take k part) next ∙ take-add gate (suc (4 + n)) part ∙ ap (λ (l : List ℕ). take gate part ++ take (suc (4 + n)) l) (from_gate part gate so_far.within)
+    ap (λ (k : ℕ). take k part) next ∙ take-add gate (suc (4 + n)) part ∙ ap (λ (l : List ℕ). take gate part ++ take (suc (4 + n)) l) (byte_first part gate so_far.within)
     ∙ ap (λ (b : ℕ). take gate part ++ b ∷ body) has.is_open in
     let batch : take n (drop (gate + 5) part) ≡ drop 4 body = body_behind part gate n in
     record {

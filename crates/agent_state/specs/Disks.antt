@@ -1,15 +1,10 @@
 -- What stands on a disk between two calls, and what a fault shows.
-use Rattle.std.specs.Prelude.{⊤, ℕ, List, Option, IfSome}
+use Rattle.std.specs.Prelude.{⊤, ℕ}
 use Rattle.wan_edge.specs.Streams.{Rose}
-use Rattle.disk_model.specs.Crashes.{Only}
 use Rattle.disk_model.specs.declared.read_fault.ReadFault.{ReadFault}
 use Rattle.disk_model.specs.declared.read_fault.ReadFault.TheVariants as read
 use Rattle.agent_state.specs.declared.fault.StateFault.{StateFault}
 use Rattle.agent_state.specs.declared.fault.StateFault.TheVariants.{Damaged, Disk, Memory, NotState}
-
--- this holds of what a read gives, which is all that a crash leaves
-abbrev pub Holds : (List ℕ → Type 0) → Option (List ℕ) → (List ℕ → Type 0) → Type 0
-Holds P told left = IfSome told (λ image. P image × Only image left)
 
 -- The disk failed, and its count rose; or memory ran out. Neither says anything of the image.
 abbrev pub Causes : StateFault → ℕ → ℕ → Type 0

@@ -1,5 +1,6 @@
 ghost use Rattle.std.specs.Prelude.{◌≡◌, ◌+◌, ◌≤◌, ◌<◌, ◌^◌, length, IfErr, IfOk, IfSome, OnOk};
-ghost use Rattle.agent_state.specs.Disks.{Causes, Holds};
+ghost use Rattle.disk_model.specs.Crashes.{Holds};
+ghost use Rattle.agent_state.specs.Disks.{Causes};
 ghost use Rattle.agent_state.specs.Stored.{IsAside, IsBatch, IsBeforeOrAfter, IsKept, IsReadAs, StoredBatch, with_batch};
 ghost use Rattle.disk_model.specs.Moments.{LeavesOnly};
 ghost use Rattle.fenced_agent.specs.Agents.{FencedHoldings, fenced_holding};

@@ -1,5 +1,6 @@
 ghost use Rattle.std.specs.Prelude.{◌≡◌, ◌⊎◌, ◌+◌, ◌<◌, ◌≤◌, false, true, length, IfErr, IfOk, IfSome, OnOk};
-ghost use Rattle.agent_state.specs.Disks.{Holds, RoseAtDisk};
+ghost use Rattle.disk_model.specs.Crashes.{Holds};
+ghost use Rattle.agent_state.specs.Disks.{RoseAtDisk};
 ghost use Rattle.agent_state.specs.Images as images;
 ghost use Rattle.agent_state.specs.Images.{made_length, number_place};
 ghost use Rattle.agent_state.specs.Opened.{HasLive, IsBlank, IsFound, IsMisread, IsRefused, ReadsAlike};

@@ -1,5 +1,5 @@
 ghost use Rattle.std.specs.Prelude.{◌≡◌, ◌+◌, ◌<◌, ◌≤◌, ◌^◌, ◌∷◌, [], ℕ, List, length, IfSome, OnErr, OnOk};
-ghost use Rattle.agent_state.specs.Disks.{Holds};
+ghost use Rattle.disk_model.specs.Crashes.{Holds};
 ghost use Rattle.agent_state.specs.Images.{number_place};
 ghost use Rattle.disk_model.specs.Numbers.{bytes_4};
 ghost use Rattle.agent_state.specs.Renewals as renewals;

@@ -4,6 +4,7 @@ use Rattle.std.proofs.lemmas.List.{append-nil}
 use Rattle.std.proofs.lemmas.List.Elements.{All-append}
 use Rattle.std.proofs.lemmas.Grind.{flat_map-append}
 use Rattle.std.specs.List.{All, flat_map}
+use Rattle.lists.proofs.Conditions.{or_regrouped}
 use Rattle.wan_edge.specs.Frames.{Splits}
 use Rattle.wan_edge.specs.Streams.{Appends, AppendsPart}
 use Rattle.wan_edge.proofs.Chains.{Appends-chain}
@@ -15,7 +16,7 @@ use Rattle.switch_agent.specs.Serving.{IsOwnFault}
 use Rattle.switch_agent.specs.declared.serve_fault.ServeFault.{ServeFault}
 use Rattle.switch_agent.specs.declared.serve_fault.ServeFault.TheVariants.{Frame, Long, Memory, Read, Write}
 use Rattle.switch_agent.specs.declared.serve_fault.Served.{Served}
-use Rattle.switch_agent.proofs.Chains.{AppendsPart-chain, command_fault_more, or_assoc, or_false, or_swapped}
+use Rattle.switch_agent.proofs.Chains.{AppendsPart-chain, command_fault_more, or_false, or_swapped}
 use Rattle.fenced_agent.specs.Agents.{FencedHoldings, FencedItems, after_all_termed, after_termed, answer_to_termed, answers_to_termed, fenced_holding}
 use Rattle.fenced_agent.specs.Frames.{FlooredAnswer, IsTermedCommand, TermedCommand, fence_bytes, floored_bytes, term_of, termed_bytes}
 use Rattle.fenced_wire.specs.Reading.{IsTermedFault}
@@ -48,7 +49,7 @@ asked-append held (x ∷ xs) ys item a =
     let own = not (nat_lt (term_of x.term) held.floor) && (item == x.command.1.item) in
     or_swapped own (asked now xs item) (asked (after_all_termed now xs) ys item) a
     ∙ ap (λ (b : Bool). own || b) (asked-append now xs ys item a)
-    ∙ sym (or_assoc own (asked now (xs ++ ys) item) a)
+    ∙ sym (or_regrouped own (asked now (xs ++ ys) item) a)
 
 -- a serving that ended without a fault, and one that goes on from what it kept
 pub carry_on : (a b c : FencedItems) (bytes kept more : List ℕ) (m n : ℕ) (fault : Option ServeFault) (GoesOn : List ℕ → Type 0) (w1 w2 w3 : Option (List ℕ))

@@ -11,7 +11,6 @@ use Rattle.switch_agent.specs.ReadStates.{ReadSoFar}
 use Rattle.switch_agent.specs.declared.serve_fault.ServeFault.{ServeFault}
 use Rattle.switch_agent.specs.declared.serve_fault.ServeFault.TheVariants.{Frame, Long, Memory, Read, Write}
 use Rattle.switch_agent.specs.declared.serve_fault.Served.{Served}
-use Rattle.switch_agent.proofs.Stops.{appends_nothing}
 use Rattle.switch_agent.proofs.Pieces.{frame_read, long_read, long_write, memory_read, no_fault, some_left, write_read}
 use Rattle.fenced_agent.specs.Agents.{FencedItems, fenced_holding}
 use Rattle.agent_talks.specs.Serving.{CarriesOut, Ends, HearsBytes, HearsGuest, IsCutTermed, answered, heard_by, heard_on}
@@ -87,7 +86,7 @@ end_heard items kept piece room left w heard is cut none at_end =
     let all : kept ++ piece ≡ kept = ap (λ (xs : List ℕ). kept ++ xs) (none_of_length_0 piece none) ∙ append-nil kept in
     subst (λ (h : Heard). HearsBytes items items (talk_of kept room) piece h left w w) (sym is) (record {
       carried = subst (λ (bytes : List ℕ). CarriesOut items items bytes (record { commands = 0; fault = None }) IsCutTermed w w) (sym all)
-          (nothing_carried items kept None IsCutTermed w (cut, appends_nothing w));
+          (nothing_carried items kept None IsCutTermed w (cut, Appends-nothing w));
       few = omega arith;
       further = (none, at_end none);
     })
@@ -144,7 +143,7 @@ guest_failed items talk kept source now heard sink sink_now kept_is cut unwritte
       };
       within = omega arith;
       hears = record {
-        carried = nothing_carried items (talk.kept ++ []) (Some Read) IsCutTermed sink.written (cut_talk, appends_nothing sink.written);
+        carried = nothing_carried items (talk.kept ++ []) (Some Read) IsCutTermed sink.written (cut_talk, Appends-nothing sink.written);
         few = omega arith;
         further = (refl, refl);
       };

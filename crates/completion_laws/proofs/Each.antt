@@ -1,5 +1,6 @@
 -- What each switch holds after a run, and after a finished one.
 use Rattle.std.proofs.Common.{◌≡◌, ℕ, ◌^◌, ◌<◌, true, List, ◌++◌, Option, IfSome, ap}
+use Rattle.lists.proofs.Options.{of_some}
 use Rattle.rollout_rules.specs.Network.{IsNetwork}
 use Rattle.rollout_rules.specs.Valid.{is_valid_plan}
 use Rattle.rollout_rules.specs.Legal.{is_finished}
@@ -10,7 +11,6 @@ use Rattle.shared_book.specs.Histories.{Opening, added, history_of}
 use Rattle.shared_book.specs.Legal.{is_legal_shared}
 use Rattle.shared_book.proofs.Lists.{list-is_legal}
 use Rattle.switch_laws.specs.Holdings.{AreHeldAt, AreHeldAtEnd}
-use Rattle.switch_laws.proofs.Answered.{some_at}
 use Rattle.switch_laws.proofs.Stands.{held_at_end, held_stands, if_some}
 use Rattle.controller_run.specs.PortRuns.{IsPortRun}
 use Rattle.controller_run.proofs.Standing.{runs_at}
@@ -27,8 +27,8 @@ module _ (o : Opening) (migration : ℕ) (homes : List (Option ℕ)) (log : List
       if_some now.port.offered (λ offered. IfSome now.port.heard (λ heard. (earlier : List ℕ) (before after : Holdings) → IsFoundWith o.rollout migration homes o.found first earlier before → MayHold (earlier ++ offered) heard before after → IsRight after))
       (λ offered offered_is. if_some now.port.heard (λ heard. (earlier : List ℕ) (before after : Holdings) → IsFoundWith o.rollout migration homes o.found first earlier before → MayHold (earlier ++ offered) heard before after → IsRight after)
       (λ heard heard_is earlier before after found may.
-      some_at (λ _. IsRight after) now.port.heard heard heard_is
-      (some_at (λ _. IfSome now.port.heard (λ _. IsRight after)) (ahead earlier now.port.offered) (earlier ++ offered) (ap (ahead earlier) offered_is)
+      of_some (λ _. IsRight after) now.port.heard heard heard_is
+      (of_some (λ _. IfSome now.port.heard (λ _. IsRight after)) (ahead earlier now.port.offered) (earlier ++ offered) (ap (ahead earlier) offered_is)
       (law earlier before after found (runs-same o migration homes log first now earlier offered heard before after offered_is heard_is may run)))))
 
   module _ (net : IsNetwork o.rollout.problem) (valid : is_valid_plan o.rollout.problem o.rollout.plan ≡ true) (legal : is_legal_shared o log ≡ true) (small : migration < 2 ^ 32) where

@@ -1,12 +1,12 @@
 -- A port as it would be if it told what its switch may hold: what a run makes of it is the same.
-use Rattle.std.proofs.Common.{◌≡◌, ℕ, true, false, List, [], ◌++◌, Option, Some, None, IfSome, inr, refl, sym, ap, ◌∙◌, subst, append_assoc}
-use Rattle.std.proofs.lemmas.List.Elements.{All-nil}
+use Rattle.std.proofs.Common.{◌≡◌, ℕ, true, false, List, ◌++◌, Option, Some, None, IfSome, inr, refl, sym, ap, ◌∙◌, subst, append_assoc}
 use Rattle.std.specs.Option.{option_map}
 use Rattle.rollout_rules.specs.declared.op.Op.{Op}
 use Rattle.wan_edge.specs.Frames.{Answer, Command}
-use Rattle.wan_edge.specs.Ports.{AnswersHeld, GoesOn, IsHonestStep, IsOffered, MovesByRule, PortTrace}
+use Rattle.wan_edge.specs.Ports.{AnswersHeld, GoesOn, IsHonestStep, MovesByRule, PortTrace}
 use Rattle.wan_edge.specs.Streams.{Appends}
 use Rattle.wan_edge.specs.Switches.{Holdings}
+use Rattle.wan_edge.proofs.Commands.{none_moves}
 use Rattle.switch_ports.specs.Stories.{LastStory, Tells}
 use Rattle.switch_ports.specs.Views.{SessionTrace}
 use Rattle.shared_book.specs.declared.note.Written.{Written}
@@ -57,10 +57,6 @@ goes-on earlier before after t u goes rule = record {
   in_order = tt;
 }
 
--- where no command comes
-unmoved : (bytes : List ℕ) (holdings : Holdings) → MovesByRule bytes holdings holdings
-unmoved bytes holdings = record { delivered = []; each_offered = All-nil (IsOffered bytes); moved = refl }
-
 tells-same : (migration : ℕ) (first at : SessionTrace) (earlier : List ℕ) (before after : Holdings) (told : List Answer) → Tells migration first told at → Tells migration (imagined earlier before first) told (imagined earlier after at)
 tells-same migration first at earlier before after told tells = record { bytes = tells.bytes; appended = tells.appended; reads = tells.reads }
 
@@ -76,7 +72,7 @@ module _ (o : Opening) (migration : ℕ) (homes : List (Option ℕ)) (log : List
         told = record {
           at = imagined earlier after was.at;
           told = record { is_port = was.told.is_port; told = was.told.told; tells = tells-same migration first was.at earlier before after was.told.told was.told.tells; among = was.told.among };
-          later = goes-on earlier after after was.at.port now.port was.later (keeps-rule earlier offered heard after after now.port offered_is heard_is (unmoved (earlier ++ offered) after) may.answers);
+          later = goes-on earlier after after was.at.port now.port was.later (keeps-rule earlier offered heard after after now.port offered_is heard_is (none_moves (earlier ++ offered) after) may.answers);
         };
       }
 

@@ -3,6 +3,7 @@ use Rattle.std.proofs.Common.{◌≡◌, ℕ, ◌+◌, ◌<◌, Bool, true, fals
 use Rattle.std.proofs.lemmas.Bool.{and_parts, both_ways, cases_Bool}
 use Rattle.std.proofs.lemmas.List.Elements.{All-head}
 use Rattle.std.specs.List.{All}
+use Rattle.std.proofs.lemmas.List.{length-map}
 use Rattle.rollout_rules.specs.Wan.{Plan, Problem}
 use Rattle.rollout_rules.specs.Network.{IsNetwork}
 use Rattle.rollout_rules.specs.Items.{item_count}
@@ -34,7 +35,6 @@ use Rattle.shared_book.proofs.Going.{next_may_be, front_is_legal as front_goes}
 use Rattle.shared_book.proofs.Lists.{history-next, list-is_legal}
 use Rattle.shared_book.proofs.Alike.{dones_then_the_rest, same_entries-is}
 use Rattle.controller_run.specs.Shifts.{HasTurned}
-use Rattle.controller_run.proofs.Rows.{map_long}
 
 -- ---- lists of entries that are the same
 
@@ -45,7 +45,7 @@ no-item n (m ∷ ns) none = absurd (omega (arith, none))
 
 pub still-flies : (p : Problem) (h : History) → is_still p h ≡ true → NothingFlies p h
 still-flies p h still n low =
-    let none : length (filter (flies h) (numbers (item_count p))) ≡ 0 = sym (map_long (next_op h) (filter (flies h) (numbers (item_count p)))) ∙ eqb-true (length (in_flight p h)) 0 still in
+    let none : length (filter (flies h) (numbers (item_count p))) ≡ 0 = sym (length-map (filter (flies h) (numbers (item_count p))) (next_op h)) ∙ eqb-true (length (in_flight p h)) 0 still in
     elim (cases_Bool (flies h n)) as (λ _. flies h n ≡ false) [
       | inl flying ↦
           let one : times n (filter (flies h) (numbers (item_count p))) ≡ 1 = times-filtered (flies h) (item_count p) n ∙ ap₂ (λ (a b : Bool). bit (a && b)) (lt-ltb n (item_count p) low) flying in

@@ -3,6 +3,7 @@ use Rattle.std.proofs.Common.{◌≡◌, ℕ, ◌^◌, ◌<◌, true, List, [], 
 use Rattle.std.proofs.lemmas.Grind.{flat_map-append}
 use Rattle.std.proofs.lemmas.List.Elements.{All-append, All-filter, All-nil, All-weaker}
 use Rattle.std.specs.List.{All, flat_map}
+use Rattle.lists.proofs.Options.{of_some}
 use Rattle.rollout_rules.specs.Wan.{Rollout}
 use Rattle.rollout_rules.specs.Network.{IsNetwork}
 use Rattle.rollout_rules.specs.Valid.{is_valid_plan}
@@ -22,7 +23,7 @@ use Rattle.shared_book.specs.Legal.{is_legal_shared}
 use Rattle.shared_book.proofs.Lists.{list-is_legal}
 use Rattle.switch_laws.specs.Holdings.{AreHeldAt}
 use Rattle.switch_laws.specs.Runs.{AreAnswers, AreCommands, IsBegunCommand, MayCome}
-use Rattle.switch_laws.proofs.Answered.{some_at, told_before}
+use Rattle.switch_laws.proofs.Answered.{told_before}
 use Rattle.switch_laws.proofs.Fitting.{has_frame}
 use Rattle.switch_laws.proofs.Listed.{begun_stays}
 use Rattle.switch_laws.proofs.Offered.{all_framed, frames-framed, framed}
@@ -75,7 +76,7 @@ module _ (o : Opening) (migration : ℕ) (homes : List (Option ℕ)) (log : List
       let frames = frames_of migration mine in
       let was = told_before first.port.offered now.port.offered (take part.count frames) offered part.appended offered_is in
       let commands : AreCommands o.rollout migration o.found before (earlier ++ was.0)
-      = some_at (λ bytes. AreCommands o.rollout migration o.found before (earlier ++ bytes)) first.port.offered was.0 was.1 found.offered in
+      = of_some (λ bytes. AreCommands o.rollout migration o.found before (earlier ++ bytes)) first.port.offered was.0 was.1 found.offered in
       let there = commands.commands in
       let more = framed migration mine in
       let legal_list = list-is_legal o log legal in
@@ -99,8 +100,8 @@ module _ (o : Opening) (migration : ℕ) (homes : List (Option ℕ)) (log : List
   holds-now =
       let each = each_stands o migration homes log first now net valid legal small run in
       let IsRight = AreHeldAt o.rollout migration homes first.switch (history_of o log) in
-      some_at (λ bytes. (ahead : List ℕ) (then now : Holdings) → IsFoundWith o.rollout migration homes o.found first ahead then → MayHold (ahead ++ offered) bytes then now → IsRight now) now.port.heard heard heard_is
-      (some_at (λ sent. IfSome now.port.heard (λ bytes. (ahead : List ℕ) (then now : Holdings) → IsFoundWith o.rollout migration homes o.found first ahead then → MayHold (ahead ++ sent) bytes then now → IsRight now)) now.port.offered offered offered_is each)
+      of_some (λ bytes. (ahead : List ℕ) (then now : Holdings) → IsFoundWith o.rollout migration homes o.found first ahead then → MayHold (ahead ++ offered) bytes then now → IsRight now) now.port.heard heard heard_is
+      (of_some (λ sent. IfSome now.port.heard (λ bytes. (ahead : List ℕ) (then now : Holdings) → IsFoundWith o.rollout migration homes o.found first ahead then → MayHold (ahead ++ sent) bytes then now → IsRight now)) now.port.offered offered offered_is each)
       earlier before after found may
 
   pub found-next : IsLeftTo o.rollout migration homes (history_of o log) next (earlier ++ offered) after
@@ -109,10 +110,10 @@ module _ (o : Opening) (migration : ℕ) (homes : List (Option ℕ)) (log : List
     found = record {
       held = subst (λ (switch : ℕ). AreHeldAt o.rollout migration homes switch (history_of o log) after) (sym new.is_to) holds-now;
       offered = if_some next.port.offered (λ bytes. AreCommands o.rollout migration (history_of o log) after (((earlier ++ offered) ++ rest) ++ bytes)) (λ bytes bytes_are.
-          let none : bytes ≡ [] = some_at (λ xs. xs ≡ []) next.port.offered bytes bytes_are new.none_offered in
+          let none : bytes ≡ [] = of_some (λ xs. xs ≡ []) next.port.offered bytes bytes_are new.none_offered in
           subst (λ (xs : List ℕ). AreCommands o.rollout migration (history_of o log) after (((earlier ++ offered) ++ rest) ++ xs)) (sym none)
           (subst (AreCommands o.rollout migration (history_of o log) after) (sym (append-nil ((earlier ++ offered) ++ rest))) commands-now));
-      heard = if_some next.port.heard AreAnswers (λ bytes bytes_are. subst AreAnswers (sym (some_at (λ xs. xs ≡ []) next.port.heard bytes bytes_are new.none_heard)) no-answers);
+      heard = if_some next.port.heard AreAnswers (λ bytes bytes_are. subst AreAnswers (sym (of_some (λ xs. xs ≡ []) next.port.heard bytes bytes_are new.none_heard)) no-answers);
       none_kept = new.none_kept;
     };
   }

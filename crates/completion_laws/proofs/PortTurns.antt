@@ -1,49 +1,41 @@
 -- A round at a prompt port that has answered all before: each of its own commands is answered by its own number.
 use Rattle.std.proofs.Common.{◌≡◌, ◌≢◌, ℕ, suc, ◌+◌, ◌*◌, ◌<◌, ◌≤◌, true, List, [], ◌∷◌, ◌++◌, length, map, get_or, slice_index_or, Option, Some, IfSome, inl, inr, refl, sym, ap, ◌∙◌, subst, ⊎_elim, arith, append_assoc, append-nil, length-append}
 use Rattle.std.proofs.lemmas.Bool.{OnTrue_at, cases_lt, false≢true}
-use Rattle.std.proofs.lemmas.List.Elements.{All-cons, All-filter, All-head, All-map, All-nil, All-tail, All-weaker, filter_passes}
+use Rattle.std.proofs.lemmas.List.Elements.{All-filter, All-map, All-weaker, filter_passes}
 use Rattle.std.specs.List.{All, Contains, flat_map}
+use Rattle.lists.proofs.Options.{of_some}
+use Rattle.lists.proofs.Elements.{All-left}
 use Rattle.rollout_rules.specs.Wan.{Rollout}
 use Rattle.rollout_rules.specs.Items.{item_count}
 use Rattle.rollout_rules.specs.History.{History, begun, settled}
 use Rattle.rollout_rules.specs.Agent.{pair_of}
 use Rattle.rollout_rules.specs.declared.held.Held.{Held}
-use Rattle.wan_edge.specs.Frames.{Answer, AnswerFrame, Command, IsAnswer, IsCommand, HasOtherKind, IsCutAnswer, answer_bytes, answer_kind, command_bytes}
+use Rattle.wan_edge.specs.Frames.{Answer, AnswerFrame, Command, IsAnswer, IsCommand, HasOtherKind, answer_bytes, answer_kind, command_bytes}
 use Rattle.wan_edge.specs.Ports.{AllAnswered, NothingToCome}
 use Rattle.wan_edge.specs.Switches.{Holdings, after_commands, answers_to}
-use Rattle.wan_edge.proofs.Sizes.{answer-length}
-use Rattle.wan_edge.proofs.Commands.{nothing_begins_no_command}
+use Rattle.wan_edge.proofs.Commands.{nothing_begins_no_command, after_commands-append}
 use Rattle.port_session.specs.Reading.{answers_of}
 use Rattle.port_session.specs.declared.fault.SessionFault.{SessionFault}
 use Rattle.port_session.proofs.Awaited.{awaited_none, awaited_some}
 use Rattle.port_session.proofs.Chaining.{answers_of-append}
-use Rattle.port_session.proofs.Hearing.{length-answers}
+use Rattle.port_session.proofs.Hearing.{length-answers, cut_short}
 use Rattle.switch_ports.specs.Hearing.{HearsOut, IsOwn, Listens, Reads}
 use Rattle.switch_ports.specs.Outboxes.{home_at, is_switch, own}
 use Rattle.switch_ports.specs.Offering.{OffersAll}
 use Rattle.switch_ports.specs.Views.{SessionTrace}
-use Rattle.switch_laws.proofs.Answered.{some_at}
 use Rattle.switch_laws.proofs.Offered.{framed}
 use Rattle.controller_run.proofs.Chains.{is-home}
 use Rattle.completion_laws.specs.Answering.{HasAnswered, IsOnTheWay, IsUpToDate, answer_for}
 use Rattle.completion_laws.proofs.Numbered.{IsNext, Takes, all-held, answers-fit, answers-told, on-all, own-answers, own_answer}
-use Rattle.completion_laws.proofs.Prompt.{after-append, all-came, all-fit, as-many, front-came, front-read, heard-all, now-heard, now-held, now-offered, now-prompt, now-start}
+use Rattle.completion_laws.proofs.Prompt.{all-came, all-fit, as-many, front-came, front-read, heard-all, now-heard, now-held, now-offered, now-prompt, now-start}
 
 long-framed : (migration : ℕ) (commands : List Command) → length (framed migration commands) ≡ length commands
 long-framed migration [] = refl
 long-framed migration (c ∷ commands) = ap suc (long-framed migration commands)
 
--- the front of an answer has fewer bytes than one
-few-kept : (bytes : List ℕ) → IsCutAnswer bytes → length bytes < 13
-few-kept bytes cut = omega (arith, cut.some, ap length cut.begins, length-append bytes cut.missing, answer-length cut.frame)
-
 no-answers : (later : List AnswerFrame) → 13 * length later < 13 → later ≡ []
 no-answers [] few = refl
 no-answers (a ∷ later) few = absurd (omega (arith, few))
-
-pub All-front : {X : Type 0} (P : X → Type 0) (xs ys : List X) → All P (xs ++ ys) → All P xs
-All-front P [] ys all = All-nil P
-All-front P (x ∷ xs) ys all = All-cons P x xs (All-head P x (xs ++ ys) all) (All-front P xs ys (All-tail P x (xs ++ ys) all))
 
 -- a row of answers begins with no other byte
 pub other-first : (answers : List AnswerFrame) (byte : ℕ) (behind : List ℕ) → byte ≢ answer_kind → byte ∷ behind ≡ flat_map answer_bytes answers → ⊥
@@ -134,8 +126,8 @@ module _ (r : Rollout) (migration : ℕ) (homes : List (Option ℕ)) (h : Histor
           let earlier = flat_map answer_bytes (answers_to before.port.start up.commands) in
           let all = up.commands ++ framed migration mine in
           let answered : AllAnswered mid.port.start (flat_map command_bytes all) (earlier ++ bytes)
-          = some_at (λ b. AllAnswered mid.port.start (flat_map command_bytes all) b) now.port.heard (earlier ++ bytes) heard-now
-          (some_at (λ o. IfSome now.port.heard (λ b. AllAnswered mid.port.start o b)) now.port.offered (flat_map command_bytes all) offered-now none) in
+          = of_some (λ b. AllAnswered mid.port.start (flat_map command_bytes all) b) now.port.heard (earlier ++ bytes) heard-now
+          (of_some (λ o. IfSome now.port.heard (λ b. AllAnswered mid.port.start o b)) now.port.offered (flat_map command_bytes all) offered-now none) in
           let is : earlier ++ bytes ≡ flat_map answer_bytes (answers_to mid.port.start all) = answered all [] (record { fit = fit-now; parts = sym (append-nil (flat_map command_bytes all)) }) nothing_begins_no_command in
           omega (arith, ap length is, length-append earlier bytes, length-answers (answers_to before.port.start up.commands), as-many before.port.start up.commands, length-answers (answers_to mid.port.start all), as-many mid.port.start all, length-append up.commands (framed migration mine))
 
@@ -167,7 +159,7 @@ module _ (r : Rollout) (migration : ℕ) (homes : List (Option ℕ)) (h : Histor
       read-all =
           let answers = answers_to holdings (framed migration mine) in
           let front = front-read read answers hears.reads.reads.rest hears.reads.reads.whole.fit own-fit (sym parts ∙ came) in
-          let few : length hears.reads.reads.rest < 13 = subst (λ (bs : List ℕ). length bs < 13) (sym hears.reads.reads.ends) (few-kept now.stream.kept hears.cut) in
+          let few : length hears.reads.reads.rest < 13 = subst (λ (bs : List ℕ). length bs < 13) (sym hears.reads.reads.ends) (cut_short now.stream.kept hears.cut) in
           let none : front.0 ≡ [] = no-answers front.0 (omega (arith, few, ap length front.2, length-answers front.0)) in
           (sym (front.1 ∙ ap (λ (us : List AnswerFrame). read ++ us) none ∙ append-nil read), front.2 ∙ ap (flat_map answer_bytes) none)
 
@@ -180,7 +172,7 @@ module _ (r : Rollout) (migration : ℕ) (homes : List (Option ℕ)) (h : Histor
           (λ k d inside. let is = mine-fly k d inside in inl (refl, omega arith, omega (arith, is.number, is.begun_is))) n (up.held n low home)
 
       held-is : after_commands now.port.start (up.commands ++ framed migration mine) ≡ after_commands holdings (framed migration mine)
-      held-is = ap (λ (s : Holdings). after_commands s (up.commands ++ framed migration mine)) start-now ∙ after-append before.port.start up.commands (framed migration mine)
+      held-is = ap (λ (s : Holdings). after_commands s (up.commands ++ framed migration mine)) start-now ∙ after_commands-append before.port.start up.commands (framed migration mine)
 
       pub turns-port : TurnsPort commands before told now
       turns-port =
@@ -225,7 +217,7 @@ module _ (r : Rollout) (migration : ℕ) (homes : List (Option ℕ)) (h : Histor
           = All-map (IsOwn homes before.switch) answer_for mine (filter_passes (λ c. is_switch before.switch (home_at homes c.item)) commands) in
           let parts : map answer_for mine ≡ told ++ answers_of migration read-front.0
           = sym own-answers_of ∙ ap (answers_of migration) read-front.2 ∙ answers_of-append migration reads.reads.answers read-front.0 ∙ ap (λ (us : List Answer). us ++ answers_of migration read-front.0) (sym reads.reads.told_more) in
-          All-front (IsOwn homes before.switch) told (answers_of migration read-front.0) (subst (All (IsOwn homes before.switch)) parts all)
+          All-left (IsOwn homes before.switch) told (answers_of migration read-front.0) (subst (All (IsOwn homes before.switch)) parts all)
 
       -- and after the answers read no other byte stands than one that begins an answer
       pub no-other-kind : (byte : ℕ) → HasOtherKind answer_kind reads.reads.rest byte → ⊥

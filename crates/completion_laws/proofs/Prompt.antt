@@ -6,18 +6,19 @@ use Rattle.std.proofs.lemmas.List.Elements.{All-append, All-head, All-tail}
 use Rattle.std.proofs.lemmas.Option.{same_Some}
 use Rattle.std.specs.List.{All, flat_map}
 use Rattle.lists.proofs.Rows.{none_of_length_0}
+use Rattle.lists.proofs.Options.{of_some, known_as_well}
 use Rattle.wan_edge.specs.Frames.{AnswerFrame, Command, CommandFrame, IsAnswer, IsCommand, answer_bytes, command_bytes}
 use Rattle.wan_edge.specs.Ports.{AnswersInOrder, BeginsNoCommand, GoesOn, IsPromptState, PortTrace}
 use Rattle.wan_edge.specs.Streams.{Appends}
-use Rattle.wan_edge.specs.Switches.{Holdings, after_command, after_commands, answer_to, answers_to}
+use Rattle.wan_edge.specs.Switches.{Holdings, after_command, after_commands, answers_to}
 use Rattle.wan_edge.proofs.Sizes.{answer-length, command-some}
+use Rattle.wan_edge.proofs.Commands.{answers_to-append}
 use Rattle.wire_frames.proofs.OneSpelling.{one_answer, one_command, same_parts}
 use Rattle.port_session.specs.Offers.{frames_of}
 use Rattle.port_session.proofs.Hearing.{length-answers}
 use Rattle.switch_ports.specs.Offering.{OffersAll}
 use Rattle.switch_ports.specs.Views.{SessionTrace}
 use Rattle.switch_laws.proofs.Offered.{all_framed, frames-framed, framed}
-use Rattle.switch_laws.proofs.Answered.{some_at}
 use Rattle.completion_laws.specs.Answering.{HasAnswered}
 
 -- ---- rows of frames
@@ -35,14 +36,6 @@ one_row (x ∷ xs) (c ∷ cs) rest xs_fit cs_fit none e =
 pub as-many : (start : Holdings) (cs : List CommandFrame) → length (answers_to start cs) ≡ length cs
 as-many start [] = refl
 as-many start (c ∷ cs) = ap suc (as-many (after_command start c) cs)
-
-pub answers-append : (start : Holdings) (cs ds : List CommandFrame) → answers_to start (cs ++ ds) ≡ answers_to start cs ++ answers_to (after_commands start cs) ds
-answers-append start [] ds = refl
-answers-append start (c ∷ cs) ds = ap (λ (us : List AnswerFrame). answer_to start c ∷ us) (answers-append (after_command start c) cs ds)
-
-pub after-append : (start : Holdings) (cs ds : List CommandFrame) → after_commands start (cs ++ ds) ≡ after_commands (after_commands start cs) ds
-after-append start [] ds = refl
-after-append start (c ∷ cs) ds = after-append (after_command start c) cs ds
 
 -- a front as long as the whole is the whole
 take-whole : {X : Type 0} (k : ℕ) (xs : List X) → length xs ≤ length (take k xs) → take k xs ≡ xs
@@ -72,7 +65,7 @@ module _ (start now : Holdings) (cs : List CommandFrame) (heard : List ℕ) (fit
       let left = drop state.carried_out cs in
       let more = flat_map answer_bytes (answers_to (after_commands start carried) left) in
       let whole : answers_to start cs ≡ answers_to start carried ++ answers_to (after_commands start carried) left
-      = ap (answers_to start) (sym (take-append-drop state.carried_out cs)) ∙ answers-append start carried left in (
+      = ap (answers_to start) (sym (take-append-drop state.carried_out cs)) ∙ answers_to-append start carried left in (
         state.to_come ++ more,
         sym (append_assoc heard state.to_come more) ∙ ap (λ (xs : List ℕ). xs ++ more) (sym heard-front)
             ∙ sym (flat_map-append answer_bytes (answers_to start carried) (answers_to (after_commands start carried) left)) ∙ ap (flat_map answer_bytes) (sym whole),
@@ -115,23 +108,19 @@ module _ (migration : ℕ) (mine : List Command) (cs : List CommandFrame) (befor
 
   -- all answers, those of before and those of the round
   pub all-answers : flat_map answer_bytes (answers_to before.port.start (cs ++ fs)) ≡ flat_map answer_bytes (answers_to before.port.start cs) ++ flat_map answer_bytes answers
-  all-answers = ap (flat_map answer_bytes) (answers-append before.port.start cs fs) ∙ flat_map-append answer_bytes (answers_to before.port.start cs) answers
+  all-answers = ap (flat_map answer_bytes) (answers_to-append before.port.start cs fs) ∙ flat_map-append answer_bytes (answers_to before.port.start cs) answers
 
   -- a state with these commands offered
   known : (offered heard : Option (List ℕ)) (told : Option Holdings) (start : Holdings) (bytes : List ℕ) (after : Holdings) → start ≡ before.port.start → offered ≡ Some (flat_map command_bytes (cs ++ fs)) → heard ≡ Some bytes → told ≡ Some after → IsPromptState start offered heard told
       → AnswersInOrder before.port.start (flat_map command_bytes (cs ++ fs)) bytes after
   known offered heard told start bytes after start_is offered_is heard_is told_is state =
       subst (λ (s : Holdings). AnswersInOrder s (flat_map command_bytes (cs ++ fs)) bytes after) start_is
-      (some_at (λ h. AnswersInOrder start (flat_map command_bytes (cs ++ fs)) bytes h) told after told_is
-      (some_at (λ b. IfSome told (λ h. AnswersInOrder start (flat_map command_bytes (cs ++ fs)) b h)) heard bytes heard_is
-      (some_at (λ o. IfSome heard (λ b. IfSome told (λ h. AnswersInOrder start o b h))) offered (flat_map command_bytes (cs ++ fs)) offered_is state)))
+      (of_some (λ h. AnswersInOrder start (flat_map command_bytes (cs ++ fs)) bytes h) told after told_is
+      (of_some (λ b. IfSome told (λ h. AnswersInOrder start (flat_map command_bytes (cs ++ fs)) b h)) heard bytes heard_is
+      (of_some (λ o. IfSome heard (λ b. IfSome told (λ h. AnswersInOrder start o b h))) offered (flat_map command_bytes (cs ++ fs)) offered_is state)))
 
   mid-told : (after : Holdings) × (mid.port.held ≡ Some after)
-  mid-told = kept mid.port.held before.port.held was.held out.some.goes_on.told
-    where
-      kept : (now before : Option Holdings) → before ≡ Some held → is_some now ≡ is_some before → (after : Holdings) × (now ≡ Some after)
-      kept None before is keeps = absurd (false≢true (keeps ∙ ap is_some is))
-      kept (Some after) before is keeps = (after, refl)
+  mid-told = known_as_well mid.port.held before.port.held held was.held out.some.goes_on.told
 
   module _ (goes : GoesOn mid.port now.port) (unsent : now.port.offered ≡ mid.port.offered) (bytes : List ℕ) (came : Appends mid.port.heard bytes now.port.heard) where
     pub now-offered : now.port.offered ≡ Some (flat_map command_bytes (cs ++ fs))

@@ -2,6 +2,7 @@
 use Rattle.std.proofs.Common.{◌≡◌, ℕ, true, List, [], length, Option, Some, None, IfSome, is_some, inl, inr, refl, ap, ◌∙◌, subst, arith, append-nil}
 use Rattle.std.proofs.lemmas.Bool.{false≢true}
 use Rattle.std.specs.List.{flat_map}
+use Rattle.lists.proofs.Options.{of_some}
 use Rattle.rollout_rules.specs.Wan.{Rollout}
 use Rattle.rollout_rules.specs.History.{History}
 use Rattle.rollout_rules.specs.Agent.{Holding}
@@ -13,7 +14,6 @@ use Rattle.port_session.proofs.Hearing.{length-answers}
 use Rattle.switch_ports.specs.Views.{SessionTrace}
 use Rattle.switch_laws.specs.Holdings.{AreHeldAt, IsHeldAt}
 use Rattle.switch_laws.specs.Runs.{AreCommands}
-use Rattle.switch_laws.proofs.Answered.{some_at}
 use Rattle.completion_laws.specs.Answering.{IsOnTheWay, IsReady, IsUpToDate}
 use Rattle.completion_laws.proofs.Prompt.{all-carried, as-many}
 
@@ -42,8 +42,8 @@ module _ (r : Rollout) (migration : ℕ) (homes : List (Option ℕ)) (found : Hi
 
   came : AreCommands r migration found held offered
   came =
-      some_at (λ h. AreCommands r migration found h offered) first.port.held held held-is
-      (some_at (λ bytes. IfSome first.port.held (λ h. AreCommands r migration found h bytes)) first.port.offered offered offered-is ready.starts.offered)
+      of_some (λ h. AreCommands r migration found h offered) first.port.held held held-is
+      (of_some (λ bytes. IfSome first.port.held (λ h. AreCommands r migration found h bytes)) first.port.offered offered offered-is ready.starts.offered)
 
   abbrev commands : List CommandFrame
   commands = came.commands
@@ -54,16 +54,16 @@ module _ (r : Rollout) (migration : ℕ) (homes : List (Option ℕ)) (found : Hi
   answered : heard ≡ flat_map answer_bytes (answers_to first.port.start commands)
   answered =
       let all : AllAnswered first.port.start offered heard
-      = some_at (AllAnswered first.port.start offered) first.port.heard heard heard-is
-      (some_at (λ o. IfSome first.port.heard (AllAnswered first.port.start o)) first.port.offered offered offered-is ready.no_more) in
+      = of_some (AllAnswered first.port.start offered) first.port.heard heard heard-is
+      (of_some (λ o. IfSome first.port.heard (AllAnswered first.port.start o)) first.port.offered offered offered-is ready.no_more) in
       all commands [] came.whole nothing_begins_no_command
 
   state : AnswersInOrder first.port.start (flat_map command_bytes commands) heard held
   state =
       subst (λ (o : List ℕ). AnswersInOrder first.port.start o heard held) whole
-      (some_at (AnswersInOrder first.port.start offered heard) first.port.held held held-is
-      (some_at (λ b. IfSome first.port.held (AnswersInOrder first.port.start offered b)) first.port.heard heard heard-is
-      (some_at (λ o. IfSome first.port.heard (λ b. IfSome first.port.held (AnswersInOrder first.port.start o b))) first.port.offered offered offered-is ready.in_order)))
+      (of_some (AnswersInOrder first.port.start offered heard) first.port.held held held-is
+      (of_some (λ b. IfSome first.port.held (AnswersInOrder first.port.start offered b)) first.port.heard heard heard-is
+      (of_some (λ o. IfSome first.port.heard (λ b. IfSome first.port.held (AnswersInOrder first.port.start o b))) first.port.offered offered offered-is ready.in_order)))
 
   carried : held ≡ after_commands first.port.start commands
   carried =
@@ -86,5 +86,5 @@ module _ (r : Rollout) (migration : ℕ) (homes : List (Option ℕ)) (found : Hi
       none_kept = ready.starts.none_kept;
       none_owed = ready.none_owed;
     };
-    held = λ n low home. subst (λ (hs : Holdings). IsOnTheWay migration found n (hs n).held) carried (on-the-way n (held n) (some_at (AreHeldAt r migration homes first.switch found) first.port.held held held-is ready.starts.held n low home));
+    held = λ n low home. subst (λ (hs : Holdings). IsOnTheWay migration found n (hs n).held) carried (on-the-way n (held n) (of_some (AreHeldAt r migration homes first.switch found) first.port.held held held-is ready.starts.held n low home));
   }

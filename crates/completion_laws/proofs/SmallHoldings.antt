@@ -7,12 +7,12 @@ use Rattle.rollout_rules.specs.Worked.{begin_of, fresh, op_of}
 use Rattle.wan_edge.specs.Frames.{CommandFrame, IsAnswer, IsCommand, answer_bytes, command_bytes, command_head}
 use Rattle.wan_edge.specs.Ports.{AnswersHeld, IsOffered, MovesByRule}
 use Rattle.wan_edge.specs.Switches.{Holdings, after_command, after_commands, holding_nothing}
-use Rattle.wan_edge.proofs.Commands.{nothing_is_offered}
+use Rattle.wan_edge.proofs.Commands.{nothing_is_offered, none_moves, IsHeld}
 use Rattle.wire_frames.proofs.OneSpelling.{one_answer}
 use Rattle.port_session.specs.Offers.{frames_of}
 use Rattle.switch_laws.specs.Runs.{AreCommands, MayCome}
 use Rattle.switch_laws.specs.Worked.{both_at_first, first_answer, first_command, two_flows, unused}
-use Rattle.switch_laws.proofs.Answered.{IsHeld, none_in_nothing}
+use Rattle.switch_laws.proofs.Answered.{none_in_nothing}
 use Rattle.switch_laws.proofs.Offered.{one_offered}
 use Rattle.switch_laws.proofs.SmallRuns.{answer_fits, command_fits, one_answered}
 use Rattle.completion_laws.specs.Untold.{IsFoundWith, MayHold}
@@ -31,9 +31,6 @@ came-once = record {
   moved = refl;
 }
 
-never-came : (bytes : List ℕ) (holdings : Holdings) → MovesByRule bytes holdings holdings
-never-came bytes holdings = record { delivered = []; each_offered = All-nil (IsOffered bytes); moved = refl }
-
 none-heard : (holdings : Holdings) → AnswersHeld [] holdings
 none-heard holdings answers rest split = none_in_nothing (IsHeld holdings) answers (omega (arith, ap length split.parts, length-append (flat_map answer_bytes answers) rest))
 
@@ -41,7 +38,7 @@ pub may-have-come : MayHold sent [] holding_nothing moved
 may-have-come = record { moves = came-once; answers = none-heard moved }
 
 pub may-be-lost : MayHold sent [] holding_nothing holding_nothing
-may-be-lost = record { moves = never-came sent holding_nothing; answers = none-heard holding_nothing }
+may-be-lost = record { moves = none_moves sent holding_nothing; answers = none-heard holding_nothing }
 
 second_fits : IsCommand (4, second_command)
 second_fits = record {

@@ -3,6 +3,7 @@ use Rattle.std.proofs.Common.{◌≡◌, ◌⊎◌, ℕ, ◌+◌, ◌^◌, ◌<�
 use Rattle.std.proofs.lemmas.Bool.{both_ways, false≢true, not_from_true}
 use Rattle.std.proofs.lemmas.List.Elements.{All-contains, All-filter, All-head, All-map, All-tail, Contains-get_or, filter_passes}
 use Rattle.std.specs.List.{All, Contains, filter}
+use Rattle.lists.proofs.Conditions.{some_same_is}
 use Rattle.rollout_rules.specs.Network.{IsNetwork}
 use Rattle.rollout_rules.specs.Items.{item_count}
 use Rattle.rollout_rules.specs.Valid.{is_valid_plan}
@@ -452,9 +453,6 @@ module _ {P : Type 0} (tell : P → PortTrace) (o : Opening) (seat : ℕ) (joine
             rests.1,
       )
 
-      same-cause : (a b : Cause) → Some a ≡ Some b → a ≡ b
-      same-cause a b e = cc e
-
       -- what a round of the book asked to stop for
       round-excused : (why : Cause) (log after : List Written) (commands : List Command) (ns : List (SessionView P)) (told : List Answer) → GoesTo final after → Listed m.stands.seen log commands → Exchanges tell migration homes m.stands.ports commands told ns
           → StopsRound o (seat ∷ joined) seat log (told_by told) why after → IsExcused why × AreExcused seat after
@@ -471,7 +469,7 @@ module _ {P : Type 0} (tell : P → PortTrace) (o : Opening) (seat : ℕ) (joine
       round-excused cause.Disk log after commands ns told goes lists went stops = (
         tt,
         excused-note seat stops.log after (next_note seat stops.log what.Disk (batch_at o (hist stops.log) (told_by told))) (excused-past seat joined log stops.log lists.excused stops.past) stops.noted
-            (λ why is. subst IsExcused (same-cause cause.Disk why is) tt),
+            (λ why is. subst IsExcused (some_same_is cause.Disk why is) tt),
       )
       round-excused cause.Memory log after commands ns told goes lists went stops =
           (tt, subst (AreExcused seat) (sym stops.noted) (excused-past seat joined log stops.log lists.excused stops.past))

@@ -1,11 +1,10 @@
 -- A run over ports that have answered all: what stops it has an excuse.
-use Rattle.std.proofs.Common.{◌≡◌, ◌≢◌, ℕ, zero, suc, ◌<◌, ◌≤◌, true, List, [], ◌∷◌, ◌++◌, map, length, slice_index_or, Option, Some, None, option_map, inl, inr, ⊎_elim, refl, sym, ap, ◌∙◌, subst, arith}
+use Rattle.std.proofs.Common.{◌≡◌, ℕ, zero, suc, ◌<◌, ◌≤◌, true, List, [], ◌∷◌, ◌++◌, map, length, slice_index_or, Option, Some, None, inl, inr, ⊎_elim, refl, sym, ap, ◌∙◌, subst, arith}
 use Rattle.std.proofs.lemmas.List.Elements.{All-contains, Contains-append_left, Contains-get_or}
 use Rattle.std.proofs.lemmas.List.Sorted.{Contains-permutation, IsPermutation-sym}
 use Rattle.std.proofs.lemmas.Bool.{cases_eq}
 use Rattle.std.proofs.lemmas.Option.{same_Some}
 use Rattle.std.specs.List.{All, Contains}
-use Rattle.std.specs.Option.{option_or}
 use Rattle.std.specs.Prelude.{IsTrue}
 use Rattle.lists.proofs.Conditions.{some_same_is}
 use Rattle.rollout_rules.specs.History.{History}
@@ -22,7 +21,7 @@ use Rattle.shared_book.specs.declared.call_reply.Wake.{Wake}
 use Rattle.shared_book.specs.declared.call_reply.Wake.TheVariants as wake
 use Rattle.shared_book.specs.Histories.{Opening, history_of}
 use Rattle.shared_book.specs.Legal.{is_legal_shared}
-use Rattle.shared_book.specs.Notes.{cause_of, first_stop}
+use Rattle.shared_book.specs.Notes.{first_stop}
 use Rattle.shared_book.proofs.Going.{front_is_legal}
 use Rattle.shared_book.proofs.Stops.{first_stop-append}
 use Rattle.shared_book.specs.Calls.{seat_of}
@@ -39,6 +38,7 @@ use Rattle.controller_run.specs.Shifts.{IsEarlyCause, IsShift, Returns, Shift}
 use Rattle.controller_run.specs.Together.{given_ports}
 use Rattle.controller_run.proofs.Keeping.{keeps}
 use Rattle.controller_run.proofs.RunPorts.{in_all, of_one}
+use Rattle.controller_run.proofs.Causes.{noted, stands_in}
 use Rattle.completion_laws.specs.Answering.{IsUpToDate}
 use Rattle.completion_laws.specs.Faults.{IsExcused}
 use Rattle.completion_laws.specs.Finishing.{AreServedApart, IsOfWorkers, IsServed}
@@ -46,25 +46,6 @@ use Rattle.completion_laws.specs.Turns.{OthersEndElsewhere}
 use Rattle.completion_laws.proofs.Passing.{Passes, passes-unsettled, passes-up}
 use Rattle.completion_laws.proofs.WholeRounds.{worker-excused}
 use Rattle.completion_laws.proofs.Stopping.{excused-quiet}
-
--- ---- the note that a first stop is of
-record IsNoted (log : List Written) (halt : Halt) : Type 0 where
-  note : Written
-  among : Contains log note
-  seat : note.note.seat ≡ halt.seat
-
-noted-by : (w : Written) (log : List Written) (halt : Halt) (why : Option Cause) → option_or (option_map (λ (c : Cause). record { seat = w.note.seat; call = w.note.call; cause = c }) why) (first_stop log) ≡ Some halt → (first_stop log ≡ Some halt → IsNoted log halt) → IsNoted (w ∷ log) halt
-noted-by w log halt None is later = let found = later is in record { note = found.note; among = inside-later w found.note log found.among; seat = found.seat }
-noted-by w log halt (Some why) is later = record { note = w; among = (0, omega arith, refl); seat = ap (λ (h : Halt). h.seat) (some_same_is (record { seat = w.note.seat; call = w.note.call; cause = why }) halt is) }
-
-noted : (log : List Written) (halt : Halt) → first_stop log ≡ Some halt → IsNoted log halt
-noted [] halt first = absurd (none_is_no_halt halt first)
-noted (w ∷ log) halt first = noted-by w log halt (cause_of w.note.what) first (λ later. noted log halt later)
-
--- a stop of a seat stands where the seat's notes do
-stands-in : (s p : Option Halt) (halt : Halt) (seat : ℕ) → option_or s p ≡ Some halt → (p ≡ Some halt → halt.seat ≢ seat) → halt.seat ≡ seat → s ≡ Some halt
-stands-in (Some first) p halt seat is other mine = is
-stands-in None p halt seat is other mine = absurd (other is mine)
 
 early-excused : (seen : List Written) (why : Cause) → IsEarlyCause seen why → IsExcused why
 early-excused seen (cause.Spent given item number) early = early
@@ -89,7 +70,7 @@ module _ {P : Type 0} (tell : P → PortTrace) (o : Opening) (migration : ℕ) (
 
   seen-first : (halt : Halt) → first_stop log ≡ Some halt → halt.seat ≡ seat → first_stop s.now.seen ≡ Some halt
   seen-first halt first mine =
-      stands-in (first_stop s.now.seen) (first_stop shift.follows.past) halt seat (sym (first_stop-append s.now.seen shift.follows.past) ∙ sym (ap first_stop shift.follows.is) ∙ first)
+      stands_in seat (first_stop s.now.seen) (first_stop shift.follows.past) halt (sym (first_stop-append s.now.seen shift.follows.past) ∙ sym (ap first_stop shift.follows.is) ∙ first)
       (λ later. quiet-first seat shift.follows.past halt (λ k d inside own. absurd (shift.follows.none k d inside 0 seat (omega arith) (sym own))) later) mine
 
   others : OthersEndElsewhere homes switches seat s.now.seen

@@ -66,7 +66,7 @@ module _ (seat : ℕ) where
   others_first past halt none first = quiet-first seat past halt (λ k d inside own. absurd (none k d inside 0 seat (omega arith) (sym own))) first
 
   -- a stop of a seat stands where the seat's notes do
-  stands_in : (s p : Option Halt) (halt : Halt) → option_or s p ≡ Some halt → (p ≡ Some halt → halt.seat ≢ seat) → halt.seat ≡ seat → s ≡ Some halt
+  pub stands_in : (s p : Option Halt) (halt : Halt) → option_or s p ≡ Some halt → (p ≡ Some halt → halt.seat ≢ seat) → halt.seat ≡ seat → s ≡ Some halt
   stands_in (Some first) p halt is other mine = is
   stands_in None p halt is other mine = absurd (other is mine)
 
@@ -74,10 +74,10 @@ module _ (seat : ℕ) where
   first_in seen past halt none first mine = stands_in (first_stop seen) (first_stop past) halt (sym (first_stop-append seen past) ∙ first) (others_first past halt none) mine
 
 -- a first stop is that of a note
-record IsNoted (log : List Written) (halt : Halt) : Type 0 where
-  note : Written
-  among : Contains log note
-  seat : seat_of note ≡ halt.seat
+pub record IsNoted (log : List Written) (halt : Halt) : Type 0 where
+  pub note : Written
+  pub among : Contains log note
+  pub seat : seat_of note ≡ halt.seat
 
 abbrev halt_of : Written → Option Cause → Option Halt
 halt_of w why = option_map (λ (c : Cause). record { seat = w.note.seat; call = w.note.call; cause = c }) why
@@ -88,7 +88,7 @@ noted_here w log halt (Some why) is later =
     let same : record { seat = w.note.seat; call = w.note.call; cause = why } ≡ halt = same_halt (Some halt) (record { seat = w.note.seat; call = w.note.call; cause = why }) halt (sym is) refl in
     record { note = w; among = contains_head w log; seat = ap (λ (h : Halt). h.seat) same }
 
-noted : (log : List Written) (halt : Halt) → first_stop log ≡ Some halt → IsNoted log halt
+pub noted : (log : List Written) (halt : Halt) → first_stop log ≡ Some halt → IsNoted log halt
 noted [] halt first = none_halt None halt refl first
 noted (w ∷ log) halt first = noted_here w log halt (cause_of w.note.what) first (λ later. noted log halt later)
 

@@ -4,6 +4,7 @@ use Rattle.std.specs.Prelude.{All, nat_eq}
 use Rattle.std.specs.List.{IsDistinct}
 use Rattle.std.proofs.lemmas.List.Sorted.{IsPermutation-append_comm, length_permutation}
 use Rattle.std.proofs.lemmas.Map.Keys.{IsDistinct-tail}
+use Rattle.std.proofs.lemmas.List.{length-map}
 use Rattle.turn_lock.specs.declared.counted.Counted.{Ghosts}
 use Rattle.turn_lock.specs.declared.lock.TurnLock.{TurnLock}
 use Rattle.turn_lock.specs.declared.pass.Pass.{Pass}
@@ -16,7 +17,7 @@ use Rattle.shared_book.specs.Calls.{IsCounted}
 use Rattle.controller_run.specs.Promises.{StopsNothing}
 use Rattle.controller_run.specs.Shifts.{AreFresh, HasTurned, IsQuiet}
 use Rattle.controller_run.specs.Workers.{IsLeader, AreWorkers, all_ports, workers_ports}
-use Rattle.controller_run.proofs.Rows.{all_pop, flat_push, map_long}
+use Rattle.controller_run.proofs.Rows.{all_pop, flat_push}
 use Rattle.controller_run.proofs.Shuffles.{ends, handed_in, to_front}
 use Rattle.controller_run.proofs.Taking.{apart_in_any_order, switches}
 
@@ -82,7 +83,7 @@ module _ {P : Type 0} where
         let a = length-append own (first_sessions spare ++ (all_ports rest ++ ports)) in
         let b = length-append (first_sessions spare) (all_ports rest ++ ports) in
         let c = length-append (all_ports rest) ports in
-        let d = map_long (λ (b : Berth P). first_session b.switch b.port) spare in
+        let d = length-map spare (λ (b : Berth P). first_session b.switch b.port) in
         omega (arith, room, a, b, c, d)
 
 -- the pass of seat 0, with a seat split off

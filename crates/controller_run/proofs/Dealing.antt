@@ -4,11 +4,12 @@ use Rattle.std.specs.Prelude.{All, nat_eq}
 use Rattle.std.specs.List.{Contains, IsDistinct}
 use Rattle.std.proofs.lemmas.List.Elements.{All-contains, Contains-append_left, Contains-append_right, Contains-get_or}
 use Rattle.std.proofs.lemmas.List.Sorted.{All-permutation, IsPermutation-append_comm, IsPermutation-trans, length_permutation}
+use Rattle.std.proofs.lemmas.List.{length-map}
 use Rattle.port_session.specs.Sessions.{SessionView, first_session}
 use Rattle.switch_ports.specs.declared.ports.Berth.{Berth}
 use Rattle.switch_ports.specs.Berths.{AreApart, AreLent, FleetPorts, after_keeping}
 use Rattle.switch_ports.specs.Hands.{all_berths, berths_of, first_sessions, hand_count, hands}
-use Rattle.switch_ports.proofs.Given.{keep_row, rest_apart, rest_lent_row, row_apart, row_lent}
+use Rattle.switch_ports.proofs.Given.{keep_row, rest_apart, rest_lent_row, row_apart, row_lent, berths_append}
 use Rattle.switch_ports.proofs.Turns.{hands_long}
 use Rattle.controller_run.specs.Workers.{AreWorkers, all_ports, workers_ports}
 use Rattle.controller_run.proofs.Dealt.{all_dealt}
@@ -16,7 +17,7 @@ use Rattle.controller_run.proofs.Hands.{same_berths}
 use Rattle.controller_run.proofs.Kept.{distinct_of}
 use Rattle.controller_run.proofs.Over.{all_fresh, talks_switches}
 use Rattle.controller_run.proofs.RunPorts.{in_all}
-use Rattle.controller_run.proofs.Rows.{flat_push, map_both, map_long}
+use Rattle.controller_run.proofs.Rows.{flat_push}
 use Rattle.controller_run.proofs.Shuffles.{same}
 use Rattle.controller_run.proofs.Taking.{apart_in_any_order}
 
@@ -61,21 +62,18 @@ module _ {P : Type 0} where
         own_fresh = each Fresh own (own ++ all_ports rest) (λ t at. Contains-append_left own (all_ports rest) t at) all;
         fresh = λ k d inside. each Fresh (slice_index_or rest k d) (own ++ all_ports rest) (λ t at. Contains-append_right own (all_ports rest) t (in_all (λ (l : List (SessionView P)). l) rest (slice_index_or rest k d) t (Contains-get_or rest k d inside) at)) all;
         apart = apart_in_any_order (first_sessions berths) (workers_ports own [] rest) deals (subst (λ (l : List ℕ). IsDistinct nat_eq l) (sym (talks_switches berths)) (distinct_of berths apart));
-        room = let long = length_permutation (first_sessions berths) (workers_ports own [] rest) deals in let many = map_long (λ (b : Berth P). first_session b.switch b.port) berths in omega (arith, room, long, many);
+        room = let long = length_permutation (first_sessions berths) (workers_ports own [] rest) deals in let many = length-map berths (λ (b : Berth P). first_session b.switch b.port) in omega (arith, room, long, many);
       }
 
   -- ---- given back
-  berths_both : (ts us : List (SessionView P)) → berths_of (ts ++ us) ≡ berths_of ts ++ berths_of us
-  berths_both ts us = map_both (λ (t : SessionView P). record { switch = t.switch; port = t.port }) ts us
-
   berths_of_all : (crews : List (List (SessionView P))) → berths_of (all_ports crews) ≡ all_berths crews
   berths_of_all [] = refl
-  berths_of_all (c ∷ crews) = berths_both c (all_ports crews) ∙ ap (λ (bs : List (Berth P)). berths_of c ++ bs) (berths_of_all crews)
+  berths_of_all (c ∷ crews) = berths_append c (all_ports crews) ∙ ap (λ (bs : List (Berth P)). berths_of c ++ bs) (berths_of_all crews)
 
   team_berths : (own : List (SessionView P)) (spare : List (Berth P)) (crews : List (List (SessionView P))) → berths_of (workers_ports own spare crews) ≡ (berths_of own ++ spare) ++ all_berths crews
   team_berths own spare crews =
-      berths_both own (first_sessions spare ++ all_ports crews)
-      ∙ ap (λ (bs : List (Berth P)). berths_of own ++ bs) (berths_both (first_sessions spare) (all_ports crews) ∙ ap₂ (λ (a b : List (Berth P)). a ++ b) (same_berths spare) (berths_of_all crews))
+      berths_append own (first_sessions spare ++ all_ports crews)
+      ∙ ap (λ (bs : List (Berth P)). berths_of own ++ bs) (berths_append (first_sessions spare) (all_ports crews) ∙ ap₂ (λ (a b : List (Berth P)). a ++ b) (same_berths spare) (berths_of_all crews))
       ∙ sym (append_assoc (berths_of own) spare (all_berths crews))
 
   module _ (own : List (SessionView P)) (spare : List (Berth P)) (crews : List (List (SessionView P))) (apart : AreApart (berths_of (workers_ports own spare crews))) where

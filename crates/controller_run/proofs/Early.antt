@@ -2,6 +2,7 @@
 use Rattle.std.proofs.Common.{◌≡◌, ◌≢◌, ℕ, Bool, true, false, List, [], ◌∷◌, ◌++◌, Option, Some, None, refl, sym, ap, ◌∙◌, subst, append_assoc, inl, inr, arith, if◌then◌else◌}
 use Rattle.std.specs.Option.{option_or}
 use Rattle.std.proofs.lemmas.List.Elements.{All-nil}
+use Rattle.lists.proofs.Conditions.{some_same_is}
 use Rattle.rollout_rules.specs.declared.op.Entry.{Entry}
 use Rattle.rollout_book.specs.declared.fault.BookFault.TheVariants as fault
 use Rattle.turn_lock.specs.Histories.{Follows}
@@ -32,9 +33,6 @@ disk_inside (v ∷ front) later w is = inr (disk_inside front later w is)
 
 pub same_halt : (s : Option Halt) (a b : Halt) → s ≡ Some a → s ≡ Some b → a ≡ b
 same_halt s a b is_a is_b = let both : Some a ≡ Some b = sym is_a ∙ is_b in cc both
-
-some_cause : (a b : Cause) → Some a ≡ Some b → a ≡ b
-some_cause a b e = cc e
 
 no_cause : {A : Type 0} (why : Cause) → None ≡ Some why → A
 no_cause why e = absurd (cc e)
@@ -106,7 +104,7 @@ module _ (o : Opening) (seat : ℕ) where
   early seen turned after (round.Refused fault.Disk) why asked quiet is call stop = by_disk seen turned after why asked call stop
   early seen turned after (round.Stopped told) why asked quiet is call stop = by_stop seen turned after why told asked quiet call stop
   early seen turned after round.Memory why asked quiet is call stop =
-      by_memory seen turned after asked quiet call (subst (λ (c : Cause). IsStopCall o (seat ∷ []) seat turned c asked after) (sym (some_cause cause.Memory why is)) stop)
+      by_memory seen turned after asked quiet call (subst (λ (c : Cause). IsStopCall o (seat ∷ []) seat turned c asked after) (sym (some_same_is cause.Memory why is)) stop)
 
   -- the same, said of a pass that is the first
   pub early_stop : (seats seats' : List ℕ) (mine mine' : ℕ) (seen turned after : List Written) (reply : RoundReply) (why : Cause) (asked : Halt) → seats ≡ seat ∷ [] → mine ≡ seat → seats' ≡ seat ∷ [] → mine' ≡ seat → seen ≡ [] → cause_behind reply ≡ Some why

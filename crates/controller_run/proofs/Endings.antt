@@ -13,7 +13,6 @@ use Rattle.shared_book.specs.declared.note.What.TheVariants as what
 use Rattle.shared_book.specs.declared.note.Written.{Written}
 use Rattle.shared_book.specs.declared.call_reply.Halt.{Halt}
 use Rattle.shared_book.specs.declared.call_reply.ListReply.TheVariants as list
-use Rattle.shared_book.specs.declared.call_reply.Wake.{Wake}
 use Rattle.shared_book.specs.declared.call_reply.Wake.TheVariants as wake
 use Rattle.shared_book.specs.Notes.{asks_to_stop, cause_of, first_stop, halt_by, has_asked, is_stopped}
 use Rattle.shared_book.specs.Histories.{Opening, history_of}
@@ -22,6 +21,7 @@ use Rattle.shared_book.specs.Legal.{is_still}
 use Rattle.shared_book.specs.Replies.{asked_at, halt_or, list_reply, wake_or, wake_reply, wake_with}
 use Rattle.shared_book.proofs.Lists.{history-next}
 use Rattle.shared_book.proofs.Stops.{first_stop-append, first_stop-stays}
+use Rattle.shared_book.proofs.ListCalls.{halted-by}
 use Rattle.controller_run.specs.Promises.{IsEndAt}
 
 -- ---- what a look was told
@@ -52,10 +52,6 @@ told-work None finished still (mine ∷ ops) op e = (refl, ops, ap (λ (x : Op).
 told-work None true still [] op e = absurd (cc e)
 told-work None false true [] op e = absurd (cc e)
 told-work None false false [] op e = absurd (cc e)
-
-listing-stopped : (s : Option Halt) (halt : Halt) → list.Stopped halt ≡ list_reply s → s ≡ Some halt
-listing-stopped (Some first) halt e = cc e
-listing-stopped None halt e = absurd (cc e)
 
 -- ---- one note more
 abbrev noted : ℕ → List Written → What → List Entry → List Written
@@ -101,7 +97,7 @@ module _ (o : Opening) (seat : ℕ) (log : List Written) where
       told-work (first_stop log) (is_finished o.rollout.problem o.rollout.plan h) (is_still o.rollout.problem h) (asked_at o.rollout.problem h switches) op told
 
   pub list-stopped : (halt : Halt) → list.Stopped halt ≡ list_reply (first_stop log) → first_stop log ≡ Some halt
-  list-stopped halt told = listing-stopped (first_stop log) halt told
+  list-stopped halt told = halted-by (first_stop log) halt told
 
   -- where a stop stands it is told ever after
   pub still-stopped : (halt : Halt) (said : What) (es : List Entry) (after : List Written) → first_stop log ≡ Some halt → after ≡ noted seat log said es → first_stop after ≡ Some halt

@@ -4,6 +4,7 @@ use Rattle.std.proofs.lemmas.List.Elements.{Contains-get_or}
 use Rattle.std.specs.List.{AllZip, Contains}
 use Rattle.std.specs.Prelude.{IsTrue}
 use Rattle.lists.proofs.Conditions.{some_same_is}
+use Rattle.lists.proofs.Numbers.{at_most_through}
 use Rattle.rollout_rules.specs.History.{settled}
 use Rattle.rollout_rules.specs.declared.op.Op.{Op}
 use Rattle.rollout_rules.specs.declared.op.Entry.{Entry}
@@ -21,7 +22,6 @@ use Rattle.shared_book.specs.declared.note.What.TheVariants as what
 use Rattle.shared_book.specs.declared.note.Written.{Written}
 use Rattle.shared_book.specs.declared.call_reply.Halt.{Halt}
 use Rattle.shared_book.specs.declared.call_reply.ListReply.TheVariants as list
-use Rattle.shared_book.specs.declared.call_reply.Wake.{Wake}
 use Rattle.shared_book.specs.declared.call_reply.Wake.TheVariants as wake
 use Rattle.shared_book.specs.Histories.{Opening, history_of}
 use Rattle.shared_book.specs.Knows.{next_note}
@@ -92,10 +92,7 @@ module _ {P : Type 0} (tell : P → PortTrace) where
 
     later-on : (ps bs os : List (SessionView P)) → AllZip Later ps bs → AllZip Later bs os → AllZip Later ps os
     unfolding Later
-    later-on = zip-chain Later Later Later (λ a b c first second. (second.0 ∙ first.0, le-on (tell a.port).faults (tell b.port).faults (tell c.port).faults first.1 second.1))
-      where
-        le-on : (a b c : ℕ) → a ≤ b → b ≤ c → a ≤ c
-        le-on a b c le more = omega (arith, le, more)
+    later-on = zip-chain Later Later Later (λ a b c first second. (second.0 ∙ first.0, at_most_through (tell a.port).faults (tell b.port).faults (tell c.port).faults first.1 second.1))
 
 module _ {P : Type 0} (tell : P → PortTrace) (o : Opening) (seat : ℕ) (joined : List ℕ) (migration : ℕ) (homes : List (Option ℕ)) (rounds : ℕ) (before : Standing P) (quiet_before : StopsNothing seat before.seen) where
   abbrev Reasons : Cause → Standing P → Type 0

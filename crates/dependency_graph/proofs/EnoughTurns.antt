@@ -1,6 +1,7 @@
 -- Chains go through ever later stages, so as many turns as there are stages after give the whole chain.
 use Rattle.std.proofs.Common.{◌≡◌, ℕ, zero, suc, ◌+◌, ◌-◌, ◌<◌, ◌≤◌, max, length, nat_le, Bool, true, false, not, ◌&&◌, ◌==◌, nat_lt, if◌then◌else◌, refl, sym, ap₂, subst, inl, inr, arith, ltb-true, eqb-true}
 use Rattle.std.proofs.lemmas.Bool.{and_parts, cases_lt}
+use Rattle.lists.proofs.Conditions.{if_most}
 use Rattle.rollout_rules.specs.Wan.{Problem, Plan, flow_at, tunnel_at, tunnel_of, hops, stage_at, rate_at, mark_at, last_stage}
 use Rattle.rollout_rules.specs.Operations.{changes_behind}
 use Rattle.rollout_rules.specs.Needs.{installed_since, idle_since}
@@ -33,10 +34,6 @@ where-none false x none = refl
 most-most : (n : ℕ) (f : ℕ → ℕ) (m : ℕ) → ((k : ℕ) → f k ≤ m) → most_below n f ≤ m
 most-most zero f m all = omega arith
 most-most (suc n) f m all = omega (arith, most-most n f m all, all n)
-
-where-most : (test : Bool) (x m : ℕ) → x ≤ m → (if test then x else 0) ≤ m
-where-most true x m le = le
-where-most false x m le = omega arith
 
 above : (m : ℕ) {x y : ℕ} → x ≤ m + 1 → y ≤ m + 1 → 1 + max x y ≤ suc m + 1
 above m le more = omega (arith, le, more)
@@ -104,10 +101,10 @@ module _ (p : Problem) (plan : Plan) (before : InstalledBefore plan) where
   -- a chain goes through each stage once at most
   pub chain-most : (a : ℕ) (i : Item) (s : ℕ) → chain_within a p plan i s ≤ a + 1
   chain-most zero i s = omega arith
-  chain-most (suc a) (item.Flow f) s = above a (most-most (last_stage plan) _ (a + 1) (λ u. where-most _ _ (a + 1) (chain-most a (item.Flow f) u)))
-      (most-most (flow_at p f).tunnels _ (a + 1) (λ j. most-most (hops p (tunnel_of p f j)) _ (a + 1) (λ h. most-most (last_stage plan) _ (a + 1) (λ u. where-most _ _ (a + 1) (chain-most a (item.Entry (tunnel_of p f j) h) u)))))
-  chain-most (suc a) (item.Entry t h) s = above a (most-most (last_stage plan) _ (a + 1) (λ u. where-most _ _ (a + 1) (chain-most a (item.Entry t h) u)))
-      (most-most (last_stage plan) _ (a + 1) (λ u. where-most _ _ (a + 1) (chain-most a (item.Flow (tunnel_at p t).flow) u)))
+  chain-most (suc a) (item.Flow f) s = above a (most-most (last_stage plan) _ (a + 1) (λ u. if_most _ _ (a + 1) (chain-most a (item.Flow f) u)))
+      (most-most (flow_at p f).tunnels _ (a + 1) (λ j. most-most (hops p (tunnel_of p f j)) _ (a + 1) (λ h. most-most (last_stage plan) _ (a + 1) (λ u. if_most _ _ (a + 1) (chain-most a (item.Entry (tunnel_of p f j) h) u)))))
+  chain-most (suc a) (item.Entry t h) s = above a (most-most (last_stage plan) _ (a + 1) (λ u. if_most _ _ (a + 1) (chain-most a (item.Entry t h) u)))
+      (most-most (last_stage plan) _ (a + 1) (λ u. if_most _ _ (a + 1) (chain-most a (item.Flow (tunnel_at p t).flow) u)))
 
 pub installed-before : (p : Problem) (plan : Plan) → is_valid_plan p plan ≡ true → InstalledBefore plan
 installed-before p plan valid t u lt carries = elim (cases_lt t (length p.tunnels)) as (λ c. installed_since plan t (u + 1) ≤ u) [

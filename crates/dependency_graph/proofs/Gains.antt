@@ -1,5 +1,6 @@
 -- What an item takes at one end of a step beyond the other end.
 use Rattle.std.proofs.Common.{◌≡◌, ℕ, ◌+◌, ◌-◌, ◌^◌, ◌<◌, ◌≤◌, Bool, true, false, not, ◌&&◌, ◌||◌, ◌==◌, if◌then◌else◌, length, slice_index, refl, sym, ap, ◌∙◌, arith, eq-eqb, lt-ltb}
+use Rattle.lists.proofs.Conditions.{and_both}
 use Rattle.rollout_rules.specs.Sums.{sum_below}
 use Rattle.rollout_rules.specs.Wan.{Problem, Plan, Rollout, flow_at, tunnel_of, switch_of, width_of, crosses, rate_at, mark_at, last_stage, next_stage}
 use Rattle.rollout_rules.specs.Network.{IsNetwork}
@@ -56,13 +57,9 @@ module _ (p : Problem) (plan : Plan) where
   gain-within : (from to : ℕ) (i : Item) (u : Resource) → gain p plan from to i u ≤ use_at p plan to i u
   gain-within from to i u = takes-mono p (beyond plan from to) (rate_at plan to) (λ t h. appears plan from to t) (λ t h. mark_at plan to t) i u (within i)
     where
-      both : (a b : Bool) → (a && b) ≡ true → a ≡ true
-      both true b e = refl
-      both false b e = e
-
       within : (i : Item) → IsWithin p (beyond plan from to) (λ t h. appears plan from to t) (rate_at plan to) (λ t h. mark_at plan to t) i
       within (item.Flow f) = λ j lt. omega arith
-      within (item.Entry t h) = λ there. both (mark_at plan to t) (not (mark_at plan from t)) there
+      within (item.Entry t h) = λ there. (and_both (mark_at plan to t) (not (mark_at plan from t)) there).0
 
 pub rises-gain : (r : Rollout) (i : Item) (x q : ℕ) → rises r i x q ≡ gain r.problem r.plan x (next_stage r.plan x) i (resource_at r.problem q)
 rises-gain r i x q = omega (arith, gain-begins r.problem r.plan x i (resource_at r.problem q))

@@ -1,8 +1,8 @@
 -- Cells that are raised, one after another.
-use Rattle.std.proofs.Common.{◌≡◌, ℕ, zero, suc, ◌+◌, ◌-◌, ◌*◌, ◌<◌, ◌≤◌, Bool, true, false, ◌&&◌, ◌==◌, if◌then◌else◌, List, [], ◌∷◌, length, length-set, set, slice_index, nat_le, nat_lt, le-ltb, inl, inr, refl, sym, ap, ap₂, ◌∙◌, subst, arith, eq-eqb, ne_eqb, le-leb, lt-ltb}
+use Rattle.std.proofs.Common.{◌≡◌, ℕ, zero, suc, ◌+◌, ◌-◌, ◌*◌, ◌<◌, ◌≤◌, false, ◌&&◌, ◌==◌, if◌then◌else◌, List, [], ◌∷◌, length, length-set, set, slice_index, nat_le, nat_lt, le-ltb, inl, inr, refl, sym, ap, ap₂, ◌∙◌, subst, arith, eq-eqb, ne_eqb, le-leb, lt-ltb}
 use Rattle.std.proofs.lemmas.Bool.{cases_Bool, cases_eq, cases_lt, lt-leb}
 use Rattle.std.proofs.lemmas.List.{get_or-set_same, get_or-set_other}
-use Rattle.lists.proofs.Conditions.{or_false_parts}
+use Rattle.lists.proofs.Conditions.{or_false_parts, if_either}
 use Rattle.rollout_rules.proofs.Below.{sum_below-zero, sum_below-but}
 use Rattle.dependency_graph.proofs.Changed.{place_in}
 use Rattle.dependency_graph.specs.Cells.{Cells, cell, between, AreRaised, only, among, has, AreOnce}
@@ -91,10 +91,6 @@ raised-at t later q s n low same all here others = record {
       ap (slice_index later.cells) at ∙ each k u low';
 }
   where
-    nothing : (b : Bool) → ◌≡◌ {A = ℕ} (if b then 0 else 0) 0
-    nothing true = refl
-    nothing false = refl
-
     each : (k u : ℕ) → u < t.stages → slice_index later.cells (k * t.stages + u) ≡ cell t k u + between s (s + 1) u (only q n k)
     each k u low' = elim (cases_eq (q * t.stages + s) (k * t.stages + u)) as (λ _. slice_index later.cells (k * t.stages + u) ≡ cell t k u + between s (s + 1) u (only q n k)) [
       | inl same ↦
@@ -115,7 +111,7 @@ raised-at t later q s n low same all here others = record {
             ]
             | inr away ↦
                 let none : only q n k ≡ 0 = ap (λ b. if b then n else 0) (ne_eqb q k away) in
-                let zero' : between s (s + 1) u (only q n k) ≡ 0 = ap (between s (s + 1) u) none ∙ nothing (nat_le s u && nat_lt u (s + 1)) in
+                let zero' : between s (s + 1) u (only q n k) ≡ 0 = ap (between s (s + 1) u) none ∙ if_either (nat_le s u && nat_lt u (s + 1)) 0 in
                 omega (arith, kept, zero')
           ]
     ]

@@ -1,6 +1,7 @@
 -- The cells of a row of resources, raised and lowered one after another.
-use Rattle.std.proofs.Common.{◌≡◌, ℕ, ◌+◌, ◌*◌, ◌<◌, ◌≤◌, Bool, true, false, ◌&&◌, if◌then◌else◌, List, length, slice_index, nat_le, nat_lt, inl, inr, refl, ap, ◌∙◌, arith}
+use Rattle.std.proofs.Common.{◌≡◌, ℕ, ◌+◌, ◌*◌, ◌<◌, ◌≤◌, false, ◌&&◌, List, length, slice_index, nat_le, nat_lt, inl, inr, refl, ap, ◌∙◌, arith, mul-le-mul_right}
 use Rattle.std.proofs.lemmas.Bool.{cases_lt}
+use Rattle.lists.proofs.Conditions.{if_either}
 use Rattle.rollout_rules.specs.Wan.{Rollout, last_stage}
 use Rattle.rollout_rules.specs.Items.{greater_rate, either_mark}
 use Rattle.rollout_rules.specs.History.{Places}
@@ -9,13 +10,10 @@ use Rattle.dependency_graph.specs.Cells.{Cells, cell, between, only, among, has,
 use Rattle.dependency_graph.proofs.Raised.{index-inside, raised-zero, raised-both, among-next, among-ahead, among-all}
 use Rattle.dependency_graph.proofs.RoomCells.{number-at, at-resource}
 
-times-up : (n q k : ℕ) → n ≤ q → n * k ≤ q * k
-times-up n q k le = grind arith
-
 index-below : (n stages q s : ℕ) → q * stages + s < n * stages → q < n
 index-below n stages q s lt = elim (cases_lt q n) as (λ _. q < n) [
   | inl low ↦ low
-  | inr high ↦ absurd (omega (arith, lt, times-up n q stages high))
+  | inr high ↦ absurd (omega (arith, lt, mul-le-mul_right stages high))
 ]
 
 module _ (low high : ℕ) (row : List ℕ) (amount : ℕ → ℕ) where
@@ -33,12 +31,8 @@ module _ (low high : ℕ) (row : List ℕ) (amount : ℕ → ℕ) where
   -- the cells of the resource after are as they were
   pub row-ahead : (k : ℕ) (t later : Cells) → AreOnce row → k < length row → AreRaised low high (among row amount k) t later → (s : ℕ) → s < t.stages → slice_index row k * t.stages + s < length t.cells → cell later (slice_index row k) s ≡ cell t (slice_index row k) s
   row-ahead k t later once lt so s below inside =
-      let none : between low high s (among row amount k (slice_index row k)) ≡ 0 = ap (between low high s) (among-ahead row amount k once lt) ∙ nothing (nat_le low s && nat_lt s high) in
+      let none : between low high s (among row amount k (slice_index row k)) ≡ 0 = ap (between low high s) (among-ahead row amount k once lt) ∙ if_either (nat_le low s && nat_lt s high) 0 in
       omega (arith, so.each (slice_index row k) s below inside, none)
-    where
-      nothing : (b : Bool) → ◌≡◌ {A = ℕ} (if b then 0 else 0) 0
-      nothing true = refl
-      nothing false = refl
 
   pub row-all : (n : ℕ) (t later : Cells) → AreOnce row → ((q : ℕ) → q < n → has row q ≡ false → amount q ≡ 0) → length t.cells ≡ n * t.stages → AreRaised low high (among row amount (length row)) t later → AreRaised low high amount t later
   row-all n t later once rest all so = record {

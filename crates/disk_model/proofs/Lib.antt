@@ -1,8 +1,10 @@
 pub mod Agreeing
+pub mod FourBytes
 pub mod FirstBytes
 pub mod Parting
 pub mod Logged
 pub mod Passing
+pub mod Passages
 pub mod Pieces
 pub mod Quiet
 pub mod Reaching

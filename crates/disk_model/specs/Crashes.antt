@@ -16,3 +16,7 @@ Only bytes left = Within left (λ c. c ≡ bytes)
 -- a crash leaves what a read gives, where that is told
 abbrev pub IsDurable : Option (List ℕ) → (List ℕ → Type 0) → Type 0
 IsDurable told left = IfSome told (λ bytes. Only bytes left)
+
+-- this holds of what a read gives, which is all that a crash leaves
+abbrev pub Holds : (List ℕ → Type 0) → Option (List ℕ) → (List ℕ → Type 0) → Type 0
+Holds P told left = IfSome told (λ image. P image × Only image left)

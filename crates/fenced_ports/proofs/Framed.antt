@@ -1,6 +1,5 @@
 -- What commands in a row come to, each with a term in front.
-use Rattle.std.proofs.Common.{◌≡◌, ℕ, ◌+◌, ◌-◌, ◌≤◌, List, [], ◌∷◌, ◌++◌, length, take, drop, Option, Some, Result, Ok, Err, IsErrAnd, refl, sym, ap, subst, ◌∙◌, append_assoc, append-nil, arith}
-use Rattle.std.specs.Prelude.{OnErr}
+use Rattle.std.proofs.Common.{◌≡◌, ℕ, ◌+◌, ◌-◌, ◌≤◌, List, [], ◌∷◌, ◌++◌, length, take, drop, Option, Some, refl, sym, ap, subst, ◌∙◌, append_assoc, append-nil, arith}
 use Rattle.std.proofs.Math.Seq.{take-add}
 use Rattle.std.proofs.lemmas.List.{take_all}
 use Rattle.std.proofs.lemmas.List.Elements.{All-append, All-nil}
@@ -10,7 +9,7 @@ use Rattle.wan_edge.specs.Frames.{CommandFrame, IsCommand, Splits, command_bytes
 use Rattle.wan_edge.specs.Ports.{AppendsFront}
 use Rattle.wan_edge.specs.Streams.{Appends}
 use Rattle.wan_edge.proofs.Chains.{Appends-nothing}
-use Rattle.wire_frames.specs.Reading.{Ends as EndsFrame, Gives, GoesOn, IsCommandFault, Reader}
+use Rattle.wire_frames.specs.Reading.{Ends as EndsFrame, GoesOn, IsCommandFault, Reader}
 use Rattle.port_session.proofs.Chaining.{rest_on}
 use Rattle.switch_agent.proofs.Chains.{one}
 use Rattle.fenced_agent.specs.Frames.{fence_bytes}
@@ -48,10 +47,6 @@ module _ (term : ℕ) (kept piece out : List ℕ) (n : ℕ) (now : Reader) where
     };
     added = added;
   }
-
--- what a reader gave, where it is known whether there is a command
-pub gives : (kept piece : List ℕ) (n : ℕ) (found known : Option CommandFrame) (now : Reader) → found ≡ known → Gives command_bytes IsCommand IsCommandFault kept piece n found now → Gives command_bytes IsCommand IsCommandFault kept piece n known now
-gives kept piece n found known now is given = subst (λ (f : Option CommandFrame). Gives command_bytes IsCommand IsCommandFault kept piece n f now) is given
 
 -- ---- rows
 
@@ -130,8 +125,3 @@ sends-none term kept bytes before = record {
   whole = record { fit = All-nil IsCommand; parts = refl };
   offered = record { count = 0; within = omega arith; appended = Appends-nothing before };
 }
-
--- what holds after an error
-pub on-err : {X E : Type 0} (answer : Result X E) (given : E) (P : Type 0) → IsErrAnd answer (λ e. e ≡ given) → P → OnErr answer P
-on-err (Ok x) given P is holds = tt
-on-err (Err e) given P is holds = holds

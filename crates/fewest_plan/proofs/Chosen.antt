@@ -4,7 +4,7 @@ use Rattle.std.specs.Prelude.{IsOk, IfOk, IsTrue}
 use Rattle.rollout_rules.specs.Wan.{Problem, Plan}
 use Rattle.rollout_rules.specs.Network.{IsNetwork}
 use Rattle.rollout_rules.specs.Valid.{is_valid_plan}
-use Rattle.plan_check.specs.First.{first_of, provided}
+use Rattle.plan_check.specs.First.{first_of}
 use Rattle.plan_check.specs.LeastSlack.{least_slack}
 use Rattle.plan_check.proofs.Firsts.{first_below_some}
 use Rattle.scratch_plan.specs.Frame.{frame}
@@ -21,6 +21,7 @@ use Rattle.fewest_plan.specs.Relief.{by_relief}
 use Rattle.fewest_plan.specs.Stuck.{stuck_link}
 use Rattle.fewest_plan.specs.Fewest.{by_item, fewer_than, improved, in_parts, by_rule, is_from_scratch, room_of, room_beside, beside, is_no_slack, why_none, or_why, in_place, fewest_of, fewest}
 use Rattle.fewest_plan.specs.Found.{Refuses, Answers}
+use Rattle.fewest_plan.proofs.Relieving.{provided-is}
 
 -- ---- what the rule gives is valid
 abbrev pub IsGood : Problem → Option Choice → Type 0
@@ -77,10 +78,6 @@ IsFew most o = (c : Choice) → o ≡ Some c → c.rate_steps ≤ most
 counted : (n : ℕ) (o : Option Plan) (c : Choice) → option_map (λ plan. record { plan = plan; rate_steps = n }) o ≡ Some c → c.rate_steps ≡ n
 counted n None c e = cc
 counted n (Some plan) c e = let same : ◌≡◌ {A = Choice} (record { plan = plan; rate_steps = n }) c = cc in ap (λ d. d.rate_steps) (sym same)
-
-provided-is : (b : Bool) (a x : ℕ) → provided b a ≡ Some x → a ≡ x
-provided-is true a x e = cc
-provided-is false a x e = cc
 
 walked-few : (p : Problem) (d : ℕ) (order : List ℕ) (most : ℕ) (o : Option ℕ) → ((i : ℕ) → o ≡ Some i → i < most) → IsFew most (walked p d order o)
 walked-few p d order most None low c e = cc

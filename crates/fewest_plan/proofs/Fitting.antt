@@ -7,7 +7,7 @@ use Rattle.std.proofs.lemmas.List.{length-append, get_or_append_left, get_or_pus
 use Rattle.rollout_rules.specs.Wan.{Problem, link_at, crosses}
 use Rattle.rollout_rules.specs.Network.{IsNetwork}
 use Rattle.rollout_rules.proofs.Below.{sum_below-mono, least_below-at, least_below-is}
-use Rattle.plan_check.proofs.Rows.{list_below-at}
+use Rattle.rollout_rules.proofs.Rows.{list_below-at}
 use Rattle.fewest_plan.specs.declared.gain.Gain.{Gain}
 use Rattle.fewest_plan.specs.Growth.{growth, gain_on, gains_in, gains_of, gain_at, no_gain}
 use Rattle.fewest_plan.specs.Greedy.{rate_after, top, tops, lets, far, moved, tried, step, AreShares}
@@ -88,7 +88,7 @@ module _ (p : Problem) (d : ℕ) (before after : List ℕ) (f : ℕ) (net : IsNe
   by_gain i = lets p d sums (gain_at (gains_of p f) i)
 
   top-is : (l : ℕ) → l < length p.links → slice_index sums l ≡ top p d before after l
-  top-is l low = list_below-at (length p.links) (top p d before after) l low
+  top-is l low = list_below-at (length p.links) (top p d before after) l 0 low
 
   moved-top : (l : ℕ) → top p d before (moved p d before after f) l ≡ top p d before after l + growth p f l * went
   moved-top l = top-later p d before after f went net lt are.count grows (part-most p d before after f are lt) l

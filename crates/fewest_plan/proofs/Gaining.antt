@@ -3,12 +3,12 @@ use Rattle.std.proofs.Common.{◌≡◌, ℕ, zero, suc, ◌+◌, ◌*◌, ◌<�
 use Rattle.std.specs.Prelude.{All, nat_lt, slice_index, slice_index_or}
 use Rattle.std.proofs.lemmas.Bool.{cases_Bool, cases_lt, ltb-true}
 use Rattle.std.proofs.lemmas.List.Elements.{All-append}
-use Rattle.std.proofs.lemmas.List.{length-append, get_or_append_left, get_or-append-add, get_or_push}
-use Rattle.rollout_rules.specs.Sums.{sum_below, list_below}
+use Rattle.std.proofs.lemmas.List.{length-append, get_or_append_left, get_or-append-add}
+use Rattle.rollout_rules.specs.Sums.{sum_below}
 use Rattle.rollout_rules.specs.Wan.{Problem, flow_at}
 use Rattle.rollout_rules.proofs.Below.{sum_below-same, sum_below-split, sum_below-zero, sum_below-but}
-use Rattle.rollout_rules.proofs.Rows.{list_below-length}
-use Rattle.plan_check.proofs.Rows.{list_below-at, list_below-from}
+use Rattle.rollout_rules.proofs.Rows.{list_below-length, list_below-at}
+use Rattle.plan_check.proofs.Rows.{list_below-from}
 use Rattle.plan_check.proofs.Shares.{AreSums}
 use Rattle.fewest_plan.specs.declared.gain.Gain.{Gain}
 use Rattle.fewest_plan.specs.Growth.{part_at, growth, growths, all_gains, gain_on, gains_in, gains_of, gain_at, no_gain, IsGain, AreGains, gained}
@@ -94,7 +94,7 @@ pub growing-is : (p : Problem) (f : ℕ) (sums : List ℕ) → sums ≡ growths 
 unfolding gains_of
 growing-is p f sums are =
     let count : length sums ≡ length p.links = ap length are ∙ list_below-length (length p.links) (growth p f) in
-    rw count (in-same (length p.links) (slice_index sums) (growth p f) (λ l lt. ap (λ xs. slice_index xs l) are ∙ list_below-at (length p.links) (growth p f) l lt))
+    rw count (in-same (length p.links) (slice_index sums) (growth p f) (λ l lt. ap (λ xs. slice_index xs l) are ∙ list_below-at (length p.links) (growth p f) l 0 lt))
 
 -- what the tunnels of a flow add up to
 pub growths-from : (p : Problem) (f : ℕ) (sums : List ℕ) (n : ℕ) → n ≡ (flow_at p f).tunnels → AreSums sums (length p.links) n (part_at p f) → sums ≡ growths p f
@@ -103,21 +103,8 @@ growths-from p f sums n all so =
     list_below-from sums (length p.links) (growth p f) so.count (λ l lt. so.each l lt ∙ ap (λ m. sum_below m (λ j. part_at p f j l)) all)
 
 -- ---- the links of a flow in the list of all
-pub list-count : {A : Type 0} (n : ℕ) (f : ℕ → A) → length (list_below n f) ≡ n
-list-count zero f = refl
-list-count (suc n) f = omega (arith, length-append (list_below n f) (f n ∷ []), list-count n f)
-
-pub list-at : {A : Type 0} (n : ℕ) (f : ℕ → A) (k : ℕ) (d : A) → k < n → slice_index_or (list_below n f) k d ≡ f k
-list-at zero f k d lt = absurd (omega arith)
-list-at (suc n) f k d lt = elim (cases_lt k n) as (λ _. slice_index_or (list_below n f ++ f n ∷ []) k d ≡ f k) [
-  | inl below ↦ get_or_append_left (list_below n f) (f n ∷ []) d k (omega (arith, below, list-count n f)) ∙ list-at n f k d below
-  | inr above ↦
-      let at : n ≡ k = omega (arith, above, lt) in
-      subst (λ m. slice_index_or (list_below n f ++ f n ∷ []) m d ≡ f m) at (get_or_push (list_below n f) (f n) d n (list-count n f))
-]
-
 pub all_gains-count : (p : Problem) → length (all_gains p) ≡ length p.flows
-all_gains-count p = list-count (length p.flows) (gains_of p)
+all_gains-count p = list_below-length (length p.flows) (gains_of p)
 
 pub links-are : (p : Problem) (gains : List (List Gain)) (f : ℕ) (links : List Gain) → gains ≡ all_gains p → f < length p.flows → links ≡ slice_index_or gains f links → links ≡ gains_of p f
-links-are p gains f links are lt is = is ∙ ap (λ gs. slice_index_or gs f links) are ∙ list-at (length p.flows) (gains_of p) f links lt
+links-are p gains f links are lt is = is ∙ ap (λ gs. slice_index_or gs f links) are ∙ list_below-at (length p.flows) (gains_of p) f links lt

@@ -2,17 +2,16 @@
 use Rattle.std.proofs.Common.{◌≡◌, ℕ, ◌<◌, Bool, true, false, List, length, slice_index, Option, Some, None, unwrap_or, refl, ap, ap₂, ◌∙◌, arith}
 use Rattle.rollout_rules.specs.Sums.{list_below}
 use Rattle.rollout_rules.specs.Wan.{Problem}
-use Rattle.rollout_rules.proofs.Rows.{list_below-length}
+use Rattle.rollout_rules.proofs.Rows.{list_below-length, list_below-at}
 use Rattle.wan_model.specs.declared.side.Side.{Side}
 use Rattle.wan_model.specs.declared.side.Side.TheVariants.{Old, New}
 use Rattle.plan_check.specs.First.{first_below, provided}
 use Rattle.plan_check.proofs.Firsts.{first_below_some}
-use Rattle.plan_check.proofs.Rows.{list_below-at}
 use Rattle.fewest_plan.specs.Greedy.{IsOrder}
 use Rattle.fewest_plan.specs.Marked.{borne}
 use Rattle.fewest_plan.specs.Relief.{fullest, rank, ranks, has_rank, of_rank, by_loads, by_relief}
 
-provided-is : (b : Bool) (a x : ℕ) → provided b a ≡ Some x → a ≡ x
+pub provided-is : (b : Bool) (a x : ℕ) → provided b a ≡ Some x → a ≡ x
 provided-is true a x e = cc
 provided-is false a x e = cc
 
@@ -48,5 +47,5 @@ module _ (p : Problem) (marks : List Bool) (are : marks ≡ fullest p) where
       let row : List ℕ = ranks before after in
       let count : length row ≡ length p.flows = ranks-count before after ∙ borne-count Old before b in
       let low : i < length row = omega (arith, lt, ap length is, list_below-length (length row) (of_rank row)) in
-      let at : slice_index order i ≡ of_rank row i = ap (λ xs. slice_index xs i) is ∙ list_below-at (length row) (of_rank row) i low in
+      let at : slice_index order i ≡ of_rank row i = ap (λ xs. slice_index xs i) is ∙ list_below-at (length row) (of_rank row) i 0 low in
       omega (arith, at, of_rank-below row i (omega arith), count)

@@ -1,70 +1,31 @@
 -- That no plan of any number of steps moves anything across links that stay full.
-use Rattle.std.proofs.Common.{◌≡◌, ◌⊎◌, ℕ, zero, suc, ◌+◌, ◌*◌, ◌<◌, ◌≤◌, min, Bool, true, false, not, ◌&&◌, ◌||◌, List, length, ◌==◌, if◌then◌else◌, Some, nat_le, refl, sym, ap, ◌∙◌, inl, inr, arith, leb-true, eqb-true, eq-eqb}
+use Rattle.std.proofs.Common.{◌≡◌, ◌⊎◌, ℕ, zero, suc, ◌*◌, ◌<◌, ◌≤◌, min, Bool, true, false, not, ◌&&◌, ◌||◌, List, length, ◌==◌, if◌then◌else◌, Some, refl, sym, ap, ◌∙◌, inl, inr, arith, leb-true, eq-eqb}
 use Rattle.std.proofs.lemmas.Bool.{cases_lt, and_parts}
 use Rattle.std.proofs.Math.Nat.{mul-le-mul_left, mul-le-mul_right, le_of_mul-le-mul_right}
 use Rattle.lists.proofs.Conditions.{not_both}
 use Rattle.lists.proofs.Numbers.{at_most_through}
-use Rattle.rollout_rules.specs.declared.limits.TheConstants.{MOST_STAGES, LARGEST_SCALE, MOST_HOPS}
-use Rattle.rollout_rules.specs.Sums.{sum_below, all_below}
-use Rattle.rollout_rules.specs.Wan.{Problem, Plan, tunnel_at, link_at, tunnel_of, old_rate, new_rate, crosses, stage_at, rate_at, last_stage, next_stage}
-use Rattle.rollout_rules.specs.Items.{the_link, load, greater_rate, capacity_of}
+use Rattle.rollout_rules.specs.declared.limits.TheConstants.{MOST_HOPS}
+use Rattle.rollout_rules.specs.Sums.{sum_below}
+use Rattle.rollout_rules.specs.Wan.{Problem, Plan, tunnel_at, link_at, tunnel_of, old_rate, new_rate, crosses, rate_at, last_stage, next_stage}
+use Rattle.rollout_rules.specs.Items.{load, greater_rate}
 use Rattle.rollout_rules.specs.Network.{IsNetwork}
-use Rattle.rollout_rules.specs.Valid.{flow_total, step_total, has_shape, begins_at_old, ends_at_new, fits_each_step, carries_what_flows, keeps_totals, keeps_total_at, is_valid_plan}
-use Rattle.rollout_rules.proofs.Below.{sum_below-mono, all_below-at, all_below-fails, least_below-at}
-use Rattle.rollout_rules.proofs.Totals.{sum_below-tunnels, step_total-load}
+use Rattle.rollout_rules.specs.Valid.{flow_total, is_valid_plan}
+use Rattle.rollout_rules.proofs.Below.{sum_below-mono, all_below-fails, least_below-at}
+use Rattle.rollout_rules.proofs.Totals.{sum_below-tunnels}
 use Rattle.rollout_rules.proofs.Tunnels.{tunnels_of}
+use Rattle.rollout_rules.proofs.Rows.{list_below-at}
 use Rattle.plan_check.specs.First.{provided}
 use Rattle.plan_check.proofs.Firsts.{first_below_some}
+use Rattle.plan_check.proofs.Opened.{MovesWithin, moves_within}
 use Rattle.fewest_plan.specs.declared.stuck.Weight.TheVariants.{Alone, Leaving, Entering}
 use Rattle.fewest_plan.specs.Marked.{is_marked, crossed}
 use Rattle.fewest_plan.specs.Stuck.{least_crossed, kept_by, kept, room_on, room, stay_full, rests_at, rests, weighs, weighed, is_full, stays_full, is_stuck, stuck_link}
 use Rattle.fewest_plan.proofs.Weighing.{marked-load, crossed-some, squeezed, times-least, sum-times}
-use Rattle.fewest_plan.proofs.Gaining.{list-at}
-
--- ---- what a valid plan gives
-record IsKept (p : Problem) (plan : Plan) : Type 0 where
-  scale : 1 ≤ plan.scale
-  stages : last_stage plan + 1 ≡ length plan.stages
-  first : (t : ℕ) → t < length p.tunnels → rate_at plan 0 t ≡ plan.scale * old_rate (tunnel_at p t)
-  last : (t : ℕ) → t < length p.tunnels → rate_at plan (last_stage plan) t ≡ plan.scale * new_rate (tunnel_at p t)
-  fits : (s l : ℕ) → s ≤ last_stage plan → l < length p.links → load p (greater_rate plan s) l ≤ (link_at p l).capacity * plan.scale
-  totals : (s f : ℕ) → s ≤ last_stage plan → f < length p.flows → min (plan.scale * flow_total p (λ t. old_rate (tunnel_at p t)) f) (plan.scale * flow_total p (λ t. new_rate (tunnel_at p t)) f) ≤ flow_total p (rate_at plan s) f
-
-valid-kept : (p : Problem) (plan : Plan) → IsNetwork p → is_valid_plan p plan ≡ true → IsKept p plan
-valid-kept p plan net valid =
-    let a = and_parts (has_shape p plan && begins_at_old p plan && ends_at_new p plan && fits_each_step p plan && carries_what_flows p plan) (keeps_totals p plan) valid in
-    let b = and_parts (has_shape p plan && begins_at_old p plan && ends_at_new p plan && fits_each_step p plan) (carries_what_flows p plan) a.0 in
-    let c = and_parts (has_shape p plan && begins_at_old p plan && ends_at_new p plan) (fits_each_step p plan) b.0 in
-    let d = and_parts (has_shape p plan && begins_at_old p plan) (ends_at_new p plan) c.0 in
-    let e = and_parts (has_shape p plan) (begins_at_old p plan) d.0 in
-    let scale_most = nat_le 1 plan.scale && nat_le plan.scale LARGEST_SCALE in
-    let rows = all_below (length plan.stages) (λ s. (length (stage_at plan s).rates == length p.tunnels) && (length (stage_at plan s).installed == length p.tunnels)) in
-    let f = and_parts (scale_most && nat_le 1 (length plan.stages) && nat_le (length plan.stages) MOST_STAGES) rows e.0 in
-    let g = and_parts (scale_most && nat_le 1 (length plan.stages)) (nat_le (length plan.stages) MOST_STAGES) f.0 in
-    let h = and_parts scale_most (nat_le 1 (length plan.stages)) g.0 in
-    let some = leb-true 1 (length plan.stages) h.1 in
-    let low = leb-true 1 plan.scale (and_parts (nat_le 1 plan.scale) (nat_le plan.scale LARGEST_SCALE) h.0).0 in
-    let count : last_stage plan + 1 ≡ length plan.stages = omega (arith, some) in
-    record {
-      scale = low;
-      stages = count;
-      first = λ t lt. eqb-true _ _ (and_parts _ _ (all_below-at (length p.tunnels) _ e.1 t lt)).0;
-      last = λ t lt. eqb-true _ _ (and_parts _ _ (all_below-at (length p.tunnels) _ d.1 t lt)).0;
-      fits = λ s l most inside.
-          let all = all_below-at (length plan.stages) _ c.1 s (omega arith) in
-          let links = and_parts (all_below (length p.links) (λ k. nat_le (step_total p plan s (the_link k)) (capacity_of p plan (the_link k)))) _ all in
-          let step = leb-true (step_total p plan s (the_link l)) (capacity_of p plan (the_link l)) (all_below-at (length p.links) _ links.0 l inside) in
-          omega (arith, step_total-load p plan s l net, step);
-      totals = λ s f most inside. leb-true _ _ (and_parts _ _ (all_below-at (length p.flows) (keeps_total_at p plan s) (all_below-at (length plan.stages) _ a.1 s (omega arith)) f inside)).0;
-    }
 
 -- ---- numbers
 
 joined : (a b c d : ℕ) → a ≡ b → b ≤ c → c ≡ d → a ≤ d
 joined a b c d x y z = omega arith
-
-as-many : (a b k : ℕ) → a ≤ b → a * k ≤ b * k
-as-many a b k le = mul-le-mul_right k le
 
 other-way : (a b k : ℕ) → k * a ≡ k * b → a * k ≡ b * k
 other-way a b k e = omega (arith, e)
@@ -96,7 +57,7 @@ least-kept least a b k total le = elim (cases_lt b a) as (λ c. least * min a b 
     as-often : (least a k total : ℕ) → least * (k * a) ≤ least * total → least * a * k ≤ least * total
     as-often least a k total le = omega (arith, le)
 
-module _ (p : Problem) (plan : Plan) (marks : List Bool) (net : IsNetwork p) (is : IsKept p plan) where
+module _ (p : Problem) (plan : Plan) (marks : List Bool) (net : IsNetwork p) (is : MovesWithin p plan) where
   abbrev often : ℕ → ℕ
   often t = crossed p marks t
 
@@ -107,7 +68,7 @@ module _ (p : Problem) (plan : Plan) (marks : List Bool) (net : IsNetwork p) (is
   of-flow : (s f : ℕ) → s ≤ last_stage plan → f < length p.flows → kept_by p marks f * plan.scale ≤ sum_below (tunnels_of p f) (λ j. rate_at plan s (tunnel_of p f j) * often (tunnel_of p f j))
   of-flow s f most inside =
       let least = least_crossed p marks f in
-      let low = least-kept least (flow_total p (λ t. old_rate (tunnel_at p t)) f) (flow_total p (λ t. new_rate (tunnel_at p t)) f) plan.scale (flow_total p (rate_at plan s) f) (is.totals s f most inside) in
+      let low = least-kept least (flow_total p (λ t. old_rate (tunnel_at p t)) f) (flow_total p (λ t. new_rate (tunnel_at p t)) f) plan.scale (flow_total p (rate_at plan s) f) (is.least s f most inside) in
       let each = times-least (tunnels_of p f) least (λ j. rate_at plan s (tunnel_of p f j)) (λ j. often (tunnel_of p f j)) (λ j lt. least_below-at (tunnels_of p f) MOST_HOPS (λ i. crossed p marks (tunnel_of p f i)) j lt) in
       at_most_through (kept_by p marks f * plan.scale) (least * flow_total p (rate_at plan s) f) (sum_below (tunnels_of p f) (λ j. rate_at plan s (tunnel_of p f j) * often (tunnel_of p f j))) low each
 
@@ -128,12 +89,12 @@ module _ (p : Problem) (plan : Plan) (marks : List Bool) (net : IsNetwork p) (is
       let loads = marked-load p marks (greater_rate plan s) net in
       let rooms = sum-times (length p.links) plan.scale (room_on p marks) in
       let fits = sum_below-mono (length p.links) (λ l. if is_marked marks l then load p (greater_rate plan s) l else 0) (λ l. room_on p marks l * plan.scale)
-      (λ l inside. on-marked (is_marked marks l) (load p (greater_rate plan s) l) (link_at p l).capacity plan.scale (is.fits s l most inside)) in
+      (λ l inside. on-marked (is_marked marks l) (load p (greater_rate plan s) l) (link_at p l).capacity plan.scale (is.links s l most inside)) in
       joined (sum_below (length p.tunnels) (λ t. greater_rate plan s t * often t)) (sum_below (length p.links) (λ l. if is_marked marks l then load p (greater_rate plan s) l else 0)) (sum_below (length p.links) (λ l. room_on p marks l * plan.scale)) (room p marks * plan.scale) (sym loads) fits (sym rooms)
 
   module _ (full : stay_full p marks ≡ true) where
     tight : room p marks * plan.scale ≤ kept p marks * plan.scale
-    tight = as-many (room p marks) (kept p marks) plan.scale (leb-true (room p marks) (kept p marks) full)
+    tight = mul-le-mul_right plan.scale (leb-true (room p marks) (kept p marks) full)
 
     fills : (s r : ℕ) → s ≤ last_stage plan → r ≤ last_stage plan → sum_below (length p.tunnels) (λ u. greater_rate plan s u * often u) ≤ taken r
     fills s r most other =
@@ -144,12 +105,12 @@ module _ (p : Problem) (plan : Plan) (marks : List Bool) (net : IsNetwork p) (is
     begins : (s t : ℕ) → s ≤ last_stage plan → t < length p.tunnels → greater_rate plan s t * often t ≡ rate_at plan s t * often t
     begins s t most lt =
         squeezed (length p.tunnels) (λ u. rate_at plan s u * often u) (λ u. greater_rate plan s u * often u)
-        (λ u low. as-many (rate_at plan s u) (greater_rate plan s u) (often u) (omega arith)) (fills s s most most) t lt
+        (λ u low. mul-le-mul_right (often u) (omega arith)) (fills s s most most) t lt
 
     ends : (s t : ℕ) → s ≤ last_stage plan → t < length p.tunnels → greater_rate plan s t * often t ≡ rate_at plan (next_stage plan s) t * often t
     ends s t most lt =
         squeezed (length p.tunnels) (λ u. rate_at plan (next_stage plan s) u * often u) (λ u. greater_rate plan s u * often u)
-        (λ u low. as-many (rate_at plan (next_stage plan s) u) (greater_rate plan s u) (often u) (omega arith)) (fills s (next_stage plan s) most (omega arith)) t lt
+        (λ u low. mul-le-mul_right (often u) (omega arith)) (fills s (next_stage plan s) most (omega arith)) t lt
 
     module _ (t : ℕ) (lt : t < length p.tunnels) (some : 1 ≤ often t) where
       moves-not : (s : ℕ) → s ≤ last_stage plan → rate_at plan (next_stage plan s) t ≡ rate_at plan s t
@@ -165,7 +126,7 @@ module _ (p : Problem) (plan : Plan) (marks : List Bool) (net : IsNetwork p) (is
       keeps-rate =
           let same : plan.scale * old_rate (tunnel_at p t) ≡ plan.scale * new_rate (tunnel_at p t) =
           sym (is.first t lt) ∙ sym (still (last_stage plan) (omega arith)) ∙ is.last t lt in
-          same-over (old_rate (tunnel_at p t)) (new_rate (tunnel_at p t)) plan.scale is.scale (other-way (old_rate (tunnel_at p t)) (new_rate (tunnel_at p t)) plan.scale same)
+          same-over (old_rate (tunnel_at p t)) (new_rate (tunnel_at p t)) plan.scale is.some (other-way (old_rate (tunnel_at p t)) (new_rate (tunnel_at p t)) plan.scale same)
 
 -- ---- no plan
 moves-parts : (a b : Bool) → (not a || b) ≡ false → (a ≡ true) × (b ≡ false)
@@ -177,7 +138,7 @@ full-none p marks l net full mark moves plan valid =
     let there = all_below-fails (length p.tunnels) (rests_at p l) moves in
     let t = there.0 in
     let parts = moves-parts (crosses p t l) (old_rate (tunnel_at p t) == new_rate (tunnel_at p t)) there.2 in
-    let same = keeps-rate p plan marks net (valid-kept p plan net valid) full t there.1 (crossed-some p marks t l mark parts.0) in
+    let same = keeps-rate p plan marks net (moves_within p plan net valid) full t there.1 (crossed-some p marks t l mark parts.0) in
     not_both (old_rate (tunnel_at p t) == new_rate (tunnel_at p t)) (eq-eqb (old_rate (tunnel_at p t)) (new_rate (tunnel_at p t)) same) parts.1
 
 -- ---- by the weights that are tried
@@ -202,7 +163,7 @@ stuck-none p link net e plan valid =
     let parts = and_parts (is_full p l && not (rests p l)) (stays_full p l) (provided-is (is_stuck p l) l link there.2).1 in
     let moves : rests p l ≡ false = not-false (rests p l) (and_parts (is_full p l) (not (rests p l)) parts.0).1 in
     elim (or-first (stay_full p (weighed Alone p l)) (stay_full p (weighed Leaving p l)) (stay_full p (weighed Entering p l)) parts.1) as (λ c. ⊥) [
-      | inl alone ↦ full-none p (weighed Alone p l) l net alone (list-at (length p.links) (weighs Alone p l) l false there.1 ∙ eq-eqb l l refl) moves plan valid
-      | inr (inl leaving) ↦ full-none p (weighed Leaving p l) l net leaving (list-at (length p.links) (weighs Leaving p l) l false there.1 ∙ eq-eqb (link_at p l).from (link_at p l).from refl) moves plan valid
-      | inr (inr entering) ↦ full-none p (weighed Entering p l) l net entering (list-at (length p.links) (weighs Entering p l) l false there.1 ∙ eq-eqb (link_at p l).to (link_at p l).to refl) moves plan valid
+      | inl alone ↦ full-none p (weighed Alone p l) l net alone (list_below-at (length p.links) (weighs Alone p l) l false there.1 ∙ eq-eqb l l refl) moves plan valid
+      | inr (inl leaving) ↦ full-none p (weighed Leaving p l) l net leaving (list_below-at (length p.links) (weighs Leaving p l) l false there.1 ∙ eq-eqb (link_at p l).from (link_at p l).from refl) moves plan valid
+      | inr (inr entering) ↦ full-none p (weighed Entering p l) l net entering (list_below-at (length p.links) (weighs Entering p l) l false there.1 ∙ eq-eqb (link_at p l).to (link_at p l).to refl) moves plan valid
     ]

@@ -5,17 +5,18 @@ use Rattle.std.proofs.Math.Nat.{mul-div-le, mul-le-mul_left}
 use Rattle.std.proofs.lemmas.Bool.{cases_eq}
 use Rattle.std.proofs.lemmas.Nat.{mul-le}
 use Rattle.std.proofs.lemmas.List.{get_or-set_same, get_or-set_other, length-set}
+use Rattle.lists.proofs.Conditions.{if_most}
 use Rattle.rollout_rules.specs.declared.limits.TheConstants.{LARGEST_RATE, LARGEST_SCALE, LARGEST_CAPACITY, MOST_TUNNELS}
 use Rattle.rollout_rules.specs.Sums.{sum_below}
 use Rattle.rollout_rules.specs.Wan.{Problem, Tunnel, tunnel_at, link_at, crosses, old_rate, new_rate}
 use Rattle.rollout_rules.specs.Network.{IsNetwork}
-use Rattle.rollout_rules.proofs.Below.{sum_below-same, least_below-top, least_below-at}
-use Rattle.rollout_rules.proofs.Rows.{list_below-length}
+use Rattle.rollout_rules.proofs.Below.{sum_below-same, least_below-top, least_below-at, sum_below-most}
+use Rattle.rollout_rules.proofs.Rows.{list_below-length, list_below-at}
 use Rattle.plan_check.specs.Parts.{GrownBy, rate_share}
 use Rattle.plan_check.proofs.Shares.{AreSums}
-use Rattle.plan_check.proofs.Rows.{list_below-at, list_below-from}
+use Rattle.plan_check.proofs.Rows.{list_below-from}
 use Rattle.scratch_plan.specs.Scratch.{blended}
-use Rattle.scratch_plan.proofs.Rates.{rate_within}
+use Rattle.rollout_rules.proofs.Rates.{rate_within}
 use Rattle.fewest_plan.specs.declared.gain.Gain.{Gain}
 use Rattle.fewest_plan.specs.Growth.{gains_of, gain_at, gained, AreGains}
 use Rattle.fewest_plan.specs.Greedy.{rate_after, top, tops, lets, reach, far, moved, tried, step, AreShares}
@@ -50,19 +51,11 @@ module _ (p : Problem) (d : ℕ) (net : IsNetwork p) where
       blended-most d (slice_index shares (tunnel_at p t).flow) (tunnel_at p t) (are.most (tunnel_at p t).flow (net.tunnels t lt).flow)
       (rate_within (tunnel_at p t).old (net.tunnels t lt).old) (rate_within (tunnel_at p t).new (net.tunnels t lt).new)
 
-  share_most : (b : Bool) (x most : ℕ) → x ≤ most → (if b then x else 0) ≤ most
-  share_most true x most le = le
-  share_most false x most le = omega arith
-
-  sum_most : (n most : ℕ) (g : ℕ → ℕ) → ((t : ℕ) → t < n → g t ≤ most) → sum_below n g ≤ n * most
-  sum_most zero most g le = omega arith
-  sum_most (suc n) most g le = omega (arith, sum_most n most g (λ t lt. le t (omega arith)), le n (omega arith))
-
   pub top-small : (before after : List ℕ) (l : ℕ) → d ≤ LARGEST_SCALE → AreShares p d before → AreShares p d after → top p d before after l < 2 ^ 64
   unfolding top
   top-small before after l small are later =
-      let each = sum_most (length p.tunnels) (d * LARGEST_RATE) (λ t. if crosses p t l then max (rate_after p d before t) (rate_after p d after t) else 0)
-      (λ t lt. share_most (crosses p t l) (max (rate_after p d before t) (rate_after p d after t)) (d * LARGEST_RATE)
+      let each = sum_below-most (length p.tunnels) (d * LARGEST_RATE) (λ t. if crosses p t l then max (rate_after p d before t) (rate_after p d after t) else 0)
+      (λ t lt. if_most (crosses p t l) (max (rate_after p d before t) (rate_after p d after t)) (d * LARGEST_RATE)
       (omega (arith, rate_after-most before t are lt, rate_after-most after t later lt))) in
       omega (arith, each, mul-le (length p.tunnels) (d * LARGEST_RATE) MOST_TUNNELS (LARGEST_SCALE * LARGEST_RATE) net.few (mul-le d LARGEST_RATE LARGEST_SCALE LARGEST_RATE small (omega arith)))
 
@@ -119,7 +112,7 @@ module _ (p : Problem) (d : ℕ) (before after : List ℕ) (f : ℕ) (are : AreS
       list_below-from later (length p.links) (top p d before (moved p d before after f)) (by.count ∙ count)
       (λ l low.
       by.each l (omega (arith, count))
-      ∙ ap₂ (λ x y. x + y) (ap (λ xs. slice_index xs l) is ∙ list_below-at (length p.links) (top p d before after) l low) (gained-gains_of (far p d before after f) l p f low)
+      ∙ ap₂ (λ x y. x + y) (ap (λ xs. slice_index xs l) is ∙ list_below-at (length p.links) (top p d before after) l 0 low) (gained-gains_of (far p d before after f) l p f low)
       ∙ sym (top-later p d before after f (far p d before after f) net lt are.count grows part-most l))
 
 -- ---- the first flows of an order
@@ -174,7 +167,7 @@ module _ (p : Problem) (d : ℕ) (order before : List ℕ) (n : ℕ) (sums share
   pub sums-small : (k : ℕ) → k < length sums → slice_index sums k < 2 ^ 64
   sums-small k low =
       let inside : k < length p.links = omega (arith, sums-count) in
-      let at = ap (λ xs. slice_index xs k) so.sums_are ∙ list_below-at (length p.links) (top p d before here) k inside in
+      let at = ap (λ xs. slice_index xs k) so.sums_are ∙ list_below-at (length p.links) (top p d before here) k 0 inside in
       omega (arith, at, top-small p d net before here k small are here-are)
 
   pub next-tried : (gains : List Gain) (later next : List ℕ) (most : ℕ) → gains ≡ gains_of p flow → next ≡ slice_set shares flow (slice_index shares flow + reach p d sums gains (d - slice_index shares flow)) → GrownBy sums later (gained gains (reach p d sums gains (d - slice_index shares flow))) most → AreTried p d order before (n + 1) later next

@@ -3,6 +3,7 @@ use Rattle.std.proofs.Common.{◌≡◌, ◌≢◌, ℕ, zero, suc, ◌+◌, ◌
 use Rattle.std.specs.List.{list_any}
 use Rattle.std.proofs.lemmas.Bool.{cases_Bool, cases_lt}
 use Rattle.std.proofs.Math.Nat.{mul-le-mul_left}
+use Rattle.lists.proofs.Conditions.{if_either}
 use Rattle.rollout_rules.specs.Sums.{sum_below, count_below}
 use Rattle.rollout_rules.specs.Wan.{Problem, tunnel_at, link_at, crosses}
 use Rattle.rollout_rules.specs.Items.{load}
@@ -13,10 +14,6 @@ use Rattle.plan_check.specs.Parts.{added}
 use Rattle.fewest_plan.specs.Marked.{is_marked, marked_in, crossed}
 
 -- ---- sums
-either : (b : Bool) → ◌≡◌ {A = ℕ} (if b then 0 else 0) 0
-either true = refl
-either false = refl
-
 -- a choice goes into a sum
 inside : (b : Bool) (n : ℕ) (f : ℕ → ℕ) → (if b then sum_below n f else 0) ≡ sum_below n (λ h. if b then f h else 0)
 inside true n f = refl
@@ -77,7 +74,7 @@ at-one n x amount test lt =
     sum_below-one n x (λ l. if test l then (if x == l then amount else 0) else 0) lt (λ j low other. elsewhere j other) ∙ here
   where
     elsewhere : (j : ℕ) → j ≢ x → (if test j then (if x == j then amount else 0) else 0) ≡ 0
-    elsewhere j other = rw (ne_eqb x j (λ e. other (sym e))) (either (test j))
+    elsewhere j other = rw (ne_eqb x j (λ e. other (sym e))) (if_either (test j) 0)
 
     here : (if test x then (if x == x then amount else 0) else 0) ≡ (if test x then amount else 0)
     here = rw (eq-eqb x x refl) refl

@@ -1,13 +1,14 @@
 -- What lines come to at values of all numbers, and how exchanges keep it.
-use Rattle.std.proofs.Common.{◌≡◌, ℕ, zero, suc, ◌+◌, ◌*◌, ◌<◌, ◌≤◌, Bool, true, false, nat_abs, List, [], ◌∷◌, ◌++◌, Option, Some, None, ap, ◌∙◌, sym, subst, refl, arith}
+use Rattle.std.proofs.Common.{◌≡◌, ℕ, ◌+◌, ◌<◌, Bool, true, false, nat_abs, List, [], ◌∷◌, ◌++◌, Option, Some, None, ap, ◌∙◌, sym, subst, refl, arith}
 use Rattle.std.specs.Prelude.{if◌then◌else◌, ◌==◌, nat_lt}
 use Rattle.std.proofs.lemmas.Bool.{eqb-true}
 use Rattle.fraction_lp.specs.declared.term.Term.{Term}
-use Rattle.fraction_lp.specs.Ratio.{Ratio, plus, times, over, sum, product, quotient, negated, is_zero, zero_ratio, one_ratio}
+use Rattle.fraction_lp.specs.Ratio.{Ratio, times, over, sum, product, quotient, negated, is_zero, zero_ratio, one_ratio}
 use Rattle.fraction_lp.specs.Dictionary.{Line, with_first, with_term, line_of, term_of, both_lists, coefficient_at, without, below, from, insert_term, over_each, solved_for, times_each, plus_times, add_first, add_times, put_in}
-use Rattle.fraction_lp.proofs.Arithmetic.{Told, itself, summed, multiplied, turned_round, nothing, unit, alike, sum_assoc, sum_comm, sum-zero, product-sum, product_assoc, product_comm, product-one, product-zero, negated-sum, negated-product}
+use Rattle.fraction_lp.proofs.Arithmetic.{itself, summed, multiplied, turned_round, nothing, unit, alike, sum_assoc, product-sum, product_assoc, product_comm, product-one, product-zero, negated-sum, negated-product}
 use Rattle.fraction_lp.proofs.Calls.{times_is, plus_times_is, over_is, product-quotient, zero_product}
 use Rattle.fraction_lp.proofs.Exchanges.{with_first_parts}
+use Rattle.fraction_lp.proofs.Sums.{zero-sum}
 
 -- terms at values of the numbers
 abbrev pub total : (ℕ → Ratio) → List Term → Ratio
@@ -16,9 +17,6 @@ total v (t ∷ ts) = sum (product t.coefficient (v t.number)) (total v ts)
 
 abbrev pub value : (ℕ → Ratio) → Line → Ratio
 value v line = sum line.constant (total v line.terms)
-
-zero-sum : (x : Ratio) → sum zero_ratio x ≡ x
-zero-sum x = alike (summed nothing (itself x)) (itself x) (omega arith)
 
 swapped : (x y z : Ratio) → sum x (sum y z) ≡ sum y (sum x z)
 swapped x y z =

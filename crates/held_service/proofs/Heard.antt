@@ -4,9 +4,10 @@ use Rattle.std.proofs.lemmas.Bool.{OnTrue_at, OnTrue_from, le-ltb, lt-ltb}
 use Rattle.std.proofs.lemmas.List.Elements.{All-append, All-cons, All-nil}
 use Rattle.wan_edge.specs.Frames.{AnswerFrame, IsAnswer, IsCutAnswer, Splits, answer_bytes}
 use Rattle.wan_edge.specs.Ports.{FailsToHear, GoesOn, Hears as HearsBytes, IsOneMore, NothingToCome, PortTrace, Steps}
-use Rattle.wan_edge.specs.Streams.{Appends, Rose}
+use Rattle.wan_edge.specs.Streams.{Appends}
 use Rattle.wan_edge.specs.Switches.{Holdings}
 use Rattle.wan_edge.proofs.Chains.{Appends-nothing, goes_once, stays}
+use Rattle.wan_edge.proofs.Faults.{rose_since}
 use Rattle.wire_frames.specs.Reading.{Ends, GoesOn as ReadsOn, IsAnswerFault, Reader}
 use Rattle.port_session.proofs.Hearing.{cut_short}
 use Rattle.switch_ports.proofs.Stories.{goes_on_on}
@@ -131,17 +132,12 @@ hears-no-more homes switch awaited kept notes port = record {
 pub falls : (left left_now : ℕ) (kept kept_now : List ℕ) → 13 * left_now + length kept + 1 ≡ 13 * left + length kept_now → IsCutAnswer kept → IsCutAnswer kept_now → 0 < left → 13 * left_now - length kept_now < 13 * left - length kept
 falls left left_now kept kept_now nearer cut cut_now some = omega (arith, nearer, cut_short kept cut, cut_short kept_now cut_now, some)
 
--- a count that had risen no further before
-pub rose-on : (x y z : ℕ) → x ≤ y → Rose y z → Rose x z
-rose-on x y z le (inl more) = inl (omega (arith, le, more))
-rose-on x y z le (inr last) = inr last
-
 -- a fault of a later hear, told from the first on
 why-on : (homes : List (Option ℕ)) (switch : ℕ) (why : NotTold) (kept between : List ℕ) (a b c : PortTrace) (earlier : List AnswerFrame) → Reads kept a.heard earlier between b.heard → a.faults ≤ b.faults
     → IsWhy homes switch why between b c → IsWhy homes switch why kept a c
 why-on homes switch (cause.Spent item) kept between a b c earlier reads count is = is
 why-on homes switch (cause.NoPort w) kept between a b c earlier reads count is = is
-why-on homes switch (cause.Port w) kept between a b c earlier reads count is = (is.0, rose-on a.faults b.faults c.faults count is.1)
+why-on homes switch (cause.Port w) kept between a b c earlier reads count is = (is.0, rose_since a.faults b.faults c.faults count is.1)
 why-on homes switch (cause.NotAsked w item) kept between a b c earlier reads count is = (is.0, other-behind kept between a.heard b.heard c.heard earlier reads homes switch item is.1)
 why-on homes switch (cause.NoAnswer w byte) kept between a b c earlier reads count is = (is.0, none-behind kept between a.heard b.heard c.heard earlier reads byte is.1)
 why-on homes switch cause.Memory kept between a b c earlier reads count is = tt

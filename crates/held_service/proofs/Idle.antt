@@ -8,12 +8,12 @@ use Rattle.std.specs.Option.{option_map}
 use Rattle.std.specs.Prelude.{IfSome}
 use Rattle.rollout_rules.specs.Agent.{Holding, held_after, is_next_command, pair_of}
 use Rattle.rollout_rules.specs.declared.held.Held.{Held}
+use Rattle.rollout_rules.proofs.Pairs.{held_after-probe}
 use Rattle.wan_edge.specs.Frames.{CommandFrame, IsCommand}
 use Rattle.wan_edge.specs.Ports.{AppendsFront, GoesOn, MovesByRule, PortTrace}
 use Rattle.wan_edge.specs.Streams.{KeepsTelling}
 use Rattle.wan_edge.specs.Switches.{Holdings, after_command, after_commands, answer_of, answer_to}
 use Rattle.switch_laws.proofs.Offered.{one_offered}
-use Rattle.switch_laws.proofs.Unmoved.{kept-by-rule}
 use Rattle.held_service.specs.Questions.{question, question_bytes, questions}
 use Rattle.held_service.specs.Talks.{LeavesHeld}
 
@@ -23,7 +23,7 @@ same-if false x y same = refl
 
 pub after-question : (holdings : Holdings) (migration item : ℕ) → after_command holdings (question migration item) ≡ holdings
 after-question holdings migration item =
-    fun_ext (λ n. same-if (n == item) (held_after (holdings n) (pair_of migration 0) (0 ∷ [])) (holdings n) (kept-by-rule (holdings n) migration (0 ∷ [])))
+    fun_ext (λ n. same-if (n == item) (held_after (holdings n) (pair_of migration 0) (0 ∷ [])) (holdings n) (held_after-probe (holdings n) migration (0 ∷ [])))
 
 pub after-questions : (holdings : Holdings) (migration : ℕ) (items : List ℕ) → after_commands holdings (questions migration items) ≡ holdings
 after-questions holdings migration [] = refl

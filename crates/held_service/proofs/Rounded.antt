@@ -6,6 +6,7 @@ use Rattle.wan_edge.specs.Ports.{AppendsFront, FailsToSend, NothingToCome, PortT
 use Rattle.wan_edge.specs.Streams.{Appends}
 use Rattle.wan_edge.specs.Switches.{Holdings}
 use Rattle.wan_edge.proofs.Chains.{Appends-nothing, goes_once, stays}
+use Rattle.wan_edge.proofs.Faults.{rose_since}
 use Rattle.switch_ports.proofs.Stories.{goes_on_on}
 use Rattle.switch_ports.proofs.Told.{all_sent, none_sent}
 use Rattle.held_service.specs.Hearing.{HearsOut, IsWhy, QuietBy, Reads, ReadsNone, ReadsOther, StopsHearing, lacking}
@@ -14,13 +15,12 @@ use Rattle.held_service.specs.Questions.{question_bytes}
 use Rattle.held_service.specs.Talks.{AsksRound, StopsRound}
 use Rattle.held_service.specs.declared.not_told.NotTold.{NotTold}
 use Rattle.held_service.specs.declared.not_told.NotTold.TheVariants as cause
-use Rattle.held_service.proofs.Heard.{rose-on}
 
 -- the same of a port of which as much was heard, and which had failed no more often
 why-from : (homes : List (Option ℕ)) (switch : ℕ) (why : NotTold) (kept : List ℕ) (a b c : PortTrace) → b.heard ≡ a.heard → a.faults ≤ b.faults → IsWhy homes switch why kept b c → IsWhy homes switch why kept a c
 why-from homes switch (cause.Spent item) kept a b c same count is = is
 why-from homes switch (cause.NoPort w) kept a b c same count is = is
-why-from homes switch (cause.Port w) kept a b c same count is = (is.0, rose-on a.faults b.faults c.faults count is.1)
+why-from homes switch (cause.Port w) kept a b c same count is = (is.0, rose_since a.faults b.faults c.faults count is.1)
 why-from homes switch (cause.NotAsked w item) kept a b c same count is = (is.0, subst (λ (o : Option (List ℕ)). ReadsOther homes switch item kept o c.heard) same is.1)
 why-from homes switch (cause.NoAnswer w byte) kept a b c same count is = (is.0, subst (λ (o : Option (List ℕ)). ReadsNone byte kept o c.heard) same is.1)
 why-from homes switch cause.Memory kept a b c same count is = tt

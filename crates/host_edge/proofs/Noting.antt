@@ -1,18 +1,12 @@
 -- What is noted piece by piece.
 use Rattle.std.proofs.Common.{◌≡◌, ℕ, ◌+◌, ◌-◌, ◌≤◌, List, ◌++◌, length, take, drop, true, false, Option, Some, Result, Ok, Err, append_assoc, ap, arith, ◌∙◌, refl, sym}
-use Rattle.std.proofs.lemmas.List.{length-take, take-append-drop, take-take, take_rest}
+use Rattle.std.proofs.lemmas.List.{take-append-drop, take_rest}
 use Rattle.std.proofs.KnownBytes.{Appends-trans}
-use Rattle.std.proofs.Math.Seq.{take-add}
 use Rattle.std.specs.Prelude.{OnOk}
+use Rattle.lists.proofs.Rows.{take_further}
 use Rattle.wan_edge.specs.Ports.{IsOneMore, LooksAt}
 use Rattle.host_edge.specs.Histories.{AddsFront, Carries}
 use Rattle.host_edge.specs.Tellings.{told_with}
-
--- the first bytes of the rest follow those that were taken
-pub take_further : (bytes : List ℕ) (done n : ℕ) → done ≤ length bytes → n ≤ length (take (length bytes - done) (drop done bytes)) → (done + n ≤ length bytes) × (take done bytes ++ take n (take (length bytes - done) (drop done bytes)) ≡ take (done + n) bytes)
-take_further bytes done n inside fits =
-    let few : n ≤ length bytes - done = omega (arith, length-take (length bytes - done) (drop done bytes)) in
-    (omega arith, ap (λ (piece : List ℕ). take done bytes ++ piece) (take-take n (length bytes - done) (drop done bytes) few) ∙ sym (take-add done n bytes))
 
 pub added_further : (first mid now piece more all : List ℕ) → mid ≡ first ++ piece → now ≡ mid ++ more → piece ++ more ≡ all → now ≡ first ++ all
 added_further first mid now piece more all was is whole = is ∙ ap (λ (xs : List ℕ). xs ++ more) was ∙ append_assoc first piece more ∙ ap (λ (xs : List ℕ). first ++ xs) whole

@@ -3,7 +3,7 @@ use Rattle.std.proofs.Common.{◌≡◌, ◌⊎◌, inl, inr, ◌==◌, ◌&&◌
 use Rattle.std.proofs.lemmas.Bool.{cases_Bool, eqb-true, ne_eqb}
 use Rattle.std.specs.Option.{option_map}
 use mathlib.Core.Logic.{⊎_elim}
-use Rattle.lists.proofs.Conditions.{and_both}
+use Rattle.lists.proofs.Conditions.{and_both, and_with_false}
 use Rattle.rollout_rules.specs.declared.op.Entry.{Entry}
 use Rattle.intent_journal.specs.Entries.{entry_in}
 use Rattle.intent_journal.specs.Parts.{Kept, Slot, is_whole, kept_in, part_rows}
@@ -144,11 +144,7 @@ not_empty None rows =
 not_empty (Some e) rows =
     let l = with_rows (with_row nothing_read (Some e)) rows in
     let no : (length l.entries == 0) ≡ false = ne_eqb _ _ (λ is. omega (arith, is, some_stay (with_row nothing_read (Some e)) rows (omega arith))) in
-    ap (λ (b : Bool). l.whole && b) no ∙ and_false l.whole
-  where
-    and_false : (b : Bool) → (b && false) ≡ false
-    and_false true = refl
-    and_false false = refl
+    ap (λ (b : Bool). l.whole && b) no ∙ and_with_false l.whole
 
 pub read_empty : (rows : List (List ℕ)) → is_empty (with_rows nothing_read rows) ≡ (length rows == 0)
 read_empty [] = refl

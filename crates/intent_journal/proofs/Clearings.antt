@@ -6,10 +6,10 @@ use Rattle.disk_model.specs.Writes.{Torn, written}
 use Rattle.disk_model.proofs.Agreeing.{Torn-agrees}
 use Rattle.disk_model.proofs.Tearing.{length-written}
 use Rattle.disk_model.specs.Numbers.{byte_at}
+use Rattle.disk_model.proofs.FourBytes.{written_one}
 use Rattle.intent_journal.specs.Images.{blank_most, journal_in, keeps_nothing, live_part, open_journal, opened}
 use Rattle.intent_journal.specs.Makings.{IsBlank, IsBlankOrTorn, IsClear}
 use Rattle.intent_journal.specs.Phases.{IsBlankFound}
-use Rattle.intent_journal.proofs.Gates.{written_one}
 
 -- the test of a blank image, by its parts
 blank_test : (n most first gate : ℕ) (empty : Bool) → n ≤ most → (first ≡ 0) ⊎ ((first ≢ gate) × (empty ≡ true)) → (nat_le n 1 || (nat_le n most && ((first == 0) || (not (first == gate) && empty)))) ≡ true

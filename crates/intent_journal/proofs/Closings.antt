@@ -10,6 +10,7 @@ use Rattle.disk_model.proofs.Agreeing.{Torn-agrees}
 use Rattle.disk_model.proofs.Parting.{Torn-beyond, Torn-byte, Torn-drop}
 use Rattle.disk_model.proofs.Tearing.{Torn-written, length-written}
 use Rattle.disk_model.proofs.Tears.{torn_wider}
+use Rattle.disk_model.proofs.FourBytes.{written_one}
 use Rattle.intent_journal.specs.declared.found.Found.{Found}
 use Rattle.disk_model.specs.Numbers.{byte_at}
 use Rattle.intent_journal.specs.Parts.{Kept, batches_of, is_whole, kept_in, open_batch, size_of}
@@ -20,7 +21,7 @@ use Rattle.intent_journal.specs.States.{IsAtRest, with_more}
 use Rattle.intent_journal.proofs.Alone.{alone_keeps, alone_same, first_part, placed_start, second_part}
 use Rattle.intent_journal.proofs.Committing.{first_crash, rest_keeps, torn_rest}
 use Rattle.intent_journal.proofs.Fronts.{part_long, with_more-nothing}
-use Rattle.intent_journal.proofs.Gates.{agreed_slot, torn_front, torn_same, written_one}
+use Rattle.intent_journal.proofs.Gates.{agreed_slot, torn_front, torn_same}
 
 -- the byte of a test that says no, and of one that says yes
 pub is_other : (a b : ℕ) → (a == b) ≡ false → a ≢ b

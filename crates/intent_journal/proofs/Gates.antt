@@ -1,37 +1,25 @@
 -- One byte of an image that is written over, and the slots and parts that stand elsewhere.
-use Rattle.std.proofs.Common.{◌≡◌, ℕ, ◌+◌, ◌<◌, ◌≤◌, List, [], ◌∷◌, ◌++◌, length, take, drop, get_or, replicate, sym, ◌∙◌, ap, arith, length-drop}
-use Rattle.std.proofs.lemmas.List.{drop_more, get_or-drop, length-take-le, take-append-drop, take-append-le, take-take}
+use Rattle.std.proofs.Common.{◌≡◌, ℕ, ◌+◌, ◌<◌, ◌≤◌, List, ◌∷◌, ◌++◌, length, take, drop, replicate, sym, ◌∙◌, ap, arith, length-drop}
+use Rattle.std.proofs.lemmas.List.{length-take-le, take-append-le, take-take}
 use Rattle.std.specs.Int.{w64, from_be_bytes}
 use Rattle.disk_model.specs.Places.{AgreesOn}
 use Rattle.disk_model.specs.Writes.{Torn, written}
 use Rattle.disk_model.proofs.Agreeing.{same_range}
 use Rattle.disk_model.proofs.Parting.{Torn-byte}
-use Rattle.disk_model.proofs.Tearing.{drop-written}
 use Rattle.disk_model.specs.Numbers.{byte_at, number_8}
+use Rattle.disk_model.proofs.FourBytes.{around_byte}
 use Rattle.intent_journal.specs.Images.{slot_at}
 
--- the image in front of a byte, that byte and what stands after it
-around : (at : ℕ) (image : List ℕ) → at < length image → image ≡ take at image ++ (byte_at at image ∷ drop (at + 1) image)
-around at image inside = sym (take-append-drop at image) ∙ ap (λ (l : List ℕ). take at image ++ l) (drop_more image at 0 inside)
-
--- a byte that is torn over stands between what stood around it
+-- a byte that is torn over stands between what stood around_byte it
 pub torn_one : (at : ℕ) (image c : List ℕ) → at < length image → Torn at 1 image c → c ≡ take at image ++ (byte_at at c ∷ drop (at + 1) image)
 torn_one at image c inside torn =
     Torn-byte (take at image) (drop (at + 1) image) c (byte_at at image) at (sym (length-take-le at image (omega (arith, inside))))
-    (rw (← around at image inside) torn)
+    (rw (← around_byte at image inside) torn)
 
 -- if it is the same byte, it is the same image
 pub torn_same : (at : ℕ) (image c : List ℕ) → at < length image → Torn at 1 image c → byte_at at c ≡ byte_at at image → c ≡ image
 torn_same at image c inside torn same =
-    torn_one at image c inside torn ∙ ap (λ (b : ℕ). take at image ++ (b ∷ drop (at + 1) image)) same ∙ sym (around at image inside)
-
--- the byte that was written
-pub written_one : (at byte : ℕ) (image : List ℕ) → byte_at at (written at (byte ∷ []) image) ≡ byte
-written_one at byte image =
-    let is : at + 0 ≡ at = omega arith in
-    ap (λ (i : ℕ). get_or (written at (byte ∷ []) image) i 0) (sym is)
-    ∙ sym (get_or-drop at (written at (byte ∷ []) image) 0 0)
-    ∙ ap (λ (l : List ℕ). get_or l 0 0) (drop-written at (byte ∷ []) image)
+    torn_one at image c inside torn ∙ ap (λ (b : ℕ). take at image ++ (b ∷ drop (at + 1) image)) same ∙ sym (around_byte at image inside)
 
 -- bytes in the first eight of which alone the number is
 number_8-of : (bytes : List ℕ) → 8 ≤ length bytes → number_8 bytes ≡ from_be_bytes w64 (take 8 bytes)

@@ -1,19 +1,12 @@
 -- A part that was found whole stands on its head: what stands in front of its first gate says what it keeps, whatever follows.
-use Rattle.std.proofs.Common.{◌≡◌, ⊎_elim, ℕ, zero, suc, ◌+◌, ◌-◌, ◌*◌, ◌<◌, ◌≤◌, ◌&&◌, nat_lt, Bool, true, List, ◌∷◌, ◌++◌, length, take, drop, replicate, if◌then◌else◌, refl, sym, ◌∙◌, ap, arith, length-append, length-drop}
+use Rattle.std.proofs.Common.{◌≡◌, ⊎_elim, ℕ, zero, suc, ◌+◌, ◌-◌, ◌*◌, ◌<◌, ◌≤◌, ◌&&◌, nat_lt, Bool, true, List, ◌∷◌, ◌++◌, length, take, drop, if◌then◌else◌, refl, sym, ◌∙◌, ap, arith, length-append, length-drop}
 use Rattle.std.proofs.lemmas.Bool.{cases_Bool, lt-ltb, ltb-true}
-use Rattle.std.proofs.lemmas.List.{append_assoc, drop-append-le, drop-drop, drop_at, length-take-le, take-append-drop, take-append-le}
-use Rattle.std.specs.Int.{w32, from_be_bytes}
+use Rattle.std.proofs.lemmas.List.{drop-append-le, drop-drop, drop_at, length-take-le, take-append-drop, take-append-le}
 use Rattle.lists.proofs.Conditions.{and_both}
 use Rattle.disk_model.specs.Numbers.{number_4}
+use Rattle.disk_model.proofs.FourBytes.{number_4-front}
 use Rattle.intent_journal.specs.Parts.{Slot, batches_of, count_of, count_place, digest_in, first_gate, is_second, is_whole, kept_in, listed_in, migration_in, numbers, rows, size_of, start_count, starts_in}
 use Rattle.intent_journal.specs.States.{Stands, with_more}
-
--- a number within the front of the bytes is that of the front
-pub number_4-front : (front tail : List ℕ) → 4 ≤ length front → number_4 (front ++ tail) ≡ number_4 front
-unfolding number_4
-number_4-front front tail long =
-    ap (λ (l : List ℕ). from_be_bytes w32 (take 4 l)) (append_assoc front tail (replicate 4 0))
-    ∙ ap (from_be_bytes w32) (take-append-le 4 front (tail ++ replicate 4 0) long ∙ sym (take-append-le 4 front (replicate 4 0) long))
 
 number_4-in : (place : ℕ) (front tail : List ℕ) → place + 4 ≤ length front → number_4 (drop place (front ++ tail)) ≡ number_4 (drop place front)
 number_4-in place front tail long =

@@ -21,7 +21,6 @@ pub mod NewParts
 pub mod Nothing
 pub mod NumbersRead
 pub mod Openings
-pub mod Passages
 pub mod Placings
 pub mod ReadFaults
 pub mod Readings

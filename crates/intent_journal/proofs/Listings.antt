@@ -4,6 +4,7 @@ use Rattle.std.proofs.lemmas.List.{append_assoc, append-nil}
 use Rattle.std.proofs.lemmas.Bool.{cases_Bool, eqb-true}
 use Rattle.std.proofs.lemmas.Bool.Decides.{nat_tests}
 use Rattle.std.specs.Option.{option_map}
+use Rattle.lists.proofs.Conditions.{if_either}
 use Rattle.rollout_rules.specs.Wan.{Rollout}
 use Rattle.rollout_rules.specs.History.{started}
 use Rattle.rollout_rules.specs.declared.op.Entry.{Entry}
@@ -125,15 +126,11 @@ blank_lists image blank = ap (λ (k : Option Kept). with_rows nothing_read (rows
 pub no_journal_lists : (first : ℕ) (image : List ℕ) → first ≡ byte_at 0 image → (first == open_journal) ≡ false → Lists [] image
 no_journal_lists first image is other = ap (λ (b : Bool). with_rows nothing_read (rows_of_kept (if b then live_part image else None))) (ap (λ (n : ℕ). n == open_journal) (sym is) ∙ other)
 
-either_is : {A : Type 0} (b : Bool) (x : A) → (if b then x else x) ≡ x
-either_is true x = refl
-either_is false x = refl
-
 -- no part is live, and there is no list
 pub no_side_lists : (image : List ℕ) → live_side image ≡ None → Lists [] image
 no_side_lists image none =
     let part : live_part image ≡ None = live_part-side image ∙ ap (option_map (λ (s : ℕ). kept_at (slot_at s image) image)) none in
-    ap (λ (k : Option Kept). with_rows nothing_read (rows_of_kept k)) (ap (λ (p : Option Kept). if byte_at 0 image == open_journal then p else None) part ∙ either_is (byte_at 0 image == open_journal) None)
+    ap (λ (k : Option Kept). with_rows nothing_read (rows_of_kept k)) (ap (λ (p : Option Kept). if byte_at 0 image == open_journal then p else None) part ∙ if_either (byte_at 0 image == open_journal) None)
 
 -- the rows of the live part are the list
 pub side_lists : (image part : List ℕ) (side : ℕ) (slot : Slot) (listed : Listed) (list : List Entry) → byte_at 0 image ≡ open_journal → live_side image ≡ Some side → slot ≡ slot_at side image → part ≡ drop slot.start image

@@ -1,30 +1,26 @@
 -- A journal that is made of a blank image: what stands before its gate is opened, and after.
 use Rattle.std.proofs.Common.{◌≡◌, inl, inr, ⊎_elim, ◌==◌, true, ℕ, ◌+◌, ◌*◌, ◌<◌, ◌≤◌, ◌^◌, ◌∷◌, [], List, ◌++◌, length, drop, get_or, replicate, Option, Some, None, IfSome, refl, sym, ◌∙◌, ap, arith, length-append}
 use Rattle.std.proofs.lemmas.Bool.{cases_eq}
-use Rattle.std.proofs.lemmas.List.{append_assoc, drop-drop, drop_at, get_or-drop}
+use Rattle.std.proofs.lemmas.List.{append_assoc, get_or-drop}
 use Rattle.disk_model.specs.Traces.{DiskTrace}
-use Rattle.disk_model.specs.Crashes.{Stepped, Within}
+use Rattle.disk_model.specs.Crashes.{Holds, Stepped, Within}
 use Rattle.disk_model.specs.Moments.{GoesOn, LeavesOnly}
 use Rattle.disk_model.specs.Writes.{Torn, written}
 use Rattle.disk_model.proofs.Parting.{written-behind, written-drop}
 use Rattle.disk_model.proofs.Running.{LeavesOnly-durable, LeavesOnly-goes_on, Stepped-only}
 use Rattle.disk_model.proofs.Tearing.{Torn-written, drop-written}
 use Rattle.disk_model.specs.Numbers.{byte_at, bytes_8, number_8}
+use Rattle.disk_model.proofs.FourBytes.{written_one}
 use Rattle.intent_journal.specs.Parts.{new_front}
 use Rattle.intent_journal.specs.Images.{blank_most, first_start, is_placed, journal_in, keeps_nothing, live_part, open_journal, open_slot, opened, slot_at}
 use Rattle.intent_journal.specs.Makings.{IsBlank, IsBlankOrNew, IsClear, IsReady, first_home, name_of, slots_bytes}
-use Rattle.intent_journal.specs.Phases.{Holds, IsPlanned, Planned, slot_for}
+use Rattle.intent_journal.specs.Phases.{IsPlanned, Planned, slot_for}
 use Rattle.intent_journal.specs.Renewals.{IsMoved}
 use Rattle.intent_journal.specs.States.{Stands}
 use Rattle.intent_journal.proofs.Clearings.{clear_blank, clear_torn, is_blank_by}
 use Rattle.intent_journal.proofs.Laying.{long_8, number_8-bytes_8, second_is, second_placed, second_size}
-use Rattle.intent_journal.proofs.NewParts.{Stands-new, length-new_front}
+use Rattle.intent_journal.proofs.NewParts.{Stands-new, length-new_front, after_head}
 use Rattle.intent_journal.proofs.Switches.{moved_keeps}
-use Rattle.intent_journal.proofs.Gates.{written_one}
-
--- what stands after a head, from the place where it ends
-behind_head : (bytes head rest : List ℕ) (place long : ℕ) → drop place bytes ≡ head ++ rest → length head ≡ long → drop (place + long) bytes ≡ rest
-behind_head bytes head rest place long there is = sym (drop-drop long place bytes) ∙ ap (drop long) there ∙ drop_at head rest long is
 
 pub long_slots : (size : ℕ) → length (slots_bytes size) ≡ 34
 long_slots size =
@@ -47,18 +43,18 @@ module _ (part : Planned) (image behind : List ℕ) (stands : Stands (first_home
 
   at_name : drop 2 image ≡ bytes_8 first_start ++ (bytes_8 (2 ^ 62 + part.size) ++ (second ++ rest))
   at_name =
-      behind_head image (open_slot ∷ []) ((name_of first_start part.size ++ second) ++ rest) 1 1 there refl
+      after_head image (open_slot ∷ []) ((name_of first_start part.size ++ second) ++ rest) 1 1 there refl
       ∙ append_assoc (name_of first_start part.size) second rest
       ∙ append_assoc (bytes_8 first_start) (bytes_8 (2 ^ 62 + part.size)) (second ++ rest)
 
   at_size : drop 10 image ≡ bytes_8 (2 ^ 62 + part.size) ++ (second ++ rest)
-  at_size = behind_head image (bytes_8 first_start) (bytes_8 (2 ^ 62 + part.size) ++ (second ++ rest)) 2 8 at_name (long_8 first_start)
+  at_size = after_head image (bytes_8 first_start) (bytes_8 (2 ^ 62 + part.size) ++ (second ++ rest)) 2 8 at_name (long_8 first_start)
 
   at_second : drop 18 image ≡ second ++ rest
-  at_second = behind_head image (bytes_8 (2 ^ 62 + part.size)) (second ++ rest) 10 8 at_size (long_8 (2 ^ 62 + part.size))
+  at_second = after_head image (bytes_8 (2 ^ 62 + part.size)) (second ++ rest) 10 8 at_size (long_8 (2 ^ 62 + part.size))
 
   at_part : drop 35 image ≡ rest
-  at_part = behind_head image second rest 18 17 at_second refl
+  at_part = after_head image second rest 18 17 at_second refl
 
   first_is : slot_at 1 image ≡ slot_for first_start part.size
   first_is =

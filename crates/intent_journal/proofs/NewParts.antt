@@ -3,9 +3,10 @@ use Rattle.std.proofs.Common.{◌≡◌, ◌&&◌, nat_lt, Bool, true, ℕ, ◌+
 use Rattle.std.proofs.lemmas.Bool.{lt-ltb}
 use Rattle.std.proofs.lemmas.List.{append_assoc, drop-drop, drop_at, take_at}
 use Rattle.disk_model.specs.Numbers.{bytes_4, number_4}
+use Rattle.disk_model.proofs.FourBytes.{length-bytes_4, number_4-bytes_4}
 use Rattle.intent_journal.specs.Parts.{Kept, Slot, batches_of, count_of, count_place, digest_in, first_gate, is_second, is_whole, joined, kept_in, migration_in, new_front, number_bytes, numbers, part_rows, rows, size_of, start_count, starts_in}
 use Rattle.intent_journal.specs.States.{AreSmall, CanBeKept, Stands, with_more}
-use Rattle.intent_journal.proofs.Batches.{length-bytes_4, length-joined, number_4-bytes_4, rows-joined}
+use Rattle.intent_journal.proofs.Batches.{length-joined, rows-joined}
 
 length-number_bytes : (ns : List ℕ) → length (number_bytes ns) ≡ 4 * length ns
 length-number_bytes [] = refl
@@ -23,8 +24,8 @@ numbers-number_bytes (n ∷ ns) tail small =
     ∙ ap (λ (l : List ℕ). n ∷ l) (numbers-number_bytes ns tail small.1)
 
 -- what stands after a head, from the place where it ends
-next : (bytes head rest : List ℕ) (place long : ℕ) → drop place bytes ≡ head ++ rest → length head ≡ long → drop (place + long) bytes ≡ rest
-next bytes head rest place long there is = sym (drop-drop long place bytes) ∙ ap (drop long) there ∙ drop_at head rest long is
+pub after_head : (bytes head rest : List ℕ) (place long : ℕ) → drop place bytes ≡ head ++ rest → length head ≡ long → drop (place + long) bytes ≡ rest
+after_head bytes head rest place long there is = sym (drop-drop long place bytes) ∙ ap (drop long) there ∙ drop_at head rest long is
 
 module _ (kept : Kept) (fits : CanBeKept kept) where
   pub length-new_front : length (new_front kept) ≡ 44 + 4 * length kept.starts + 9 * length kept.rows
@@ -78,16 +79,16 @@ module _ (kept : Kept) (fits : CanBeKept kept) where
     at_migration = ap (drop 32) apart ∙ drop_at kept.digest from_migration 32 fits.digest
 
     at_items : drop 36 part ≡ from_items
-    at_items = next part (bytes_4 kept.migration) from_items 32 4 at_migration (length-bytes_4 kept.migration)
+    at_items = after_head part (bytes_4 kept.migration) from_items 32 4 at_migration (length-bytes_4 kept.migration)
 
     at_starts : drop 40 part ≡ from_starts
-    at_starts = next part (bytes_4 (length kept.starts)) from_starts 36 4 at_items (length-bytes_4 (length kept.starts))
+    at_starts = after_head part (bytes_4 (length kept.starts)) from_starts 36 4 at_items (length-bytes_4 (length kept.starts))
 
     at_count : drop (40 + 4 * length kept.starts) part ≡ from_count
-    at_count = next part (number_bytes kept.starts) from_count 40 (4 * length kept.starts) at_starts (length-number_bytes kept.starts)
+    at_count = after_head part (number_bytes kept.starts) from_count 40 (4 * length kept.starts) at_starts (length-number_bytes kept.starts)
 
     at_rows : drop (40 + 4 * length kept.starts + 4) part ≡ from_rows
-    at_rows = next part (bytes_4 (length kept.rows)) from_rows (40 + 4 * length kept.starts) 4 at_count (length-bytes_4 (length kept.rows))
+    at_rows = after_head part (bytes_4 (length kept.rows)) from_rows (40 + 4 * length kept.starts) 4 at_count (length-bytes_4 (length kept.rows))
 
     is_digest : digest_in part ≡ kept.digest
     is_digest = ap (take 32) apart ∙ take_at kept.digest from_migration 32 fits.digest

@@ -1,9 +1,10 @@
 -- What placing a journal finds, and what it leaves.
-use Rattle.std.proofs.Common.{◌≡◌, inl, inr, ◌⊎◌, ⊎_elim, ◌==◌, Bool, true, false, ℕ, ◌≤◌, List, Option, Some, None, IfSome, Result, Ok, Err, OnOk, if◌then◌else◌, refl, sym, subst, ◌∙◌, ap, arith}
+use Rattle.std.proofs.Common.{◌≡◌, inl, inr, ◌⊎◌, ⊎_elim, ◌==◌, true, false, ℕ, ◌≤◌, List, Option, Some, None, IfSome, Result, Ok, Err, OnOk, if◌then◌else◌, refl, sym, subst, ◌∙◌, ap, arith}
 use Rattle.std.specs.Prelude.{is_some}
 use Rattle.std.specs.Option.{option_map}
+use Rattle.lists.proofs.Conditions.{if_either}
 use Rattle.disk_model.specs.Traces.{DiskTrace}
-use Rattle.disk_model.specs.Crashes.{IsDurable}
+use Rattle.disk_model.specs.Crashes.{Holds, IsDurable}
 use Rattle.disk_model.specs.Moments.{LeavesOnly}
 use Rattle.disk_model.proofs.Running.{LeavesOnly-chain, LeavesOnly-weaker}
 use Rattle.intent_journal.specs.declared.fault.JournalFault.{JournalFault}
@@ -12,7 +13,7 @@ use Rattle.intent_journal.specs.declared.found.Found.{Found}
 use Rattle.disk_model.specs.Numbers.{byte_at}
 use Rattle.intent_journal.specs.Parts.{Kept}
 use Rattle.intent_journal.specs.Images.{is_blank, journal_in, kept_at, live_part, open_journal, slot_at}
-use Rattle.intent_journal.specs.Phases.{Holds, IsFound}
+use Rattle.intent_journal.specs.Phases.{IsFound}
 use Rattle.intent_journal.specs.Placements.{IsNeither, IsPlacingFault, MayBePlaced}
 use Rattle.intent_journal.specs.Reading.{live_side}
 use Rattle.intent_journal.specs.Whole.{Causes}
@@ -23,15 +24,11 @@ use Rattle.intent_journal.proofs.Closings.{found_keeps}
 pub found_some : (found : Found) (image : List ℕ) → IsFound found image → is_some (journal_in image) ≡ true
 found_some found image is = ap is_some (found_keeps found image is)
 
-either_is : {A : Type 0} (b : Bool) (x : A) → (if b then x else x) ≡ x
-either_is true x = refl
-either_is false x = refl
-
 -- an image with no live slot
 pub side_neither : (image : List ℕ) (first : ℕ) → is_blank image ≡ false → first ≡ byte_at 0 image → live_side image ≡ None → IsNeither first image
 side_neither image first other is none =
     let part : live_part image ≡ None = live_part-side image ∙ ap (option_map (λ (s : ℕ). kept_at (slot_at s image) image)) none in
-    record { not_blank = other; no_journal = ap (λ (p : Option Kept). if byte_at 0 image == open_journal then p else None) part ∙ either_is (byte_at 0 image == open_journal) None; begins = is }
+    record { not_blank = other; no_journal = ap (λ (p : Option Kept). if byte_at 0 image == open_journal then p else None) part ∙ if_either (byte_at 0 image == open_journal) None; begins = is }
 
 -- why reading failed, and why placing did
 pub cause_of_reading : (fault : JournalFault) (told : Option (List ℕ)) (old new : ℕ) → Causes fault old new → IsPlacingFault fault told old new

@@ -8,7 +8,7 @@ use Rattle.rollout_rules.specs.History.{no_start}
 use Rattle.rollout_rules.specs.declared.op.Entry.{Entry}
 use Rattle.disk_model.specs.Whole.{IsQuiet}
 use Rattle.disk_model.specs.Traces.{DiskTrace}
-use Rattle.disk_model.specs.Crashes.{IsDurable, Within}
+use Rattle.disk_model.specs.Crashes.{Holds, IsDurable, Within}
 use Rattle.disk_model.specs.Moments.{LeavesOnly}
 use Rattle.disk_model.proofs.Running.{LeavesOnly-chain, LeavesOnly-start, LeavesOnly-weaker}
 use Rattle.dependency_graph.specs.Graph.{Followed}
@@ -17,7 +17,7 @@ use Rattle.intent_journal.specs.declared.found.Found.{Found}
 use Rattle.intent_journal.specs.Images.{is_blank, is_placed, journal_in, second_side}
 use Rattle.intent_journal.specs.Opened.{HasRoom}
 use Rattle.intent_journal.specs.Parts.{Kept, size_of}
-use Rattle.intent_journal.specs.Phases.{Holds, IsBlankOrMade, IsFound, IsOldOrNew, IsRenewed, Planned, end_of, home_of, kept_of}
+use Rattle.intent_journal.specs.Phases.{IsBlankOrMade, IsFound, IsOldOrNew, IsRenewed, Planned, end_of, home_of, kept_of}
 use Rattle.intent_journal.specs.Recovered.{IsBroughtTo, IsCause, KeepsNow, MayBeLeft, MayStand, OnRefusal, kept_for}
 use Rattle.intent_journal.specs.Verdicts.{Fresh, IsRefusal, NoJournal, NoStart, NotLegal, OfAnother, Stands, Verdict, judged_journal, verdict, with_history}
 use Rattle.intent_journal.specs.Whole.{Causes}

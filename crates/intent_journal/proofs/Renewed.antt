@@ -1,7 +1,8 @@
 -- What stands once a journal was written anew.
 use Rattle.std.proofs.Common.{◌≡◌, ℕ, ◌+◌, ◌-◌, ◌<◌, ◌^◌, List, [], ◌∷◌, length, Option, Some, None, subst, ◌∙◌, ap, arith, length-append}
+use Rattle.disk_model.specs.Crashes.{Holds}
 use Rattle.intent_journal.specs.Parts.{new_front}
-use Rattle.intent_journal.specs.Phases.{Holds, IsPlanned, IsRenewed, Planned, slot_for}
+use Rattle.intent_journal.specs.Phases.{IsPlanned, IsRenewed, Planned, slot_for}
 use Rattle.intent_journal.specs.Renewals.{IsMoved}
 use Rattle.intent_journal.specs.States.{Home, IsAtRest}
 use Rattle.intent_journal.proofs.Laying.{second_is, second_size}

@@ -5,10 +5,10 @@ use Rattle.rollout_rules.specs.declared.op.Op.{Op}
 use Rattle.rollout_rules.specs.declared.op.Entry.{Entry}
 use Rattle.rollout_rules.specs.declared.op.Entry.TheVariants.{Begin, Done}
 use Rattle.disk_model.specs.Numbers.{bytes_4, number_4}
+use Rattle.disk_model.proofs.FourBytes.{length-bytes_4, number_4-bytes_4}
 use Rattle.intent_journal.specs.Parts.{joined}
 use Rattle.intent_journal.specs.Entries.{IsSmall, begin_kind, done_kind, entry_in, entry_rows, op_bytes, op_in, row_of}
 use Rattle.intent_journal.specs.States.{AreRows}
-use Rattle.intent_journal.proofs.Batches.{length-bytes_4, number_4-bytes_4}
 
 length-op_bytes : (op : Op) → length (op_bytes op) ≡ 8
 length-op_bytes op = omega (arith, length-append (bytes_4 op.item) (bytes_4 op.number), length-bytes_4 op.item, length-bytes_4 op.number)

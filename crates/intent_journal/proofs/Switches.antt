@@ -7,6 +7,7 @@ use Rattle.disk_model.specs.Writes.{Torn, written}
 use Rattle.disk_model.proofs.Agreeing.{Torn-agrees}
 use Rattle.disk_model.proofs.Parting.{Torn-beyond}
 use Rattle.disk_model.proofs.Tearing.{Torn-written}
+use Rattle.disk_model.proofs.FourBytes.{written_one}
 use Rattle.intent_journal.specs.declared.found.Found.{Found}
 use Rattle.disk_model.specs.Numbers.{byte_at, number_8}
 use Rattle.intent_journal.specs.Parts.{Kept, Slot, batches_of, is_second, is_whole, kept_in, new_front, open_batch, size_of}
@@ -19,7 +20,7 @@ use Rattle.intent_journal.proofs.Batches.{batches_closed}
 use Rattle.intent_journal.proofs.Closings.{keeps_no_more, other_apart, side_small}
 use Rattle.intent_journal.proofs.Committing.{rest_keeps}
 use Rattle.intent_journal.proofs.Fronts.{part_long, with_more-nothing}
-use Rattle.intent_journal.proofs.Gates.{agreed_slot, torn_same, written_one}
+use Rattle.intent_journal.proofs.Gates.{agreed_slot, torn_same}
 
 -- a part with a closed gate after its front, in an open slot
 module _ (slot : Slot) (image front behind : List ℕ) (mark : ℕ) (kept : Kept) (stands : Stands slot front kept) (part : drop slot.start image ≡ front ++ (mark ∷ behind)) where

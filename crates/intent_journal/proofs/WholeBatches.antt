@@ -2,17 +2,18 @@
 use Rattle.std.proofs.Common.{◌≡◌, ◌==◌, ◌&&◌, nat_lt, Bool, true, ℕ, zero, suc, ◌+◌, ◌-◌, ◌*◌, ◌<◌, ◌≤◌, List, [], ◌∷◌, ◌++◌, length, take, drop, Some, None, if◌then◌else◌, refl, sym, subst, ◌∙◌, ap, arith, length-append, length-drop}
 use Rattle.std.proofs.lemmas.Bool.{cases_Bool, eqb-true, ltb-true}
 use Rattle.std.proofs.lemmas.List.{append_assoc, drop-drop, append-nil, drop-take, drop_at, length-take, length-take-le, take-append-drop}
-use Rattle.std.proofs.Math.Seq.{drop-cons, take-add, take-take, take-append-add}
+use Rattle.std.proofs.Math.Seq.{take-add, take-take, take-append-add}
 use mathlib.Core.Logic.{⊎_elim}
 use Rattle.lists.proofs.Conditions.{and_both}
 use Rattle.disk_model.specs.Numbers.{byte_at, number_4}
+use Rattle.disk_model.proofs.FourBytes.{number_4-front, byte_first}
 use Rattle.intent_journal.specs.Entries.{entry_in}
 use Rattle.intent_journal.specs.Parts.{Kept, Slot, batches_of, count_of, count_place, first_gate, is_whole, kept_in, listed_in, open_batch, part_rows, rows, size_of}
 use Rattle.intent_journal.specs.Reading.{IsRead, Listed, Walks, batch_at, nothing_read, with_row, with_rows}
 use Rattle.intent_journal.specs.States.{Stands, with_more}
 use Rattle.intent_journal.proofs.Batches.{batches_step}
 use Rattle.intent_journal.proofs.Fronts.{with_more-nothing, with_more-twice}
-use Rattle.intent_journal.proofs.Heads.{Stands-found, number_4-front, rows-in}
+use Rattle.intent_journal.proofs.Heads.{Stands-found, rows-in}
 
 pub with_rows-append : (listed : Listed) (xs ys : List (List ℕ)) → with_rows listed (xs ++ ys) ≡ with_rows (with_rows listed xs) ys
 with_rows-append listed [] ys = refl
@@ -52,11 +53,6 @@ batches_raw body tail (suc k) n is long some room =
     ∙ ap (λ (l : List ℕ). rows n (drop 4 body) ++ batches_of l) later
     ∙ ap (λ (j : ℕ). rows n (drop 4 body) ++ batches_of (take j tail)) same_left
 
-from_gate : (bytes : List ℕ) (gate : ℕ) → gate < length bytes → drop gate bytes ≡ byte_at gate bytes ∷ drop (gate + 1) bytes
-from_gate bytes gate within =
-    let next : suc gate ≡ gate + 1 = omega arith in
-    drop-cons bytes gate 0 within ∙ ap (λ (k : ℕ). byte_at gate bytes ∷ drop k bytes) next
-
 -- what the two tests of a batch say
 batch_found : (bytes : List ℕ) (gate n : ℕ) → batch_at bytes gate ≡ Some n
     → (byte_at gate bytes ≡ open_batch) × (4 + 9 * number_4 (drop (gate + 1) bytes) < length (drop (gate + 1) bytes)) × (number_4 (drop (gate + 1) bytes) ≡ n)
@@ -80,7 +76,7 @@ batch_none bytes gate within none =
     (λ yes.
     let is : Some (number_4 rest) ≡ None = sym (ap (λ (b : Bool). if b then Some (number_4 rest) else None) yes) ∙ none in
     absurd (cc is))
-    (λ no. ap batches_of (from_gate bytes gate within) ∙ rw no refl)
+    (λ no. ap batches_of (byte_first bytes gate within) ∙ rw no refl)
     (cases_Bool ((byte_at gate bytes == open_batch) && nat_lt (4 + 9 * number_4 rest) (length rest)))
 
 module _ (bytes : List ℕ) (gate n : ℕ) (within : gate < length bytes) (found : batch_at bytes gate ≡ Some n) where
@@ -106,7 +102,7 @@ module _ (bytes : List ℕ) (gate n : ℕ) (within : gate < length bytes) (found
       let is = batch_found bytes gate n found in
       let behind : drop (4 + 9 * n) rest ≡ drop after bytes =
       drop-drop (4 + 9 * n) (gate + 1) bytes ∙ ap (λ (k : ℕ). drop k bytes) (omega arith) in
-      ap batches_of (from_gate bytes gate within)
+      ap batches_of (byte_first bytes gate within)
       ∙ ap (λ (b : ℕ). batches_of (b ∷ rest)) is.0
       ∙ batches_step rest is.1
       ∙ ap (λ (m : ℕ). rows m (drop 4 rest) ++ batches_of (drop (4 + 9 * m) rest)) is.2
@@ -144,7 +140,7 @@ module _ (bytes : List ℕ) (gate n : ℕ) (within : gate < length bytes) (found
       let size : 5 + 9 * n ≡ suc (4 + 9 * n) = omega arith in
       take-add gate (5 + 9 * n) bytes
       ∙ ap (λ (k : ℕ). front ++ take k (drop gate bytes)) size
-      ∙ ap (λ (l : List ℕ). front ++ take (suc (4 + 9 * n)) l) (from_gate bytes gate within)
+      ∙ ap (λ (l : List ℕ). front ++ take (suc (4 + 9 * n)) l) (byte_first bytes gate within)
       ∙ ap (λ (b : ℕ). front ++ b ∷ body) is.0
 
   length-front : length front ≡ gate

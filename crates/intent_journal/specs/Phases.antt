@@ -1,7 +1,6 @@
 -- What reading has found of a journal, and what the writes that follow it leave.
 use Rattle.std.specs.Prelude.{◌≡◌, ◌⊎◌, ℕ, ◌+◌, ◌*◌, ◌<◌, ◌≤◌, ◌^◌, ◌-◌, ◌==◌, ◌&&◌, nat_lt, Bool, true, false, List, [], ◌∷◌, ◌++◌, length, take, drop, Option, Some, None, IfSome}
 use Rattle.rollout_rules.specs.declared.op.Entry.{Entry}
-use Rattle.disk_model.specs.Crashes.{Only}
 use Rattle.intent_journal.specs.declared.digest.Digest.{Digest}
 use Rattle.intent_journal.specs.declared.found.Found.{Found}
 use Rattle.disk_model.specs.Numbers.{byte_at}
@@ -38,10 +37,6 @@ pub record IsFound (found : Found) (image : List ℕ) : Type 0 where
   pub cut_open : (mark == open_batch) ≡ found.cut
   pub none : batches_of (take (size_of (home_of found).slot - length front) (mark ∷ behind)) ≡ []
   pub long : found.length ≡ length image
-
--- this holds of what a read gives, which is all that a crash leaves
-abbrev pub Holds : (List ℕ → Type 0) → Option (List ℕ) → (List ℕ → Type 0) → Type 0
-Holds P told left = IfSome told (λ image. P image × Only image left)
 
 -- what the journal that is told keeps
 abbrev pub kept_by : Option (List ℕ) → Option Kept

@@ -1,7 +1,8 @@
 ghost use Rattle.std.specs.Prelude.{◌≡◌, ◌+◌, ◌<◌, ◌≤◌, ◌^◌, length, IfSome, OnErr, OnOk};
 ghost use Rattle.disk_model.specs.Moments.{LeavesOnly};
 ghost use Rattle.intent_journal.specs.Images.{journal_in};
-ghost use Rattle.intent_journal.specs.Phases.{Holds, IsFound, IsOld, end_of};
+ghost use Rattle.disk_model.specs.Crashes.{Holds};
+ghost use Rattle.intent_journal.specs.Phases.{IsFound, IsOld, end_of};
 ghost use Rattle.intent_journal.specs.Renewals.{IsClosed, IsCut, IsFilled};
 ghost use Rattle.wan_edge.specs.Streams.{KeepsTelling, Rose};
 

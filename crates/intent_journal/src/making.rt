@@ -2,7 +2,8 @@ ghost use Rattle.std.specs.Prelude.{◌≡◌, ◌+◌, ◌*◌, ◌≤◌, [], 
 ghost use Rattle.disk_model.specs.Moments.{LeavesOnly};
 ghost use Rattle.intent_journal.specs.Images.{blank_most};
 ghost use Rattle.intent_journal.specs.Makings.{IsBlank, IsBlankOrTorn, IsClear, IsReady};
-ghost use Rattle.intent_journal.specs.Phases.{Holds, IsBlankFound, IsBlankOrMade, IsRenewed};
+ghost use Rattle.disk_model.specs.Crashes.{Holds};
+ghost use Rattle.intent_journal.specs.Phases.{IsBlankFound, IsBlankOrMade, IsRenewed};
 ghost use Rattle.wan_edge.specs.Streams.{KeepsTelling, Rose};
 
 use crate::layout::{FIRST_START, OPEN_JOURNAL, made_slots};

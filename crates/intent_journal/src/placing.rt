@@ -1,11 +1,11 @@
 ghost use Rattle.std.specs.Prelude.{◌≡◌, ◌⊎◌, ℕ, ◌+◌, ◌*◌, ◌<◌, ◌≤◌, ◌^◌, [], Some, false, length, IfErr, IfOk, IfSome, OnOk};
 ghost use Rattle.rollout_rules.specs.History.{flies};
 ghost use Rattle.rollout_rules.specs.Items.{item_count};
-ghost use Rattle.disk_model.specs.Crashes.{Within};
+ghost use Rattle.disk_model.specs.Crashes.{Holds, Within};
 ghost use Rattle.disk_model.specs.Moments.{LeavesOnly};
 ghost use Rattle.intent_journal.specs.Images.{blank_most, is_blank, open_journal, second_side};
 ghost use Rattle.disk_model.specs.Numbers.{byte_at};
-ghost use Rattle.intent_journal.specs.Phases.{Holds, IsFound, end_of};
+ghost use Rattle.intent_journal.specs.Phases.{IsFound, end_of};
 ghost use Rattle.intent_journal.specs.Reading as reading;
 ghost use Rattle.intent_journal.specs.Recovered.{OnRefusal};
 ghost use Rattle.intent_journal.specs.Placements.{IsPlaced, IsPlacingFault, IsRefused, IsStoodOrPlaced, MayBePlaced, placed_kept, settled_numbers};

@@ -1,13 +1,12 @@
 ghost use Rattle.std.specs.Prelude.{◌≡◌, ◌*◌, ◌<◌, ◌≤◌, ◌^◌, [], length, true, vec_capacity, IfErr, IfOk, IfSome};
 ghost use Rattle.rollout_rules.specs.History.{from_nothing};
-ghost use Rattle.disk_model.specs.Crashes.{Within};
+ghost use Rattle.disk_model.specs.Crashes.{Holds, Within};
 ghost use Rattle.disk_model.specs.Moments.{LeavesOnly};
 ghost use Rattle.dependency_graph.specs.Graph.{op_total};
 ghost use Rattle.intent_journal.specs.Images as images;
 ghost use Rattle.intent_journal.specs.Judging.{BeforeList, LeavesGraphOf};
 ghost use Rattle.intent_journal.specs.Opened.{HasRoom, IsKept};
 ghost use Rattle.intent_journal.specs.Openings.{IsLeft, IsMadeReady, IsOpenFor, IsOpenedFrom};
-ghost use Rattle.intent_journal.specs.Phases.{Holds};
 ghost use Rattle.intent_journal.specs.Recovered.{IsCause, IsReady, MayStand, OnRefusal, kept_for};
 ghost use Rattle.intent_journal.specs.Verdicts.{Fresh, judged_journal, verdict};
 ghost use Rattle.intent_journal.specs.Whole.{Causes};

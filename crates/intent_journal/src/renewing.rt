@@ -1,7 +1,8 @@
 ghost use Rattle.std.specs.Prelude.{◌≡◌, ◌+◌, ◌<◌, ◌≤◌, ◌^◌, ◌++◌, length, IfOk, IfSome, OnErr, OnOk};
 ghost use Rattle.disk_model.specs.Moments.{LeavesOnly};
 ghost use Rattle.intent_journal.specs.Images.{journal_in, second_side};
-ghost use Rattle.intent_journal.specs.Phases.{Holds, IsFound, IsOld, IsOldOrNew, IsRenewed, end_of};
+ghost use Rattle.disk_model.specs.Crashes.{Holds};
+ghost use Rattle.intent_journal.specs.Phases.{IsFound, IsOld, IsOldOrNew, IsRenewed, end_of};
 ghost use Rattle.intent_journal.specs.Renewals.{IsFilled, IsLaid, IsMoved, IsNamed, IsOpened, new_home, new_start};
 ghost use Rattle.wan_edge.specs.Streams.{KeepsTelling, Rose};
 

@@ -3,7 +3,8 @@ use Rattle.std.proofs.Common.{◌≡◌, ℕ, zero, suc, ◌≤◌, List, [], �
 use Rattle.std.specs.List.{All, flat_map}
 use Rattle.std.proofs.lemmas.Grind.{flat_map-append}
 use Rattle.std.proofs.lemmas.List.{append-nil}
-use Rattle.std.proofs.lemmas.List.Elements.{All-cons, All-head, All-nil, All-tail}
+use Rattle.std.proofs.lemmas.List.Elements.{All-cons, All-head, All-nil}
+use Rattle.lists.proofs.Elements.{All-left, All-right}
 use Rattle.wan_edge.specs.Frames.{CommandFrame, IsCommand, Splits, answer_bytes, command_bytes}
 use Rattle.wan_edge.specs.Ports.{IsOffered, MovesByRule}
 use Rattle.wan_edge.specs.Switches.{Holdings, after_command, after_commands, answer_to}
@@ -20,7 +21,7 @@ none_due : (b : Back) → with_due b [] ≡ b
 unfolding back_of
 none_due b = ap (back_of b.heard) (append-nil b.due)
 
-due-append : (b : Back) (xs ys : List ℕ) → with_due (with_due b xs) ys ≡ with_due b (xs ++ ys)
+pub due-append : (b : Back) (xs ys : List ℕ) → with_due (with_due b xs) ys ≡ with_due b (xs ++ ys)
 unfolding back_of
 due-append b xs ys = ap (back_of b.heard) (append_assoc b.due xs ys)
 
@@ -100,25 +101,17 @@ front_of held held_now back back_now cs so = record {
 
 -- ---- what is held moved by commands that were offered
 
-front_of_each : {T : Type 0} (P : T → Type 0) (front others : List T) → All P (front ++ others) → All P front
-front_of_each P [] others each = All-nil P
-front_of_each P (x ∷ front) others each = All-cons P x front (All-head P x (front ++ others) each) (front_of_each P front others (All-tail P x (front ++ others) each))
-
-back_of_each : {T : Type 0} (P : T → Type 0) (front others : List T) → All P (front ++ others) → All P others
-back_of_each P [] others each = each
-back_of_each P (x ∷ front) others each = back_of_each P front others (All-tail P x (front ++ others) each)
-
 -- each of the commands that the bytes have was offered
 each_offered : (bytes : List ℕ) (earlier commands later : List CommandFrame) (rest : List ℕ) → Splits command_bytes IsCommand bytes (earlier ++ (commands ++ later)) rest → All (IsOffered bytes) commands
 each_offered bytes earlier [] later rest split = All-nil (IsOffered bytes)
 each_offered bytes earlier (c ∷ commands) later rest split =
     let front = flat_map command_bytes earlier in
     let others = flat_map command_bytes (commands ++ later) in
-    let fit = back_of_each IsCommand earlier (c ∷ (commands ++ later)) split.fit in
+    let fit = All-right IsCommand earlier (c ∷ (commands ++ later)) split.fit in
     All-cons (IsOffered bytes) c commands
     (record {
       earlier = earlier;
-      earlier_fit = front_of_each IsCommand earlier (c ∷ (commands ++ later)) split.fit;
+      earlier_fit = All-left IsCommand earlier (c ∷ (commands ++ later)) split.fit;
       fits = All-head IsCommand c (commands ++ later) fit;
       behind = others ++ rest;
       parts =

@@ -1,13 +1,12 @@
 -- What a faithful port keeps, and what it tells by that.
-use Rattle.std.proofs.Common.{◌≡◌, ℕ, Bool, true, false, List, [], ◌++◌, length, take, drop, Some, Result, Ok, Err, refl, sym, ap, ap₂, subst, ◌∙◌, append_assoc, arith}
-use Rattle.std.specs.Prelude.{OnErr}
+use Rattle.std.proofs.Common.{◌≡◌, ℕ, Bool, true, false, List, [], ◌++◌, length, take, drop, Some, refl, sym, ap, ap₂, subst, ◌∙◌, append_assoc, arith}
 use Rattle.std.proofs.Math.Seq.{drop-nil}
 use Rattle.std.proofs.lemmas.List.{append-nil, nil_from_length, take-append-drop, take_all, take_at}
 use Rattle.std.proofs.lemmas.List.Elements.{All-take}
 use Rattle.wan_edge.specs.Frames.{CommandFrame, IsCommand, Splits, command_bytes}
 use Rattle.wan_edge.specs.Ports.{AllAnswered, AnswersHeld, AnswersInOrder, AppendsFront, IsHonestStep, MovesByRule}
 use Rattle.wan_edge.specs.Switches.{Holdings, after_commands, holding_nothing}
-use Rattle.wan_edge.proofs.Commands.{after_commands-append}
+use Rattle.wan_edge.proofs.Commands.{after_commands-append, none_moves}
 use Rattle.switch_agent.specs.Items.{Items, holding}
 use Rattle.lossy_link.specs.Faithful.{AreAnswered, AreFirstAnswered, IsFaithful, bytes_to}
 use Rattle.lossy_link.specs.Incoming.{Came, HasCommands, Stream, TakesBehind, offered_of}
@@ -15,7 +14,7 @@ use Rattle.lossy_link.specs.WayBack.{Back, after_hearing}
 use Rattle.lossy_link.proofs.Behind.{none_behind, whole}
 use Rattle.lossy_link.proofs.Ordered.{answers_held, one_split}
 use Rattle.lossy_link.proofs.Sending.{honest_step, no_commands}
-use Rattle.lossy_link.proofs.Taking.{bytes_to-append, moves_not, no_pairs}
+use Rattle.lossy_link.proofs.Taking.{bytes_to-append, no_pairs}
 use Rattle.lossy_link.proofs.Answering.{front_of, moves_front, none_answered, parts_of}
 
 -- what a port keeps that is up
@@ -109,7 +108,7 @@ all_given stream items back down keeps up none commands rest split no_more =
 -- nothing moves
 pub stands_step : (stream : Stream) (items : Items) (back : Back) (down : Bool) → IsFaithful stream items back down → (before : Holdings) → holding items ≡ before → IsHonestStep (Some (offered_of stream)) (Some back.heard) (Some before) (Some (holding items))
 stands_step stream items back down keeps before same =
-    honest_step (offered_of stream) back.heard before (holding items) (holding items) same (moves_not (offered_of stream) (holding items)) (held_so (offered_of stream) back.heard (holding items) (in_order stream items back down keeps))
+    honest_step (offered_of stream) back.heard before (holding items) (holding items) same (none_moves (offered_of stream) (holding items)) (held_so (offered_of stream) back.heard (holding items) (in_order stream items back down keeps))
 
 -- a hear gives bytes that are there, and moves nothing
 module _ (stream : Stream) (items : Items) (back now : Back) (down : Bool) (keeps : IsFaithful stream items back down) (n : ℕ) (now_is : now ≡ after_hearing back n) where
@@ -221,7 +220,3 @@ answers_none stream items back down keeps =
       had = has;
       behind = none_behind (AreFirstAnswered (holding items) (holding items) back back) commands (offered_of stream) has (front_of (holding items) (holding items) back back [] (none_answered (holding items) back));
     }
-
-pub on_err : {T E P : Type 0} (r : Result T E) → P → OnErr r P
-on_err (Ok x) p = tt
-on_err (Err e) p = p

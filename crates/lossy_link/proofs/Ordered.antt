@@ -8,8 +8,9 @@ use Rattle.rollout_rules.specs.declared.held.Held.{Held}
 use Rattle.rollout_rules.proofs.Pairs.{after-more, at_most-refl, at_most-trans}
 use Rattle.wan_edge.specs.Frames.{AnswerFrame, CommandFrame, IsAnswer, IsCommand, IsCutCommand, answer_bytes, command_bytes}
 use Rattle.wan_edge.specs.Ports.{AnswersHeld, BeginsNoCommand}
-use Rattle.wan_edge.specs.Switches.{Holdings, after_command, after_commands, answer_to, answers_to, pair_asked, pair_given}
+use Rattle.wan_edge.specs.Switches.{Holdings, after_command, after_commands, answer_to, answers_to, pair_asked}
 use Rattle.wan_edge.proofs.Sizes.{answer-length}
+use Rattle.wan_edge.proofs.Commands.{IsHeld}
 use Rattle.wire_frames.proofs.OneSpelling.{one_answer, one_command}
 
 -- ---- pairs only grow
@@ -22,14 +23,10 @@ pub pairs_grow : (h : Holdings) (cs : List CommandFrame) (item : ℕ) → is_at_
 pairs_grow h [] item = at_most-refl (h item).held
 pairs_grow h (c ∷ cs) item = at_most-trans (h item).held (after_command h c item).held (after_commands h (c ∷ cs) item).held (pair_grows h c item (item == c.1.item) refl) (pairs_grow (after_command h c) cs item)
 
--- it says at most what is held
-abbrev pub IsBelow : Holdings → AnswerFrame → Type 0
-IsBelow h a = is_at_most (pair_given a) (h a.1.item).held ≡ true
-
 -- each answer says at most what is held at the end
-pub answers_below : (h : Holdings) (cs : List CommandFrame) → All (IsBelow (after_commands h cs)) (answers_to h cs)
-answers_below h [] = All-nil (IsBelow (after_commands h []))
-answers_below h (c ∷ cs) = All-cons (IsBelow (after_commands h (c ∷ cs))) (answer_to h c) (answers_to (after_command h c) cs) (pairs_grow (after_command h c) cs c.1.item) (answers_below (after_command h c) cs)
+pub answers_below : (h : Holdings) (cs : List CommandFrame) → All (IsHeld (after_commands h cs)) (answers_to h cs)
+answers_below h [] = All-nil (IsHeld (after_commands h []))
+answers_below h (c ∷ cs) = All-cons (IsHeld (after_commands h (c ∷ cs))) (answer_to h c) (answers_to (after_command h c) cs) (pairs_grow (after_command h c) cs c.1.item) (answers_below (after_command h c) cs)
 
 -- ---- one way to split
 
@@ -86,9 +83,9 @@ answers_fit h (c ∷ cs) has fit =
 pub answers_held : (h now : Holdings) (cs : List CommandFrame) (heard to_come : List ℕ) → HasPairs h → All IsCommand cs → now ≡ after_commands h cs → flat_map answer_bytes (answers_to h cs) ≡ heard ++ to_come → AnswersHeld heard now
 answers_held h now cs heard to_come has fit now_is e answers rest split =
     let front = front_answers answers (answers_to h cs) rest to_come split.fit (answers_fit h cs has fit) (e ∙ ap (λ (xs : List ℕ). xs ++ to_come) split.parts) in
-    let below = subst (λ (as_said : List AnswerFrame). All (IsBelow (after_commands h cs)) as_said) front.parts (answers_below h cs) in
-    let mine = front_of_all (IsBelow (after_commands h cs)) answers front.others below in
-    subst (λ (holding : Holdings). All (IsBelow holding) answers) (sym now_is) mine
+    let below = subst (λ (as_said : List AnswerFrame). All (IsHeld (after_commands h cs)) as_said) front.parts (answers_below h cs) in
+    let mine = front_of_all (IsHeld (after_commands h cs)) answers front.others below in
+    subst (λ (holding : Holdings). All (IsHeld holding) answers) (sym now_is) mine
 
 -- ---- what begins no command
 

@@ -1,16 +1,15 @@
 -- What begins no further command, and what commands one after the other add up to.
-use Rattle.std.proofs.Common.{◌≡◌, ℕ, Bool, true, false, List, [], ◌++◌, length, get_or, refl, sym, ap, subst, ◌∙◌, arith}
+use Rattle.std.proofs.Common.{◌≡◌, ℕ, Bool, true, false, List, ◌++◌, length, get_or, refl, sym, ap, subst, ◌∙◌, arith}
 use Rattle.std.specs.List.{flat_map}
 use Rattle.std.proofs.lemmas.Grind.{flat_map-append}
 use Rattle.std.proofs.lemmas.List.{get_or_at}
-use Rattle.std.proofs.lemmas.List.Elements.{All-nil}
 use Rattle.wan_edge.specs.Frames.{CommandFrame, IsCutCommand, answer_bytes, command_bytes, command_head}
-use Rattle.wan_edge.specs.Ports.{BeginsNoCommand, IsOffered, MovesByRule}
+use Rattle.wan_edge.specs.Ports.{BeginsNoCommand}
 use Rattle.wan_edge.specs.Switches.{Holdings, after_commands, answers_to, holding_nothing}
+use Rattle.wan_edge.proofs.Commands.{answers_to-append}
 use Rattle.wire_frames.specs.Reading.{IsCommandFault}
 use Rattle.wire_frames.specs.declared.fault.FrameFault.{FrameFault}
 use Rattle.wire_frames.specs.declared.fault.FrameFault.TheVariants.{Count, Kind}
-use Rattle.switch_agent.proofs.Chains.{answers_to-append}
 use Rattle.lossy_link.specs.Faithful.{bytes_to}
 use Rattle.lossy_link.specs.Incoming.{GoesOnAs}
 use Rattle.lossy_link.proofs.Ordered.{HasPairs, cut_begins_none}
@@ -35,6 +34,3 @@ bytes_to-append held xs ys = ap (flat_map answer_bytes) (answers_to-append held 
 
 pub no_pairs : HasPairs holding_nothing
 no_pairs = record { migrations = λ item. omega arith; numbers = λ item. omega arith }
-
-pub moves_not : (offered : List ℕ) (held : Holdings) → MovesByRule offered held held
-moves_not offered held = record { delivered = []; each_offered = All-nil (IsOffered offered); moved = refl }

@@ -10,10 +10,11 @@ use Rattle.rollout_rules.proofs.Pairs.{at_most-trans}
 use Rattle.wan_edge.specs.Frames.{AnswerFrame, CommandFrame, IsAnswer, answer_bytes}
 use Rattle.wan_edge.specs.Ports.{AnswersHeld}
 use Rattle.wan_edge.specs.Switches.{Holdings, after_command, after_commands, pair_given}
+use Rattle.wan_edge.proofs.Commands.{IsHeld}
 use Rattle.lossy_link.specs.Traffic.{IsAnswered, SaysAtMost, arriving, is_late, is_there, less_late}
 use Rattle.lossy_link.specs.WayBack.{Back, after_hearing, with_due}
 use Rattle.lossy_link.specs.declared.waiting.Waiting.{Waiting}
-use Rattle.lossy_link.proofs.Ordered.{IsBelow, front_answers, front_of_all, pairs_grow}
+use Rattle.lossy_link.proofs.Ordered.{front_answers, front_of_all, pairs_grow}
 
 -- one delivery more
 pub after-replicate : (held : Holdings) (n : ℕ) (c : CommandFrame) → after_command (after_commands held (replicate n c)) c ≡ after_commands held (replicate (n + 1) c)
@@ -76,15 +77,15 @@ fit_of : (held : Holdings) (answers : List AnswerFrame) → All (SaysAtMost held
 fit_of held [] each = All-nil IsAnswer
 fit_of held (a ∷ answers) each = All-cons IsAnswer a answers (All-head (SaysAtMost held) a answers each).fits (fit_of held answers (All-tail (SaysAtMost held) a answers each))
 
-below_of : (held : Holdings) (answers : List AnswerFrame) → All (SaysAtMost held) answers → All (IsBelow held) answers
-below_of held [] each = All-nil (IsBelow held)
-below_of held (a ∷ answers) each = All-cons (IsBelow held) a answers (All-head (SaysAtMost held) a answers each).below (below_of held answers (All-tail (SaysAtMost held) a answers each))
+below_of : (held : Holdings) (answers : List AnswerFrame) → All (SaysAtMost held) answers → All (IsHeld held) answers
+below_of held [] each = All-nil (IsHeld held)
+below_of held (a ∷ answers) each = All-cons (IsHeld held) a answers (All-head (SaysAtMost held) a answers each).below (below_of held answers (All-tail (SaysAtMost held) a answers each))
 
 pub answered_held : (held : Holdings) (waiting : List Waiting) (back : Back) → IsAnswered held waiting back → AnswersHeld back.heard held
 answered_held held waiting back is answers rest split =
     let front = front_answers answers is.came rest back.due split.fit (fit_of held is.came is.each) (is.parts ∙ ap (λ (xs : List ℕ). xs ++ back.due) split.parts) in
-    let below = subst (λ (as_said : List AnswerFrame). All (IsBelow held) as_said) front.parts (below_of held is.came is.each) in
-    front_of_all (IsBelow held) answers front.others below
+    let below = subst (λ (as_said : List AnswerFrame). All (IsHeld held) as_said) front.parts (below_of held is.came is.each) in
+    front_of_all (IsHeld held) answers front.others below
 
 pub nothing_answered : (held : Holdings) → IsAnswered held [] (record { heard = []; due = [] })
 nothing_answered held = record { came = []; parts = refl; each = All-nil (SaysAtMost held); each_waiting = All-nil (λ (w : Waiting). SaysAtMost held w.answer) }
@@ -143,7 +144,7 @@ says_still held held_now n c is a says =
     record {
       fits = says.fits;
       below =
-          subst (λ (h : Holdings). IsBelow h a) (sym is)
+          subst (λ (h : Holdings). IsHeld h a) (sym is)
           (at_most-trans (pair_given a) (held a.1.item).held (after_commands held (replicate n c) a.1.item).held says.below (pairs_grow held (replicate n c) a.1.item));
     }
 

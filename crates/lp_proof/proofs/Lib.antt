@@ -1,4 +1,3 @@
-pub mod Opened
 pub mod Moving
 pub mod Numbered
 pub mod NoFewer

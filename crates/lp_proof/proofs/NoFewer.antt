@@ -18,7 +18,7 @@ use Rattle.fraction_lp.specs.declared.proof.Proof.{Proof}
 use Rattle.fraction_lp.specs.declared.proof.Proof.TheVariants.{Plain, Link, Rows}
 use Rattle.lp_proof.specs.RateSteps.{rate_steps, TakesAtLeast}
 use Rattle.lp_proof.specs.Shown.{greater_end, direct_load, NeedsTwo, HasMultipliers, ShowsLeast}
-use Rattle.lp_proof.proofs.Opened.{MovesWithin, moves_within}
+use Rattle.plan_check.proofs.Opened.{MovesWithin, moves_within}
 use Rattle.lp_proof.proofs.Moving.{stand_at, rates-same, stand-most, stand-first, stand-last, stand-next}
 use Rattle.lp_proof.proofs.Numbered.{point_of, is_move}
 

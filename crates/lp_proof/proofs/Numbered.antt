@@ -22,9 +22,9 @@ use Rattle.step_lp.specs.Program.{joined_below, used_at, used_to, used_tunnels, 
 use Rattle.step_lp.specs.Moves.{rate_in, top_in, place_of, number_in, AreMoves, HasUnits, IsMove}
 use Rattle.step_lp.proofs.Lists.{length-joined_below, sum_below-times, All-joined_below}
 use Rattle.step_lp.proofs.Sizes.{length-used_to, length-used_tunnels}
-use Rattle.step_lp.proofs.Standing.{place-below}
+use Rattle.step_lp.proofs.Standing.{place-below, one_more_times}
 use Rattle.lp_proof.specs.RateSteps.{rate_steps, LeavesAtRest}
-use Rattle.lp_proof.proofs.Opened.{MovesWithin}
+use Rattle.plan_check.proofs.Opened.{MovesWithin}
 use Rattle.lp_proof.proofs.Moving.{stand_at, stand-most, stand-first, stand-last, stand-next}
 
 -- ---- the numbers
@@ -69,9 +69,6 @@ at-used p (suc n) t d lt used = elim (cases_lt t n) as (λ c. get_or (used_to p 
         ∙ get_or_push (used_to p n) n d (place_of p t) (length-used_to p n ∙ ap (λ k. count_below k (used_at p)) (sym here))
         ∙ sym here
 
-one_more : (b u : ℕ) → (b + 1) * u ≡ b * u + u
-one_more b u = omega arith
-
 at-joined : {A : Type 0} (m size : ℕ) (f : ℕ → List A) (d : A) (b k : ℕ) → ((j : ℕ) → length (f j) ≡ size) → b < m → k < size →
     get_or (joined_below m f) (b * size + k) d ≡ get_or (f b) k d
 at-joined zero size f d b k each low lt = absurd (omega arith)
@@ -90,7 +87,7 @@ at-joined (suc m) size f d b k each low lt = elim (cases_lt b m) as (λ c. get_o
     within : (b m size k n : ℕ) → b < m → k < size → n ≡ m * size → b * size + k < n
     within b m size k n low lt e =
         let next : (b + 1) * size ≤ m * size = mul-le-mul_right size (omega arith) in
-        let spread : (b + 1) * size ≡ b * size + size = one_more b size in
+        let spread : (b + 1) * size ≡ b * size + size = one_more_times b size in
         omega (arith, next, spread)
 
 -- ---- the point has these units

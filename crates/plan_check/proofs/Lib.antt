@@ -1,3 +1,4 @@
+pub mod Opened
 pub mod Firsts
 pub mod LeastSlack
 pub mod LinkSums

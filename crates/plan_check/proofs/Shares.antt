@@ -2,6 +2,7 @@
 use Rattle.std.proofs.Common.{◌≡◌, ℕ, suc, ◌+◌, ◌*◌, ◌^◌, ◌<◌, ◌≤◌, Bool, true, false, ◌&&◌, List, [], ◌∷◌, length, slice_index, ◌==◌, if◌then◌else◌, refl, sym, ap, ◌∙◌, inl, inr, add-one, arith}
 use Rattle.std.specs.List.{list_any}
 use Rattle.std.proofs.lemmas.Bool.{cases_Bool, eqb-true}
+use Rattle.lists.proofs.Conditions.{uncounted_second}
 use Rattle.rollout_rules.specs.Sums.{sum_below}
 use Rattle.rollout_rules.specs.Wan.{Problem, Plan, tunnel_at, link_at, switch_of, hops, width_of, crosses}
 use Rattle.rollout_rules.specs.Items.{the_link, the_table, either_mark}
@@ -60,14 +61,10 @@ links_once : (p : Problem) (path along : List ℕ) → IsPath p path along → (
 links_once p path along is g h gl hl e =
     is.once g h (omega (arith, is.between)) (omega (arith, is.between)) (sym (is.from g gl) ∙ ap (λ l. (link_at p l).from) e ∙ is.from h hl)
 
--- an amount that is taken where two tests pass, of which the second does, or does not
+-- an amount that is taken where two tests pass, of which the second does
 pub taken : (a b : Bool) (n : ℕ) → b ≡ true → (if a then n else 0) ≡ (if a && b then n else 0)
 taken true b n passes = rw passes refl
 taken false b n passes = refl
-
-pub left : (a b : Bool) (n : ℕ) → b ≡ false → (if a && b then n else 0) ≡ 0
-left true b n fails = rw fails refl
-left false b n fails = refl
 
 pub load_grown : (p : Problem) (rate : ℕ → ℕ) (t : ℕ) (old new row : List ℕ) (amount : ℕ) → IsNetwork p → t < length p.tunnels → row ≡ (tunnel_at p t).links → amount ≡ rate t → amount < 2 ^ 64 → GrownBy old new (added row amount) (length row * amount) → GrownBy old new (rate_share p rate t) largest_share
 load_grown p rate t old new row amount net inside is has small by =
@@ -94,7 +91,7 @@ entry_grown p plan s t old new row amount net inside there is wide small by =
 -- and one without adds nothing
 pub entry_stays : (p : Problem) (plan : Plan) (s t : ℕ) (sums : List ℕ) → either_mark plan s t ≡ false → GrownBy sums sums (entry_share p plan s t) largest_share
 entry_stays p plan s t sums none =
-    let nothing : (k : ℕ) → entry_share p plan s t k ≡ 0 = λ k. sum_below-zero (hops p t) (λ h. if (switch_of p t h == k) && either_mark plan s t then width_of p t else 0) (λ h lt. left (switch_of p t h == k) (either_mark plan s t) (width_of p t) none) in
+    let nothing : (k : ℕ) → entry_share p plan s t k ≡ 0 = λ k. sum_below-zero (hops p t) (λ h. if (switch_of p t h == k) && either_mark plan s t then width_of p t else 0) (λ h lt. uncounted_second (switch_of p t h == k) (either_mark plan s t) (width_of p t) none) in
     record {
       count = refl;
       each = λ k lt. omega (arith, nothing k);

@@ -7,8 +7,7 @@ use Rattle.rollout_rules.specs.Network.{IsNetwork}
 use Rattle.rollout_rules.specs.Valid.{is_valid_plan, step_total}
 use Rattle.rollout_rules.proofs.Below.{sum_below-same}
 use Rattle.rollout_rules.proofs.Totals.{step_total-load, step_total-entries_at}
-use Rattle.rollout_rules.proofs.Rows.{list_below-length}
-use Rattle.rollout_laws.proofs.Contents.{list_below-at}
+use Rattle.rollout_rules.proofs.Rows.{list_below-length, list_below-at}
 use Rattle.wan_model.proofs.Shapes.{valid-IsShaped}
 use Rattle.plan_texts.specs.Loads.{stage_total}
 use Rattle.plan_texts.specs.Rows.{IsChecked, AreLong, larger_at, either_at, ahead_of, link_rows, table_rows, cell}
@@ -17,14 +16,14 @@ use Rattle.plan_texts.specs.Rows.{IsChecked, AreLong, larger_at, either_at, ahea
 cell-at : (stages count : ℕ) (f : ℕ → ℕ → ℕ) (rows : List (List ℕ)) (k s : ℕ) → rows ≡ list_below stages (λ u. list_below count (f u)) → k < count → s < stages → cell rows k s ≡ f s k
 cell-at stages count f rows k s is low lt =
     ap (λ (r : List (List ℕ)). cell r k s) is
-    ∙ ap (λ (row : List ℕ). get_or row k 0) (list_below-at stages (λ u. list_below count (f u)) [] s lt)
-    ∙ list_below-at count (f s) 0 k low
+    ∙ ap (λ (row : List ℕ). get_or row k 0) (list_below-at stages (λ u. list_below count (f u)) s [] lt)
+    ∙ list_below-at count (f s) k 0 low
 
 pub long-rows : (stages count : ℕ) (f : ℕ → ℕ → ℕ) (rows : List (List ℕ)) (k n : ℕ) → rows ≡ list_below stages (λ u. list_below count (f u)) → k < count → n ≡ stages → AreLong rows n k
 long-rows stages count f rows k n is low all = record {
   count = omega (arith, ap length is, list_below-length stages (λ u. list_below count (f u)), all);
   each = λ s lt.
-      let row : get_or rows s [] ≡ list_below count (f s) = ap (λ (r : List (List ℕ)). get_or r s []) is ∙ list_below-at stages (λ u. list_below count (f u)) [] s (omega (arith, lt, all)) in
+      let row : get_or rows s [] ≡ list_below count (f s) = ap (λ (r : List (List ℕ)). get_or r s []) is ∙ list_below-at stages (λ u. list_below count (f u)) s [] (omega (arith, lt, all)) in
       omega (arith, low, ap length row, list_below-length count (f s));
 }
 

@@ -1,5 +1,6 @@
 -- Running sums over tunnels of the widths of entries.
 use Rattle.std.proofs.Common.{◌≡◌, ℕ, ◌*◌, ◌^◌, ◌<◌, ◌≤◌, Bool, true, false, ◌&&◌, List, length, ◌==◌, if◌then◌else◌, refl, ap, ◌∙◌, arith}
+use Rattle.lists.proofs.Conditions.{uncounted_second}
 use Rattle.rollout_rules.specs.Sums.{sum_below, list_below}
 use Rattle.rollout_rules.specs.Wan.{Problem, tunnel_at, switch_of, hops, width_of}
 use Rattle.rollout_rules.specs.Items.{entries_at}
@@ -7,7 +8,7 @@ use Rattle.rollout_rules.specs.Network.{IsNetwork}
 use Rattle.rollout_rules.proofs.Below.{sum_below-zero, sum_below-same}
 use Rattle.plan_check.specs.Parts.{GrownBy, added, largest_share}
 use Rattle.plan_check.proofs.Rows.{list_below-from}
-use Rattle.plan_check.proofs.Shares.{AreSums, GrownBy_as, few_times, left, taken}
+use Rattle.plan_check.proofs.Shares.{AreSums, GrownBy_as, few_times, taken}
 use Rattle.plan_texts.specs.Rows.{entry_share}
 
 -- a tunnel that is there adds its width to the table of each switch on its path
@@ -24,7 +25,7 @@ entry-grown p there t old new row amount net inside here is wide small by =
 -- and one that isn't adds nothing
 pub entry-stays : (p : Problem) (there : ℕ → Bool) (t : ℕ) (sums : List ℕ) → there t ≡ false → GrownBy sums sums (entry_share p there t) largest_share
 entry-stays p there t sums none =
-    let nothing : (k : ℕ) → entry_share p there t k ≡ 0 = λ k. sum_below-zero (hops p t) (λ h. if (switch_of p t h == k) && there t then width_of p t else 0) (λ h lt. left (switch_of p t h == k) (there t) (width_of p t) none) in
+    let nothing : (k : ℕ) → entry_share p there t k ≡ 0 = λ k. sum_below-zero (hops p t) (λ h. if (switch_of p t h == k) && there t then width_of p t else 0) (λ h lt. uncounted_second (switch_of p t h == k) (there t) (width_of p t) none) in
     record {
       count = refl;
       each = λ k lt. omega (arith, nothing k);

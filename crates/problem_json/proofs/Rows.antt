@@ -4,6 +4,7 @@ use Rattle.std.proofs.lemmas.List.{drop_all, drop-map, get_or-map, length-map, l
 use Rattle.std.proofs.lemmas.Bool.{cases_lt}
 use Rattle.rollout_rules.specs.Sums.{list_below}
 use Rattle.rollout_rules.specs.Wan.{Problem, flow_at, no_flow, no_switch}
+use Rattle.text_writer.proofs.Pushing.{both, said_so}
 use Rattle.json.specs.Print.{escape_byte}
 use Rattle.serde_json.specs.Data.{Data, Members, no_members, member, string}
 use Rattle.serde_json.specs.View.{items_of}
@@ -22,41 +23,30 @@ module _ {S : Type 0} (R : S → List ℕ → S → Type 0) where
   abbrev pub Leads : List ℕ → S → S → ℕ → List Data → Type 0
   Leads all start text k ds = (end : S) → R text (text_from k ds) end → R start all end
 
-  -- what was pushed at a value was pushed at its equal
-  pub at_value : {X : Type 0} {a b : S} (f : X → List ℕ) {x y : X} → x ≡ y → R a (f x) b → R a (f y) b
-  at_value {X} {a} {b} f same is = subst (λ z. R a (f z) b) same is
-
-  -- the same bytes, told otherwise
-  pub said_so : {a b : S} {xs ys : List ℕ} → xs ≡ ys → R a xs b → R a ys b
-  said_so {a} {b} same is = subst (λ zs. R a zs b) same is
-
   pub ends : {start text end : S} (all : List ℕ) (ds : List Data) (k : ℕ) → length ds ≤ k → Leads all start text k ds → R text (93 ∷ []) end → R start all end
   ends {start} {text} {end} all ds k le so is =
-      so end (said_so (sym (ap (λ xs. items_text (nat_lt 0 k) (items_of xs)) (drop_all k ds le))) is)
+      so end (said_so R (sym (ap (λ xs. items_text (nat_lt 0 k) (items_of xs)) (drop_all k ds le))) is)
 
   -- by a law on pushes
   module _ (further : (a b c : S) (first second : List ℕ) → R a first b → R b second c → R a (first ++ second) c) where
-    pub both : {a b c : S} {xs ys : List ℕ} → R a xs b → R b ys c → R a (xs ++ ys) c
-    both {a} {b} {c} {xs} {ys} e₁ e₂ = further a b c xs ys e₁ e₂
-
     pub by_three : {a b c d : S} {xs₁ xs₂ xs₃ : List ℕ} → R a xs₁ b → R b xs₂ c → R c xs₃ d → R a (xs₁ ++ (xs₂ ++ xs₃)) d
-    by_three e₁ e₂ e₃ = both e₁ (both e₂ e₃)
+    by_three e₁ e₂ e₃ = both R further e₁ (both R further e₂ e₃)
 
     pub by_five : {a b c d e f : S} {xs₁ xs₂ xs₃ xs₄ xs₅ : List ℕ} → R a xs₁ b → R b xs₂ c → R c xs₃ d → R d xs₄ e → R e xs₅ f
         → R a (xs₁ ++ (xs₂ ++ (xs₃ ++ (xs₄ ++ xs₅)))) f
-    by_five e₁ e₂ e₃ e₄ e₅ = both e₁ (both e₂ (by_three e₃ e₄ e₅))
+    by_five e₁ e₂ e₃ e₄ e₅ = both R further e₁ (both R further e₂ (by_three e₃ e₄ e₅))
 
     pub by_seven : {a b c d e f g h : S} {xs₁ xs₂ xs₃ xs₄ xs₅ xs₆ xs₇ : List ℕ} → R a xs₁ b → R b xs₂ c → R c xs₃ d → R d xs₄ e → R e xs₅ f → R f xs₆ g → R g xs₇ h
         → R a (xs₁ ++ (xs₂ ++ (xs₃ ++ (xs₄ ++ (xs₅ ++ (xs₆ ++ xs₇)))))) h
-    by_seven e₁ e₂ e₃ e₄ e₅ e₆ e₇ = both e₁ (both e₂ (by_five e₃ e₄ e₅ e₆ e₇))
+    by_seven e₁ e₂ e₃ e₄ e₅ e₆ e₇ = both R further e₁ (both R further e₂ (by_five e₃ e₄ e₅ e₆ e₇))
 
     pub by_eight : {a b c d e f g h i : S} {xs₁ xs₂ xs₃ xs₄ xs₅ xs₆ xs₇ xs₈ : List ℕ} → R a xs₁ b → R b xs₂ c → R c xs₃ d → R d xs₄ e → R e xs₅ f → R f xs₆ g → R g xs₇ h → R h xs₈ i
         → R a (xs₁ ++ (xs₂ ++ (xs₃ ++ (xs₄ ++ (xs₅ ++ (xs₆ ++ (xs₇ ++ xs₈))))))) i
-    by_eight e₁ e₂ e₃ e₄ e₅ e₆ e₇ e₈ = both e₁ (by_seven e₂ e₃ e₄ e₅ e₆ e₇ e₈)
+    by_eight e₁ e₂ e₃ e₄ e₅ e₆ e₇ e₈ = both R further e₁ (by_seven e₂ e₃ e₄ e₅ e₆ e₇ e₈)
 
     -- the front of a list was pushed, and none of its elements
     pub begins : {start text : S} (ds : List Data) → R start (91 ∷ []) text → Leads (compact_text (list_data ds)) start text 0 ds
-    begins ds is end rest = both is rest
+    begins ds is end rest = both R further is rest
 
     -- one element more
     pub goes_on : {start old comma new : S} (all : List ℕ) (ds : List Data) (k : ℕ) (d : Data)
@@ -69,7 +59,7 @@ module _ {S : Type 0} (R : S → List ℕ → S → Type 0) where
         let later : nat_lt 0 (k + 1) ≡ true = lt-ltb 0 (k + 1) (omega arith) in
         let split : text_from k ds ≡ comma_if (nat_lt 0 k) ++ (compact_text d ++ text_from (k + 1) ds) =
         ap (λ xs. items_text (nat_lt 0 k) (items_of xs)) here ∙ ap (λ b. comma_if (nat_lt 0 k) ++ (compact_text d ++ items_text b (items_of (drop (k + 1) ds)))) (sym later) in
-        so end (said_so (sym split) (by_three with is rest))
+        so end (said_so R (sym split) (by_three with is rest))
 
 pub width_of_member : (plain : Bool) (width : ℕ)
     → members_text true (if plain then no_members else member (codes "width") (number_data width) no_members) ≡ (if plain then [] else codes ",\"width\":" ++ decimal width) ++ 125 ∷ []

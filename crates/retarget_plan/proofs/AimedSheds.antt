@@ -6,8 +6,9 @@ use Rattle.rollout_rules.specs.Wan.{Problem, Plan, Tunnel, tunnel_at, crosses, n
 use Rattle.rollout_rules.specs.Network.{IsNetwork}
 use Rattle.rollout_rules.specs.Valid.{is_valid_plan}
 use Rattle.rollout_rules.specs.History.{History, Places, places_of}
+use Rattle.rollout_rules.proofs.Rows.{list_below-at}
 use Rattle.wan_model.specs.Rates.{rated}
-use Rattle.wan_model.proofs.Rated.{list_below-at, rated-at, rated-count}
+use Rattle.wan_model.proofs.Rated.{rated-at, rated-count}
 use Rattle.retarget_plan.specs.Aiming.{IsAimed, aimed_capacities, aimed_problem, aimed_rate, aimed_rates, shed_where}
 use Rattle.retarget_plan.specs.Left.{factor_of, left_rate, left_rates, with_capacities}
 use Rattle.retarget_plan.specs.Shedding.{OnlyGivesWay, one_step}
@@ -43,10 +44,10 @@ module _ (p : Problem) (plan : Plan) (at : Places) (link : ℕ) where
   row t lt = rated-at sized (left_rates p plan at) (aimed_rates p plan at (Shed link)) t lt
 
   was : (t : ℕ) → t < length p.tunnels → (tunnel_at m t).old ≡ left_rate p plan at t
-  was t lt = ap (λ (u : Tunnel). u.old) (row t lt) ∙ list_below-at (length p.tunnels) (left_rate p plan at) None t lt
+  was t lt = ap (λ (u : Tunnel). u.old) (row t lt) ∙ list_below-at (length p.tunnels) (left_rate p plan at) t None lt
 
   is : (t : ℕ) → t < length p.tunnels → (tunnel_at m t).new ≡ shed_where (crosses p t link) (left_rate p plan at t)
-  is t lt = ap (λ (u : Tunnel). u.new) (row t lt) ∙ list_below-at (length p.tunnels) (aimed_rate p plan at (Shed link)) None t lt
+  is t lt = ap (λ (u : Tunnel). u.new) (row t lt) ∙ list_below-at (length p.tunnels) (aimed_rate p plan at (Shed link)) t None lt
 
   gives : OnlyGivesWay m
   gives = record {

@@ -8,10 +8,9 @@ use Rattle.rollout_rules.specs.Legal.{is_legal}
 use Rattle.rollout_rules.specs.Slack.{old_load}
 use Rattle.rollout_rules.specs.History.{History, Places, places_of}
 use Rattle.rollout_rules.specs.Safe.{IsSafe}
-use Rattle.rollout_rules.proofs.Rows.{list_below-length}
+use Rattle.rollout_rules.proofs.Rows.{list_below-length, list_below-at}
 use Rattle.rollout_laws.proofs.Safety.{legal-safe}
 use Rattle.plan_check.proofs.Firsts.{first_below_none, first_of_parts}
-use Rattle.wan_model.proofs.Rated.{list_below-at}
 use Rattle.plan_check.proofs.Passes.{unless_passed}
 use Rattle.retarget_plan.specs.Aiming.{KeepsCapacities, StandsAt, IsAimed, aimed_capacity, aimed_capacities, aimed_rate, aimed_rates, aimed_problem, capacity_times, large_aimed, partly_or_large_aimed, why_not_aimed}
 use Rattle.retarget_plan.specs.Left.{is_whole, divisor_of, factor_of, left_rates, left_rate, left_capacities, left_with, remade, scaled_capacity}
@@ -65,10 +64,10 @@ module _ (p : Problem) (plan : Plan) (h : History) (aim : Aim) (net : IsNetwork 
   }
 
   was : (l : ℕ) → l < length p.links → (link_at q0 l).capacity ≡ (link_at p l).capacity * factor_of p plan at
-  was l lt = capacity-at p (left_capacities p plan at) l lt ∙ list_below-at (length p.links) (scaled_capacity p (factor_of p plan at)) 0 l lt
+  was l lt = capacity-at p (left_capacities p plan at) l lt ∙ list_below-at (length p.links) (scaled_capacity p (factor_of p plan at)) l 0 lt
 
   is : (l : ℕ) → l < length p.links → (link_at q l).capacity ≡ aimed_capacity p aim l * factor_of p plan at
-  is l lt = capacity-at p (aimed_capacities p aim (factor_of p plan at)) l lt ∙ list_below-at (length p.links) (capacity_times p aim (factor_of p plan at)) 0 l lt
+  is l lt = capacity-at p (aimed_capacities p aim (factor_of p plan at)) l lt ∙ list_below-at (length p.links) (capacity_times p aim (factor_of p plan at)) l 0 lt
 
   link-fits : KeepsCapacities p aim → OldSideFits q0 → (l : ℕ) → l < length q.links → old_load q l ≤ (link_at q l).capacity
   link-fits keeps old l lt =

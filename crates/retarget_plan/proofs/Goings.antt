@@ -8,8 +8,9 @@ use Rattle.rollout_rules.specs.History.{Places}
 use Rattle.rollout_rules.specs.Safe.{settled_rate, settled_mark, IsSafe}
 use Rattle.rollout_rules.specs.Valid.{same_mark}
 use Rattle.rollout_rules.proofs.Below.{all_below-at}
+use Rattle.rollout_rules.proofs.Rows.{list_below-at}
 use Rattle.wan_model.specs.Rates.{rated}
-use Rattle.wan_model.proofs.Rated.{list_below-at, rated-count, rated-at}
+use Rattle.wan_model.proofs.Rated.{rated-count, rated-at}
 use Rattle.retarget_plan.specs.Left.{is_whole, divisor_of, factor_of, left_rate, left_rates, left_capacities, scaled_capacity, with_capacities, left_with}
 use Rattle.retarget_plan.specs.Standing.{unrated, GoesOnFrom}
 use Rattle.retarget_plan.proofs.Divisors.{divisor-pos, top-units, each-units}
@@ -56,7 +57,7 @@ module _ (p : Problem) (plan : Plan) (at : Places) (new : List (Option ℕ)) (so
   row-at t lt = rated-at sized (left_rates p plan at) new t lt
 
   old-at : (t : ℕ) → t < length p.tunnels → (tunnel_at q t).old ≡ left_rate p plan at t
-  old-at t lt = ap (λ (u : Tunnel). u.old) (row-at t lt) ∙ list_below-at (length p.tunnels) (left_rate p plan at) None t lt
+  old-at t lt = ap (λ (u : Tunnel). u.old) (row-at t lt) ∙ list_below-at (length p.tunnels) (left_rate p plan at) t None lt
 
   -- traffic has all its entries
   carried : (t : ℕ) → t < length p.tunnels → 0 < settled_rate p plan at t → settled_mark p plan at t 0 ≡ true
@@ -89,7 +90,7 @@ module _ (p : Problem) (plan : Plan) (at : Places) (new : List (Option ℕ)) (so
     links = sized-count p (left_capacities p plan at);
     capacities = λ l lt.
         ap (λ (n : ℕ). d * n)
-        (capacity-at p (left_capacities p plan at) l lt ∙ list_below-at (length p.links) (scaled_capacity p (factor_of p plan at)) 0 l lt)
+        (capacity-at p (left_capacities p plan at) l lt ∙ list_below-at (length p.links) (scaled_capacity p (factor_of p plan at)) l 0 lt)
         ∙ regrouped d (link_at p l).capacity (factor_of p plan at) plan.scale (top-units (length p.tunnels) plan.scale (settled_rate p plan at));
     rates = rate-whole;
     marks = λ t h lt hop.

@@ -2,6 +2,7 @@
 use Rattle.std.proofs.Common.{◌≡◌, ℕ, ◌*◌, ◌<◌, ◌≤◌, ◌⊎◌, min, max, Bool, true, false, ◌&&◌, ◌||◌, ◌==◌, nat_le, if◌then◌else◌, List, length, get_or, Option, Some, None, is_some, option_map, unwrap_or, inl, inr, refl, sym, ap, ap₂, ◌∙◌, subst, arith, eq-eqb, le-leb, ltb-true, le_refl}
 use Rattle.std.specs.List.{list_any}
 use Rattle.std.proofs.lemmas.Bool.{and_from, or_left, or_right, cases_Bool}
+use Rattle.lists.proofs.Conditions.{if_mono}
 use Rattle.rollout_rules.specs.Sums.{sum_below, all_below, list_below}
 use Rattle.rollout_rules.specs.Wan.{Problem, Plan, Tunnel, tunnel_at, flow_at, tunnel_of, hops, switch_of, width_of, crosses, old_rate, new_rate, stage_at, rate_at, mark_at}
 use Rattle.rollout_rules.specs.Network.{IsNetwork, IsRate}
@@ -12,11 +13,10 @@ use Rattle.rollout_rules.proofs.Below.{sum_below-same, sum_below-mono, all_below
 use Rattle.rollout_rules.proofs.OverItems.{all_resources-from}
 use Rattle.rollout_rules.proofs.Totals.{step_total-load, step_total-entries_at}
 use Rattle.rollout_rules.proofs.Tunnels.{tunnel_of-below}
-use Rattle.rollout_rules.proofs.Rows.{list_below-length}
+use Rattle.rollout_rules.proofs.Rows.{list_below-length, list_below-at}
 use Rattle.rollout_rules.proofs.Alike.{same_mark-from}
-use Rattle.rollout_laws.proofs.Contents.{if-mono}
 use Rattle.wan_model.specs.Rates.{AreRates}
-use Rattle.wan_model.proofs.Rated.{list_below-at, rated-count, rated-at, rated-is_network}
+use Rattle.wan_model.proofs.Rated.{rated-count, rated-at, rated-is_network}
 use Rattle.retarget_plan.specs.Standing.{OldSideFits}
 use Rattle.retarget_plan.specs.Shedding.{shed_rate, shed, OnlyGivesWay, one_step}
 
@@ -52,16 +52,16 @@ module _ (q : Problem) where
   n = length q.tunnels
 
   old-rates : (t : ℕ) → t < n → rate_at plan 0 t ≡ old_rate (tunnel_at q t)
-  old-rates t lt = list_below-at n (λ k. old_rate (tunnel_at q k)) 0 t lt
+  old-rates t lt = list_below-at n (λ k. old_rate (tunnel_at q k)) t 0 lt
 
   new-rates : (t : ℕ) → t < n → rate_at plan 1 t ≡ new_rate (tunnel_at q t)
-  new-rates t lt = list_below-at n (λ k. new_rate (tunnel_at q k)) 0 t lt
+  new-rates t lt = list_below-at n (λ k. new_rate (tunnel_at q k)) t 0 lt
 
   old-marks : (t : ℕ) → t < n → mark_at plan 0 t ≡ is_some (tunnel_at q t).old
-  old-marks t lt = list_below-at n (λ k. is_some (tunnel_at q k).old) false t lt
+  old-marks t lt = list_below-at n (λ k. is_some (tunnel_at q k).old) t false lt
 
   new-marks : (t : ℕ) → t < n → mark_at plan 1 t ≡ is_some (tunnel_at q t).new
-  new-marks t lt = list_below-at n (λ k. is_some (tunnel_at q k).new) false t lt
+  new-marks t lt = list_below-at n (λ k. is_some (tunnel_at q k).new) t false lt
 
   shape : has_shape q plan ≡ true
   shape = both-stages (λ s. (length (stage_at plan s).rates == n) && (length (stage_at plan s).installed == n))
@@ -112,7 +112,7 @@ module _ (q : Problem) where
 
       link-fits : (s l : ℕ) → (s ≡ 0) ⊎ (s ≡ 1) → l < length q.links → step_total q plan s (the_link l) ≤ capacity_of q plan (the_link l)
       link-fits s l is lt =
-          let up : load q (greater_rate plan s) l ≤ old_load q l = sum_below-mono n _ _ (λ t low. if-mono (crosses q t l) (greater_rate plan s t) (old_rate (tunnel_at q t)) (step-rate s t is low)) in
+          let up : load q (greater_rate plan s) l ≤ old_load q l = sum_below-mono n _ _ (λ t low. if_mono (crosses q t l) (greater_rate plan s t) (old_rate (tunnel_at q t)) (step-rate s t is low)) in
           omega (arith, step_total-load q plan s l net, up, old.links l lt)
 
       table-fits : (s w : ℕ) → (s ≡ 0) ⊎ (s ≡ 1) → w < length q.switches → step_total q plan s (the_table w) ≤ capacity_of q plan (the_table w)
@@ -184,10 +184,10 @@ module _ (q : Problem) (l : ℕ) where
   r = shed q l
 
   old-is : (t : ℕ) → t < length q.tunnels → (tunnel_at r t).old ≡ (tunnel_at q t).old
-  old-is t lt = ap (λ (u : Tunnel). u.old) (rated-at q olds news t lt) ∙ list_below-at (length q.tunnels) (λ k. (tunnel_at q k).old) None t lt
+  old-is t lt = ap (λ (u : Tunnel). u.old) (rated-at q olds news t lt) ∙ list_below-at (length q.tunnels) (λ k. (tunnel_at q k).old) t None lt
 
   new-is : (t : ℕ) → t < length q.tunnels → (tunnel_at r t).new ≡ shed_rate q l t
-  new-is t lt = ap (λ (u : Tunnel). u.new) (rated-at q olds news t lt) ∙ list_below-at (length q.tunnels) (shed_rate q l) None t lt
+  new-is t lt = ap (λ (u : Tunnel). u.new) (rated-at q olds news t lt) ∙ list_below-at (length q.tunnels) (shed_rate q l) t None lt
 
   inside : (t : ℕ) → t < length r.tunnels → t < length q.tunnels
   inside t lt = omega (arith, lt, rated-count q olds news)
@@ -212,13 +212,13 @@ module _ (q : Problem) (l : ℕ) where
     olds-are : AreRates q olds
     olds-are = record {
       count = list_below-length (length q.tunnels) (λ t. (tunnel_at q t).old);
-      within = λ t lt. subst IsRate (sym (list_below-at (length q.tunnels) (λ k. (tunnel_at q k).old) None t lt)) (net.tunnels t lt).old;
+      within = λ t lt. subst IsRate (sym (list_below-at (length q.tunnels) (λ k. (tunnel_at q k).old) t None lt)) (net.tunnels t lt).old;
     }
 
     news-are : AreRates q news
     news-are = record {
       count = list_below-length (length q.tunnels) (shed_rate q l);
-      within = λ t lt. subst IsRate (sym (list_below-at (length q.tunnels) (shed_rate q l) None t lt)) (shed-rate (tunnel_at q t).old (crosses q t l) (net.tunnels t lt).old);
+      within = λ t lt. subst IsRate (sym (list_below-at (length q.tunnels) (shed_rate q l) t None lt)) (shed-rate (tunnel_at q t).old (crosses q t l) (net.tunnels t lt).old);
     }
 
     pub shed-is_network : IsNetwork r
@@ -234,7 +234,7 @@ module _ (q : Problem) (l : ℕ) where
     entry-same : (w t h : ℕ) → t < length q.tunnels → (if (switch_of r t h == w) && was_installed r t h then width_of r t else 0) ≡ (if (switch_of q t h == w) && was_installed q t h then width_of q t else 0)
     entry-same w t h lt =
         ap (λ (u : Tunnel). if (get_or u.path h 0 == w) && is_some u.old then u.width else 0) (rated-at q olds news t lt)
-        ∙ ap (λ (x : Option ℕ). if (switch_of q t h == w) && is_some x then width_of q t else 0) (list_below-at (length q.tunnels) (λ k. (tunnel_at q k).old) None t lt)
+        ∙ ap (λ (x : Option ℕ). if (switch_of q t h == w) && is_some x then width_of q t else 0) (list_below-at (length q.tunnels) (λ k. (tunnel_at q k).old) t None lt)
 
     entries-same : (w : ℕ) → entries_at r (was_installed r) w ≡ entries_at q (was_installed q) w
     entries-same w =

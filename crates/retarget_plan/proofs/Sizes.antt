@@ -3,8 +3,7 @@ use Rattle.std.proofs.Common.{◌≡◌, ℕ, ◌<◌, ◌≤◌, List, length, 
 use Rattle.rollout_rules.specs.declared.limits.TheConstants.{LARGEST_CAPACITY}
 use Rattle.rollout_rules.specs.Wan.{Problem, Link, no_link, link_at, tunnel_at}
 use Rattle.rollout_rules.specs.Network.{IsNetwork, IsPath, IsWidth, IsTunnel}
-use Rattle.rollout_rules.proofs.Rows.{list_below-length}
-use Rattle.wan_model.proofs.Rated.{list_below-at}
+use Rattle.rollout_rules.proofs.Rows.{list_below-length, list_below-at}
 use Rattle.retarget_plan.specs.Left.{sized, with_capacities}
 
 module _ (p : Problem) (capacities : List ℕ) where
@@ -15,7 +14,7 @@ module _ (p : Problem) (capacities : List ℕ) where
   sized-count = list_below-length (length p.links) (sized p capacities)
 
   pub sized-at : (l : ℕ) → l < length p.links → link_at q l ≡ sized p capacities l
-  sized-at l lt = list_below-at (length p.links) (sized p capacities) no_link l lt
+  sized-at l lt = list_below-at (length p.links) (sized p capacities) l no_link lt
 
   from-at : (l : ℕ) → l < length p.links → (link_at q l).from ≡ (link_at p l).from
   from-at l lt = ap (λ (k : Link). k.from) (sized-at l lt)

@@ -1,4 +1,3 @@
-mod FirstWords
 mod Placings
 mod Aiming
 mod Elsewhere

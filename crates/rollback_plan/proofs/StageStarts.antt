@@ -16,10 +16,11 @@ use Rattle.rollout_rules.proofs.Below.{all_below-from}
 use Rattle.rollout_rules.proofs.Numbers.{item_at-number_of, number_of-below}
 use Rattle.rollout_rules.proofs.Tunnels.{tunnel_of-below}
 use Rattle.rollout_rules.proofs.OverItems.{sum_items-mono, least_items-from, is_item-flow, is_item-entry, entry-is_item}
+use Rattle.rollout_rules.proofs.Rows.{list_below-at}
 use Rattle.rollout_laws.specs.Good.{IsGood}
 use Rattle.rollout_laws.proofs.Histories.{flies-started}
 use Rattle.rollout_laws.proofs.Standing.{changes-up, stand-passes, stand-past, content-kept}
-use Rattle.rollout_laws.proofs.Contents.{list_below-at, use-same, step-begins}
+use Rattle.rollout_laws.proofs.Contents.{use-same, step-begins}
 use Rattle.rollout_laws.proofs.Shares.{share_from}
 use Rattle.rollout_laws.proofs.Runs.{run_start-most, run_start-before}
 use Rattle.rollout_laws.proofs.SoundStarts.{begun_at-started, good-sound}
@@ -47,7 +48,7 @@ module _ (p : Problem) (plan : Plan) (s : ℕ) where
 
   -- the number of an item there is that of its operations up to the stage
   pub start-at : (n : ℕ) → n < item_count p → slice_index start n ≡ changes_to p plan (item_at p n) s
-  start-at n lt = list_below-at (item_count p) (λ k. changes_to p plan (item_at p k) s) 0 n lt
+  start-at n lt = list_below-at (item_count p) (λ k. changes_to p plan (item_at p k) s) n 0 lt
 
   settled-at : (i : Item) → is_item p i ≡ true → at.settled i ≡ changes_to p plan i s
   settled-at i here =

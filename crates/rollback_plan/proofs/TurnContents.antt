@@ -9,7 +9,7 @@ use Rattle.rollout_rules.specs.Valid.{is_valid_plan}
 use Rattle.rollout_rules.specs.Legal.{is_legal, is_sound}
 use Rattle.rollout_rules.specs.declared.item.Item.{Item}
 use Rattle.rollout_rules.proofs.Below.{all_below-from}
-use Rattle.rollout_laws.proofs.Contents.{list_below-at}
+use Rattle.rollout_rules.proofs.Rows.{list_below-at, list_below-same}
 use Rattle.rollout_laws.proofs.Histories.{is_counted}
 use Rattle.rollout_laws.proofs.Standing.{changes-step, changes-up, content-kept, stand-most, stand-passes, stand-past}
 use Rattle.rollout_laws.proofs.Validity.{plan-is_valid}
@@ -18,7 +18,6 @@ use Rattle.rollback_plan.specs.Levels.{ceiling, is_levelled, is_levelled_at}
 use Rattle.rollback_plan.specs.Turns.{BeginsBack, BegunSoFar, HasComeSoFar, TurnsFirstAt, comes_to, may_turn}
 use Rattle.rollback_plan.proofs.Ceilings.{begun-up_to_ceiling}
 use Rattle.rollback_plan.proofs.Mirror.{changes-mirrored, content-mirrored, last-turned}
-use Rattle.rollback_plan.proofs.TurnStages.{lists-same}
 
 -- ---- an item with so many operations settled, of those that it has
 
@@ -74,7 +73,7 @@ module _ (p : Problem) (plan : Plan) (h : History) (s : ℕ) (legal : is_legal p
   begins-back sound = record {
     sound = sound;
     contents = λ n lt.
-        ap (content_after (back_problem p) (back_plan plan) (item_at p n)) (list_below-at (item_count p) (λ m. operations p plan (item_at p m) - comes_to p plan h s m) 0 n lt)
+        ap (content_after (back_problem p) (back_plan plan) (item_at p n)) (list_below-at (item_count p) (λ m. operations p plan (item_at p m) - comes_to p plan h s m) n 0 lt)
         ∙ content-back p plan (item_at p n) (comes_to p plan h s n) (comes-exist n lt) valid;
   }
 
@@ -102,7 +101,7 @@ module _ (p : Problem) (plan : Plan) (found h : History) (s t : ℕ) (more : (n 
   no-later : t ≤ s
   no-later = elim (cases_lt s t) as (λ c. t ≤ s) [
     | inl before ↦
-        let starts = lists-same (item_count p) (λ n. operations p plan (item_at p n) - comes_to p plan h s n) (λ n. operations p plan (item_at p n) - comes_to p plan found s n)
+        let starts = list_below-same (item_count p) (λ n. operations p plan (item_at p n) - comes_to p plan h s n) (λ n. operations p plan (item_at p n) - comes_to p plan found s n)
         (λ n lt. ap (λ (k : ℕ). operations p plan (item_at p n) - k) (same-so_far n lt)) in
         let still : may_turn p plan h s ≡ true = ap (is_sound (back_problem p) (back_plan plan)) starts ∙ turned in
         absurd (both_ways (may_turn p plan h s) (again.first s before) still)

@@ -1,5 +1,5 @@
 -- A history may turn at its ceiling, so there is a first stage at which it may.
-use Rattle.std.proofs.Common.{◌≡◌, ◌⊎◌, ℕ, zero, suc, ◌+◌, ◌-◌, ◌<◌, ◌≤◌, Bool, true, false, [], ◌∷◌, ◌++◌, inl, inr, refl, sym, ap, ap₂, ◌∙◌, subst, arith}
+use Rattle.std.proofs.Common.{◌≡◌, ◌⊎◌, ℕ, zero, suc, ◌+◌, ◌-◌, ◌<◌, ◌≤◌, Bool, true, false, inl, inr, refl, sym, ap, ◌∙◌, subst, arith}
 use Rattle.std.proofs.lemmas.Bool.{both_ways, cases_Bool, cases_lt}
 use Rattle.rollout_rules.specs.Sums.{list_below}
 use Rattle.rollout_rules.specs.Wan.{Problem, Plan, last_stage}
@@ -10,6 +10,7 @@ use Rattle.rollout_rules.specs.History.{History}
 use Rattle.rollout_rules.specs.Valid.{is_valid_plan}
 use Rattle.rollout_rules.specs.Legal.{is_legal, is_sound}
 use Rattle.rollout_rules.specs.declared.item.Item.{Item}
+use Rattle.rollout_rules.proofs.Rows.{list_below-same}
 use Rattle.rollout_laws.proofs.Validity.{plan-is_valid}
 use Rattle.rollback_plan.specs.Turning.{back_problem, back_plan}
 use Rattle.rollback_plan.specs.Levels.{BegunUpTo, back_start, ceiling}
@@ -48,10 +49,6 @@ none-or_first test (suc k) = elim (none-or_first test k) as (λ c. NoneBelow tes
 
 -- ---- at the ceiling the start is that of the way back from there
 
-pub lists-same : (k : ℕ) (f g : ℕ → ℕ) → ((n : ℕ) → n < k → f n ≡ g n) → list_below k f ≡ list_below k g
-lists-same zero f g same = refl
-lists-same (suc k) f g same = ap₂ (λ xs x. xs ++ x ∷ []) (lists-same k f g (λ n lt. same n (omega arith))) (same k (omega arith))
-
 module _ (p : Problem) (plan : Plan) (h : History) (net : IsNetwork p) (valid : is_valid_plan p plan ≡ true) (legal : is_legal p plan h ≡ true) where
   abbrev c : ℕ
   c = ceiling p plan h
@@ -82,7 +79,7 @@ module _ (p : Problem) (plan : Plan) (h : History) (net : IsNetwork p) (valid : 
 
   pub start-at_ceiling : turn_start p plan h c ≡ back_start p plan c
   start-at_ceiling =
-      lists-same (item_count p) (λ n. operations p plan (item_at p n) - comes_to p plan h c n) (λ n. changes_to q there (item_at q n) left) number-at
+      list_below-same (item_count p) (λ n. operations p plan (item_at p n) - comes_to p plan h c n) (λ n. changes_to q there (item_at q n) left) number-at
       ∙ ap (λ (k : ℕ). list_below k (λ n. changes_to q there (item_at q n) left)) (sym (count-turned p))
 
   pub turns-at_ceiling : may_turn p plan h c ≡ true

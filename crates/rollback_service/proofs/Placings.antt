@@ -5,8 +5,7 @@ use Rattle.rollout_rules.specs.Sums.{list_below}
 use Rattle.rollout_rules.specs.Wan.{Rollout}
 use Rattle.rollout_rules.specs.Items.{item_count}
 use Rattle.rollout_rules.specs.History.{History, flies, settled, started}
-use Rattle.rollout_rules.proofs.Rows.{list_below-length}
-use Rattle.rollout_laws.proofs.Contents.{list_below-at}
+use Rattle.rollout_rules.proofs.Rows.{list_below-length, list_below-at}
 use Rattle.rollout_laws.proofs.Histories.{flies-started}
 use Rattle.disk_model.specs.Traces.{DiskTrace}
 use Rattle.disk_model.specs.Moments.{LeavesOnly}
@@ -29,7 +28,7 @@ settled-start n start long =
     ext_get_or 0 (list_below n (settled (started start))) start (list_below-length n (settled (started start)) ∙ sym long) (λ i inside.
     let lt : i < n = omega (arith, inside, list_below-length n (settled (started start))) in
     let none : settled (started start) i ≡ get_or start i 0 = omega arith in
-    list_below-at n (settled (started start)) 0 i lt ∙ none)
+    list_below-at n (settled (started start)) i 0 lt ∙ none)
 
 -- what is placed of a graph that begins the way back at a start
 pub kept-is : (digest : Digest) (g : Followed) (r : Rollout) (migration : ℕ) (start : List ℕ) → digest ≡ digest_for (back r) (migration + 1) → g.rollout ≡ back r → g.history ≡ started start → IsStartBack r start

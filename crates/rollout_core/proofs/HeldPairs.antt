@@ -1,8 +1,8 @@
 -- What the switches hold, by the pairs alone.
-use Rattle.std.proofs.Common.{◌≡◌, ℕ, zero, suc, ◌+◌, ◌<◌, Bool, true, false, cond, ◌==◌, List, [], ◌∷◌, ◌++◌, length, length-append, length-set, slice_index, get_or, set, refl, sym, ap, ◌∙◌, subst, inl, inr, arith, eq-eqb}
+use Rattle.std.proofs.Common.{◌≡◌, ℕ, ◌+◌, ◌<◌, Bool, true, cond, List, [], ◌∷◌, ◌++◌, length, length-set, slice_index, get_or, set, refl, sym, ap, ◌∙◌, subst, inl, inr, arith, eq-eqb}
 use Rattle.std.proofs.Math.ListN.{replicate}
-use Rattle.std.proofs.lemmas.Bool.{cases_Bool, cases_eq, cases_lt}
-use Rattle.std.proofs.lemmas.List.{get_or_default, get_or_append_left, get_or_push, get_or-set_same, get_or-set_other, ext_get_or, get_or-replicate, length-replicate}
+use Rattle.std.proofs.lemmas.Bool.{cases_Bool, cases_eq}
+use Rattle.std.proofs.lemmas.List.{get_or_default, get_or-set_same, get_or-set_other, ext_get_or, get_or-replicate, length-replicate}
 use Rattle.rollout_rules.specs.Sums.{list_below}
 use Rattle.rollout_rules.specs.Wan.{Problem, Plan, Rollout}
 use Rattle.rollout_rules.specs.Items.{item_count, item_at}
@@ -14,23 +14,11 @@ use Rattle.rollout_rules.specs.declared.held.Held.{Held}
 use Rattle.rollout_rules.specs.declared.held.Given.{Given}
 use Rattle.rollout_rules.specs.declared.op.Op.{Op}
 use Rattle.rollout_rules.specs.declared.op.Entry.{Entry}
+use Rattle.rollout_rules.proofs.Rows.{list_below-at, list_below-length}
 use Rattle.rollout_core.specs.Worlds.{Recorded, Standing, holdings, standing_of, with_held}
 
 -- ---- a list by its places
 module _ {X : Type 0} where
-  pub list_below-length : (n : ℕ) (f : ℕ → X) → length (list_below n f) ≡ n
-  list_below-length zero f = refl
-  list_below-length (suc n) f = omega (arith, length-append (list_below n f) (f n ∷ []), list_below-length n f)
-
-  pub list_below-at : (n : ℕ) (f : ℕ → X) (k : ℕ) (d : X) → k < n → get_or (list_below n f) k d ≡ f k
-  list_below-at zero f k d lt = absurd (omega arith)
-  list_below-at (suc n) f k d lt = elim (cases_lt k n) as (λ _. get_or (list_below n f ++ f n ∷ []) k d ≡ f k) [
-    | inl below ↦ get_or_append_left (list_below n f) (f n ∷ []) d k (omega (arith, below, list_below-length n f)) ∙ list_below-at n f k d below
-    | inr above ↦
-        let at : n ≡ k = omega (arith, above, lt) in
-        subst (λ m. get_or (list_below n f ++ f n ∷ []) m d ≡ f m) at (get_or_push (list_below n f) (f n) d n (list_below-length n f))
-  ]
-
   pub list_below-same : (n : ℕ) (x d : X) → list_below n (λ k. x) ≡ replicate n x
   list_below-same n x d =
       ext_get_or d (list_below n (λ k. x)) (replicate n x) (list_below-length n (λ k. x) ∙ sym (length-replicate n x))

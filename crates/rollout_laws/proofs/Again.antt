@@ -11,11 +11,10 @@ use Rattle.rollout_rules.specs.Agent.{first_pair, Holding, nothing_held}
 use Rattle.rollout_rules.specs.World.{World, pair_at, first_world, are_first_pairs, held_of, now, after_events}
 use Rattle.rollout_rules.specs.declared.held.Held.{Held}
 use Rattle.rollout_rules.specs.declared.event.Event.{Event}
-use Rattle.rollout_rules.proofs.Rows.{list_below-length}
+use Rattle.rollout_rules.proofs.Rows.{list_below-length, list_below-at}
 use Rattle.rollout_laws.specs.Kept.{IsKept}
 use Rattle.rollout_laws.specs.SafeWorlds.{applied, pairs_held}
 use Rattle.rollout_laws.proofs.Within.{held-sound}
-use Rattle.rollout_laws.proofs.Contents.{list_below-at}
 use Rattle.rollout_laws.proofs.Pairs.{number-same}
 use Rattle.rollout_laws.proofs.Keeping.{first_pairs-from, held-first_pair, held-start}
 use Rattle.rollout_laws.proofs.Worlds.{every_world_is_kept}
@@ -31,7 +30,7 @@ module _ (p : Problem) (plan : Plan) where
     nth_pair n lt = get_or-map (λ v. v.held) w.held n nothing_held first_pair (subst (λ k. n < k) (sym kept.items) lt)
 
     nth_applied : (n : ℕ) → n < item_count p → slice_index (applied p w) n ≡ now w n
-    nth_applied n lt = list_below-at (item_count p) (now w) 0 n lt
+    nth_applied n lt = list_below-at (item_count p) (now w) n 0 lt
 
     pub may_go_on : are_first_pairs p (applied p w) w.migration (pairs_held w) ≡ true
     may_go_on =

@@ -1,21 +1,13 @@
 -- What an item takes goes by its content alone, and is larger where rates and marks are.
-use Rattle.std.proofs.Common.{◌≡◌, ℕ, zero, suc, ◌<◌, ◌≤◌, Bool, true, false, ◌&&◌, if◌then◌else◌, [], ◌∷◌, get_or, inl, inr, sym, refl, ap, ◌∙◌, arith, ◌==◌}
-use Rattle.std.proofs.lemmas.Bool.{cases_lt, or_left, or_right}
-use Rattle.std.proofs.lemmas.List.{get_or_append_left, get_or_push}
-use Rattle.rollout_rules.specs.Sums.{list_below}
+use Rattle.std.proofs.Common.{◌≡◌, ℕ, ◌<◌, ◌≤◌, Bool, true, false, ◌&&◌, if◌then◌else◌, get_or, sym, refl, ap, ◌∙◌, arith, ◌==◌}
+use Rattle.std.proofs.lemmas.Bool.{or_left, or_right}
+use Rattle.lists.proofs.Conditions.{if_mono}
 use Rattle.rollout_rules.specs.Wan.{Problem, Plan, flow_at, tunnel_of, switch_of, width_of, crosses, rate_at, mark_at, next_stage}
 use Rattle.rollout_rules.specs.Items.{Resource, the_link, the_table, takes, content, use_at, greater_rate, either_mark, step_maximum}
 use Rattle.rollout_rules.specs.declared.item.Item.{Item}
 use Rattle.rollout_rules.specs.declared.item.Item.TheVariants as item
 use Rattle.rollout_rules.proofs.Below.{sum_below-mono}
-use Rattle.rollout_rules.proofs.Rows.{list_below-length}
-
-pub list_below-at : {A : Type 0} (n : ℕ) (f : ℕ → A) (d : A) (k : ℕ) → k < n → get_or (list_below n f) k d ≡ f k
-list_below-at zero f d k lt = absurd (omega arith)
-list_below-at (suc n) f d k lt = elim (cases_lt k n) as (λ c. get_or (list_below (suc n) f) k d ≡ f k) [
-  | inl below ↦ get_or_append_left (list_below n f) (f n ∷ []) d k (omega (arith, list_below-length n f)) ∙ list_below-at n f d k below
-  | inr above ↦ let at : k ≡ n = omega arith in rw at (get_or_push (list_below n f) (f n) d n (list_below-length n f))
-]
+use Rattle.rollout_rules.proofs.Rows.{list_below-at}
 
 -- on an item, the first rates and marks are at most the second
 abbrev pub IsWithin : Problem → (ℕ → ℕ) → (ℕ → ℕ → Bool) → (ℕ → ℕ) → (ℕ → ℕ → Bool) → Item → Type 0
@@ -26,16 +18,12 @@ there-mono : (a b : Bool) (width : ℕ) → (a ≡ true → b ≡ true) → (if 
 there-mono true b width up = rw (up refl) (omega arith)
 there-mono false b width up = omega arith
 
-pub if-mono : (a : Bool) (m n : ℕ) → m ≤ n → (if a then m else 0) ≤ (if a then n else 0)
-if-mono true m n le = le
-if-mono false m n le = omega arith
-
 and-mono : (w a b : Bool) → (a ≡ true → b ≡ true) → (w && a) ≡ true → (w && b) ≡ true
 and-mono true a b up e = up e
 and-mono false a b up e = e
 
 pub takes-mono : (p : Problem) (rate rate' : ℕ → ℕ) (there there' : ℕ → ℕ → Bool) (i : Item) (r : Resource) → IsWithin p rate there rate' there' i → takes p rate there i r ≤ takes p rate' there' i r
-takes-mono p rate rate' there there' (item.Flow f) (the_link l) h = sum_below-mono (flow_at p f).tunnels _ _ (λ j lt. if-mono (crosses p (tunnel_of p f j) l) (rate (tunnel_of p f j)) (rate' (tunnel_of p f j)) (h j lt))
+takes-mono p rate rate' there there' (item.Flow f) (the_link l) h = sum_below-mono (flow_at p f).tunnels _ _ (λ j lt. if_mono (crosses p (tunnel_of p f j) l) (rate (tunnel_of p f j)) (rate' (tunnel_of p f j)) (h j lt))
 takes-mono p rate rate' there there' (item.Flow f) (the_table w) h = omega arith
 takes-mono p rate rate' there there' (item.Entry t g) (the_link l) h = omega arith
 takes-mono p rate rate' there there' (item.Entry t g) (the_table w) h =
@@ -53,9 +41,9 @@ mark-from false false e = refl
 
 pub content-rate : (p : Problem) (plan : Plan) (f a b : ℕ) → content p plan (item.Flow f) a ≡ content p plan (item.Flow f) b → (j : ℕ) → j < (flow_at p f).tunnels → rate_at plan a (tunnel_of p f j) ≡ rate_at plan b (tunnel_of p f j)
 content-rate p plan f a b e j lt =
-    sym (list_below-at (flow_at p f).tunnels (λ k. rate_at plan a (tunnel_of p f k)) 0 j lt)
+    sym (list_below-at (flow_at p f).tunnels (λ k. rate_at plan a (tunnel_of p f k)) j 0 lt)
     ∙ ap (λ xs. get_or xs j 0) e
-    ∙ list_below-at (flow_at p f).tunnels (λ k. rate_at plan b (tunnel_of p f k)) 0 j lt
+    ∙ list_below-at (flow_at p f).tunnels (λ k. rate_at plan b (tunnel_of p f k)) j 0 lt
 
 pub content-mark : (p : Problem) (plan : Plan) (t h a b : ℕ) → content p plan (item.Entry t h) a ≡ content p plan (item.Entry t h) b → mark_at plan a t ≡ mark_at plan b t
 content-mark p plan t h a b e = mark-from (mark_at plan a t) (mark_at plan b t) (ap (λ xs. get_or xs 0 0) e)

@@ -18,12 +18,11 @@ use Rattle.rollout_rules.specs.declared.op.Op.{Op}
 use Rattle.rollout_rules.specs.declared.op.Entry.{Entry}
 use Rattle.rollout_rules.specs.declared.event.Event.TheVariants as event
 use Rattle.rollout_rules.proofs.Below.{all_below-at, all_below-from}
-use Rattle.rollout_rules.proofs.Rows.{list_below-length}
+use Rattle.rollout_rules.proofs.Rows.{list_below-length, list_below-at}
 use Rattle.rollout_rules.proofs.Pairs.{at_most-refl}
 use Rattle.rollout_laws.specs.Kept.{IsBegun, IsEarlierPair, IsHeldRight, HasAnswer, IsKept}
 use Rattle.rollout_laws.specs.SafeWorlds.{MayBeHeldAtFirst}
 use Rattle.rollout_laws.proofs.Histories.{begun-with, take_follows, started_is_legal, is_legal-append}
-use Rattle.rollout_laws.proofs.Contents.{list_below-at}
 use Rattle.rollout_laws.proofs.Pairs.{number-same, number-answered}
 use Rattle.rollout_laws.proofs.Answers.{all_answered-more, all_answered-take, settled-applied}
 
@@ -46,7 +45,7 @@ in_flight_is_begun p h =
 
 -- what is held at first
 pub first_held : (p : Problem) (plan : Plan) (start : List ℕ) (migration : ℕ) (first : List Held) (n : ℕ) → n < item_count p → held_of (first_world p plan start migration first) n ≡ holding_of p plan start migration n (pair_at first n)
-first_held p plan start migration first n lt = list_below-at (item_count p) (λ k. holding_of p plan start migration k (pair_at first k)) nothing_held n lt
+first_held p plan start migration first n lt = list_below-at (item_count p) (λ k. holding_of p plan start migration k (pair_at first k)) n nothing_held lt
 
 -- a first pair is of this migration or of an earlier one, and stands for the start
 first_is_earlier : (migration start : ℕ) (held : Held) → is_first_pair migration start held ≡ true → (held.migration ≡ migration) ⊎ IsEarlierPair migration held held
@@ -88,7 +87,7 @@ first_pairs-are p start migration first firsts n lt =
 pub new_pairs_are_first : (p : Problem) → are_first_pairs p (no_start p) 0 (no_pairs p) ≡ true
 new_pairs_are_first p =
     first_pairs-from p (no_start p) 0 (no_pairs p)
-    (λ n lt. inl (list_below-at (item_count p) (λ k. first_pair) first_pair n lt ∙ ap (pair_of 0) (sym (list_below-at (item_count p) (λ k. 0) 0 n lt))))
+    (λ n lt. inl (list_below-at (item_count p) (λ k. first_pair) n first_pair lt ∙ ap (pair_of 0) (sym (list_below-at (item_count p) (λ k. 0) n 0 lt))))
 
 -- at first each item is held with its pair, and with the content of the start
 pub held-first_pair : (p : Problem) (plan : Plan) (start : List ℕ) (migration : ℕ) (first : List Held) (n : ℕ) → n < item_count p → (held_of (first_world p plan start migration first) n).held ≡ pair_at first n

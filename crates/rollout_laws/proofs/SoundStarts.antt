@@ -12,9 +12,9 @@ use Rattle.rollout_rules.specs.Legal.{has_settled, had_its_needs, is_sound, is_l
 use Rattle.rollout_rules.specs.declared.item.Item.{Item}
 use Rattle.rollout_rules.proofs.Below.{all_below-at, all_below-from}
 use Rattle.rollout_rules.proofs.Numbers.{item_at-number_of, number_of-below, is_item-item_at}
+use Rattle.rollout_rules.proofs.Rows.{list_below-at}
 use Rattle.rollout_laws.specs.Good.{begun_at, IsGood}
 use Rattle.rollout_laws.proofs.Histories.{flies-started}
-use Rattle.rollout_laws.proofs.Contents.{list_below-at}
 use Rattle.rollout_laws.proofs.Goods.{fits-room, room-fits, good-first}
 use Rattle.rollout_laws.proofs.Validity.{IsValid, plan-is_valid}
 
@@ -66,7 +66,7 @@ module _ (p : Problem) (plan : Plan) where
     }))
 
   pub no_start-sound : is_valid_plan p plan ≡ true → is_sound p plan (no_start p) ≡ true
-  no_start-sound valid = first-sound (no_start p) (plan-is_valid p plan valid) (λ n lt. list_below-at (item_count p) (λ k. 0) 0 n lt)
+  no_start-sound valid = first-sound (no_start p) (plan-is_valid p plan valid) (λ n lt. list_below-at (item_count p) (λ k. 0) n 0 lt)
 
   pub empty_start-sound : is_valid_plan p plan ≡ true → is_sound p plan [] ≡ true
   empty_start-sound valid = first-sound [] (plan-is_valid p plan valid) (λ n lt. refl)

@@ -13,9 +13,9 @@ use Rattle.rollout_rules.specs.declared.item.Item.{Item}
 use Rattle.rollout_rules.specs.declared.op.Op.{Op}
 use Rattle.rollout_rules.specs.declared.op.Entry.TheVariants.{Done}
 use Rattle.rollout_rules.proofs.Numbers.{number_of-below}
+use Rattle.rollout_rules.proofs.Rows.{list_below-at}
 use Rattle.rollout_laws.specs.Good.{begun_at, IsGood, IsBetween, AreWithin, AreHeldWithin, places_held}
 use Rattle.rollout_laws.proofs.Histories.{ends}
-use Rattle.rollout_laws.proofs.Contents.{list_below-at}
 use Rattle.rollout_laws.proofs.Rooms.{least_stage-up, stand-later, room-later}
 use Rattle.rollout_laws.proofs.Goods.{good-later}
 use Rattle.rollout_laws.proofs.SoundStarts.{begun_at-started, good-sound}
@@ -68,7 +68,7 @@ started-held p h held within = record {
 }
   where
     same : (i : Item) → is_item p i ≡ true → settled (started (list_below (item_count p) held)) (number_of p i) ≡ held (number_of p i)
-    same i here = omega (arith, list_below-at (item_count p) held 0 (number_of p i) (number_of-below p i here))
+    same i here = omega (arith, list_below-at (item_count p) held (number_of p i) 0 (number_of-below p i here))
 
 pub held-sound : (p : Problem) (plan : Plan) (h : History) (held : ℕ → ℕ) → IsNetwork p → is_legal p plan h ≡ true → AreHeldWithin p h held → is_sound p plan (list_below (item_count p) held) ≡ true
 held-sound p plan h held net legal within =

@@ -1,13 +1,13 @@
 -- A tunnel's rate changes, and with it the sums of the links that it crosses.
-use Rattle.std.proofs.Common.{◌≡◌, ℕ, zero, suc, ◌+◌, ◌-◌, ◌*◌, ◌<◌, ◌≤◌, Bool, true, false, ◌||◌, ◌==◌, if◌then◌else◌, List, [], ◌∷◌, length, get_or, set, inl, inr, refl, sym, ap, ◌∙◌, subst, arith, eqb-true, eq-eqb, get_or-set_same, get_or-set_other}
+use Rattle.std.proofs.Common.{◌≡◌, ℕ, zero, suc, ◌+◌, ◌-◌, ◌*◌, ◌<◌, ◌≤◌, Bool, true, false, ◌==◌, if◌then◌else◌, List, [], ◌∷◌, length, get_or, set, inl, inr, refl, sym, ap, ◌∙◌, subst, arith, eqb-true, eq-eqb, get_or-set_same, get_or-set_other}
 use Rattle.std.proofs.lemmas.Bool.{cases_Bool, cases_lt}
 use Rattle.std.proofs.Math.ListN.{length-set}
 use Rattle.std.specs.List.{list_any}
-use Rattle.rollout_rules.specs.Sums.{sum_below}
+use Rattle.lists.proofs.Conditions.{or_second, not_both}
 use Rattle.rollout_rules.specs.Wan.{Problem, tunnel_at, link_at, crosses}
 use Rattle.rollout_rules.specs.Items.{load}
 use Rattle.rollout_rules.specs.Network.{IsNetwork}
-use Rattle.rollout_rules.proofs.Below.{sum_below-but}
+use Rattle.rollout_rules.proofs.Below.{sum_below-but, sum_below-at, sum_below-most}
 use Rattle.rollout_report.specs.Loads.{AreSums}
 
 -- the sums in the middle of a change: the first k links of the tunnel have the new rate, the others the old
@@ -15,17 +15,6 @@ pub record IsPartly (p : Problem) (rates links : List ℕ) (old new : ℕ) (sums
   pub count : length sums ≡ length p.links
   pub changed : (g : ℕ) → g < k → get_or sums (get_or links g 0) 0 + old ≡ load p (λ t. get_or rates t 0) (get_or links g 0) + new
   pub rest : (l : ℕ) → l < length p.links → ((g : ℕ) → g < k → get_or links g 0 ≡ l → ⊥) → get_or sums l 0 ≡ load p (λ t. get_or rates t 0) l
-
-pub term-below : (n k : ℕ) (f : ℕ → ℕ) → k < n → f k ≤ sum_below n f
-term-below zero k f lt = absurd (omega arith)
-term-below (suc n) k f lt = elim (cases_lt k n) as (λ c. f k ≤ sum_below (suc n) f) [
-  | inl below ↦ omega (arith, term-below n k f below)
-  | inr at ↦ let e : k ≡ n = omega arith in rw e (omega arith)
-]
-
-pub sum-most : (n b : ℕ) (f : ℕ → ℕ) → ((k : ℕ) → k < n → f k ≤ b) → sum_below n f ≤ n * b
-sum-most zero b f each = omega arith
-sum-most (suc n) b f each = omega (arith, sum-most n b f (λ k lt. each k (omega arith)), each n (omega arith))
 
 -- a number among others stands at a place
 pub found : (x : ℕ) (xs : List ℕ) → list_any (λ k. k == x) xs ≡ true → (g : ℕ) × (g < length xs) × (get_or xs g 0 ≡ x)
@@ -38,11 +27,7 @@ found x (y ∷ xs) e = elim (cases_Bool (y == x)) as (λ c. (g : ℕ) × (g < le
 among : (x : ℕ) (xs : List ℕ) (g : ℕ) → g < length xs → get_or xs g 0 ≡ x → list_any (λ k. k == x) xs ≡ true
 among x [] g lt e = absurd (omega arith)
 among x (y ∷ xs) zero lt e = let here : (y == x) ≡ true = eq-eqb y x e in rw here refl
-among x (y ∷ xs) (suc g) lt e = or-right (y == x) _ (among x xs g (omega arith) e)
-  where
-    or-right : (a b : Bool) → b ≡ true → (a || b) ≡ true
-    or-right true b e = refl
-    or-right false b e = e
+among x (y ∷ xs) (suc g) lt e = or_second (y == x) _ (among x xs g (omega arith) e)
 
 -- a tunnel has no link twice
 pub links_apart : (p : Problem) (t g k : ℕ) → IsNetwork p → t < length p.tunnels → g < k → k < length (tunnel_at p t).links → get_or (tunnel_at p t).links g 0 ≡ get_or (tunnel_at p t).links k 0 → ⊥
@@ -58,10 +43,10 @@ link_below p t g net lt low = (net.tunnels t lt).path.links g low
 module _ (p : Problem) (net : IsNetwork p) (rates : List ℕ) (t : ℕ) (lt : t < length p.tunnels) where
   -- what a link of the tunnel carries is at least the tunnel's rate, and it is small
   pub carried-in : (l : ℕ) → list_any (λ k. k == l) (tunnel_at p t).links ≡ true → get_or rates t 0 ≤ load p (λ u. get_or rates u 0) l
-  carried-in l e = subst (λ x. x ≤ load p (λ u. get_or rates u 0) l) (rw e refl) (term-below (length p.tunnels) t (λ u. if crosses p u l then get_or rates u 0 else 0) lt)
+  carried-in l e = subst (λ x. x ≤ load p (λ u. get_or rates u 0) l) (rw e refl) (sum_below-at (length p.tunnels) (λ u. if crosses p u l then get_or rates u 0 else 0) t lt)
 
   pub load-most : (l : ℕ) → ((u : ℕ) → get_or rates u 0 ≤ 18446744073709551615) → load p (λ u. get_or rates u 0) l ≤ 4096 * 18446744073709551615
-  load-most l each = omega (arith, net.few, sum-most (length p.tunnels) 18446744073709551615 (λ u. if crosses p u l then get_or rates u 0 else 0) (λ u _. small (crosses p u l) (get_or rates u 0) (each u)))
+  load-most l each = omega (arith, net.few, sum_below-most (length p.tunnels) 18446744073709551615 (λ u. if crosses p u l then get_or rates u 0 else 0) (λ u _. small (crosses p u l) (get_or rates u 0) (each u)))
     where
       small : (b : Bool) (x : ℕ) → x ≤ 18446744073709551615 → (if b then x else 0) ≤ 18446744073709551615
       small true x le = le
@@ -87,14 +72,11 @@ module _ (p : Problem) (net : IsNetwork p) (rates : List ℕ) (t : ℕ) (lt : t 
             let moved = rw yes' at (load-set l) in
             omega (arith, new, moved)
         | inr not' ↦
-            let same = part.rest l low (λ g less e. clash (list_any (λ k. k == l) (tunnel_at p t).links) (among l (tunnel_at p t).links g less e) not') in
+            let same = part.rest l low (λ g less e. not_both (list_any (λ k. k == l) (tunnel_at p t).links) (among l (tunnel_at p t).links g less e) not') in
             let moved = rw not' at (load-set l) in
             omega (arith, same, moved)
       ];
     }
-      where
-        clash : (b : Bool) → b ≡ true → b ≡ false → ⊥
-        clash b x y = cc
 
 module _ (p : Problem) (net : IsNetwork p) (rates : List ℕ) (t : ℕ) (lt : t < length p.tunnels) (rate : ℕ) where
   pub partly-start : (sums : List ℕ) → AreSums p rates sums → IsPartly p rates (tunnel_at p t).links (get_or rates t 0) rate sums 0

@@ -2,6 +2,7 @@
 use Rattle.std.proofs.Common.{◌≡◌, ℕ, ◌+◌, ◌<◌, Bool, true, false, ◌&&◌, ◌||◌, ◌==◌, if◌then◌else◌, max, List, length, get_or, set, inl, inr, refl, sym, ap, ap₂, ◌∙◌, subst, arith, eqb-true, get_or-set_same, get_or-set_other}
 use Rattle.std.proofs.lemmas.Bool.{cases_Bool, cases_lt}
 use Rattle.std.proofs.Math.ListN.{length-set}
+use Rattle.lists.proofs.Conditions.{unequal_clash}
 use Rattle.rollout_rules.specs.Wan.{Problem, Plan, hops, switch_of, width_of, mark_at}
 use Rattle.rollout_rules.specs.Items.{item_count, number_of}
 use Rattle.rollout_rules.specs.History.{History, settled, begun}
@@ -79,15 +80,12 @@ module _ (p : Problem) (plan : Plan) (h : History) (k : ℕ) (e : Entry) (lt : k
             ∙ ap₂ (λ i j. either_at plan (stand_after p plan i (settled (front h (k + 1)) j)) (next_stand p plan i (settled (front h (k + 1)) j) (begun (front h (k + 1)) j)) t) (sym same) (sym own)
             ∙ ap (λ v. either_at plan (stand_after p plan (item.Entry u m) (settled (front h (k + 1)) (number_of p (item.Entry u m)))) (next_stand p plan (item.Entry u m) (settled (front h (k + 1)) (number_of p (item.Entry u m))) (begun (front h (k + 1)) (number_of p (item.Entry u m)))) v) (sym tunnel)
         | inr q ↦
-            let other : number_of p (item.Entry u m) ≡ item_of e → ⊥ = λ i. clash (number_of p (item.Entry u m)) (item_of e) i q in
+            let other : number_of p (item.Entry u m) ≡ item_of e → ⊥ = λ i. unequal_clash (number_of p (item.Entry u m)) (item_of e) i q in
             ap (λ l. marked p l u m) marks
             ∙ get_or-set_other before.marks (item_of e) (number_of p (item.Entry u m)) (either_at plan here next t) false other
             ∙ was.held.each_mark u m low small ∙ sym (mark-stays u m (λ i. other (sym i)))
       ];
     }
-      where
-        clash : (m n : ℕ) → m ≡ n → (m == n) ≡ false → ⊥
-        clash m n i q = grind arith
 
     module _ (sums : (w : ℕ) → (switch_of p t n ≡ w → ⊥) → get_or after.sums w 0 ≡ get_or before.sums w 0)
         (raised : after.peaks ≡ set before.peaks (switch_of p t n) (max (get_or before.peaks (switch_of p t n) 0) (get_or after.sums (switch_of p t n) 0))) where
@@ -98,14 +96,11 @@ module _ (p : Problem) (plan : Plan) (h : History) (k : ℕ) (e : Entry) (lt : k
             subst (λ x. get_or after.peaks x 0 ≡ max (get_or before.peaks x 0) (get_or after.sums x 0)) here
             (ap (λ l. get_or l (switch_of p t n) 0) raised ∙ get_or-set_same before.peaks (switch_of p t n) _ 0 (omega (arith, was.peaks.switches, (net.tunnels t row).path.switches n hop)))
         | inr q ↦
-            let apart : switch_of p t n ≡ w → ⊥ = λ i. clash (switch_of p t n) w i q in
+            let apart : switch_of p t n ≡ w → ⊥ = λ i. unequal_clash (switch_of p t n) w i q in
             let kept : get_or after.peaks w 0 ≡ get_or before.peaks w 0 = ap (λ l. get_or l w 0) raised ∙ get_or-set_other before.peaks (switch_of p t n) w _ 0 (λ i. apart (sym i)) in
             let held = peak-holds k (get_or before.peaks w 0) (λ i. table_sum p plan (front h i) w) (was.peaks.each w low) in
             omega (arith, kept, sums w apart, held, tally-is p plan (front h k) before.marks before.sums was.held w low)
       ]
-        where
-          clash : (m n : ℕ) → m ≡ n → (m == n) ≡ false → ⊥
-          clash m n i q = grind arith
 
       pub tables-taken : AreFillsAt p plan h (k + 1) after
       tables-taken = record {

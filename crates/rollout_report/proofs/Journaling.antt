@@ -9,8 +9,7 @@ use Rattle.rollout_rules.specs.Items.{item_count}
 use Rattle.rollout_rules.specs.History.{History, dones_in, from_nothing, settled, started}
 use Rattle.rollout_rules.specs.Legal.{is_sound}
 use Rattle.rollout_rules.specs.declared.op.Entry.{Entry}
-use Rattle.rollout_rules.proofs.Rows.{list_below-length}
-use Rattle.rollout_laws.proofs.Contents.{list_below-at}
+use Rattle.rollout_rules.proofs.Rows.{list_below-length, list_below-at}
 use Rattle.dependency_graph.specs.Graph.{Followed}
 use Rattle.intent_journal.specs.declared.digest.Digest.{Digest}
 use Rattle.intent_journal.specs.declared.fault.JournalFault.{JournalFault}
@@ -93,7 +92,7 @@ back_again s d = omega arith
 start_is : (h : History) (n : ℕ) → length h.start ≡ n → h.start ≡ list_below n (λ k. settled h k - dones_in h.entries k)
 start_is h n count =
     ext_get_or 0 h.start (list_below n (λ k. settled h k - dones_in h.entries k)) (count ∙ sym (list_below-length n (λ k. settled h k - dones_in h.entries k)))
-    (λ k lt. back_again (get_or h.start k 0) (dones_in h.entries k) ∙ sym (list_below-at n (λ k. settled h k - dones_in h.entries k) 0 k (omega (arith, lt, count))))
+    (λ k lt. back_again (get_or h.start k 0) (dones_in h.entries k) ∙ sym (list_below-at n (λ k. settled h k - dones_in h.entries k) k 0 (omega (arith, lt, count))))
 
 text_is : (g : Followed) → length g.history.start ≡ item_count g.rollout.problem → report_text g.rollout.problem g.rollout.plan g.history ≡ text_before g g.history.entries
 text_is g count = ap (λ s. report_text g.rollout.problem g.rollout.plan (record { start = s; entries = g.history.entries })) (start_is g.history (item_count g.rollout.problem) count)

@@ -1,6 +1,7 @@
 -- The sums of links and their peaks, entry by entry.
 use Rattle.std.proofs.Common.{◌≡◌, ℕ, suc, ◌+◌, ◌-◌, ◌<◌, ◌≤◌, Bool, true, false, not, ◌==◌, if◌then◌else◌, max, List, [], ◌∷◌, length, get_or, inl, inr, refl, sym, ap, ap₂, ◌∙◌, subst, arith, eqb-true}
 use Rattle.std.proofs.lemmas.Bool.{cases_Bool}
+use Rattle.lists.proofs.Conditions.{unequal_clash}
 use Rattle.rollout_rules.specs.Sums.{all_below}
 use Rattle.rollout_rules.specs.Wan.{Problem, Plan, flow_at, tunnel_at, tunnel_of, crosses}
 use Rattle.rollout_rules.specs.Items.{load}
@@ -103,13 +104,10 @@ module _ (p : Problem) (plan : Plan) (net : IsNetwork p) (h : History) (k : ℕ)
             ∙ ap₂ (λ x y. larger_at plan x y t) stands goes
             ∙ ap (λ f. larger_at plan (stand_after p plan (item.Flow f) (settled (front h (k + 1)) f)) (next_stand p plan (item.Flow f) (settled (front h (k + 1)) f) (begun (front h (k + 1)) f)) t) own
         | inr q ↦
-            let other : item_of e ≡ (tunnel_at p t).flow → ⊥ = λ i. clash (item_of e) (tunnel_at p t).flow i q in
+            let other : item_of e ≡ (tunnel_at p t).flow → ⊥ = λ i. unequal_clash (item_of e) (tunnel_at p t).flow i q in
             fresh.others t low (λ i. other (sym i)) ∙ was.loads.each_rate t low ∙ sym (rate-stays t other)
       ];
     }
-      where
-        clash : (m n : ℕ) → m ≡ n → (m == n) ≡ false → ⊥
-        clash m n i q = grind arith
 
     -- where none of its tunnels crosses a link the link's sum is as before
     sum-stays : (l : ℕ) → l < length p.links → ((t : ℕ) → t < length p.tunnels → (tunnel_at p t).flow ≡ item_of e → crosses p t l ≡ false) → get_or after.sums l 0 ≡ get_or before.sums l 0
@@ -117,13 +115,10 @@ module _ (p : Problem) (plan : Plan) (net : IsNetwork p) (h : History) (k : ℕ)
         sums.each l low
         ∙ sum_below-same (length p.tunnels) _ _ (λ t inside. elim (cases_Bool ((tunnel_at p t).flow == item_of e)) as (λ c. (if crosses p t l then get_or after.rates t 0 else 0) ≡ (if crosses p t l then get_or before.rates t 0 else 0)) [
           | inl q ↦ same_if (crosses p t l) (get_or after.rates t 0) (get_or before.rates t 0) (none t inside (eqb-true (tunnel_at p t).flow (item_of e) q))
-          | inr q ↦ ap (λ x. if crosses p t l then x else 0) (fresh.others t inside (λ i. clash (tunnel_at p t).flow (item_of e) i q))
+          | inr q ↦ ap (λ x. if crosses p t l then x else 0) (fresh.others t inside (λ i. unequal_clash (tunnel_at p t).flow (item_of e) i q))
         ])
         ∙ sym (was.loads.are_sums.each l low)
       where
-        clash : (m n : ℕ) → m ≡ n → (m == n) ≡ false → ⊥
-        clash m n i q = grind arith
-
         same_if : (b : Bool) (x y : ℕ) → b ≡ false → (if b then x else 0) ≡ (if b then y else 0)
         same_if true x y q = cc
         same_if false x y q = refl

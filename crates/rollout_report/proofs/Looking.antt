@@ -1,8 +1,9 @@
 -- What a course says of an item, and how it is kept.
-use Rattle.std.proofs.Common.{◌≡◌, ℕ, ◌+◌, ◌<◌, ◌≤◌, true, false, ◌==◌, if◌then◌else◌, List, [], ◌∷◌, length, get_or, set, inl, inr, refl, sym, ap, ap₂, ◌∙◌, subst, arith, eqb-true, eq-eqb, get_or-set_same, get_or-set_other}
+use Rattle.std.proofs.Common.{◌≡◌, ℕ, ◌+◌, ◌<◌, ◌≤◌, true, ◌==◌, if◌then◌else◌, List, [], ◌∷◌, length, get_or, set, inl, inr, refl, sym, ap, ap₂, ◌∙◌, subst, arith, eqb-true, eq-eqb, get_or-set_same, get_or-set_other}
 use Rattle.std.proofs.lemmas.Bool.{cases_Bool}
 use Rattle.std.proofs.Math.ListN.{length-set}
 use Rattle.std.proofs.lemmas.List.{get_or_read}
+use Rattle.lists.proofs.Conditions.{unequal_clash}
 use Rattle.rollout_rules.specs.Wan.{Rollout, last_stage}
 use Rattle.rollout_rules.specs.Items.{is_item, item_at, item_count}
 use Rattle.rollout_rules.specs.Operations.{stand_after}
@@ -98,13 +99,10 @@ module _ (was : Coursed) (rows : List Item) (stages : List ℕ) (is : IsCourse w
           (get_or-set_same stages op.item x 0 (omega (arith, is.all_stands, low)) ∙ moves (get_or was.counts.settled op.item 0) (is.stands op.item low)
           ∙ ap (stand_after was.rollout.problem was.rollout.plan (item_at was.rollout.problem op.item)) more)
       | inr q ↦
-          let other : op.item ≡ n → ⊥ = λ i. clash op.item n i q in
+          let other : op.item ≡ n → ⊥ = λ i. unequal_clash op.item n i q in
           get_or-set_other stages op.item n x 0 (λ i. other (sym i)) ∙ stays n small (ap (λ d. dones_in (d ∷ []) n) done ∙ settled-other (Done op) n other)
     ];
   }
-    where
-      clash : (m n : ℕ) → m ≡ n → (m == n) ≡ false → ⊥
-      clash m n i q = grind arith
 
 -- where an item stands after a history, and where it does next
 module _ (r : Rollout) (c : Coursed) (g : History) (n m : ℕ) (i : Item) (x : ℕ) (own : c.rollout ≡ r) (counts : AreCountsOf r.problem g c.counts) (lt : n < item_count r.problem) (same : n ≡ m) (is : i ≡ item_at r.problem n) where

@@ -2,6 +2,7 @@
 use Rattle.std.proofs.Common.{◌≡◌, ℕ, ◌+◌, ◌-◌, ◌*◌, ◌<◌, ◌≤◌, Bool, true, false, ◌&&◌, ◌==◌, if◌then◌else◌, List, length, get_or, set, inl, inr, refl, sym, ap, ap₂, ◌∙◌, subst, arith, eqb-true, eq-eqb, get_or-set_same, get_or-set_other}
 use Rattle.std.proofs.lemmas.Bool.{cases_Bool}
 use Rattle.std.proofs.Math.ListN.{length-set}
+use Rattle.lists.proofs.Conditions.{unequal_clash}
 use Rattle.rollout_rules.specs.Sums.{sum_below}
 use Rattle.rollout_rules.specs.Wan.{Problem, hops, switch_of, width_of}
 use Rattle.rollout_rules.specs.Items.{the_table, takes, entries_at, is_item, item_at, item_count, number_of}
@@ -11,8 +12,8 @@ use Rattle.rollout_rules.specs.declared.item.Item.TheVariants as item
 use Rattle.rollout_rules.proofs.Numbers.{number_of-below, item_at-number_of}
 use Rattle.rollout_rules.proofs.OverItems.{is_item-entry, entry-is_item, sum_items-but}
 use Rattle.rollout_rules.proofs.Totals.{sum_items-entries_at}
+use Rattle.rollout_rules.proofs.Below.{sum_below-at, sum_below-most}
 use Rattle.rollout_report.specs.Fills.{marked, AreTallies}
-use Rattle.rollout_report.proofs.Adding.{term-below, sum-most}
 
 -- what an entry of a width takes, where it is marked
 pub taken_if : Bool → ℕ → ℕ
@@ -64,8 +65,8 @@ module _ (p : Problem) (t h : ℕ) (lt : t < length p.tunnels) (low : h < hops p
     unfolding taken_if
     holds-mark =
         let same : (switch_of p t h == switch_of p t h) ≡ true = eq-eqb (switch_of p t h) (switch_of p t h) refl in
-        let inner = term-below (hops p t) h (λ k. if (switch_of p t k == switch_of p t h) && marked p marks t k then width_of p t else 0) low in
-        let outer = term-below (length p.tunnels) t (λ u. sum_below (hops p u) (λ k. if (switch_of p u k == switch_of p t h) && marked p marks u k then width_of p u else 0)) lt in
+        let inner = sum_below-at (hops p t) (λ k. if (switch_of p t k == switch_of p t h) && marked p marks t k then width_of p t else 0) h low in
+        let outer = sum_below-at (length p.tunnels) (λ u. sum_below (hops p u) (λ k. if (switch_of p u k == switch_of p t h) && marked p marks u k then width_of p u else 0)) t lt in
         let term : taken_if (marked p marks t h) (width_of p t) ≡ (if (switch_of p t h == switch_of p t h) && marked p marks t h then width_of p t else 0) = rw same refl in
         omega (arith, inner, outer, term)
 
@@ -89,13 +90,10 @@ module _ (p : Problem) (t h : ℕ) (lt : t < length p.tunnels) (low : h < hops p
                 omega (arith, new, sum, holds, moved)
             | inr apart ↦
                 let moved = rw apart at (tally-set w) in
-                let kept = get_or-set_other sums x w v 0 (λ e. clash x w (sym e) apart) in
+                let kept = get_or-set_other sums x w v 0 (λ e. unequal_clash x w (sym e) apart) in
                 omega (arith, kept, are.each w small, moved)
           ];
         }
-      where
-        clash : (m n : ℕ) → m ≡ n → (m == n) ≡ false → ⊥
-        clash m n i q = grind arith
 
 -- No table is asked for more than its paths at the largest width.
 entries-most : (p : Problem) → IsNetwork p → (there : ℕ → ℕ → Bool) (w : ℕ) → entries_at p there w ≤ 4096 * (17 * 16)
@@ -104,11 +102,11 @@ entries-most p net there w =
     omega (
       arith,
       net.few,
-      sum-most (length p.tunnels) (17 * 16) (λ t. sum_below (hops p t) (λ h. if (switch_of p t h == w) && there t h then width_of p t else 0)) (λ t lt.
+      sum_below-most (length p.tunnels) (17 * 16) (λ t. sum_below (hops p t) (λ h. if (switch_of p t h == w) && there t h then width_of p t else 0)) (λ t lt.
           omega (
             arith,
             (net.tunnels t lt).path.most,
-            sum-most (hops p t) 16 (λ h. if (switch_of p t h == w) && there t h then width_of p t else 0) (λ h low.
+            sum_below-most (hops p t) 16 (λ h. if (switch_of p t h == w) && there t h then width_of p t else 0) (λ h low.
                 taken_if-most ((switch_of p t h == w) && there t h) (width_of p t) 16 (net.tunnels t lt).width.most),
           )),
     )

@@ -1,7 +1,8 @@
 -- What is counted at the start of a history, before any entry.
-use Rattle.std.proofs.Common.{◌≡◌, ℕ, zero, suc, Bool, true, false, ◌&&◌, ◌==◌, if◌then◌else◌, List, length, get_or, refl, sym, ap, ◌∙◌, arith}
+use Rattle.std.proofs.Common.{◌≡◌, ℕ, zero, suc, Bool, false, ◌==◌, if◌then◌else◌, List, length, get_or, refl, sym, ap, ◌∙◌, arith}
 use Rattle.std.specs.Prelude.{replicate}
 use Rattle.std.proofs.Math.Seq.{take-length}
+use Rattle.lists.proofs.Conditions.{uncounted_second}
 use Rattle.rollout_rules.specs.Wan.{Problem, hops, switch_of, width_of, crosses}
 use Rattle.rollout_rules.specs.Items.{item_count, number_of}
 use Rattle.rollout_rules.specs.History.{History}
@@ -39,9 +40,5 @@ no_tallies p marks sums em es = record {
   items = ap length em ∙ many (item_count p) false;
   switches = ap length es ∙ many (length p.switches) 0;
   each = λ w lt. ap (λ x. get_or x w 0) es ∙ all_same (length p.switches) w 0
-      ∙ sym (sum_below-zero (length p.tunnels) _ (λ t low. sum_below-zero (hops p t) _ (λ n small. none (switch_of p t n == w) (marked p marks t n) (width_of p t) (ap (λ x. get_or x (number_of p (item.Entry t n)) false) em ∙ all_same (item_count p) (number_of p (item.Entry t n)) false))));
+      ∙ sym (sum_below-zero (length p.tunnels) _ (λ t low. sum_below-zero (hops p t) _ (λ n small. uncounted_second (switch_of p t n == w) (marked p marks t n) (width_of p t) (ap (λ x. get_or x (number_of p (item.Entry t n)) false) em ∙ all_same (item_count p) (number_of p (item.Entry t n)) false))));
 }
-  where
-    none : (a b : Bool) (x : ℕ) → b ≡ false → (if a && b then x else 0) ≡ 0
-    none true b x e = rw e refl
-    none false b x e = refl

@@ -1,8 +1,9 @@
 -- What is read of a journal while its controller appends is the journal as it stood at some moment meanwhile.
 use Rattle.std.proofs.Common.{◌≡◌, ◌≢◌, inl, inr, ℕ, zero, suc, ◌+◌, ◌<◌, ◌≤◌, List, [], ◌∷◌, ◌++◌, length, take, drop, get_or, refl, sym, subst, ap, ◌∙◌, arith, length-append}
 use Rattle.std.proofs.lemmas.Bool.{cases_lt}
-use Rattle.std.proofs.lemmas.List.{append_assoc, drop-append-le, drop-take, drop_more, get_or-drop, get_or-take, get_or_append_left, get_or_at, get_or_push, length-take-le, take-append-drop, take-take, take_at, take_more_same}
+use Rattle.std.proofs.lemmas.List.{append_assoc, drop-append-le, drop-take, get_or-drop, get_or-take, get_or_append_left, get_or_at, get_or_push, length-take-le, take-take, take_at, take_more_same}
 use Rattle.rollout_rules.specs.Wan.{Rollout}
+use Rattle.disk_model.proofs.FourBytes.{around_byte}
 use Rattle.intent_journal.specs.declared.digest.Digest.{Digest}
 use Rattle.disk_model.specs.Numbers.{byte_at}
 use Rattle.intent_journal.specs.Parts.{open_batch}
@@ -29,9 +30,6 @@ front_of (suc n) a b long_a long_b same =
     ap (λ (k : ℕ). take k a) more
     ∙ take_more_same a b n 0 (omega (arith, long_a)) (omega (arith, long_b)) (front_of n a b (omega (arith, long_a)) (omega (arith, long_b)) (λ i less. same i (omega (arith, less)))) (same n (omega arith))
     ∙ sym (ap (λ (k : ℕ). take k b) more)
-
-around : (at : ℕ) (bytes : List ℕ) → at < length bytes → bytes ≡ take at bytes ++ (byte_at at bytes ∷ drop (at + 1) bytes)
-around at bytes inside = sym (take-append-drop at bytes) ∙ ap (λ (l : List ℕ). take at bytes ++ l) (drop_more bytes at 0 inside)
 
 -- ---- bytes that have the image's up to its gate, which is closed in them, too
 
@@ -65,7 +63,7 @@ module _ (home : Home) (gate : ℕ) (image bytes : List ℕ) (has : HasFront hom
 
   part_is : drop home.slot.start bytes ≡ has.rest.front ++ (byte_at gate bytes ∷ drop (gate + 1) bytes)
   part_is =
-      ap (drop home.slot.start) (around gate bytes has.past)
+      ap (drop home.slot.start) (around_byte gate bytes has.past)
       ∙ drop-append-le home.slot.start (take gate bytes) (byte_at gate bytes ∷ drop (gate + 1) bytes) (omega (arith, length-take-le gate bytes (omega (arith, has.past)), has.rest.at))
       ∙ ap (λ (l : List ℕ). drop home.slot.start l ++ (byte_at gate bytes ∷ drop (gate + 1) bytes)) same_front
       ∙ ap (λ (l : List ℕ). l ++ (byte_at gate bytes ∷ drop (gate + 1) bytes)) its_part

@@ -5,4 +5,5 @@ pub mod Totals
 pub mod OverItems
 pub mod Pairs
 pub mod Rows
+pub mod Rates
 pub mod Alike

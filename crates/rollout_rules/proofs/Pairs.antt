@@ -1,8 +1,9 @@
 -- The order of the pairs that a switch may hold of an item.
-use Rattle.std.proofs.Common.{List, arith, eq-eqb, eqb-true, inl, inr, leb-true, ltb-true, nat_le, nat_lt, refl, sym, true, ℕ, ⊎_elim, ◌&&◌, ◌+◌, ◌<◌, ◌==◌, ◌≡◌, ◌≤◌, ◌⊎◌}
-use Rattle.std.proofs.lemmas.Bool.{and_from, and_parts, cond_both, le-leb, lt-ltb, or_cases, or_left, or_right}
+use Rattle.std.proofs.Common.{List, arith, eq-eqb, eqb-true, inl, inr, leb-true, ltb-true, nat_le, nat_lt, refl, sym, true, ℕ, ⊎_elim, ◌&&◌, ◌+◌, ◌<◌, ◌==◌, ◌≡◌, ◌≤◌, ◌⊎◌, Bool, ap, ap₂, false, if◌then◌else◌, ◌||◌, ◌∙◌}
+use Rattle.std.proofs.lemmas.Bool.{and_from, and_parts, cond_both, le-leb, lt-ltb, or_cases, or_left, or_right, ne_eqb}
+use Rattle.lists.proofs.Conditions.{and_with_false}
 use Rattle.rollout_rules.specs.declared.held.Held.{Held}
-use Rattle.rollout_rules.specs.Agent.{Holding, held_after, is_at_most, is_next_command}
+use Rattle.rollout_rules.specs.Agent.{Holding, held_after, is_at_most, is_next_command, pair_of}
 
 -- a pair is at most another: by its migration, or in the same one by its number
 abbrev pub AtMost : Held → Held → Type 0
@@ -57,3 +58,12 @@ after-more holding asked content =
     cond_both (is_next_command holding.held asked) (record { held = asked; content = content }) holding (λ v. is_at_most holding.held v.held ≡ true)
     (λ e. at_most-from holding.held asked (next_is_more holding.held asked (next_command-is holding.held asked e)))
     (λ _. at_most-refl holding.held)
+
+-- number 0 is the next after no pair, so that a question changes nothing of what is held
+pub probe_never_next : (held : Held) (migration : ℕ) → is_next_command held (pair_of migration 0) ≡ false
+probe_never_next held migration =
+    let other : (0 == held.number + 1) ≡ false = ne_eqb 0 (held.number + 1) (λ same. omega (arith, same)) in
+    ap₂ (λ (a b : Bool). a || b) (ap (λ (b : Bool). (migration == held.migration) && b) other ∙ and_with_false (migration == held.migration)) (and_with_false (nat_lt held.migration migration))
+
+pub held_after-probe : (holding : Holding) (migration : ℕ) (content : List ℕ) → held_after holding (pair_of migration 0) content ≡ holding
+held_after-probe holding migration content = ap (λ (b : Bool). if b then record { held = pair_of migration 0; content = content } else holding) (probe_never_next holding.held migration)

@@ -1,11 +1,12 @@
 -- Running sums over tunnels: what each adds to the tables on its path, and what all have added.
 use Rattle.std.proofs.Common.{◌≡◌, ℕ, ◌+◌, ◌*◌, ◌<◌, ◌≤◌, true, false, ◌&&◌, List, length, slice_index, ◌==◌, if◌then◌else◌, refl, ap, ◌∙◌, add-one, arith}
+use Rattle.lists.proofs.Conditions.{uncounted_second}
 use Rattle.rollout_rules.specs.Sums.{sum_below}
 use Rattle.rollout_rules.specs.Wan.{Problem, tunnel_at, switch_of, hops, width_of}
 use Rattle.rollout_rules.specs.Network.{IsNetwork}
 use Rattle.rollout_rules.proofs.Below.{sum_below-zero, sum_below-same}
 use Rattle.plan_check.specs.Parts.{GrownBy, added}
-use Rattle.plan_check.proofs.Shares.{left, taken}
+use Rattle.plan_check.proofs.Shares.{taken}
 use Rattle.scratch_plan.specs.Groups.{is_in}
 use Rattle.scratch_plan.specs.Tables.{group_share, largest_group_share}
 use Rattle.scratch_plan.specs.Lacks.{AreEntries}
@@ -51,7 +52,7 @@ entries_grown p group t old new row amount net inside there is wide by =
 -- and one out of the group adds nothing
 pub entries_stay : (p : Problem) (group : Group) (t : ℕ) (sums : List ℕ) → is_in group (tunnel_at p t) ≡ false → GrownBy sums sums (group_share p group t) largest_group_share
 entries_stay p group t sums none =
-    let nothing : (w : ℕ) → group_share p group t w ≡ 0 = λ w. sum_below-zero (hops p t) (λ h. if (switch_of p t h == w) && is_in group (tunnel_at p t) then width_of p t else 0) (λ h lt. left (switch_of p t h == w) (is_in group (tunnel_at p t)) (width_of p t) none) in
+    let nothing : (w : ℕ) → group_share p group t w ≡ 0 = λ w. sum_below-zero (hops p t) (λ h. if (switch_of p t h == w) && is_in group (tunnel_at p t) then width_of p t else 0) (λ h lt. uncounted_second (switch_of p t h == w) (is_in group (tunnel_at p t)) (width_of p t) none) in
     record {
       count = refl;
       each = λ w lt. omega (arith, nothing w);

@@ -3,6 +3,7 @@ use Rattle.std.proofs.Common.{◌≡◌, ℕ, ◌+◌, ◌*◌, ◌<◌, ◌≤�
 use Rattle.std.proofs.lemmas.Bool.{and_parts, cases_Bool, or_cases}
 use Rattle.std.proofs.lemmas.List.{append-nil, length-map, length-append}
 use Rattle.std.specs.List.{list_any}
+use Rattle.lists.proofs.Conditions.{if_mono}
 use Rattle.rollout_rules.specs.declared.limits.TheConstants.{MOST_STAGES}
 use Rattle.rollout_rules.specs.Wan.{Problem, Stage, Tunnel, tunnel_at, switch_at, old_rate, new_rate, crosses}
 use Rattle.rollout_rules.specs.Network.{IsNetwork}
@@ -17,12 +18,8 @@ use Rattle.scratch_plan.proofs.Stages.{mark, IsStageStep, AreStages, valid-from}
 use Rattle.scratch_plan.proofs.Installed.{mark-stage_of, rate-row, kept-used, kept-there, wanted-used, old-kept, new-wanted, same_stage, without_idle, without_fresh, without_left, entries-mono}
 
 -- a load where each tunnel has at least as much is at least as large
-crossed : (b : Bool) (x y : ℕ) → x ≤ y → (if b then x else 0) ≤ (if b then y else 0)
-crossed true x y le = le
-crossed false x y le = omega arith
-
 pub load-mono : (p : Problem) (f g : ℕ → ℕ) (l : ℕ) → ((t : ℕ) → t < length p.tunnels → f t ≤ g t) → load p f l ≤ load p g l
-load-mono p f g l le = sum_below-mono (length p.tunnels) (λ t. if crosses p t l then f t else 0) (λ t. if crosses p t l then g t else 0) (λ t inside. crossed (crosses p t l) (f t) (g t) (le t inside))
+load-mono p f g l le = sum_below-mono (length p.tunnels) (λ t. if crosses p t l then f t else 0) (λ t. if crosses p t l then g t else 0) (λ t inside. if_mono (crosses p t l) (f t) (g t) (le t inside))
 
 -- entries of a set of tunnels fit in each table
 abbrev Fit : Problem → (Tunnel → Bool) → Type 0

@@ -4,6 +4,5 @@ pub mod Frames
 pub mod Blends
 pub mod Slackness
 pub mod Entries
-pub mod Rates
 pub mod Causes
 pub mod Stills

@@ -10,6 +10,7 @@ use Rattle.rollout_rules.specs.Valid.{flow_total, is_valid_plan}
 use Rattle.rollout_rules.specs.Slack.{has_slack, has_table_room, old_load, new_load}
 use Rattle.rollout_rules.proofs.Below.{sum_below-same, all_below-at}
 use Rattle.rollout_rules.proofs.Tunnels.{tunnel_of-below}
+use Rattle.rollout_rules.proofs.Rows.{list_below-length}
 use Rattle.scratch_plan.specs.Marks.{is_wanted, is_used}
 use Rattle.scratch_plan.specs.Frame.{old_row, new_row}
 use Rattle.scratch_plan.specs.Steps.{last_of, Follows, keeps_total, IsRow, IsRateStep, AreRateSteps}
@@ -52,10 +53,6 @@ module _ {A : Type 0} (R : A → A → Type 0) (f : ℕ → A) where
 map-same : {A B : Type 0} (f g : A → B) (xs : List A) → ((x : A) → f x ≡ g x) → map f xs ≡ map g xs
 map-same f g [] same = refl
 map-same f g (x ∷ xs) same = ap₂ ◌∷◌ (same x) (map-same f g xs same)
-
-pub length-below : {A : Type 0} (m : ℕ) (f : ℕ → A) → length (list_below m f) ≡ m
-length-below zero f = refl
-length-below (suc m) f = omega (arith, length-append (list_below m f) (f m ∷ []), length-below m f)
 
 all-old : (n o w : ℕ) → (n - 0) * o + 0 * w ≡ n * o
 all-old n o w = let e : n - 0 ≡ n = omega arith in rw e (omega arith)
@@ -150,7 +147,7 @@ module _ (p : Problem) (n : ℕ) where
       record {
         low = some;
         high = omega (arith, few);
-        few = omega (arith, length-append (blended_rows p n) (new_row p n ∷ []), length-below (n - 1) (λ a. row (a + 1)));
+        few = omega (arith, length-append (blended_rows p n) (new_row p n ∷ []), list_below-length (n - 1) (λ a. row (a + 1)));
         last = last-push (old_row p n) (new_row p n) (blended_rows p n);
         steps = subst (λ first. Follows (IsRateStep p n) first (blended_rows p n ++ new_row p n ∷ [])) old-blended
             (follows-push (IsRateStep p n) (row 0) (new_row p n) (blended_rows p n)

@@ -1,24 +1,21 @@
 -- What the disk under a shared book may be left with, as the history goes on.
 use Rattle.std.proofs.Common.{◌≡◌, ◌⊎◌, inl, inr, ⊎_elim, ℕ, ◌+◌, ◌≤◌, true, List, [], ◌∷◌, ◌++◌, Option, Some, None, IfSome, refl, sym, ap, ap₂, ◌∙◌, subst, arith, append_assoc, append-nil}
-use Rattle.std.specs.Option.{option_or}
-use Rattle.rollout_rules.specs.History.{History, with_entries}
+use Rattle.rollout_rules.specs.History.{History}
 use Rattle.rollout_rules.specs.Legal.{is_legal}
 use Rattle.rollout_rules.specs.declared.op.Entry.{Entry}
 use Rattle.rollout_laws.proofs.Histories.{with_both}
+use Rattle.wan_edge.proofs.Faults.{rose_since, rose_until}
 use Rattle.disk_model.specs.Traces.{DiskTrace}
 use Rattle.disk_model.specs.Moments.{LeavesOnly}
 use Rattle.wan_edge.specs.Streams.{KeepsTelling, Rose}
 use Rattle.rollout_book.specs.Lists.{HasBeforeOrAfter, HasList, IsKeptList}
-use Rattle.shared_book.specs.declared.note.Cause.{Cause}
 use Rattle.shared_book.specs.declared.note.What.{What}
 use Rattle.shared_book.specs.declared.note.What.TheVariants as what
 use Rattle.shared_book.specs.declared.note.Written.{Written}
-use Rattle.shared_book.specs.declared.call_reply.Halt.{Halt}
 use Rattle.shared_book.specs.Notes.{cause_of, halt_by, first_stop}
 use Rattle.shared_book.specs.Histories.{Opening, segment_of, added, history_of}
 use Rattle.shared_book.specs.Legal.{is_legal_shared}
 use Rattle.shared_book.specs.Knows.{next_note}
-use Rattle.shared_book.proofs.Going.{front_is_legal}
 use Rattle.shared_book.proofs.Lists.{history-next, list-is_legal, lost-is_legal}
 use Rattle.shared_book.proofs.Stops.{added-append}
 use Rattle.shared_book.specs.Images.{lost_by, lost, IsDisk, HasDisk, HasListBehind, HasLegalList, HasImages}
@@ -141,15 +138,6 @@ module _ (o : Opening) (log : List Written) where
         subst (λ ls. HasBeforeOrAfter o.found.start (history_of o (log ++ w ∷ [])).entries ls c) gone
         (subst (λ es. HasBeforeOrAfter o.found.start es w.entries c) entries was)
 
--- ---- failures
-rose-on : (count old new : ℕ) → Rose count old → old ≤ new → Rose count new
-rose-on count old new (inl less) le = inl (omega arith)
-rose-on count old new (inr most) le = inr (omega arith)
-
-rose-from : (count old new : ℕ) → count ≤ old → Rose old new → Rose count new
-rose-from count old new le (inl less) = inl (omega arith)
-rose-from count old new le (inr most) = inr (omega arith)
-
 -- ---- what is known of the disk
 module _ {D : Type 0} (trace : D → DiskTrace) (o : Opening) (from count : ℕ) where
   abbrev Since : List Written → D → Type 0
@@ -242,7 +230,7 @@ module _ {D : Type 0} (trace : D → DiskTrace) (o : Opening) (from count : ℕ)
                 (λ c has. ⊎_elim (λ (before : HasList o.found.start (history_of o log).entries c). has-longer o log (w ∷ []) c (has-all o log c legal before)) (has-new c) has)
                 (trace old).bytes (trace new).bytes keeps was.later was.since run;
             now = turned-now (trace new).bytes kept;
-            failed = λ has. rose-on count (trace old).faults (trace new).faults (⊎_elim was.failed (λ (here : ⊥). absurd here) (disk-next log w has)) grows;
+            failed = λ has. rose_until count (trace old).faults (trace new).faults (⊎_elim was.failed (λ (here : ⊥). absurd here) (disk-next log w has)) grows;
           }
         where
           turned-now : (told : Option (List ℕ)) → IfSome told (IsKeptList o.found.start ((history_of o log).entries ++ es) (trace new).may_leave) → IfSome told (λ _. Now (log ++ next_note seat log (what.Turned dones begins) es ∷ []) new)
@@ -262,5 +250,5 @@ module _ {D : Type 0} (trace : D → DiskTrace) (o : Opening) (from count : ℕ)
                 (λ c has. ⊎_elim (λ (before : HasList o.found.start (history_of o log).entries c). has-longer o log (w ∷ []) c (has-all o log c legal before)) (has-lost o log w c legal' refl none) has)
                 (trace old).bytes (trace new).bytes keeps was.later was.since run;
             now = now-by (log ++ w ∷ []) (λ c has. behind-lost o log w c refl none has) counts (trace old).bytes (trace new).bytes keeps run;
-            failed = λ has. rose-from count (trace old).faults (trace new).faults was.more rose;
+            failed = λ has. rose_since count (trace old).faults (trace new).faults was.more rose;
           }

@@ -34,7 +34,7 @@ unhalted : (halt : Option Halt) → list.Listed ≡ list_reply halt → halt ≡
 unhalted (Some h) e = absurd (cc e)
 unhalted None e = refl
 
-halted-by : (halt : Option Halt) (first : Halt) → list.Stopped first ≡ list_reply halt → halt ≡ Some first
+pub halted-by : (halt : Option Halt) (first : Halt) → list.Stopped first ≡ list_reply halt → halt ≡ Some first
 halted-by (Some h) first e = cc e
 halted-by None first e = absurd (cc e)
 

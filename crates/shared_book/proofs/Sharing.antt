@@ -3,7 +3,7 @@ use Rattle.std.proofs.Common.{◌≡◌, ℕ, ◌+◌, ◌<◌, ◌≤◌, Bool,
 use Rattle.std.specs.Option.{option_or}
 use Rattle.std.proofs.Math.Seq.{drop-append_seam}
 use Rattle.std.proofs.lemmas.Bool.{and_from}
-use Rattle.lists.proofs.Conditions.{or_with_false}
+use Rattle.lists.proofs.Conditions.{or_with_false, or_regrouped, or_second}
 use Rattle.rollout_rules.specs.History.{History, with_entries}
 use Rattle.rollout_rules.specs.declared.op.Entry.{Entry}
 use Rattle.rollout_rules.proofs.Below.{sum_below-same, sum_below-but}
@@ -38,15 +38,11 @@ or-none None = refl
 pub first_stop-next : (ws : List Written) (w : Written) → first_stop (ws ++ w ∷ []) ≡ option_or (first_stop ws) (halt_by w.note)
 first_stop-next ws w = first_stop-append ws (w ∷ []) ∙ ap (option_or (first_stop ws)) (or-none (halt_by w.note))
 
-or-assoc : (a b c : Bool) → ((a || b) || c) ≡ (a || (b || c))
-or-assoc true b c = refl
-or-assoc false b c = refl
-
 has_asked-next : (seat : ℕ) (ws : List Written) (w : Written) → has_asked seat (ws ++ w ∷ []) ≡ (has_asked seat ws || ((w.note.seat == seat) && asks_to_stop w.note.what))
 has_asked-next seat [] w = or_with_false ((w.note.seat == seat) && asks_to_stop w.note.what)
 has_asked-next seat (v ∷ ws) w =
     ap (λ b. ((v.note.seat == seat) && asks_to_stop v.note.what) || b) (has_asked-next seat ws w)
-    ∙ sym (or-assoc ((v.note.seat == seat) && asks_to_stop v.note.what) (has_asked seat ws) ((w.note.seat == seat) && asks_to_stop w.note.what))
+    ∙ sym (or_regrouped ((v.note.seat == seat) && asks_to_stop v.note.what) (has_asked seat ws) ((w.note.seat == seat) && asks_to_stop w.note.what))
 
 and-none : (a b c : Bool) → c ≡ false → (a || (b && c)) ≡ a
 and-none true b c nonene = refl
@@ -135,11 +131,7 @@ module _ {D : Type 0} (o : Opening) (seats : ℕ) (b b' : Journaled D) (ns ns' :
 
 -- ---- a seat asks that all stop
 asked-here : (seat : ℕ) (ws : List Written) (w : Written) → w.note.seat ≡ seat → asks_to_stop w.note.what ≡ true → has_asked seat (ws ++ w ∷ []) ≡ true
-asked-here seat ws w own asks = has_asked-next seat ws w ∙ or-true (has_asked seat ws) ((w.note.seat == seat) && asks_to_stop w.note.what) (and_from (w.note.seat == seat) (asks_to_stop w.note.what) (eq-eqb w.note.seat seat own) asks)
-  where
-    or-true : (a b : Bool) → b ≡ true → (a || b) ≡ true
-    or-true true b e = refl
-    or-true false b e = e
+asked-here seat ws w own asks = has_asked-next seat ws w ∙ or_second (has_asked seat ws) ((w.note.seat == seat) && asks_to_stop w.note.what) (and_from (w.note.seat == seat) (asks_to_stop w.note.what) (eq-eqb w.note.seat seat own) asks)
 
 asked-there : (seat : ℕ) (ws : List Written) (w : Written) → (w.note.seat ≡ seat → ⊥) → has_asked seat (ws ++ w ∷ []) ≡ has_asked seat ws
 asked-there seat ws w other = has_asked-next seat ws w ∙ or-none-of (has_asked seat ws) (w.note.seat == seat) (asks_to_stop w.note.what) (ne_eqb w.note.seat seat other)

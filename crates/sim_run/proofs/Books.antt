@@ -1,5 +1,5 @@
 -- The book of a controller: its journal stays its own, and a start finds its history again.
-use Rattle.std.proofs.Common.{◌≡◌, ℕ, Bool, true, false, if◌then◌else◌, nat_le, nat_lt, List, [], ◌∷◌, ◌++◌, length, All, Option, Some, None, IfSome, Result, Ok, Err, IfErr, IfOk, OnOk, inl, refl, sym, ap, ap₂, ◌∙◌, subst, lt-ltb, le-leb}
+use Rattle.std.proofs.Common.{◌≡◌, ℕ, Bool, true, false, if◌then◌else◌, nat_le, nat_lt, List, [], ◌∷◌, ◌++◌, length, All, Option, Some, None, IfSome, Result, Ok, Err, IfErr, OnOk, inl, refl, sym, ap, ap₂, ◌∙◌, subst, lt-ltb, le-leb}
 use Rattle.std.proofs.lemmas.List.Elements.{All-head, All-tail}
 use Rattle.lists.proofs.Conditions.{some_same_is}
 use Rattle.rollout_rules.specs.Wan.{Rollout}
@@ -37,9 +37,6 @@ use Rattle.sim_run.specs.Keeping.{Keeping, MayTell, batch_over, graph_with, with
 -- what holds of a result that is this one
 pub ok-fact : {A E : Type 0} (result : Result A E) (a : A) (P : Type 0) → result ≡ Ok a → OnOk result P → P
 ok-fact result a P is holds = subst (λ r. OnOk r P) is holds
-
-pub ok-value : {A E : Type 0} (result : Result A E) (a : A) (P : A → Type 0) → result ≡ Ok a → IfOk result P → P a
-ok-value result a P is holds = subst (λ r. IfOk r P) is holds
 
 pub err-value : {A E : Type 0} (result : Result A E) (e : E) (P : E → Type 0) → result ≡ Err e → IfErr result P → P e
 err-value result e P is holds = subst (λ r. IfErr r P) is holds

@@ -1,16 +1,16 @@
 -- A script that was drawn: each of its acts happens, and it leads where the trial of these draws does.
-use Rattle.std.proofs.Common.{◌≡◌, ℕ, zero, suc, ◌+◌, ◌<◌, ◌≤◌, ◌⊎◌, inl, inr, Bool, true, false, ◌&&◌, ◌||◌, ◌==◌, if◌then◌else◌, nat_le, nat_lt, List, [], ◌∷◌, ◌++◌, length, codes, decimal, Option, Some, None, refl, sym, ap, ap₂, ◌∙◌, subst, arith, append_assoc, length-append}
+use Rattle.std.proofs.Common.{◌≡◌, ℕ, zero, suc, ◌+◌, ◌<◌, ◌≤◌, ◌⊎◌, inl, inr, Bool, true, false, ◌&&◌, if◌then◌else◌, nat_le, nat_lt, List, [], ◌∷◌, ◌++◌, length, codes, decimal, Option, Some, None, refl, sym, ap, ap₂, ◌∙◌, subst, arith, append_assoc, length-append}
 use Rattle.std.proofs.lemmas.Bool.{and_from, and_parts, cases_Bool, cases_lt, cond_both, cond-false, cond-true, leb-true, lt-ltb, ltb-true, or_from, or_left}
+use Rattle.lists.proofs.Conditions.{and_second_false}
 use Rattle.rand_pcg.specs.Lcg.{Lcg}
 use Rattle.rollout_rules.specs.Wan.{Plan, Problem}
 use Rattle.rollout_rules.specs.Network.{IsNetwork}
 use Rattle.rollout_rules.specs.Valid.{is_valid_plan}
 use Rattle.rollout_rules.specs.Legal.{unsettled}
-use Rattle.rollout_rules.specs.declared.limits.TheConstants.{MOST_ACTS, MOST_SENT}
+use Rattle.rollout_rules.specs.declared.limits.TheConstants.{MOST_ACTS}
 use Rattle.rollout_rules.specs.declared.op.OpView.{OpView}
 use Rattle.rollout_rules.specs.declared.event.Act.{Act}
 use Rattle.rollout_rules.specs.declared.event.Act.TheVariants as act
-use Rattle.rollout_laws.specs.Waiting.{HoldsNothing}
 use Rattle.rollout_report.specs.Ends.{last_line, link_lines, table_lines}
 use Rattle.sim_run.specs.Acts.{Rehearsal, acted, after_act, after_acts, can_happen, first_rehearsal}
 use Rattle.sim_run.specs.Drafts.{Draft, EachHappens, IsDrawnScript, SaysFinished, Sketch, drained_draft, drawn_script, end_of, is_full, is_over, joined, joins, one_more, raised_draft, sketched, turned_draft, whole_draft, with_chosen}
@@ -19,10 +19,6 @@ use Rattle.sim_run.specs.Trials.{Drawn, Trial, after_trial, after_turn, all_oper
 use Rattle.sim_run.proofs.Drained.{trial-ends}
 use Rattle.sim_run.proofs.Drawing.{behind}
 use Rattle.sim_run.proofs.Schedules.{rehearsal-is_safe}
-
-and-false : (x y : Bool) → y ≡ false → (x && y) ≡ false
-and-false true y none = none
-and-false false y none = refl
 
 not-le : (a b : ℕ) → b < a → nat_le a b ≡ false
 not-le a b less = elim (cases_Bool (nat_le a b)) as (λ _. nat_le a b ≡ false) [
@@ -127,7 +123,7 @@ module _ (p : Problem) (plan : Plan) (policy : OpView → ℕ) where
         ap (λ (e : Draft). e.rehearsal) (cond-true (joins p d a) (longer d a) d (and_from (nat_lt (length d.acts) MOST_ACTS) (can_happen p d.rehearsal a) (lt-ltb (length d.acts) MOST_ACTS room) can))
         ∙ sym (cond-true (can_happen p d.rehearsal a) (acted p plan policy d.rehearsal a) d.rehearsal can)
     | inr cannot ↦
-        ap (λ (e : Draft). e.rehearsal) (cond-false (joins p d a) (longer d a) d (and-false (nat_lt (length d.acts) MOST_ACTS) (can_happen p d.rehearsal a) cannot))
+        ap (λ (e : Draft). e.rehearsal) (cond-false (joins p d a) (longer d a) d (and_second_false (nat_lt (length d.acts) MOST_ACTS) (can_happen p d.rehearsal a) cannot))
         ∙ sym (cond-false (can_happen p d.rehearsal a) (acted p plan policy d.rehearsal a) d.rehearsal cannot)
   ]
 

@@ -3,13 +3,13 @@ use Rattle.std.proofs.Common.{◌≡◌, ℕ, suc, ◌+◌, ◌*◌, ◌<◌, �
 use Rattle.rollout_rules.specs.Sums.{list_below}
 use Rattle.rollout_rules.specs.Wan.{Plan, Problem}
 use Rattle.rollout_rules.specs.History.{History}
-use Rattle.rollout_laws.proofs.Contents.{list_below-at}
+use Rattle.rollout_rules.proofs.Rows.{list_below-at}
 use Rattle.rollout_report.specs.Peaks.{link_peak}
 use Rattle.sim_run.specs.TrialText.{fuller, fuller_of, fullest, room_of}
 
 module _ (p : Problem) (plan : Plan) (h : History) (peaks : List ℕ) (all : length peaks ≡ length p.links) (are : peaks ≡ list_below (length p.links) (link_peak p plan h)) where
   peak-at : (l : ℕ) → l < length peaks → get_or peaks l 0 ≡ link_peak p plan h l
-  peak-at l lt = ap (λ xs. get_or xs l 0) are ∙ list_below-at (length p.links) (link_peak p plan h) 0 l (omega (arith, lt, all))
+  peak-at l lt = ap (λ xs. get_or xs l 0) are ∙ list_below-at (length p.links) (link_peak p plan h) l 0 (omega (arith, lt, all))
 
   fuller-same : (best l : ℕ) → best < length peaks → l < length peaks → fuller_of (room_of p plan) (λ n. get_or peaks n 0) best l ≡ fuller_of (room_of p plan) (link_peak p plan h) best l
   fuller-same best l low lt = ap₂ (λ a b. cond (nat_lt (a * room_of p plan l) (b * room_of p plan best)) l best) (peak-at best low) (peak-at l lt)

@@ -11,8 +11,7 @@ use Rattle.rollout_rules.specs.History.{no_start}
 use Rattle.rollout_rules.specs.declared.held.Held.{Held}
 use Rattle.rollout_rules.specs.Agent.{nothing_held, pair_of, first_pair, is_next_command, held_after}
 use Rattle.rollout_rules.specs.World.{holding_of, pair_at, no_pairs}
-use Rattle.rollout_rules.proofs.Rows.{list_below-length}
-use Rattle.rollout_laws.proofs.Contents.{list_below-at}
+use Rattle.rollout_rules.proofs.Rows.{list_below-length, list_below-at}
 use Rattle.sim_run.specs.Passing.{applied_after, holding_at, holdings}
 
 list_below-agree : {X : Type 0} → (n : ℕ) (f g : ℕ → X) → ((k : ℕ) → k < n → f k ≡ g k) → list_below n f ≡ list_below n g
@@ -34,7 +33,7 @@ module _ (p : Problem) (plan : Plan) where
   holdings-length xs = list_below-length (length xs) (λ n. holding_at p plan n (get_or xs n 0))
 
   pub holdings-at : (xs : List ℕ) (i : ℕ) → i < length xs → get_or (holdings p plan xs) i nothing_held ≡ holding_at p plan i (get_or xs i 0)
-  holdings-at xs i inside = list_below-at (length xs) (λ n. holding_at p plan n (get_or xs n 0)) nothing_held i inside
+  holdings-at xs i inside = list_below-at (length xs) (λ n. holding_at p plan n (get_or xs n 0)) i nothing_held inside
 
   -- another number at one item
   pub holdings-set : (xs : List ℕ) (i x : ℕ) → i < length xs → holdings p plan (set xs i x) ≡ set (holdings p plan xs) i (holding_at p plan i x)
@@ -66,7 +65,7 @@ module _ (p : Problem) (plan : Plan) where
   holdings-first items e =
       ap (λ n. list_below n (λ k. holding_at p plan k (get_or (replicate items 0) k 0))) (length-replicate items 0 ∙ e)
       ∙ list_below-agree (item_count p) _ _
-      (λ k lt. ap (holding_at p plan k) (get_or-replicate items k 0 0 (subst (λ n. k < n) (sym e) lt)) ∙ sym (ap (holding_of p plan (no_start p) 0 k) (list_below-at (item_count p) (λ n. first_pair) first_pair k lt)))
+      (λ k lt. ap (holding_at p plan k) (get_or-replicate items k 0 0 (subst (λ n. k < n) (sym e) lt)) ∙ sym (ap (holding_of p plan (no_start p) 0 k) (list_below-at (item_count p) (λ n. first_pair) k first_pair lt)))
 
   -- a start at which nothing is settled
   pub nothing-settled : (items : ℕ) → items ≡ item_count p → replicate items 0 ≡ no_start p
@@ -74,4 +73,4 @@ module _ (p : Problem) (plan : Plan) where
       let n = item_count p in
       ap (λ m. replicate m 0) e
       ∙ ext_get_or 0 (replicate n 0) (no_start p) (length-replicate n 0 ∙ sym (list_below-length n (λ k. 0)))
-      (λ k lt. let below = subst (λ m. k < m) (length-replicate n 0) lt in get_or-replicate n k 0 0 below ∙ sym (list_below-at n (λ k. 0) 0 k below))
+      (λ k lt. let below = subst (λ m. k < m) (length-replicate n 0) lt in get_or-replicate n k 0 0 below ∙ sym (list_below-at n (λ k. 0) k 0 below))

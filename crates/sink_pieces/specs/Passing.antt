@@ -1,10 +1,11 @@
 -- Pieces of a text on their way to a sink: they are written, or kept for it.
-use Rattle.std.specs.Prelude.{◌≡◌, ℕ, ◌≤◌, ◌+◌, Bool, true, false, List, [], ◌++◌, length, take, Option}
-use Rattle.std.proofs.Common.{inl, inr, refl, sym, ap, subst, ◌∙◌, append_assoc, append-nil, length-append, arith}
+use Rattle.std.specs.Prelude.{◌≡◌, ℕ, ◌+◌, Bool, true, false, List, [], ◌++◌, length, take, Option}
+use Rattle.std.proofs.Common.{refl, sym, ap, subst, ◌∙◌, append_assoc, append-nil, length-append, arith}
 use Rattle.std.proofs.Math.Seq.{take-append-add}
 use Rattle.std.proofs.lemmas.List.{take-append-le}
 use Rattle.wan_edge.specs.Streams.{Appends, AppendsPart, Rose, SinkSteps, SinkTrace, SourceTrace}
 use Rattle.wan_edge.proofs.Chains.{Appends-chain, Appends-nothing, sink_stays, sink_steps}
+use Rattle.wan_edge.proofs.Faults.{rose_since}
 
 -- the first of these bytes were written, and the others are kept
 pub record GoesOn (bytes : List ℕ) (before : Option (List ℕ)) (kept : List ℕ) (now : Option (List ℕ)) : Type 0 where
@@ -70,14 +71,10 @@ part_of_front a c front behind part = record {
   appended = subst (λ xs. Appends a xs c) (sym (take-append-le part.count front behind (omega (arith, part.not_all)))) part.appended;
 }
 
-rose-later : (a b c : ℕ) → a ≤ b → Rose b c → Rose a c
-rose-later a b c le (inl less) = inl (omega arith)
-rose-later a b c le (inr last) = inr last
-
 pub stops_behind : (a b c : SinkTrace) (out rest all : List ℕ) → SinkSteps a b → all ≡ out ++ rest → Appends a.written out b.written → Stops rest b c → Stops all a c
 stops_behind a b c out rest all step is written stops = record {
   part = part_behind a.written b.written c.written out rest all is written stops.part;
-  cause = rose-later a.faults b.faults c.faults step.count stops.cause;
+  cause = rose_since a.faults b.faults c.faults step.count stops.cause;
 }
 
 pub stops_in_front : (a c : SinkTrace) (front behind : List ℕ) → Stops front a c → Stops (front ++ behind) a c

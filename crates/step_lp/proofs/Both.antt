@@ -5,6 +5,7 @@ use Rattle.std.specs.Int.{◌∣◌}
 use Rattle.std.proofs.Math.Nat.{div-mul_cancel}
 use Rattle.std.proofs.lemmas.List.Elements.{All-append, All-map}
 use borrow.Author.Differences.{up, down}
+use Rattle.lists.proofs.Elements.{All-left, All-right}
 use Rattle.rollout_rules.specs.Sums.{list_below}
 use Rattle.rollout_rules.specs.Wan.{Problem}
 use Rattle.rollout_rules.specs.Network.{IsNetwork}
@@ -17,7 +18,7 @@ use Rattle.step_lp.specs.declared.limit.Limit.TheVariants.{Top, Link, Least, Mos
 use Rattle.step_lp.specs.Program.{joined_below, used_at, used_count, rate_blocks, blocks, row_of, tops_of, tops_at, top_limits, link_limits, totals_of, total_limits, limits, move_program}
 use Rattle.step_lp.specs.Moves.{place_of, number_in, AreMoves, HasUnits, IsMove}
 use Rattle.step_lp.specs.Points.{common_bottom, units_of}
-use Rattle.step_lp.proofs.Lists.{All-none, All-left, All-right, All-unmapped, All-joined_below, All-joined_below-at, All-list_below, All-list_below-at}
+use Rattle.step_lp.proofs.Lists.{All-none, All-unmapped, All-joined_below, All-joined_below-at, All-list_below, All-list_below-at}
 use Rattle.step_lp.proofs.Speaking.{All-two}
 use Rattle.step_lp.proofs.Multiples.{common_bottom-pos, common_bottom-each}
 use Rattle.step_lp.proofs.Standing.{number-inside}

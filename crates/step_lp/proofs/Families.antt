@@ -3,6 +3,7 @@ use Rattle.std.proofs.Common.{◌≡◌, ◌≢◌, ℕ, ◌+◌, ◌-◌, ◌*�
 use Rattle.std.specs.Prelude.{◌==◌, ◌&&◌, nat_lt}
 use Rattle.std.proofs.lemmas.Bool.{cases_lt, cases_order, eqb-true, ne_eqb, eq-eqb, lt-ltb, le-ltb}
 use borrow.Author.Differences.{up, down, neg_is}
+use Rattle.lists.proofs.Conditions.{and_both}
 use Rattle.rollout_rules.specs.Sums.{sum_below}
 use Rattle.rollout_rules.specs.Wan.{Problem, tunnel_at, link_at, old_rate, new_rate, crosses}
 use Rattle.rollout_rules.specs.Items.{load}
@@ -140,13 +141,9 @@ top_units p q s a u n some low lt =
     ∙ one_block (blocks q) (top_block q s) (length p.tunnels) (λ t. t == u) n (omega arith)
     ∙ one_tunnel (length p.tunnels) u (n (top_block q s)) lt
   where
-    first_of : (x y : Bool) → (x && y) ≡ true → x ≡ true
-    first_of true y e = refl
-    first_of false y e = cc
-
     apart : (b t : ℕ) → ((b == top_block q s) && (t == u)) ≡ true → is_added p q (Top s a u) b t ≡ false
     apart b t e =
-        let at : b ≡ top_block q s = eqb-true b (top_block q s) (first_of (b == top_block q s) (t == u) e) in
+        let at : b ≡ top_block q s = eqb-true b (top_block q s) (and_both (b == top_block q s) (t == u) e).0 in
         let above : nat_lt b (rate_blocks q) ≡ false = le-ltb b (rate_blocks q) (omega arith) in
         rw above refl
 

@@ -5,16 +5,15 @@ use Rattle.std.specs.Int.{◌∣◌}
 use Rattle.std.proofs.Math.Nat.{div-mul_cancel, mul-div-le, mul-le-mul_left, mul-le-mul_right, le_of_mul-le-mul_left}
 use Rattle.std.proofs.lemmas.Bool.{ne_eqb}
 use Rattle.rollout_rules.specs.declared.limits.TheConstants.{LARGEST_SCALE, LARGEST_RATE}
-use Rattle.rollout_rules.specs.Sums.{sum_below}
 use Rattle.rollout_rules.specs.Wan.{Problem, tunnel_at, tunnel_of, old_rate, new_rate}
 use Rattle.rollout_rules.specs.Valid.{flow_total}
 use Rattle.rollout_rules.specs.Network.{IsNetwork}
-use Rattle.rollout_rules.proofs.Below.{sum_below-up}
+use Rattle.rollout_rules.proofs.Below.{sum_below-most, sum_below-at}
 use Rattle.rollout_rules.proofs.Tunnels.{tunnels_of, tunnel_of-below, place_of-below, tunnel_of-place_of}
 use Rattle.rollout_rules.proofs.Tunnels as tunnels
 use Rattle.fraction_lp.specs.Ratio.{Ratio, zero_ratio, bottom-pos}
 use Rattle.fraction_lp.specs.Program.{IsFeasible}
-use Rattle.scratch_plan.proofs.Rates.{rate_within}
+use Rattle.rollout_rules.proofs.Rates.{rate_within}
 use Rattle.step_lp.specs.Program.{used_at, used_count, rate_blocks, blocks, old_sum, new_sum, move_program}
 use Rattle.step_lp.specs.Moves.{place_of, number_in, rate_in, AreMoves}
 use Rattle.step_lp.specs.Points.{common_bottom, units_of, HaveRates}
@@ -23,13 +22,6 @@ use Rattle.step_lp.proofs.Standing.{number-inside}
 use Rattle.step_lp.proofs.Both.{units_at, feasible_has_units, rows_are_moves}
 
 -- ---- totals
-
-sum_below-most : (n k : ℕ) (f : ℕ → ℕ) → ((j : ℕ) → j < n → f j ≤ k) → sum_below n f ≤ n * k
-sum_below-most zero k f h = omega arith
-sum_below-most (suc n) k f h = omega (arith, sum_below-most n k f (λ j lt. h j (omega arith)), h n (omega arith))
-
-term-most : (n j : ℕ) (f : ℕ → ℕ) → j < n → f j ≤ sum_below n f
-term-most n j f lt = omega (arith, sum_below-up (suc j) n f lt)
 
 -- the most that a flow has in a split
 abbrev most_total : ℕ
@@ -53,7 +45,7 @@ within_total p q scale b t n net moves low lt =
     let f : ℕ = (tunnel_at p t).flow in
     let inside : f < length p.flows = (net.tunnels t lt).flow in
     let term : rate_in p q scale n (b + 1) (tunnel_of p f (tunnels.place_of p t)) ≤ flow_total p (rate_in p q scale n (b + 1)) f =
-    term-most (tunnels_of p f) (tunnels.place_of p t) (λ j. rate_in p q scale n (b + 1) (tunnel_of p f j)) (place_of-below p t net lt) in
+    sum_below-at (tunnels_of p f) (λ j. rate_in p q scale n (b + 1) (tunnel_of p f j)) (tunnels.place_of p t) (place_of-below p t net lt) in
     let own : n b t ≡ rate_in p q scale n (b + 1) (tunnel_of p f (tunnels.place_of p t)) =
     between ∙ ap (rate_in p q scale n (b + 1)) (sym (tunnel_of-place_of p t net lt)) in
     let most : scale * max (old_sum p f) (new_sum p f) ≤ scale * most_total = mul-le-mul_left scale (totals-most p f net inside) in

@@ -24,14 +24,14 @@ place-below p t lt used =
     let one : count_below (suc t) (used_at p) ≡ place_of p t + 1 = rw used refl in
     omega arith
 
+pub one_more_times : (b u : ℕ) → (b + 1) * u ≡ b * u + u
+one_more_times b u = omega arith
+
 pub number-inside : (p : Problem) (m b t n : ℕ) → b < m → t < length p.tunnels → used_at p t ≡ true → n ≡ m * used_count p → b * used_count p + place_of p t < n
 number-inside p m b t n low lt used e =
     let next : (b + 1) * used_count p ≤ m * used_count p = mul-le-mul_right (used_count p) (omega arith) in
-    let spread : (b + 1) * used_count p ≡ b * used_count p + used_count p = one_more b (used_count p) in
+    let spread : (b + 1) * used_count p ≡ b * used_count p + used_count p = one_more_times b (used_count p) in
     omega (arith, place-below p t lt used)
-  where
-    one_more : (b u : ℕ) → (b + 1) * u ≡ b * u + u
-    one_more b u = omega arith
 
 stand_to : (p : Problem) (scale first m : ℕ) (n : ℕ → ℕ) (xs : List Ratio) → m ≤ length p.tunnels →
     ((t : ℕ) → t < length p.tunnels → used_at p t ≡ true → number_from p xs first t ≡ ratio (pos (n t)) scale) →

@@ -1,18 +1,21 @@
 -- A run that finds all that it needs ends well.
-use Rattle.std.proofs.Common.{◌≡◌, ◌≢◌, ℕ, ◌<◌, ◌^◌, true, List, [], ◌∷◌, Option, Some, None, IfSome, Result, Ok, Err, IfOk, IfErr, refl, sym, ap, ◌∙◌, subst, inl, inr}
+use Rattle.std.proofs.Common.{◌≡◌, ◌≢◌, ℕ, ◌<◌, ◌^◌, true, List, [], ◌∷◌, Option, Some, Result, Ok, Err, IfOk, IfErr, refl, sym, ap, ◌∙◌, subst, inl, inr}
 use Rattle.std.specs.List.{All, AllByRecursion}
 use Rattle.std.proofs.lemmas.List.Elements.{All-cons, All-contains, All-nil}
+use Rattle.lists.proofs.Options.{of_some}
+use Rattle.lists.proofs.Conditions.{some_same_is}
 use Rattle.rollout_rules.specs.Wan.{Rollout}
 use Rattle.rollout_rules.specs.History.{History}
 use Rattle.rollout_rules.specs.Network.{IsNetwork}
 use Rattle.rollout_rules.specs.Valid.{is_valid_plan}
 use Rattle.rollout_rules.specs.declared.op.OpView.{OpView}
+use Rattle.wan_edge.proofs.Faults.{rose_since}
 use Rattle.disk_model.specs.Traces.{DiskTrace}
 use Rattle.disk_mirror.specs.Openings.{Opens}
 use Rattle.wan_edge.specs.Ports.{PortTrace}
 use Rattle.wan_edge.specs.Streams.{Rose, SourceTrace}
 use Rattle.intent_journal.specs.Recovered.{IsCause}
-use Rattle.intent_journal.specs.Verdicts.{NoJournal, NoStart, NotLegal, OfAnother, Verdict, verdict}
+use Rattle.intent_journal.specs.Verdicts.{verdict}
 use Rattle.intent_journal.specs.declared.fault.JournalFault.{JournalFault}
 use Rattle.intent_journal.specs.declared.fault.JournalFault.TheVariants as fault
 use Rattle.shared_book.specs.declared.note.Cause.{Cause}
@@ -40,24 +43,16 @@ use Rattle.completion_laws.specs.Faults.{IsExcused, IsWithoutFault}
 use Rattle.completion_laws.specs.Finishing.{FinishesOrIsExcused, FinishesOrWants, IsSure, IsWant}
 use Rattle.completion_laws.proofs.Excused.{ran-excused}
 use Rattle.completion_laws.proofs.Finished.{wants}
-use Rattle.text_commands.specs.CommandEnds.{ending_of_journal, status_of}
+use Rattle.text_commands.specs.CommandEnds.{status_of}
 use Rattle.swanroll_top.specs.Ready.{CountsNoFault, GoesOnFrom, IsReadyFor, WaitsReady}
 use Rattle.text_commands.specs.Answers.{rollout_to}
-use Rattle.swanroll_top.specs.Rollouts.{FleetSeen, IsUnbegun, OpensAndRolls, RefusesAs, Rolls, RollsAs, by_answer, ending_of_stop, line_at, line_or_ending}
+use Rattle.swanroll_top.specs.Rollouts.{FleetSeen, OpensAndRolls, Rolls, RollsAs, by_answer, ending_of_stop, line_at, line_or_ending}
 use Rattle.text_commands.specs.Runs.{EndsWith, IsInput}
 use Rattle.text_commands.specs.declared.command_end.CommandEnd.{CommandEnd}
-use Rattle.text_commands.specs.declared.command_end.CommandEnd.TheVariants.{Done, Usage, AboveLimit, Input, NotValid, NoPlan, Unshown, ReadFault, WriteFault, DiskFault, GuestFault, Refused, NotFinished, OutOfMemory}
 use Rattle.text_commands.proofs.Inputs.{told-within}
 use Rattle.swanroll_top.proofs.Reporting.{rolled-within}
-use Rattle.swanroll_top.proofs.Outcomes.{rose-later}
 use Rattle.text_commands.proofs.Programs.{follows-ends, told-same}
-
--- what holds of what an option has, where it has this
-pub of-some : {X : Type 0} (Q : X → Type 0) (x : X) (o : Option X) → o ≡ Some x → IfSome o Q → Q x
-of-some Q x o is holds = subst (λ p. IfSome p Q) is holds
-
-pub some-same : {X : Type 0} (x y : X) → Some x ≡ Some y → x ≡ y
-some-same x y e = cc e
+use Rattle.swanroll_top.proofs.Unbegun.{goes-opened, unbegun-never, unopened-never}
 
 -- ---- the ports that were opened
 
@@ -66,7 +61,7 @@ module _ {P : Type 0} (tell : P → PortTrace) (r : Rollout) (migration : ℕ) (
       → All (λ t. IsReady r migration (homes_of r.problem) found (view tell t)) (first_sessions bs)
   opened-ready [] given each = All-nil (λ t. IsReady r migration (homes_of r.problem) found (view tell t))
   opened-ready (b ∷ bs) given each =
-      let same : each.0.port ≡ b.port = some-same each.0.port b.port (sym each.0.waits ∙ given.0) in
+      let same : each.0.port ≡ b.port = some_same_is each.0.port b.port (sym each.0.waits ∙ given.0) in
       All-cons (λ t. IsReady r migration (homes_of r.problem) found (view tell t)) (first_session b.switch b.port) (first_sessions bs)
       (subst (λ (p : P). IsReady r migration (homes_of r.problem) found (view tell (first_session b.switch p))) same each.0.ready)
       (opened-ready bs given.1 each.1)
@@ -89,8 +84,8 @@ module _ {D P : Type 0} (trace : D → DiskTrace) (tell : P → PortTrace)
     -- the book has what was found
     found-is : found ≡ has.book.history
     found-is =
-        some-same found has.book.history
-        (sym goes.begins ∙ of-some (λ image. found_by r (verdict r (digest_for r limits.migration) image) ≡ Some has.book.history) goes.image (trace disk).bytes goes.told has.opened.found)
+        some_same_is found has.book.history
+        (sym goes.begins ∙ of_some (λ image. found_by r (verdict r (digest_for r limits.migration) image) ≡ Some has.book.history) (trace disk).bytes goes.image goes.told has.opened.found)
 
     ready-book : IsReadyFor tell limits policy before.ports.waiting has.book.rollout has.book.history
     ready-book =
@@ -133,9 +128,9 @@ module _ {D P : Type 0} (trace : D → DiskTrace) (tell : P → PortTrace)
     module _ (counts : CountsNoFault tell (trace disk).faults (trace disk_now).faults before now) where
       unfailing : (end : RunEnd) (ran : Begun end) → IsWithoutFault tell (Rose (trace has.book.disk).faults (trace has.run.closed.disk).faults) (first_sessions ran.berths) now.ports.kept
       unfailing end ran = record {
-        disk = λ rose. counts.disk (rose-later (trace disk).faults (trace has.book.disk).faults (trace disk_now).faults has.opened.on.count (subst (λ (d : D). Rose (trace has.book.disk).faults (trace d).faults) (sym has.run.back) rose));
-        ports = λ t at back kept. of-some (λ (waiting : ℕ → Option P). (switch : ℕ) (first back : P) → waiting switch ≡ Some first → now.ports.kept switch ≡ Some back → Rose (tell first).faults (tell back).faults → ⊥)
-            ready.ports before.ports.waiting ready.told counts.ports t.switch t.port back
+        disk = λ rose. counts.disk (rose_since (trace disk).faults (trace has.book.disk).faults (trace disk_now).faults has.opened.on.count (subst (λ (d : D). Rose (trace has.book.disk).faults (trace d).faults) (sym has.run.back) rose));
+        ports = λ t at back kept. of_some (λ (waiting : ℕ → Option P). (switch : ℕ) (first back : P) → waiting switch ≡ Some first → now.ports.kept switch ≡ Some back → Rose (tell first).faults (tell back).faults → ⊥)
+            before.ports.waiting ready.ports ready.told counts.ports t.switch t.port back
             (All-contains (λ (u : SessionView P). ready.ports u.switch ≡ Some u.port) (first_sessions ran.berths) t
             (opened-waited tell r limits.migration found ready.ports ran.berths (subst (λ (w : Option (ℕ → Option P)). AreGiven tell w ran.berths) ready.told ran.given)) at)
             kept;
@@ -147,21 +142,6 @@ module _ {D P : Type 0} (trace : D → DiskTrace) (tell : P → PortTrace)
 
       stop-wants : (halt : Halt) → a.end ≡ run.Stopped halt → IsWant halt.cause
       stop-wants halt is = wanting (run.Stopped halt) (subst Ended is ended-is)
-
-  -- ---- what isn't begun
-
-  -- an image that is refused has no history to go on from
-  no-verdict : (v : Verdict) → verdict r (digest_for r limits.migration) goes.image ≡ v → found_by r v ≡ None → ⊥
-  no-verdict v is none = let both : None ≡ Some found = sym none ∙ (sym (ap (found_by r) is) ∙ goes.begins) in cc
-
-  unopened-ends : (why : JournalFault) (e : CommandEnd) → IsCause why (digest_for r limits.migration) (verdict r (digest_for r limits.migration) goes.image) → e ≡ ending_of_journal why
-      → (why ≡ fault.Disk → status_of e ≡ 8 → ⊥) → (status_of e ≡ 12 → ⊥) → ⊥
-  unopened-ends (fault.NotJournal first) e told is device memory = no-verdict (NoJournal first) told refl
-  unopened-ends (fault.OtherPlan kept wanted) e told is device memory = no-verdict (OfAnother kept.bytes kept.migration) told.0 refl
-  unopened-ends (fault.Illegal place) e told is device memory = no-verdict (NotLegal place) told refl
-  unopened-ends fault.BadStart e told is device memory = no-verdict NoStart told refl
-  unopened-ends fault.Disk e told is device memory = device refl (ap status_of is)
-  unopened-ends fault.Memory e told is device memory = memory (ap status_of is)
 
   -- ---- how it ends
 
@@ -187,49 +167,16 @@ module _ {D P : Type 0} (trace : D → DiskTrace) (tell : P → PortTrace)
         → IfOk a (λ o. (switch : ℕ) → o.end ≡ run.NoPort switch → Rose before.faults now.faults) → EndsWith (by_answer line_or_ending a) e out out_now → status_of e ≡ 0
     answered-well network valid small (Ok o) has unopened missing ends = ran-well network valid small o has missing o.end refl ends
     answered-well network valid small (Err why) has unopened missing ends =
-        let told = of-some (λ image. IsCause why (digest_for r limits.migration) (verdict r (digest_for r limits.migration) image)) goes.image (trace disk).bytes goes.told unopened.0.refusal in
-        absurd (unopened-ends why e told ends.0 (λ is. device (unopened.0.failed is)) memory)
+        let told = of_some (λ image. IsCause why (digest_for r limits.migration) (verdict r (digest_for r limits.migration) image)) (trace disk).bytes goes.image goes.told unopened.0.refusal in
+        absurd (unopened-never trace limits source source_now disk r found goes why e told ends.0 (λ is. device (unopened.0.failed is)) memory)
 
 -- ---- by the disk as it was at first
 
 module _ {D P : Type 0} (trace : D → DiskTrace) (tell : P → PortTrace)
     (limits : Limits) (policy : OpView → ℕ) (source source_now : SourceTrace) (disk disk_now : D) (before now : FleetSeen P) (out out_now : Option (List ℕ)) (r : Rollout) (found : History)
     (goes : GoesOnFrom limits.migration source source_now (trace disk).bytes r found) (ready : IsReadyFor tell limits policy before.ports.waiting r found) where
-  -- what it told it tells once it is opened
-  goes-opened : (opened : D) → Opens (trace disk) (trace opened) → GoesOnFrom limits.migration source source_now (trace opened).bytes r found
-  goes-opened opened opens = record {
-    input = goes.input;
-    told_input = goes.told_input;
-    is = goes.is;
-    image = goes.image;
-    told = of-some (λ all. (trace opened).bytes ≡ Some all) goes.image (trace disk).bytes goes.told opens.same;
-    begins = goes.begins;
-  }
-
   later-rose : (opened : D) → Opens (trace disk) (trace opened) → Rose (trace opened).faults (trace disk_now).faults → Rose (trace disk).faults (trace disk_now).faults
-  later-rose opened opens rose = rose-later (trace disk).faults (trace opened).faults (trace disk_now).faults opens.count rose
-
-  refused-never : (e : CommandEnd) → RefusesAs (IsInput source source_now) e → ⊥
-  refused-never e refuses =
-      let same : goes.input ≡ refuses.input = told-within source source_now refuses.input goes.input refuses.given (rolled-within goes.input r goes.is) goes.told_input in
-      let both : Ok r ≡ Err e = sym goes.is ∙ (ap rollout_to same ∙ refuses.refused) in
-      cc
-
-  unbegun-ends : (e : CommandEnd) → IsUnbegun (IsInput source source_now) e → (status_of e ≡ 6 → ⊥) → (status_of e ≡ 12 → ⊥) → ⊥
-  unbegun-ends Done why read memory = refused-never Done why
-  unbegun-ends Usage why read memory = refused-never Usage why
-  unbegun-ends AboveLimit why read memory = refused-never AboveLimit why
-  unbegun-ends (Input f) why read memory = refused-never (Input f) why
-  unbegun-ends (NotValid p b) why read memory = refused-never (NotValid p b) why
-  unbegun-ends (NoPlan u) why read memory = refused-never (NoPlan u) why
-  unbegun-ends (Unshown u) why read memory = refused-never (Unshown u) why
-  unbegun-ends ReadFault why read memory = read refl
-  unbegun-ends WriteFault why read memory = refused-never WriteFault why
-  unbegun-ends DiskFault why read memory = refused-never DiskFault why
-  unbegun-ends GuestFault why read memory = refused-never GuestFault why
-  unbegun-ends (Refused f) why read memory = refused-never (Refused f) why
-  unbegun-ends (NotFinished u) why read memory = refused-never (NotFinished u) why
-  unbegun-ends OutOfMemory why read memory = memory refl
+  later-rose opened opens rose = rose_since (trace disk).faults (trace opened).faults (trace disk_now).faults opens.count rose
 
   abbrev RollsTo : CommandEnd → Type 0
   RollsTo e = Rolls trace tell (IsInput source source_now) limits policy disk disk_now before now e out out_now
@@ -246,12 +193,12 @@ module _ {D P : Type 0} (trace : D → DiskTrace) (tell : P → PortTrace)
     opened-well (inl fails) = absurd (device fails.failed (ap status_of fails.is))
     opened-well (inr begun) =
         let rolls = begun.rolls in
-        answered-well trace tell limits policy source source_now begun.opened disk_now before now out out_now r found (goes-opened begun.opened begun.opens) ready
+        answered-well trace tell limits policy source source_now begun.opened disk_now before now out out_now r found (goes-opened trace limits source source_now disk r found goes begun.opened begun.opens) ready
         Stops (stops begun.opened begun.opens) e read sink memory (λ rose. device (later-rose begun.opened begun.opens rose)) fleet stopped
         rolls.network rolls.valid rolls.small rolls.answer rolls.rolled rolls.unopened rolls.no_port (follows-ends (by_answer line_or_ending rolls.answer) e out out_now rolls.follows memory)
 
     rolled-well : RollsTo e → status_of e ≡ 0
-    rolled-well (inl none) = absurd (unbegun-ends e none.why read memory)
+    rolled-well (inl none) = absurd (unbegun-never trace limits source source_now disk r found goes e none.why read memory)
     rolled-well (inr rolled) =
         let told : goes.input ≡ rolled.input = told-within source source_now rolled.input goes.input rolled.given (rolled-within goes.input r goes.is) goes.told_input in
         let both : Ok r ≡ Ok rolled.r = sym goes.is ∙ (ap rollout_to told ∙ rolled.is) in
@@ -290,7 +237,7 @@ module _ {D P : Type 0} (trace : D → DiskTrace) (tell : P → PortTrace)
       by-ending status rolls memory
       (λ e to over. rolled-well IsExcused
       (λ opened opens network valid small a has halt is.
-      stop-excused trace tell limits policy source source_now opened disk_now before now out out_now r found (goes-opened opened opens) ready network valid small a has halt is)
+      stop-excused trace tell limits policy source source_now opened disk_now before now out out_now r found (goes-opened trace limits source source_now disk r found goes opened opens) ready network valid small a has halt is)
       e (over 6 read) (over 7 sink) (over 12 memory) (λ rose. over 8 device) (λ rose. over 9 fleet) (excused-well e (over 8 device) (over 9 fleet) (over 12 memory)) to)
 
   pub unfailing-ends-well : CountsNoFault tell (trace disk).faults (trace disk_now).faults before now
@@ -300,6 +247,6 @@ module _ {D P : Type 0} (trace : D → DiskTrace) (tell : P → PortTrace)
       by-ending status rolls memory
       (λ e to over. rolled-well IsWant
       (λ opened opens network valid small a has halt is.
-      stop-wants trace tell limits policy source source_now opened disk_now before now out out_now r found (goes-opened opened opens) ready network valid small a has
+      stop-wants trace tell limits policy source source_now opened disk_now before now out out_now r found (goes-opened trace limits source source_now disk r found goes opened opens) ready network valid small a has
       (record { disk = λ rose. counts.disk (later-rose opened opens rose); fleet = counts.fleet; ports = counts.ports }) halt is)
       e (over 6 read) (over 7 sink) (over 12 memory) (λ rose eight. counts.disk rose) (λ rose nine. counts.fleet rose) (wanting-well e (over 12 memory)) to)

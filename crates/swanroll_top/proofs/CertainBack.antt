@@ -1,12 +1,15 @@
 -- A rollback that finds all that it needs ends well.
-use Rattle.std.proofs.Common.{◌≡◌, ◌≢◌, ℕ, ◌+◌, ◌<◌, ◌^◌, true, false, List, [], Option, Some, None, Ok, Err, refl, sym, ap, ◌∙◌, subst, inl, inr, arith}
+use Rattle.std.proofs.Common.{◌≡◌, ◌≢◌, ℕ, ◌+◌, ◌<◌, ◌^◌, true, false, List, [], Option, Some, None, Ok, refl, sym, ap, ◌∙◌, subst, inl, inr, arith}
 use Rattle.std.specs.Prelude.{IsSome}
 use Rattle.std.specs.List.{AllByRecursion}
 use Rattle.std.proofs.lemmas.List.Elements.{All-contains}
+use Rattle.lists.proofs.Options.{of_some}
+use Rattle.lists.proofs.Conditions.{some_same_is}
 use Rattle.rollout_rules.specs.Wan.{Rollout}
 use Rattle.rollout_rules.specs.History.{History}
 use Rattle.rollout_rules.specs.Network.{IsNetwork}
 use Rattle.rollout_rules.specs.Valid.{is_valid_plan}
+use Rattle.wan_edge.proofs.Faults.{rose_since}
 use Rattle.disk_model.specs.Traces.{DiskTrace}
 use Rattle.disk_mirror.specs.Openings.{Opens}
 use Rattle.wan_edge.specs.Ports.{PortTrace}
@@ -14,7 +17,7 @@ use Rattle.wan_edge.specs.Streams.{Rose, SourceTrace}
 use Rattle.intent_journal.specs.Parts.{Kept}
 use Rattle.intent_journal.specs.Placements.{IsNeither}
 use Rattle.intent_journal.specs.Recovered.{IsCause}
-use Rattle.intent_journal.specs.Verdicts.{NoJournal, NoStart, NotLegal, OfAnother, Verdict, verdict}
+use Rattle.intent_journal.specs.Verdicts.{verdict}
 use Rattle.intent_journal.specs.Openings.{found_by}
 use Rattle.intent_journal.specs.declared.fault.JournalFault.{JournalFault}
 use Rattle.intent_journal.specs.declared.fault.JournalFault.TheVariants as fault
@@ -47,19 +50,18 @@ use Rattle.text_commands.specs.CommandEnds.{ending_of_journal, status_of}
 use Rattle.swanroll_top.specs.Ready.{CountsNoFault, GoesOnFrom, IsServedFor, WaitsReady}
 use Rattle.text_commands.specs.Answers.{rollout_to}
 use Rattle.swanroll_top.specs.Rollbacks.{Closes, FindsNoJournal, Levels, OpensAndRollsBack, Reverts, RevertsAs, RollsBack, TakesBack, back_text}
-use Rattle.swanroll_top.specs.Rollouts.{FleetSeen, IsUnbegun, RefusesAs, ending_at, ending_of_stop}
+use Rattle.swanroll_top.specs.Rollouts.{FleetSeen, ending_at, ending_of_stop}
 use Rattle.text_commands.specs.Runs.{IsInput}
 use Rattle.text_commands.specs.declared.command_end.CommandEnd.{CommandEnd}
-use Rattle.text_commands.specs.declared.command_end.CommandEnd.TheVariants.{Done, Usage, AboveLimit, Input, NotValid, NoPlan, Unshown, ReadFault, WriteFault, DiskFault, GuestFault, Refused, NotFinished, OutOfMemory}
-use Rattle.swanroll_top.proofs.Certain.{opened-ready, opened-waited, some-same}
+use Rattle.text_commands.specs.declared.command_end.CommandEnd.TheVariants.{DiskFault}
+use Rattle.swanroll_top.proofs.Certain.{opened-ready, opened-waited}
 use Rattle.text_commands.proofs.Inputs.{told-within}
 use Rattle.swanroll_top.proofs.Levelling.{here}
-use Rattle.swanroll_top.proofs.Outcomes.{rose-later}
 use Rattle.text_commands.proofs.Programs.{follows-ends, told-same}
 use Rattle.swanroll_top.proofs.Reporting.{rolled-within}
 use Rattle.swanroll_top.proofs.Reverting.{Begun, is_level, is_run, levels-rose, run-begun, stopped-begun, unlevel-not}
-use Rattle.switch_laws.proofs.Answered.{some_at}
 use Rattle.switch_laws.proofs.Stands.{was_told}
+use Rattle.swanroll_top.proofs.Unbegun.{goes-opened, unbegun-never, unopened-never}
 
 is-some : {A : Type 0} (o : Option A) → IsSome o → (a : A) × (o ≡ Some a)
 is-some None h = absurd (cc h)
@@ -86,57 +88,6 @@ wanting-never e other (cause.NoAnswer switch byte) is want memory = want
 wanting-never e other cause.Disk is want memory = want
 wanting-never e other cause.Memory is want memory = memory (ap status_of is)
 
--- ---- what isn't begun
-
-module _ {D P : Type 0} (trace : D → DiskTrace) (tell : P → PortTrace)
-    (limits : Limits) (source source_now : SourceTrace) (disk disk_now : D) (before now : FleetSeen P) (out out_now : Option (List ℕ)) (r : Rollout) (found : History)
-    (goes : GoesOnFrom limits.migration source source_now (trace disk).bytes r found) (served : IsServedFor tell limits before.ports.waiting r found) where
-  -- an image that is refused has no history to go on from
-  no-verdict : (v : Verdict) → verdict r (digest_for r limits.migration) goes.image ≡ v → found_by r v ≡ None → ⊥
-  no-verdict v is none = let both : None ≡ Some found = sym none ∙ (sym (ap (found_by r) is) ∙ goes.begins) in cc
-
-  pub unopened-never : (why : JournalFault) (e : CommandEnd) → IsCause why (digest_for r limits.migration) (verdict r (digest_for r limits.migration) goes.image) → e ≡ ending_of_journal why
-      → (why ≡ fault.Disk → status_of e ≡ 8 → ⊥) → (status_of e ≡ 12 → ⊥) → ⊥
-  unopened-never (fault.NotJournal first) e told is device memory = no-verdict (NoJournal first) told refl
-  unopened-never (fault.OtherPlan kept wanted) e told is device memory = no-verdict (OfAnother kept.bytes kept.migration) told.0 refl
-  unopened-never (fault.Illegal place) e told is device memory = no-verdict (NotLegal place) told refl
-  unopened-never fault.BadStart e told is device memory = no-verdict NoStart told refl
-  unopened-never fault.Disk e told is device memory = device refl (ap status_of is)
-  unopened-never fault.Memory e told is device memory = memory (ap status_of is)
-
-  -- what it told it tells once it is opened
-  pub goes-opened : (opened : D) → Opens (trace disk) (trace opened) → GoesOnFrom limits.migration source source_now (trace opened).bytes r found
-  goes-opened opened opens = record {
-    input = goes.input;
-    told_input = goes.told_input;
-    is = goes.is;
-    image = goes.image;
-    told = some_at (λ all. (trace opened).bytes ≡ Some all) (trace disk).bytes goes.image goes.told opens.same;
-    begins = goes.begins;
-  }
-
-  refused-never : (e : CommandEnd) → RefusesAs (IsInput source source_now) e → ⊥
-  refused-never e refuses =
-      let same : goes.input ≡ refuses.input = told-within source source_now refuses.input goes.input refuses.given (rolled-within goes.input r goes.is) goes.told_input in
-      let both : Ok r ≡ Err e = sym goes.is ∙ (ap rollout_to same ∙ refuses.refused) in
-      cc
-
-  pub unbegun-never : (e : CommandEnd) → IsUnbegun (IsInput source source_now) e → (status_of e ≡ 6 → ⊥) → (status_of e ≡ 12 → ⊥) → ⊥
-  unbegun-never Done why read memory = refused-never Done why
-  unbegun-never Usage why read memory = refused-never Usage why
-  unbegun-never AboveLimit why read memory = refused-never AboveLimit why
-  unbegun-never (Input f) why read memory = refused-never (Input f) why
-  unbegun-never (NotValid p b) why read memory = refused-never (NotValid p b) why
-  unbegun-never (NoPlan u) why read memory = refused-never (NoPlan u) why
-  unbegun-never (Unshown u) why read memory = refused-never (Unshown u) why
-  unbegun-never ReadFault why read memory = read refl
-  unbegun-never WriteFault why read memory = refused-never WriteFault why
-  unbegun-never DiskFault why read memory = refused-never DiskFault why
-  unbegun-never GuestFault why read memory = refused-never GuestFault why
-  unbegun-never (Refused f) why read memory = refused-never (Refused f) why
-  unbegun-never (NotFinished u) why read memory = refused-never (NotFinished u) why
-  unbegun-never OutOfMemory why read memory = memory refl
-
 -- ---- a rollout that was levelled, from a disk that tells its image
 
 module _ {D P : Type 0} (trace : D → DiskTrace) (tell : P → PortTrace)
@@ -152,9 +103,9 @@ module _ {D P : Type 0} (trace : D → DiskTrace) (tell : P → PortTrace)
     -- the book has what was found
     found-is : found ≡ has.rolled.book.history
     found-is =
-        some-same found has.rolled.book.history
+        some_same_is found has.rolled.book.history
         (sym goes.begins
-        ∙ some_at (λ image. found_by r (verdict r (digest_for r limits.migration) image) ≡ Some has.rolled.book.history) (trace disk).bytes goes.image goes.told has.rolled.opened.found)
+        ∙ of_some (λ image. found_by r (verdict r (digest_for r limits.migration) image) ≡ Some has.rolled.book.history) (trace disk).bytes goes.image goes.told has.rolled.opened.found)
 
     served-book : IsServedFor tell limits before.ports.waiting has.rolled.book.rollout has.rolled.book.history
     served-book =
@@ -190,8 +141,8 @@ module _ {D P : Type 0} (trace : D → DiskTrace) (tell : P → PortTrace)
           let ran = stopped-ran in
           let opening = opening_of has.rolled.book has.policy in
           let without : IsWithoutFault tell (Rose (trace has.rolled.book.disk).faults (trace has.rolled.run.closed.disk).faults) (first_sessions ran.berths) now.ports.kept = record {
-            disk = λ rose. counts.disk (rose-later (trace disk).faults (trace has.rolled.book.disk).faults (trace levelled).faults has.rolled.opened.on.count (subst (λ (d : D). Rose (trace has.rolled.book.disk).faults (trace d).faults) (sym has.rolled.run.back) rose));
-            ports = λ t at back kept. some_at (λ (waiting : ℕ → Option P). (switch : ℕ) (first back : P) → waiting switch ≡ Some first → now.ports.kept switch ≡ Some back → Rose (tell first).faults (tell back).faults → ⊥)
+            disk = λ rose. counts.disk (rose_since (trace disk).faults (trace has.rolled.book.disk).faults (trace levelled).faults has.rolled.opened.on.count (subst (λ (d : D). Rose (trace has.rolled.book.disk).faults (trace d).faults) (sym has.rolled.run.back) rose));
+            ports = λ t at back kept. of_some (λ (waiting : ℕ → Option P). (switch : ℕ) (first back : P) → waiting switch ≡ Some first → now.ports.kept switch ≡ Some back → Rose (tell first).faults (tell back).faults → ⊥)
                 before.ports.waiting served.ports served.told counts.ports t.switch t.port back
                 (All-contains (λ (u : SessionView P). served.ports u.switch ≡ Some u.port) (first_sessions ran.berths) t
                 (opened-waited tell r limits.migration found served.ports ran.berths (subst (λ (w : Option (ℕ → Option P)). AreGiven tell w ran.berths) served.told ran.given)) at)
@@ -221,7 +172,7 @@ module _ {D P : Type 0} (trace : D → DiskTrace) (tell : P → PortTrace)
         → (why : JournalFault) → IsNotPlaced trace why levelled disk_now → e ≡ ending_of_journal why → (e ≡ DiskFault → Rose (trace disk).faults (trace disk_now).faults) → ⊥
     unplaced-never network valid small levelled answer has begun seen image is (fault.NotJournal first) left ends rose =
         placing-never network valid small levelled answer has first image is seen (run-begun trace tell origin r limits.migration limits.rounds disk levelled before.ports now.ports answer has begun)
-        (some_at (IsNeither first) (trace levelled).bytes image is left.why)
+        (of_some (IsNeither first) (trace levelled).bytes image is left.why)
     unplaced-never network valid small levelled answer has begun seen image is (fault.OtherPlan kept wanted) left ends rose = left.why
     unplaced-never network valid small levelled answer has begun seen image is (fault.Illegal place) left ends rose = left.why
     unplaced-never network valid small levelled answer has begun seen image is fault.BadStart left ends rose = left.why
@@ -266,8 +217,8 @@ module _ {D P : Type 0} (trace : D → DiskTrace) (tell : P → PortTrace)
 
     none-well : FindsNoJournal trace r limits disk disk_now before now e out out_now → ⊥
     none-well none =
-        unopened-never trace tell limits source source_now disk disk_now before now out out_now r found goes served none.cause e
-        (some_at (λ image. IsCause none.cause (digest_for r limits.migration) (verdict r (digest_for r limits.migration) image)) (trace disk).bytes goes.image goes.told none.left.refusal)
+        unopened-never trace limits source source_now disk r found goes none.cause e
+        (of_some (λ image. IsCause none.cause (digest_for r limits.migration) (verdict r (digest_for r limits.migration) image)) (trace disk).bytes goes.image goes.told none.left.refusal)
         none.is (λ is. device (none.left.failed is)) memory
 
     rolled-well : RollsBack trace tell r origin limits disk disk_now before now e out out_now → status_of e ≡ 0
@@ -293,11 +244,11 @@ module _ {D P : Type 0} (trace : D → DiskTrace) (tell : P → PortTrace)
       opened-well : OpensAndRollsBack trace tell r origin limits disk disk_now before now e out out_now → status_of e ≡ 0
       opened-well (inl fails) = absurd (device fails.failed (ap status_of fails.is))
       opened-well (inr begun) =
-          rolled-well trace tell origin limits source source_now begun.opened disk_now before now out out_now r found (goes-opened trace tell limits source source_now disk disk_now before now out out_now r found goes served begun.opened begun.opens) served
-          e sink memory (λ rose. device (rose-later (trace disk).faults (trace begun.opened).faults (trace disk_now).faults begun.opens.count rose)) fleet (stop begun.opened begun.opens) told begun.rolls
+          rolled-well trace tell origin limits source source_now begun.opened disk_now before now out out_now r found (goes-opened trace limits source source_now disk r found goes begun.opened begun.opens) served
+          e sink memory (λ rose. device (rose_since (trace disk).faults (trace begun.opened).faults (trace disk_now).faults begun.opens.count rose)) fleet (stop begun.opened begun.opens) told begun.rolls
 
       reverts-well : Reverts trace tell (IsInput source source_now) origin limits disk disk_now before now e out out_now → status_of e ≡ 0
-      reverts-well (inl none) = absurd (unbegun-never trace tell limits source source_now disk disk_now before now out out_now r found goes served e none.why read memory)
+      reverts-well (inl none) = absurd (unbegun-never trace limits source source_now disk r found goes e none.why read memory)
       reverts-well (inr rolled) =
           let same_input : goes.input ≡ rolled.input = told-within source source_now rolled.input goes.input rolled.given (rolled-within goes.input r goes.is) goes.told_input in
           let both : Ok r ≡ Ok rolled.r = sym goes.is ∙ (ap rollout_to same_input ∙ rolled.is) in
@@ -319,7 +270,7 @@ module _ {D P : Type 0} (trace : D → DiskTrace) (tell : P → PortTrace)
         (λ e to over. reverts-well e (over 6 read) (over 7 sink) (over 12 memory) (λ rose. over 8 device) (λ rose. over 9 fleet)
         (λ opened opens network valid small levelled answer has left o halt is stop ends.
         excused-never e o.plan halt.cause ends
-        (stop-excused trace tell origin limits source source_now opened disk_now before now out out_now r found (goes-opened trace tell limits source source_now disk disk_now before now out out_now r found goes served opened opens) served network valid small levelled answer has o halt is stop)
+        (stop-excused trace tell origin limits source source_now opened disk_now before now out out_now r found (goes-opened trace limits source source_now disk r found goes opened opens) served network valid small levelled answer has o halt is stop)
         (over 8 device) (over 9 fleet) (over 12 memory)) to)
 
     pub counted-ends-well : CountsNoFault tell (trace disk).faults (trace disk_now).faults before now
@@ -330,9 +281,9 @@ module _ {D P : Type 0} (trace : D → DiskTrace) (tell : P → PortTrace)
         (λ e to over. reverts-well e (over 6 read) (over 7 sink) (over 12 memory) (λ rose eight. counts.disk rose) (λ rose nine. counts.fleet rose)
         (λ opened opens network valid small levelled answer has left o halt is stop ends.
         wanting-never e o.plan halt.cause ends
-        (stop-wants trace tell origin limits source source_now opened disk_now before now out out_now r found (goes-opened trace tell limits source source_now disk disk_now before now out out_now r found goes served opened opens) served network valid small levelled answer has o halt is stop
+        (stop-wants trace tell origin limits source source_now opened disk_now before now out out_now r found (goes-opened trace limits source source_now disk r found goes opened opens) served network valid small levelled answer has o halt is stop
         (record {
-          disk = λ rose. counts.disk (rose-later (trace disk).faults (trace opened).faults (trace disk_now).faults opens.count (subst (λ (d : D). Rose (trace opened).faults (trace d).faults) (sym left) rose));
+          disk = λ rose. counts.disk (rose_since (trace disk).faults (trace opened).faults (trace disk_now).faults opens.count (subst (λ (d : D). Rose (trace opened).faults (trace d).faults) (sym left) rose));
           fleet = counts.fleet;
           ports = counts.ports;
         }))

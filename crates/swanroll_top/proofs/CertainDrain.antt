@@ -2,11 +2,14 @@
 use Rattle.std.proofs.Common.{◌≡◌, ◌≢◌, ℕ, ◌<◌, ◌^◌, true, List, Option, Some, Result, Ok, Err, IfOk, IfErr, refl, sym, ap, ◌∙◌, subst, inl, inr}
 use Rattle.std.specs.List.{AllByRecursion}
 use Rattle.std.proofs.lemmas.List.Elements.{All-contains}
+use Rattle.lists.proofs.Options.{of_some}
+use Rattle.lists.proofs.Conditions.{some_same_is}
 use Rattle.rollout_rules.specs.Wan.{Rollout}
 use Rattle.rollout_rules.specs.History.{History}
 use Rattle.rollout_rules.specs.Network.{IsNetwork}
 use Rattle.rollout_rules.specs.Valid.{is_valid_plan}
 use Rattle.rollout_rules.specs.declared.op.OpView.{OpView}
+use Rattle.wan_edge.proofs.Faults.{rose_since}
 use Rattle.disk_model.specs.Traces.{DiskTrace}
 use Rattle.disk_mirror.specs.Openings.{Opens}
 use Rattle.wan_edge.specs.Ports.{PortTrace}
@@ -41,12 +44,12 @@ use Rattle.text_commands.specs.Answers.{rollout_to}
 use Rattle.swanroll_top.specs.Rollouts.{FleetSeen, by_answer, ending_of_stop}
 use Rattle.text_commands.specs.Runs.{EndsWith, IsInput}
 use Rattle.text_commands.specs.declared.command_end.CommandEnd.{CommandEnd}
-use Rattle.swanroll_top.proofs.Certain.{of-some, opened-ready, opened-waited, some-same}
-use Rattle.swanroll_top.proofs.CertainBack.{excused-never, goes-opened, unbegun-never, unopened-never, wanting-never}
+use Rattle.swanroll_top.proofs.Certain.{opened-ready, opened-waited}
+use Rattle.swanroll_top.proofs.CertainBack.{excused-never, wanting-never}
 use Rattle.text_commands.proofs.Inputs.{told-within}
-use Rattle.swanroll_top.proofs.Outcomes.{rose-later}
 use Rattle.text_commands.proofs.Programs.{follows-ends, told-same}
 use Rattle.swanroll_top.proofs.Reporting.{rolled-within}
+use Rattle.swanroll_top.proofs.Unbegun.{goes-opened, unbegun-never, unopened-never}
 
 -- ---- a rollout that was drained, from a disk that tells its image
 
@@ -62,8 +65,8 @@ module _ {D P : Type 0} (trace : D → DiskTrace) (tell : P → PortTrace)
     -- the book has what was found
     found-is : found ≡ has.book.history
     found-is =
-        some-same found has.book.history
-        (sym goes.begins ∙ of-some (λ image. found_by r (verdict r (digest_for r limits.migration) image) ≡ Some has.book.history) goes.image (trace disk).bytes goes.told has.opened.found)
+        some_same_is found has.book.history
+        (sym goes.begins ∙ of_some (λ image. found_by r (verdict r (digest_for r limits.migration) image) ≡ Some has.book.history) (trace disk).bytes goes.image goes.told has.opened.found)
 
     served-book : IsServedFor tell limits before.ports.waiting has.book.rollout has.book.history
     served-book =
@@ -107,9 +110,9 @@ module _ {D P : Type 0} (trace : D → DiskTrace) (tell : P → PortTrace)
           let ran = ran-stopped in
           let o = opening_of has.book policy in
           let without : IsWithoutFault tell (Rose (trace has.book.disk).faults (trace has.run.closed.disk).faults) (first_sessions ran.berths) now.ports.kept = record {
-            disk = λ rose. counts.disk (rose-later (trace disk).faults (trace has.book.disk).faults (trace disk_now).faults has.opened.on.count (subst (λ (d : D). Rose (trace has.book.disk).faults (trace d).faults) (sym has.run.back) rose));
-            ports = λ t at back kept. of-some (λ (waiting : ℕ → Option P). (switch : ℕ) (first back : P) → waiting switch ≡ Some first → now.ports.kept switch ≡ Some back → Rose (tell first).faults (tell back).faults → ⊥)
-                served.ports before.ports.waiting served.told counts.ports t.switch t.port back
+            disk = λ rose. counts.disk (rose_since (trace disk).faults (trace has.book.disk).faults (trace disk_now).faults has.opened.on.count (subst (λ (d : D). Rose (trace has.book.disk).faults (trace d).faults) (sym has.run.back) rose));
+            ports = λ t at back kept. of_some (λ (waiting : ℕ → Option P). (switch : ℕ) (first back : P) → waiting switch ≡ Some first → now.ports.kept switch ≡ Some back → Rose (tell first).faults (tell back).faults → ⊥)
+                before.ports.waiting served.ports served.told counts.ports t.switch t.port back
                 (All-contains (λ (u : SessionView P). served.ports u.switch ≡ Some u.port) (first_sessions ran.berths) t
                 (opened-waited tell r limits.migration found served.ports ran.berths (subst (λ (w : Option (ℕ → Option P)). AreGiven tell w ran.berths) served.told ran.given)) at)
                 kept;
@@ -138,8 +141,8 @@ module _ {D P : Type 0} (trace : D → DiskTrace) (tell : P → PortTrace)
         → IfOk a (λ o. (switch : ℕ) → o.end ≡ run.NoPort switch → Rose before.faults now.faults) → EndsWith (by_answer drained_or_ending a) e out out_now → status_of e ≡ 0
     answered-well (Ok o) has unopened missing ends = ran-well o has missing o.end refl ends
     answered-well (Err why) has unopened missing ends =
-        let told = of-some (λ image. IsCause why (digest_for r limits.migration) (verdict r (digest_for r limits.migration) image)) goes.image (trace disk).bytes goes.told unopened.0.refusal in
-        absurd (unopened-never trace tell limits source source_now disk disk_now before now out out_now r found goes served why e told ends.0 (λ is. device (unopened.0.failed is)) memory)
+        let told = of_some (λ image. IsCause why (digest_for r limits.migration) (verdict r (digest_for r limits.migration) image)) (trace disk).bytes goes.image goes.told unopened.0.refusal in
+        absurd (unopened-never trace limits source source_now disk r found goes why e told ends.0 (λ is. device (unopened.0.failed is)) memory)
 
 -- ---- by the disk as it was at first
 
@@ -148,7 +151,7 @@ module _ {D P : Type 0} (trace : D → DiskTrace) (tell : P → PortTrace)
     (goes : GoesOnFrom limits.migration source source_now (trace disk).bytes r found) (served : IsServedFor tell limits before.ports.waiting r found) where
   -- what it told it tells once it is opened
   goes-on : (opened : D) → Opens (trace disk) (trace opened) → GoesOnFrom limits.migration source source_now (trace opened).bytes r found
-  goes-on opened opens = goes-opened trace tell limits source source_now disk disk_now before now out out_now r found goes served opened opens
+  goes-on opened opens = goes-opened trace limits source source_now disk r found goes opened opens
 
   abbrev StopsNever : CommandEnd → D → Type 0
   StopsNever e opened = (policy : OpView → ℕ) → IsNetwork r.problem → is_valid_plan r.problem r.plan ≡ true → limits.migration < 2 ^ 32 → (a : RunOutcome)
@@ -162,12 +165,12 @@ module _ {D P : Type 0} (trace : D → DiskTrace) (tell : P → PortTrace)
     opened-well (inr begun) =
         let d = begun.drains in
         answered-well trace tell limits d.policy source source_now begun.opened disk_now before now out out_now r found (goes-on begun.opened begun.opens) served
-        e sink memory (λ rose. device (rose-later (trace disk).faults (trace begun.opened).faults (trace disk_now).faults begun.opens.count rose)) fleet
+        e sink memory (λ rose. device (rose_since (trace disk).faults (trace begun.opened).faults (trace disk_now).faults begun.opens.count rose)) fleet
         d.network d.valid d.small (stop begun.opened begun.opens d.policy d.network d.valid d.small)
         d.answer d.rolled d.unopened d.no_port (follows-ends (by_answer drained_or_ending d.answer) e out out_now d.follows memory)
 
     drains-well : Drains trace tell (IsInput source source_now) limits disk disk_now before now e out out_now → status_of e ≡ 0
-    drains-well (inl none) = absurd (unbegun-never trace tell limits source source_now disk disk_now before now out out_now r found goes served e none.why read memory)
+    drains-well (inl none) = absurd (unbegun-never trace limits source source_now disk r found goes e none.why read memory)
     drains-well (inr drained) =
         let same_input : goes.input ≡ drained.input = told-within source source_now drained.input goes.input drained.given (rolled-within goes.input r goes.is) goes.told_input in
         let both : Ok r ≡ Ok drained.r = sym goes.is ∙ (ap rollout_to same_input ∙ drained.is) in
@@ -202,7 +205,7 @@ module _ {D P : Type 0} (trace : D → DiskTrace) (tell : P → PortTrace)
       wanting-never e a.plan halt.cause ends
       (stop-wants trace tell limits policy source source_now opened disk_now before now out out_now r found (goes-on opened opens) served network valid small a has halt is
       (record {
-        disk = λ rose. counts.disk (rose-later (trace disk).faults (trace opened).faults (trace disk_now).faults opens.count rose);
+        disk = λ rose. counts.disk (rose_since (trace disk).faults (trace opened).faults (trace disk_now).faults opens.count rose);
         fleet = counts.fleet;
         ports = counts.ports;
       }))

@@ -1,7 +1,8 @@
 -- What all switches hold together is one of the choices for which the network is safe.
-use Rattle.std.proofs.Common.{◌≡◌, ◌⊎◌, ⊎_elim, inl, inr, ℕ, ◌<◌, ◌≤◌, Bool, true, false, ◌==◌, if◌then◌else◌, List, [], ◌∷◌, ◌++◌, Option, Some, None, IfSome, nat_eq, slice_index, refl, sym, ap, ◌∙◌, subst, arith, eq-eqb, eqb-true}
+use Rattle.std.proofs.Common.{◌≡◌, ◌⊎◌, ⊎_elim, inl, inr, ℕ, ◌<◌, ◌≤◌, Bool, true, false, ◌==◌, if◌then◌else◌, List, [], ◌∷◌, ◌++◌, Option, Some, None, IfSome, slice_index, refl, sym, ap, ◌∙◌, subst, arith, eq-eqb, eqb-true}
 use Rattle.std.specs.List.{AllByRecursion, list_any}
 use Rattle.std.proofs.lemmas.Bool.{cases_Bool, ne_eqb, or_cases, false≢true}
+use Rattle.lists.proofs.Conditions.{some_same_is}
 use Rattle.rollout_rules.specs.Wan.{Rollout}
 use Rattle.rollout_rules.specs.Agent.{Holding}
 use Rattle.rollout_rules.specs.History.{History, begun, settled, with_entries}
@@ -9,7 +10,7 @@ use Rattle.rollout_rules.specs.Items.{item_count}
 use Rattle.rollout_rules.specs.Legal.{is_legal}
 use Rattle.rollout_rules.specs.Safe.{IsSafe}
 use Rattle.rollout_rules.specs.declared.op.Entry.{Entry}
-use Rattle.rollout_laws.specs.Good.{AreHeldWithin, places_held}
+use Rattle.rollout_laws.specs.Good.{places_held}
 use Rattle.rollout_laws.proofs.Histories.{is_counted}
 use Rattle.disk_model.specs.Traces.{DiskTrace}
 use Rattle.wan_edge.specs.Ports.{PortTrace}
@@ -40,9 +41,6 @@ both : {P : Type 0} (A B C : Berth P → Type 0) → ((b : Berth P) → A b → 
 both A B C to [] first second = tt
 both A B C to (b ∷ berths) first second = (to b first.0 second.0, both A B C to berths first.1 second.1)
 
-some-back : {P : Type 0} (a b : P) → Some a ≡ Some b → a ≡ b
-some-back a b is = cc is
-
 -- what holds of told options
 told-both : (C : List ℕ → List ℕ → Type 0) (offered heard : Option (List ℕ)) (o h : List ℕ) → offered ≡ Some o → heard ≡ Some h → IfSome offered (λ x. IfSome heard (λ y. C x y)) → C o h
 told-both C offered heard o h is_o is_h holds =
@@ -60,7 +58,7 @@ module _ {P : Type 0} (tell : P → PortTrace) (r : Rollout) (migration : ℕ) (
   -- where the port tells what its switch holds
   pub told-right : (b : Berth P) → EndsWithin tell r migration found h before now b → TellsHeld tell r migration found now holdings b → Right b.switch
   told-right b ends tells =
-      let same : ends.back ≡ tells.back = some-back ends.back tells.back (sym ends.kept ∙ tells.kept) in
+      let same : ends.back ≡ tells.back = some_same_is ends.back tells.back (sym ends.kept ∙ tells.kept) in
       let holds : IfSome (tell tells.back).offered (λ _. IfSome (tell tells.back).heard (λ _. IfSome (tell tells.back).held (AreHeldAt r migration (homes_of r.problem) b.switch h))) =
       subst (λ (p : P). IfSome (tell p).offered (λ _. IfSome (tell p).heard (λ _. IfSome (tell p).held (AreHeldAt r migration (homes_of r.problem) b.switch h)))) same (ends.holds tells.starts) in
       subst (λ (t : Option Holdings). IfSome t (AreHeldAt r migration (homes_of r.problem) b.switch h)) tells.held
@@ -70,7 +68,7 @@ module _ {P : Type 0} (tell : P → PortTrace) (r : Rollout) (migration : ℕ) (
   -- and where it tells what went over it alone
   pub may-right : (b : Berth P) → EndsWithin tell r migration found h before now b → MayHoldNow tell r migration found now holdings b → Right b.switch
   may-right b ends may =
-      let same : ends.back ≡ may.back = some-back ends.back may.back (sym ends.kept ∙ may.kept) in
+      let same : ends.back ≡ may.back = some_same_is ends.back may.back (sym ends.kept ∙ may.kept) in
       let offered_is = ap (λ (p : P). (tell p).offered) same ∙ may.told_offered in
       let heard_is = ap (λ (p : P). (tell p).heard) same ∙ may.told_heard in
       let each : Each b may.offered may.heard = told-both (Each b) (tell ends.back).offered (tell ends.back).heard may.offered may.heard offered_is heard_is ends.each in

@@ -12,6 +12,7 @@ use Rattle.intent_journal.specs.declared.fault.JournalFault.TheVariants as journ
 use Rattle.intent_journal.specs.Openings.{IsLeft, IsOpenedOn}
 use Rattle.intent_journal.specs.Recovered.{KeepsNow, MayStand, OnRefusal, kept_for}
 use Rattle.intent_journal.specs.Verdicts.{verdict}
+use Rattle.intent_journal.proofs.Recoveries.{told_all}
 use Rattle.rollout_report.specs.Journals.{digest_for}
 use Rattle.rollout_report.proofs.Journaling.{still_each}
 use Rattle.text_commands.specs.CommandEnds.{ending_of_journal, status_of}
@@ -86,10 +87,6 @@ ok-more : (r : Result Rollout CommandEnd) (P Q : Rollout → Type 0) → ((o : R
 ok-more (Ok o) P Q more h = more o h
 ok-more (Err e) P Q more h = tt
 
-some-each : (told : Option (List ℕ)) (P : List ℕ → Type 0) → ((bytes : List ℕ) → P bytes) → IfSome told P
-some-each None P each = tt
-some-each (Some bytes) P each = each bytes
-
 some-more : (told : Option (List ℕ)) (P Q : List ℕ → Type 0) → ((bytes : List ℕ) → P bytes → Q bytes) → IfSome told P → IfSome told Q
 some-more None P Q more h = tt
 some-more (Some bytes) P Q more h = more bytes h
@@ -125,7 +122,7 @@ module _ {D : Type 0} (trace : D → DiskTrace) (old new : D) where
   -- a disk that is as it was, and a status that says nothing of it
   pub untouched-leaves : (m : ℕ) (r : Result Rollout CommandEnd) (status : ℕ) → ((c : List ℕ) → (trace old).left_since (trace old).moment c → (trace old).may_leave c) → new ≡ old → IsSilent status
       → LeavesReported trace m r status old new
-  untouched-leaves m r status only same silent = ok-each r _ (λ o. some-each (trace old).bytes _ (λ image. record {
+  untouched-leaves m r status only same silent = ok-each r _ (λ o. told_all (trace old).bytes _ (λ image. record {
     any_moment = still_each trace o (digest_for o m) (Some image) old new only same;
     reported = λ h. absurd (elim h [ inl zero ↦ silent.0 zero | inr seven ↦ silent.1.0 seven ]);
     refused = λ h. absurd (silent.1.1 h);

@@ -4,6 +4,7 @@ use Rattle.std.proofs.Common.{◌≡◌, ◌⊎◌, ◌+◌, ◌<◌, ◌≤◌,
 use Rattle.std.specs.List.{All, AllByRecursion}
 use Rattle.std.proofs.lemmas.Bool.{and_parts}
 use Rattle.std.proofs.lemmas.List.Elements.{All-head, All-tail, All-weaker}
+use Rattle.lists.proofs.Options.{of_some}
 use Rattle.rollout_rules.specs.Wan.{Plan, Problem, Rollout, last_stage}
 use Rattle.rollout_rules.specs.Items.{content, item_at, item_count}
 use Rattle.rollout_rules.specs.Operations.{content_after}
@@ -49,7 +50,6 @@ use Rattle.switch_ports.specs.Berths.{FleetPorts}
 use Rattle.switch_ports.specs.Hands.{first_sessions}
 use Rattle.switch_ports.specs.Homes.{working_homes}
 use Rattle.switch_laws.specs.Holdings.{AreHeldAt, IsHeldAt}
-use Rattle.switch_laws.proofs.Answered.{some_at}
 use Rattle.switch_laws.proofs.Begun.{begun_within}
 use Rattle.switch_laws.proofs.Stands.{if_some, was_told}
 use Rattle.intent_journal.specs.declared.digest.Digest.{Digest}
@@ -207,18 +207,18 @@ module _ {D : Type 0} (trace : D → DiskTrace) (o : Opening) (log : List Writte
 
   module _ (image : List ℕ) (told : (trace levelled).bytes ≡ Some image) where
     since-from : (c : List ℕ) → (trace levelled).left_since from c → HasListFrom o.rollout o.found c
-    since-from c left = list-from c (some_at (λ _. (image : List ℕ) → (trace levelled).left_since from image → HasLegalList o log image) (trace levelled).bytes image told images.since c left)
+    since-from c left = list-from c (of_some (λ _. (image : List ℕ) → (trace levelled).left_since from image → HasLegalList o log image) (trace levelled).bytes image told images.since c left)
 
     module _ (seen : IsSeen trace levelled) where
       later : from ≤ (trace levelled).moment
-      later = some_at (λ _. from ≤ (trace levelled).moment) (trace levelled).bytes image told images.later
+      later = of_some (λ _. from ≤ (trace levelled).moment) (trace levelled).bytes image told images.later
 
       may-from : (c : List ℕ) → (trace levelled).may_leave c → HasListFrom o.rollout o.found c
       may-from c may = since-from c (seen.counts from c later may)
 
       -- the image that is told has a list
       pub here : HasListFrom o.rollout o.found image
-      here = may-from image (some_at (λ (b : List ℕ). (trace levelled).may_leave b) (trace levelled).bytes image told seen.shows)
+      here = may-from image (of_some (λ (b : List ℕ). (trace levelled).may_leave b) (trace levelled).bytes image told seen.shows)
 
       old-or-new : (c : List ℕ) → IsOldOrNew (journal_in image) (kept_from o.rollout migration start) c → Right c
       old-or-new c (inl old) = inl (record { past = here.past; legal = here.legal; has = record { kept = here.has.kept; is = old ∙ here.has.is; starts = here.has.starts; rows = here.has.rows } })
@@ -257,7 +257,7 @@ module _ {D : Type 0} (trace : D → DiskTrace) (o : Opening) (log : List Writte
       if_some (trace disk_now).bytes (λ _. (c : List ℕ) → (trace disk_now).left_since from c → Right c) (λ image_now told_now c left.
       let was = was_told (trace levelled).bytes (trace disk_now).bytes image_now may.told told_now in
       placed-right was.0 was.1 seen disk_now
-      (some_at (λ image. LeavesOnly trace levelled disk_now (λ c. (trace levelled).may_leave c ⊎ IsStoodOrPlaced (kept_from o.rollout migration start) image c)) (trace levelled).bytes was.0 was.1 may.any_moment) c left)
+      (of_some (λ image. LeavesOnly trace levelled disk_now (λ c. (trace levelled).may_leave c ⊎ IsStoodOrPlaced (kept_from o.rollout migration start) image c)) (trace levelled).bytes was.0 was.1 may.any_moment) c left)
 
 -- ---- a rollback that was begun
 
@@ -395,7 +395,7 @@ module _ {D P : Type 0} (trace : D → DiskTrace) (tell : P → PortTrace)
       stored = from.stored;
       found = book.history;
       begins = subst (λ (r : Rollout). found_by r (verdict r (digest_for r limits.migration) from.image) ≡ Some book.history) (sym has.rolled.opened.rollout)
-          (some_at (λ image. found_by from.r (verdict from.r (digest_for from.r limits.migration) image) ≡ Some book.history) (trace from.opened).bytes from.image from.stored has.rolled.opened.found);
+          (of_some (λ image. found_by from.r (verdict from.r (digest_for from.r limits.migration) image) ≡ Some book.history) (trace from.opened).bytes from.image from.stored has.rolled.opened.found);
       added = added ran.log;
       legal = legal-now;
       safe = λ held within. held-safe book.rollout.problem book.rollout.plan (history_of o ran.log) held net valid legal-now within;

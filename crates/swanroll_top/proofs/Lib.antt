@@ -7,7 +7,6 @@ pub mod Agents
 pub mod KeptAgents
 pub mod FirstAsked
 pub mod SameWords
-pub mod FirstWords
 pub mod Seeing
 pub mod LookingOn
 pub mod OnceRight
@@ -26,6 +25,7 @@ pub mod SettledPorts
 pub mod Levelling
 pub mod Settling
 pub mod NextReverting
+pub mod Unbegun
 pub mod Certain
 pub mod CertainBack
 pub mod CertainDrain

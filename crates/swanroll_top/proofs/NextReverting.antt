@@ -1,6 +1,7 @@
 -- Why no next start is refused for what a rollback has left: of its rollout, or of its way back.
 use Rattle.std.proofs.Common.{◌≡◌, ◌⊎◌, inl, inr, ℕ, true, List, [], Option, Some, None, IfSome, refl, sym, ap, ◌∙◌, subst}
 use Rattle.lists.proofs.Conditions.{some_same_is}
+use Rattle.lists.proofs.Options.{of_some}
 use Rattle.rollout_rules.specs.Wan.{Rollout}
 use Rattle.rollout_rules.specs.History.{History}
 use Rattle.rollout_rules.specs.Legal.{is_legal}
@@ -23,7 +24,6 @@ use Rattle.rollout_book.specs.Lists.{HasOwner}
 use Rattle.shared_book.specs.Images.{HasImages, Stays}
 use Rattle.shared_book.specs.Opened.{opening_of}
 use Rattle.switch_ports.specs.Berths.{FleetPorts}
-use Rattle.switch_laws.proofs.Answered.{some_at}
 use Rattle.switch_laws.proofs.Stands.{if_some, was_told}
 use Rattle.rollout_report.specs.Journals.{digest_for}
 use Rattle.controller_run.specs.declared.running.Limits.{Limits}
@@ -140,23 +140,23 @@ module _ {D P : Type 0} (trace : D → DiskTrace) (tell : P → PortTrace)
 
   module _ (first : List ℕ) (first_is : (trace opened).bytes ≡ Some first) (image : List ℕ) (image_is : (trace levelled).bytes ≡ Some image) where
     first-begins : found_by r (verdict r (digest_for r limits.migration) first) ≡ Some book.history
-    first-begins = some_at (λ (f : List ℕ). found_by r (verdict r (digest_for r limits.migration) f) ≡ Some book.history) (trace opened).bytes first first_is has.rolled.opened.found
+    first-begins = of_some (λ (f : List ℕ). found_by r (verdict r (digest_for r limits.migration) f) ≡ Some book.history) (trace opened).bytes first first_is has.rolled.opened.found
 
     keeps : KeepsNow (kept_for r (digest_for r limits.migration) (verdict r (digest_for r limits.migration) first)) (trace book.disk).bytes (trace book.disk).may_leave
     keeps =
-        some_at (λ (f : List ℕ). KeepsNow (kept_for r (digest_for r limits.migration) (verdict r (digest_for r limits.migration) f)) (trace book.disk).bytes (trace book.disk).may_leave)
+        of_some (λ (f : List ℕ). KeepsNow (kept_for r (digest_for r limits.migration) (verdict r (digest_for r limits.migration) f)) (trace book.disk).bytes (trace book.disk).may_leave)
         (trace opened).bytes first first_is has.rolled.opened.on.keeps
 
     stayed : Stays trace (opening_of book has.policy) (trace book.disk) keeps.what levelled image
     stayed =
-        some_at (Stays trace (opening_of book has.policy) (trace book.disk) keeps.what levelled) (trace levelled).bytes image image_is
-        (some_at (λ (kept : Kept). IfSome (trace levelled).bytes (Stays trace (opening_of book has.policy) (trace book.disk) kept levelled)) (kept_by (trace book.disk).bytes) keeps.what
+        of_some (Stays trace (opening_of book has.policy) (trace book.disk) keeps.what levelled) (trace levelled).bytes image image_is
+        (of_some (λ (kept : Kept). IfSome (trace levelled).bytes (Stays trace (opening_of book has.policy) (trace book.disk) kept levelled)) (kept_by (trace book.disk).bytes) keeps.what
         (ap kept_by keeps.is_told ∙ keeps.fresh.keeps) has.rolled.run.stays)
 
     again-from : LeavesOnly trace opened levelled (MayBeFound r (digest_for r limits.migration) first (trace opened).may_leave)
     again-from =
-        some_at (λ _. LeavesOnly trace opened levelled (MayBeFound r (digest_for r limits.migration) first (trace opened).may_leave)) (trace levelled).bytes image image_is
-        (some_at (λ (f : List ℕ). IfSome (trace levelled).bytes (λ _. LeavesOnly trace opened levelled (MayBeFound r (digest_for r limits.migration) f (trace opened).may_leave)))
+        of_some (λ _. LeavesOnly trace opened levelled (MayBeFound r (digest_for r limits.migration) first (trace opened).may_leave)) (trace levelled).bytes image image_is
+        (of_some (λ (f : List ℕ). IfSome (trace levelled).bytes (λ _. LeavesOnly trace opened levelled (MayBeFound r (digest_for r limits.migration) f (trace opened).may_leave)))
         (trace opened).bytes first first_is levelled-again)
 
     levelled-list : is_run answer ≡ true → IsSeen trace levelled → HasListFrom r book.history image
@@ -183,7 +183,7 @@ module _ {D P : Type 0} (trace : D → DiskTrace) (tell : P → PortTrace)
         (λ last last_is.
         let was = was_told (trace levelled).bytes (trace disk_now).bytes last takes.may.told last_is in
         tried-either first first_is was.0 was.1 is takes.seen
-        (some_at (λ image. LeavesOnly trace levelled disk_now (λ c. (trace levelled).may_leave c ⊎ IsStoodOrPlaced (kept_from r limits.migration start) image c)) (trace levelled).bytes was.0 was.1
+        (of_some (λ image. LeavesOnly trace levelled disk_now (λ c. (trace levelled).may_leave c ⊎ IsStoodOrPlaced (kept_from r limits.migration start) image c)) (trace levelled).bytes was.0 was.1
         takes.may.any_moment)))
 
     -- where the disk is as levelling has left it

@@ -1,11 +1,8 @@
 -- A disk that isn't opened, and one whose opening failed.
-use Rattle.std.proofs.Common.{◌≡◌, ℕ, List, Option, Some, None, IfSome, refl, inl, arith}
+use Rattle.std.proofs.Common.{ℕ, List, Option, Some, None, IfSome, refl, inl, arith}
+use Rattle.lists.proofs.Options.{some_itself}
 use Rattle.disk_model.specs.Traces.{DiskTrace}
 use Rattle.disk_mirror.specs.Openings.{Opens}
-
-told-still : (told : Option (List ℕ)) → IfSome told (λ all. told ≡ Some all)
-told-still None = tt
-told-still (Some all) = refl
 
 told-or-not : (told : Option (List ℕ)) (P : Type 0) → P → IfSome told (λ _. P)
 told-or-not None P p = tt
@@ -14,7 +11,7 @@ told-or-not (Some all) P p = p
 -- a disk that is as it was might have been opened
 pub opens-nothing : (trace : DiskTrace) → Opens trace trace
 opens-nothing trace = record {
-  same = told-still trace.bytes;
+  same = some_itself trace.bytes;
   crash = told-or-not trace.bytes _ (λ image left. left);
   time = told-or-not trace.bytes _ (record {
     later = omega arith;

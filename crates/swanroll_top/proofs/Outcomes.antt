@@ -1,7 +1,8 @@
 -- How a run ends after a rollout, by what came of it.
-use Rattle.std.proofs.Common.{◌≡◌, ◌⊎◌, ◌≤◌, ℕ, List, Bool, true, false, Option, Result, Ok, Err, refl, sym, ap, ◌∙◌, subst, inl, inr, arith}
+use Rattle.std.proofs.Common.{◌≡◌, ◌⊎◌, ℕ, List, Bool, true, false, Option, Result, Ok, Err, refl, sym, ap, ◌∙◌, subst, inl, inr, arith}
 use Rattle.rollout_rules.specs.Wan.{Rollout}
 use Rattle.rollout_rules.specs.declared.op.OpView.{OpView}
+use Rattle.wan_edge.proofs.Faults.{rose_since}
 use Rattle.disk_model.specs.Traces.{DiskTrace}
 use Rattle.wan_edge.specs.Ports.{PortTrace}
 use Rattle.wan_edge.specs.Streams.{Rose}
@@ -28,7 +29,6 @@ use Rattle.swanroll_top.specs.Targets.{BeginsNothing}
 use Rattle.text_commands.specs.Runs.{EndsWith, Follows, Gives}
 use Rattle.text_commands.specs.declared.command_end.CommandEnd.{CommandEnd}
 use Rattle.text_commands.specs.declared.command_end.CommandEnd.TheVariants.{Done, Usage, AboveLimit, Input, NotValid, NoPlan, Unshown, ReadFault, WriteFault, DiskFault, GuestFault, Refused, NotFinished, OutOfMemory}
-use Rattle.text_commands.proofs.Programs.{ends-unwritten}
 
 -- ---- an ending in place of a text
 
@@ -269,10 +269,6 @@ module _ {D P : Type 0} (tell : P → PortTrace) (homes : List ℕ) (opened clos
 
 -- ---- what a fault of the disk says of the disk
 
-pub rose-later : (before mid now : ℕ) → before ≤ mid → Rose mid now → Rose before now
-rose-later before mid now le (inl less) = inl (omega (arith, le, less))
-rose-later before mid now le (inr most) = inr most
-
 module _ {D P : Type 0} (trace : D → DiskTrace) (tell : P → PortTrace)
     (r : Rollout) (digest : Digest) (policy : OpView → ℕ) (rounds : ℕ) (disk disk_now : D) (before now : FleetPorts P) where
   stopped-failed : (o : RunOutcome) (halt : Halt) → o.end ≡ run.Stopped halt → halt.cause ≡ cause.Disk
@@ -287,7 +283,7 @@ module _ {D P : Type 0} (trace : D → DiskTrace) (tell : P → PortTrace)
       let held = ends.reason.holds in
       let rose : Rose (trace opened.disk).faults (trace ran.closed.disk).faults =
       subst (λ (why : Cause). IsCause tell opening digest.migration (homes_of opening.rollout.problem) rounds (Rose (trace opened.disk).faults (trace ran.closed.disk).faults) ends.log ends.reason.first why ends.reason.now) is held in
-      rose-later (trace disk).faults (trace opened.disk).faults (trace disk_now).faults rolled.opened.on.count (subst (λ (d : D). Rose (trace opened.disk).faults (trace d).faults) (sym ran.back) rose)
+      rose_since (trace disk).faults (trace opened.disk).faults (trace disk_now).faults rolled.opened.on.count (subst (λ (d : D). Rose (trace opened.disk).faults (trace d).faults) (sym ran.back) rose)
 
   failed-at : (end : RunEnd) (o : RunOutcome) → o.end ≡ end → IsDiskFault end → HasRolled trace tell r digest policy rounds disk before now disk_now o → Rose (trace disk).faults (trace disk_now).faults
   failed-at run.Finished o same is rolled = absurd is

@@ -61,7 +61,7 @@ held-not ready = false≢true (sym (ready.free (record { item = 0; number = 1; s
 pub untold-not : IsReadyFor itself (in_rounds 4) by_item None two_flows (fresh []) → ⊥
 untold-not ready = absurd (cc (ready.told))
 
-abbrev at_first : Option (ℕ → Option PortTrace) → Option PortTrace
+abbrev pub at_first : Option (ℕ → Option PortTrace) → Option PortTrace
 at_first None = None
 at_first (Some waiting) = waiting 0
 

@@ -241,18 +241,6 @@ fault-of-disk (journal.OtherPlan kept wanted) h = cc
 fault-of-disk (journal.Illegal place) h = cc
 fault-of-disk journal.BadStart h = cc
 
-pub fault-no-write : (cause : JournalFault) → ending_of_journal cause ≡ WriteFault → ⊥
-fault-no-write journal.Disk h = cc
-fault-no-write journal.Memory h = cc
-fault-no-write (journal.NotJournal first) h = cc
-fault-no-write (journal.OtherPlan kept wanted) h = cc
-fault-no-write (journal.Illegal place) h = cc
-fault-no-write journal.BadStart h = cc
-
-pub text-no-disk : (text : List ℕ) (e : CommandEnd) (out now : Option (List ℕ)) → EndsWith (Ok text) e out now → e ≡ DiskFault → ⊥
-text-no-disk text e out now (inl done) h = let no : Done ≡ DiskFault = sym done.0 ∙ h in cc
-text-no-disk text e out now (inr cut) h = let no : WriteFault ≡ DiskFault = sym cut.0 ∙ h in cc
-
 -- ---- an input that is refused
 
 module _ (m : ℕ) (told out : Option (List ℕ)) (r : Result Rollout CommandEnd) where

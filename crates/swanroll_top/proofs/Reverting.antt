@@ -1,6 +1,7 @@
 -- How a rollback follows from its input, and what is left where nothing was placed.
 use Rattle.std.proofs.Common.{◌≡◌, ◌≤◌, ℕ, List, Bool, true, false, Option, Result, Ok, Err, IfOk, IfErr, refl, sym, ap, ◌∙◌, subst, inl, inr, arith}
 use Rattle.rollout_rules.specs.Wan.{Rollout}
+use Rattle.wan_edge.proofs.Faults.{rose_since}
 use Rattle.disk_model.specs.Traces.{DiskTrace}
 use Rattle.wan_edge.specs.Ports.{PortTrace}
 use Rattle.wan_edge.specs.Streams.{Rose, SourceTrace}
@@ -37,7 +38,7 @@ use Rattle.text_commands.specs.Runs.{Follows, IsInput}
 use Rattle.swanroll_top.specs.Targets.{BeginsNothing}
 use Rattle.text_commands.specs.declared.command_end.CommandEnd.{CommandEnd}
 use Rattle.text_commands.specs.declared.command_end.CommandEnd.TheVariants.{DiskFault}
-use Rattle.swanroll_top.proofs.Outcomes.{is_ran, journal-disk, ran-begun, rollout-disk, rose-later, text-not-disk, unbegun-nothing}
+use Rattle.swanroll_top.proofs.Outcomes.{is_ran, journal-disk, ran-begun, rollout-disk, text-not-disk, unbegun-nothing}
 use Rattle.text_commands.proofs.Programs.{follows-ends}
 use Rattle.swanroll_top.proofs.Reporting.{reads-document, short-rollout}
 use Rattle.swanroll_top.proofs.Rolling.{never-disk, unbegun}
@@ -163,7 +164,7 @@ module _ {D P : Type 0} (trace : D → DiskTrace) (tell : P → PortTrace)
       let ran = stopped-begun o halt is stop in
       let rose : Rose (trace has.rolled.book.disk).faults (trace has.rolled.run.closed.disk).faults =
       subst (λ (why : Cause). IsCause tell opening migration (homes_of opening.rollout.problem) rounds (Rose (trace has.rolled.book.disk).faults (trace has.rolled.run.closed.disk).faults) ran.log ran.reason.first why ran.reason.now) disk_is ran.reason.holds in
-      rose-later (trace disk).faults (trace has.rolled.book.disk).faults (trace levelled).faults has.rolled.opened.on.count
+      rose_since (trace disk).faults (trace has.rolled.book.disk).faults (trace levelled).faults has.rolled.opened.on.count
       (subst (λ (d : D). Rose (trace has.rolled.book.disk).faults (trace d).faults) (sym has.rolled.run.back) rose)
 
   -- a fault of the disk is a stop
@@ -193,7 +194,7 @@ module _ {D P : Type 0} (trace : D → DiskTrace) (tell : P → PortTrace)
   closes-rose : (levelled : D) (answer : LevelAnswer) (has : HasLevelled trace tell origin r (digest_for r limits.migration) limits.rounds disk before.ports now.ports levelled answer)
       → Closes trace limits.migration answer levelled disk_now e out out_now → Rose (trace disk).faults (trace disk_now).faults
   closes-rose levelled (level.Level other start) has closes =
-      rose-later (trace disk).faults (trace levelled).faults (trace disk_now).faults
+      rose_since (trace disk).faults (trace levelled).faults (trace disk_now).faults
       (faults-later trace tell origin r limits.migration limits.rounds disk levelled before.ports now.ports (level.Level other start) has refl) (takes-rose levelled other start closes)
   closes-rose levelled (level.Unlevel o) has closes =
       subst (λ (d : D). Rose (trace disk).faults (trace d).faults) (sym closes.disk_is)

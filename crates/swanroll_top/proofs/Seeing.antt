@@ -15,6 +15,7 @@ use Rattle.text_commands.specs.declared.command_end.CommandEnd.{CommandEnd}
 use Rattle.text_commands.specs.declared.command_end.CommandEnd.TheVariants.{Done, Usage, AboveLimit, Input, NotValid, NoPlan, Unshown, ReadFault, WriteFault, DiskFault, GuestFault, Refused, NotFinished, OutOfMemory}
 use Rattle.swanroll_top.specs.declared.live.LiveEnd.{LiveEnd}
 use Rattle.swanroll_top.specs.declared.live.LiveEnd.TheVariants.{Ended, InUse}
+use Rattle.swanroll_top.proofs.Outcomes.{without_text}
 
 pub ended-is : (one other : CommandEnd) → Ended one ≡ Ended other → one ≡ other
 ended-is one other is = cc is
@@ -23,11 +24,8 @@ ended-is one other is = cc is
 abbrev pub IsErrEnding : Result (List ℕ) CommandEnd → CommandEnd → Type 0
 IsErrEnding answer e = answer ≡ Err e
 
-abbrev as_err : CommandEnd → Result (List ℕ) CommandEnd
-as_err e = Err e
-
 pub err-same : (one other : CommandEnd) → one ≡ other → IsErrEnding (Err one) other
-err-same one other is = ap as_err is
+err-same one other is = ap without_text is
 
 pub read-cause : (e : CommandEnd) (P : Type 0) → (IsErrEnding (Err e) ReadFault → P) → Ended e ≡ Ended ReadFault → P
 read-cause e P cause is = cause (err-same e ReadFault (ended-is e ReadFault is))

@@ -2,6 +2,7 @@
 use Rattle.std.proofs.Common.{◌≡◌, ◌+◌, ◌<◌, ◌≤◌, ℕ, List, [], ◌∷◌, ◌++◌, true, Option, Some, None, IfSome, sym, ap, ◌∙◌, subst, inl, inr, arith}
 use Rattle.std.specs.List.{AllByRecursion}
 use Rattle.std.proofs.lemmas.Bool.{eqb-false}
+use Rattle.lists.proofs.Options.{of_some}
 use Rattle.rollout_rules.specs.Wan.{Rollout}
 use Rattle.rollout_rules.specs.Items.{item_at, item_count}
 use Rattle.rollout_rules.specs.Operations.{content_after}
@@ -18,7 +19,6 @@ use Rattle.switch_ports.specs.Views.{SessionTrace, view}
 use Rattle.switch_ports.specs.declared.ports.Berth.{Berth}
 use Rattle.switch_ports.specs.Berths.{FleetPorts}
 use Rattle.switch_laws.specs.Holdings.{AreHeldAt, IsHeldAt}
-use Rattle.switch_laws.proofs.Answered.{some_at}
 use Rattle.switch_laws.proofs.Stands.{if_some}
 use Rattle.completion_laws.specs.Untold.{EachMayHold, IsFoundWith, MayHold}
 use Rattle.swanroll_top.specs.DrainTargets.{AreHeldSettled, EndsSettled, IsHeldSettled}
@@ -37,8 +37,8 @@ module _ (P Q : Holdings → Type 0) (more : (holdings : Holdings) → P holding
       if_some now.offered (λ offered. IfSome now.heard (λ heard. (earlier : List ℕ) (before after : Holdings) → IsFoundWith r migration homes found first earlier before → MayHold (earlier ++ offered) heard before after → Q after))
       (λ offered offered_is. if_some now.heard (λ heard. (earlier : List ℕ) (before after : Holdings) → IsFoundWith r migration homes found first earlier before → MayHold (earlier ++ offered) heard before after → Q after)
       (λ heard heard_is earlier before after were may.
-      let here = some_at (λ heard. (earlier : List ℕ) (before after : Holdings) → IsFoundWith r migration homes found first earlier before → MayHold (earlier ++ offered) heard before after → P after) now.heard heard heard_is
-      (some_at (λ offered. IfSome now.heard (λ heard. (earlier : List ℕ) (before after : Holdings) → IsFoundWith r migration homes found first earlier before → MayHold (earlier ++ offered) heard before after → P after)) now.offered offered offered_is each) in
+      let here = of_some (λ heard. (earlier : List ℕ) (before after : Holdings) → IsFoundWith r migration homes found first earlier before → MayHold (earlier ++ offered) heard before after → P after) now.heard heard heard_is
+      (of_some (λ offered. IfSome now.heard (λ heard. (earlier : List ℕ) (before after : Holdings) → IsFoundWith r migration homes found first earlier before → MayHold (earlier ++ offered) heard before after → P after)) now.offered offered offered_is each) in
       more after (here earlier before after were may)))
 
 -- ---- what the switches hold

@@ -1,10 +1,9 @@
 -- What is held after an item's entry was set.
-use Rattle.std.proofs.Common.{◌≡◌, ℕ, ◌==◌, ◌||◌, Bool, true, false, cond, Option, Some, None, Result, Ok, Err, is_some, unwrap_or, sym, ap, ◌∙◌, inl, inr, eq-eqb}
+use Rattle.std.proofs.Common.{◌≡◌, ℕ, ◌==◌, ◌||◌, Bool, true, false, cond, Option, Some, None, is_some, unwrap_or, sym, ap, ◌∙◌, inl, inr, eq-eqb}
 use Rattle.std.specs.Map.{lookup}
-use Rattle.std.specs.Result.{OnErr}
 use Rattle.std.proofs.lemmas.Bool.{cases_eq, cond-true, cond-false, ne_eqb}
 use Rattle.rollout_rules.specs.Agent.{held_after, is_next_command}
-use Rattle.wan_edge.specs.Frames.{CommandFrame}
+use Rattle.wan_edge.specs.Frames.{CommandFrame, Command}
 use Rattle.wan_edge.specs.Switches.{after_command, pair_asked}
 use Rattle.switch_agent.specs.Items.{Items, held_by, holding, seen, with_stored}
 
@@ -15,10 +14,8 @@ carried last c next = sym (cond-true _ _ _ next)
 pub passed_over : (last : Option CommandFrame) (c : CommandFrame) → is_next_command (held_by last).held (pair_asked c) ≡ false → held_by last ≡ held_after (held_by last) (pair_asked c) c.1.content
 passed_over last c other = sym (cond-false _ _ _ other)
 
--- what holds at any result holds at an error
-pub on_err : {A E P : Type 0} (r : Result A E) → P → OnErr r P
-on_err (Ok a) holds = tt
-on_err (Err e) holds = holds
+unfoldable pub some_command : ℕ → Command → Option CommandFrame
+some_command migration c = Some (migration, c)
 
 module _ (items new : Items) (item : ℕ) (now : Option CommandFrame) (updated : (q : ℕ) → lookup (λ key. q == key) new ≡ cond (item == q) (Some now) (lookup (λ key. q == key) items)) where
   at_item : (q : ℕ) → q ≡ item → lookup (λ key. q == key) new ≡ Some now

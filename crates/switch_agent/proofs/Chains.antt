@@ -5,11 +5,12 @@ use Rattle.std.proofs.lemmas.List.{append-nil, drop-drop, take_rest, take-append
 use Rattle.std.proofs.lemmas.List.Elements.{All-append}
 use Rattle.std.proofs.lemmas.Grind.{flat_map-append}
 use Rattle.std.specs.List.{All, flat_map}
+use Rattle.lists.proofs.Conditions.{or_regrouped}
 use Rattle.wan_edge.specs.Frames.{AnswerFrame, CommandFrame, IsCommand, Splits, answer_bytes, command_bytes}
 use Rattle.wan_edge.specs.Streams.{Appends, AppendsPart}
 use Rattle.wan_edge.specs.Switches.{Holdings, after_command, after_commands, answer_to, answers_to}
 use Rattle.wan_edge.proofs.Chains.{Appends-chain}
-use Rattle.wan_edge.proofs.Commands.{after_commands-append}
+use Rattle.wan_edge.proofs.Commands.{after_commands-append, answers_to-append}
 use Rattle.wire_frames.specs.Reading.{IsCommandFault}
 use Rattle.wire_frames.specs.declared.fault.FrameFault.{FrameFault}
 use Rattle.wire_frames.specs.declared.fault.FrameFault.TheVariants.{Count, Kind}
@@ -18,10 +19,6 @@ use Rattle.switch_agent.specs.Serving.{CarriesOut, Ends, IsOwnFault, answered, a
 use Rattle.switch_agent.specs.declared.serve_fault.ServeFault.{ServeFault}
 use Rattle.switch_agent.specs.declared.serve_fault.ServeFault.TheVariants.{Frame, Long, Memory, Read, Write}
 use Rattle.switch_agent.specs.declared.serve_fault.Served.{Served}
-
-pub answers_to-append : (held : Holdings) (xs ys : List CommandFrame) → answers_to held (xs ++ ys) ≡ answers_to held xs ++ answers_to (after_commands held xs) ys
-answers_to-append held [] ys = refl
-answers_to-append held (x ∷ xs) ys = ap (λ (answers : List AnswerFrame). answer_to held x ∷ answers) (answers_to-append (after_command held x) xs ys)
 
 answered-append : (held : Holdings) (xs ys : List CommandFrame) → answered held (xs ++ ys) ≡ answered held xs ++ answered (after_commands held xs) ys
 answered-append held xs ys = ap (flat_map answer_bytes) (answers_to-append held xs ys) ∙ flat_map-append answer_bytes (answers_to held xs) (answers_to (after_commands held xs) ys)
@@ -52,10 +49,6 @@ pub or_false : (p a : Bool) → (p || a) ≡ ((p || false) || a)
 or_false true a = refl
 or_false false a = refl
 
-pub or_assoc : (p x a : Bool) → ((p || x) || a) ≡ (p || (x || a))
-or_assoc true x a = refl
-or_assoc false x a = refl
-
 pub or_swapped : (p x y a : Bool) → (y || ((p || x) || a)) ≡ (p || (y || (x || a)))
 or_swapped true x true a = refl
 or_swapped true x false a = refl
@@ -63,7 +56,7 @@ or_swapped false x y a = refl
 
 asked-append : (xs ys : List CommandFrame) (item : ℕ) (a : Bool) → (asked ys item || (asked xs item || a)) ≡ (asked (xs ++ ys) item || a)
 asked-append [] ys item a = refl
-asked-append (x ∷ xs) ys item a = or_swapped (item == x.1.item) (asked xs item) (asked ys item) a ∙ ap (λ (b : Bool). item == x.1.item || b) (asked-append xs ys item a) ∙ sym (or_assoc (item == x.1.item) (asked (xs ++ ys) item) a)
+asked-append (x ∷ xs) ys item a = or_swapped (item == x.1.item) (asked xs item) (asked ys item) a ∙ ap (λ (b : Bool). item == x.1.item || b) (asked-append xs ys item a) ∙ sym (or_regrouped (item == x.1.item) (asked (xs ++ ys) item) a)
 
 -- a serving that ended without a fault, and one that goes on from what it kept
 pub carry_on : (a b c : Items) (bytes kept more : List ℕ) (m n : ℕ) (fault : Option ServeFault) (GoesOn : List ℕ → Type 0) (w1 w2 w3 : Option (List ℕ))

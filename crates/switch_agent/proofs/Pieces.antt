@@ -15,7 +15,7 @@ use Rattle.switch_agent.specs.declared.guest_read.GuestRead.{GuestRead}
 use Rattle.switch_agent.specs.declared.serve_fault.ServeFault.{ServeFault}
 use Rattle.switch_agent.specs.declared.serve_fault.ServeFault.TheVariants.{Frame, Long, Memory, Read, Write}
 use Rattle.switch_agent.specs.declared.serve_fault.Served.{Served}
-use Rattle.switch_agent.proofs.Stops.{appends_nothing, nothing_carried}
+use Rattle.switch_agent.proofs.Stops.{nothing_carried}
 
 -- ---- what was read
 
@@ -113,7 +113,7 @@ end_heard items kept piece room left w heard is cut none at_end =
     let all : kept ++ piece ≡ kept = ap (λ (xs : List ℕ). kept ++ xs) (none_of_length_0 piece none) ∙ append-nil kept in
     subst (λ (h : GuestRead). HearsBytes items items (talk_of kept room) piece h left w w) (sym is) (record {
       carried = subst (λ (bytes : List ℕ). CarriesOut items items bytes (record { commands = 0; fault = None }) IsCutCommand w w) (sym all)
-          (nothing_carried items kept None IsCutCommand w (cut, appends_nothing w));
+          (nothing_carried items kept None IsCutCommand w (cut, Appends-nothing w));
       few = omega arith;
       further = (none, at_end none);
     })
@@ -192,7 +192,7 @@ guest_failed items talk kept source now heard sink sink_now kept_is cut unwritte
       };
       within = omega arith;
       hears = record {
-        carried = nothing_carried items (talk.kept ++ []) (Some Read) IsCutCommand sink.written (cut_talk, appends_nothing sink.written);
+        carried = nothing_carried items (talk.kept ++ []) (Some Read) IsCutCommand sink.written (cut_talk, Appends-nothing sink.written);
         few = omega arith;
         further = (refl, refl);
       };

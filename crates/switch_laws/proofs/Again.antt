@@ -6,6 +6,7 @@ use Rattle.std.proofs.lemmas.Grind.{flat_map-append}
 use Rattle.std.proofs.lemmas.List.Elements.{All-append, All-filter, All-weaker}
 use Rattle.std.proofs.lemmas.Option.{same_Some}
 use Rattle.std.specs.List.{flat_map}
+use Rattle.lists.proofs.Options.{of_some}
 use Rattle.rollout_rules.specs.Wan.{Rollout}
 use Rattle.rollout_rules.specs.Network.{IsNetwork}
 use Rattle.rollout_rules.specs.Valid.{is_valid_plan}
@@ -25,7 +26,7 @@ use Rattle.switch_ports.specs.Views.{SessionTrace}
 use Rattle.switch_laws.specs.Holdings.{AreHeldAt}
 use Rattle.switch_laws.specs.Runs.{AreAnswers, AreCommands, IsBegunCommand, MayCome, RunsAt, StartsAsFound}
 use Rattle.switch_laws.proofs.Offered.{all_framed, frames-framed, framed}
-use Rattle.switch_laws.proofs.Answered.{some_at, told_before}
+use Rattle.switch_laws.proofs.Answered.{told_before}
 use Rattle.switch_laws.proofs.Fitting.{has_frame}
 use Rattle.switch_laws.proofs.Listed.{begun_stays}
 use Rattle.switch_laws.proofs.Stands.{held_stands, if_some, was_told}
@@ -64,7 +65,7 @@ module _ (r : Rollout) (migration : ℕ) (homes : List (Option ℕ)) (found : Hi
       let whole : Splits answer_bytes IsAnswer tells.bytes tells.reads.answers []
       = subst (λ (rest : List ℕ). Splits answer_bytes IsAnswer tells.bytes tells.reads.answers rest) (tells.reads.ends ∙ none_kept)
       (subst (λ (kept : List ℕ). Splits answer_bytes IsAnswer (kept ++ tells.bytes) tells.reads.answers tells.reads.rest) run.starts.none_kept tells.reads.whole) in
-      subst AreAnswers (sym was.2) (answers_on was.0 tells.bytes (some_at AreAnswers first.port.heard was.0 was.1 run.starts.heard) (record { answers = tells.reads.answers; whole = whole })))
+      subst AreAnswers (sym was.2) (answers_on was.0 tells.bytes (of_some AreAnswers first.port.heard was.0 was.1 run.starts.heard) (record { answers = tells.reads.answers; whole = whole })))
 
   module _ (offered : List ℕ) (before after : Holdings) (offered_is : now.port.offered ≡ Some offered) (before_is : first.port.held ≡ Some before) (after_is : now.port.held ≡ Some after) where
     rises_by : (now.port ≡ first.port) ⊎ IsHonestStep now.port.offered now.port.heard first.port.held now.port.held → (n : ℕ) → is_at_most (before n).held (after n).held ≡ true
@@ -72,9 +73,9 @@ module _ (r : Rollout) (migration : ℕ) (homes : List (Option ℕ)) (found : Hi
         let alike : before ≡ after = same_Some before after (sym before_is ∙ sym (ap (λ (t : PortTrace). t.held) same) ∙ after_is) in
         subst (λ (holdings : Holdings). is_at_most (before n).held (holdings n).held ≡ true) alike (at_most-refl (before n).held)
     rises_by (inr step) n =
-        let moves : MovesByRule offered before after = some_at (MovesByRule offered before) now.port.held after after_is
-        (some_at (λ earlier. IfSome now.port.held (MovesByRule offered earlier)) first.port.held before before_is
-        (some_at (λ bytes. IfSome first.port.held (λ earlier. IfSome now.port.held (MovesByRule bytes earlier))) now.port.offered offered offered_is step.moves)) in
+        let moves : MovesByRule offered before after = of_some (MovesByRule offered before) now.port.held after after_is
+        (of_some (λ earlier. IfSome now.port.held (MovesByRule offered earlier)) first.port.held before before_is
+        (of_some (λ bytes. IfSome first.port.held (λ earlier. IfSome now.port.held (MovesByRule bytes earlier))) now.port.offered offered offered_is step.moves)) in
         subst (λ (holdings : Holdings). is_at_most (before n).held (holdings n).held ≡ true) (sym moves.moved) (none_falls moves.delivered before n)
 
     may_again : (c : CommandFrame) → MayCome r migration found before c → MayCome r migration (with_entries found added) after c
@@ -91,7 +92,7 @@ module _ (r : Rollout) (migration : ℕ) (homes : List (Option ℕ)) (found : Hi
     offered_again =
         let was = told_before first.port.offered now.port.offered (frames_of migration mine) offered story.sent offered_is in
         let commands : AreCommands r migration found before was.0
-        = some_at (λ holdings. AreCommands r migration found holdings was.0) first.port.held before before_is (some_at (λ bytes. IfSome first.port.held (λ holdings. AreCommands r migration found holdings bytes)) first.port.offered was.0 was.1 run.starts.offered) in
+        = of_some (λ holdings. AreCommands r migration found holdings was.0) first.port.held before before_is (of_some (λ bytes. IfSome first.port.held (λ holdings. AreCommands r migration found holdings bytes)) first.port.offered was.0 was.1 run.starts.offered) in
         let there = commands.commands in
         let more = framed migration mine in
         record {

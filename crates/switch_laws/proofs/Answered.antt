@@ -1,15 +1,16 @@
 -- What a port told in a run is at most what its switch holds.
-use Rattle.std.proofs.Common.{◌≡◌, ◌⊎◌, ℕ, ◌+◌, ◌≤◌, ◌==◌, true, List, [], ◌∷◌, ◌++◌, length, Option, Some, None, IfSome, inl, inr, refl, sym, ap, ◌∙◌, subst, append_assoc, append-nil, arith, length-append, eqb-true}
+use Rattle.std.proofs.Common.{◌≡◌, ◌⊎◌, ℕ, ◌+◌, ◌≤◌, ◌==◌, List, [], ◌∷◌, ◌++◌, length, Option, Some, None, IfSome, inl, inr, refl, sym, ap, ◌∙◌, subst, append_assoc, append-nil, arith, length-append, eqb-true}
 use Rattle.std.proofs.lemmas.Bool.{cond_both}
 use Rattle.std.proofs.lemmas.Grind.{flat_map-append}
 use Rattle.std.proofs.lemmas.List.Elements.{All-append, All-cons, All-contains, All-contains_itself, All-head, All-nil, All-tail, All-weaker, Contains-append_right}
 use Rattle.std.proofs.lemmas.Option.{none-some, same_Some}
 use Rattle.std.specs.List.{All, Contains, flat_map}
-use Rattle.rollout_rules.specs.Agent.{is_at_most}
+use Rattle.lists.proofs.Options.{of_some}
 use Rattle.wan_edge.specs.Frames.{Answer, AnswerFrame, IsAnswer, Splits, answer_bytes}
 use Rattle.wan_edge.specs.Ports.{AnswersHeld, IsHonestStep, PortTrace}
 use Rattle.wan_edge.specs.Streams.{Appends}
-use Rattle.wan_edge.specs.Switches.{Holdings, pair_given}
+use Rattle.wan_edge.specs.Switches.{Holdings}
+use Rattle.wan_edge.proofs.Commands.{IsHeld}
 use Rattle.port_session.specs.Reading.{answers_of}
 use Rattle.switch_ports.specs.Stories.{Tells}
 use Rattle.switch_ports.specs.Views.{SessionTrace}
@@ -39,10 +40,6 @@ few_answers (a ∷ later) = omega (arith, length-append (answer_bytes a) (flat_m
 pub none_in_nothing : (P : AnswerFrame → Type 0) (answers : List AnswerFrame) → length (flat_map answer_bytes answers) ≡ 0 → All P answers
 none_in_nothing P answers none k d inside = absurd (omega (arith, few_answers answers, none, inside))
 
--- an answer is at most what is held of its item
-abbrev pub IsHeld : Holdings → AnswerFrame → Type 0
-IsHeld holdings a = is_at_most (pair_given a) (holdings a.1.item).held ≡ true
-
 module _ (holdings : Holdings) (all earlier bytes later : List ℕ) (parts : all ≡ (earlier ++ bytes) ++ later) (were : AreAnswers earlier) (answers : List AnswerFrame) (rest : List ℕ) (whole : Splits answer_bytes IsAnswer bytes answers rest) where
   regrouped : all ≡ flat_map answer_bytes (were.answers ++ answers) ++ (rest ++ later)
   regrouped =
@@ -64,10 +61,6 @@ module _ (holdings : Holdings) (all earlier bytes later : List ℕ) (parts : all
       none_in_nothing (IsHeld holdings) answers
       (omega (arith, ap length same, ap length parts, length-append (earlier ++ bytes) later, length-append earlier bytes, ap length whole.parts, length-append (flat_map answer_bytes answers) rest))
 
--- where an option is known
-pub some_at : {A : Type 0} (P : A → Type 0) (o : Option A) (a : A) → o ≡ Some a → IfSome o P → P a
-some_at {A = A} P o a is holds = subst (λ (x : Option A). IfSome x P) is holds
-
 -- what was told of a migration, where the port goes on by its rule
 pub told_is_held : (migration : ℕ) (first moment now : SessionTrace) (told : List Answer) (later all : List ℕ) (holdings : Holdings) → first.stream.kept ≡ [] → IfSome first.port.heard AreAnswers → Tells migration first told moment → Appends moment.port.heard later now.port.heard
     → now.port.heard ≡ Some all → now.port.held ≡ Some holdings → (now.port ≡ first.port) ⊎ IsHonestStep now.port.offered now.port.heard first.port.held now.port.held → All (λ a. IsHeld holdings (migration, a)) told
@@ -75,7 +68,7 @@ told_is_held migration first moment now told later all holdings none_kept were t
     let between = told_before moment.port.heard now.port.heard later all since heard in
     let before = told_before first.port.heard moment.port.heard tells.bytes between.0 tells.appended between.1 in
     let parts : all ≡ (before.0 ++ tells.bytes) ++ later = between.2 ∙ ap (λ (xs : List ℕ). xs ++ later) before.2 in
-    let answers_were : AreAnswers before.0 = some_at AreAnswers first.port.heard before.0 before.1 were in
+    let answers_were : AreAnswers before.0 = of_some AreAnswers first.port.heard before.0 before.1 were in
     let whole : Splits answer_bytes IsAnswer tells.bytes tells.reads.answers tells.reads.rest
     = subst (λ (kept : List ℕ). Splits answer_bytes IsAnswer (kept ++ tells.bytes) tells.reads.answers tells.reads.rest) none_kept tells.reads.whole in
     let each : All (IsHeld holdings) tells.reads.answers = by parts answers_were whole before.1 rule in
@@ -87,4 +80,4 @@ told_is_held migration first moment now told later all holdings none_kept were t
         held_by_none holdings all earlier bytes later parts answers_were answers rest whole (same_Some all earlier (sym heard ∙ ap (λ (t : PortTrace). t.heard) same ∙ at))
     by {earlier = earlier} {bytes = bytes} {rest = rest} {answers = answers} parts answers_were whole at (inr step) =
         held_by_rule holdings all earlier bytes later parts answers_were answers rest whole
-        (some_at (AnswersHeld all) now.port.held holdings held (some_at (λ bytes. IfSome now.port.held (AnswersHeld bytes)) now.port.heard all heard step.answers))
+        (of_some (AnswersHeld all) now.port.held holdings held (of_some (λ bytes. IfSome now.port.held (AnswersHeld bytes)) now.port.heard all heard step.answers))

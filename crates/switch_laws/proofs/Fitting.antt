@@ -1,13 +1,14 @@
 -- The command of an operation begun has a frame.
-use Rattle.std.proofs.Common.{◌≡◌, ℕ, zero, suc, ◌+◌, ◌*◌, ◌^◌, ◌<◌, ◌≤◌, max, min, Bool, true, false, not, ◌&&◌, if◌then◌else◌, nat_le, List, [], length, Option, Some, None, unwrap_or, inl, inr, sym, ap, subst, arith, leb-true, ltb-true}
+use Rattle.std.proofs.Common.{◌≡◌, ℕ, ◌+◌, ◌*◌, ◌^◌, ◌<◌, ◌≤◌, max, min, Bool, true, false, not, ◌&&◌, if◌then◌else◌, nat_le, List, [], length, inl, inr, sym, ap, subst, arith, leb-true, ltb-true}
 use Rattle.std.proofs.lemmas.Bool.{and_parts, cases_lt}
 use Rattle.std.proofs.lemmas.List.Elements.{All-cons, All-from_get_or, All-nil}
 use Rattle.std.proofs.lemmas.Nat.{mul-le}
 use Rattle.std.specs.List.{All, Contains}
+use Rattle.lists.proofs.Conditions.{one_at_most}
 use Rattle.rollout_rules.specs.declared.limits.TheConstants.{LARGEST_RATE, LARGEST_SCALE, MOST_STAGES}
-use Rattle.rollout_rules.specs.Sums.{all_below, list_below, same_numbers, sum_below}
+use Rattle.rollout_rules.specs.Sums.{all_below, list_below, same_numbers}
 use Rattle.rollout_rules.specs.Wan.{Plan, Problem, Rollout, flow_at, hops, last_stage, mark_at, new_rate, old_rate, rate_at, tunnel_at, tunnel_of}
-use Rattle.rollout_rules.specs.Network.{IsNetwork, IsRate}
+use Rattle.rollout_rules.specs.Network.{IsNetwork}
 use Rattle.rollout_rules.specs.Items.{content, is_item, item_at, item_count}
 use Rattle.rollout_rules.specs.Operations.{changes_behind, operations, stand_after}
 use Rattle.rollout_rules.specs.Valid.{begins_at_old, carries_what_flows, ends_at_new, fits_each_step, flow_total, has_shape, is_valid_plan, keeps_total_at, keeps_totals, new_total, old_total}
@@ -17,11 +18,11 @@ use Rattle.rollout_rules.specs.declared.item.Item.{Item}
 use Rattle.rollout_rules.specs.declared.item.Item.TheVariants as item
 use Rattle.rollout_rules.specs.declared.op.Op.{Op}
 use Rattle.rollout_rules.specs.declared.op.Entry.TheVariants.{Begin}
-use Rattle.rollout_rules.proofs.Below.{all_below-at, sum_below-at, sum_below-zero}
+use Rattle.rollout_rules.proofs.Below.{all_below-at, sum_below-at, sum_below-zero, sum_below-most}
 use Rattle.rollout_rules.proofs.Numbers.{is_item-item_at}
 use Rattle.rollout_rules.proofs.Tunnels.{tunnel_of-below}
-use Rattle.rollout_rules.proofs.Rows.{list_below-length}
-use Rattle.rollout_laws.proofs.Contents.{list_below-at}
+use Rattle.rollout_rules.proofs.Rows.{list_below-length, list_below-at}
+use Rattle.rollout_rules.proofs.Rates.{rate_within}
 use Rattle.rollout_laws.proofs.Histories.{is_counted}
 use Rattle.rollout_laws.proofs.Standing.{stand-most}
 use Rattle.rollout_laws.proofs.Validity.{plan-is_valid}
@@ -29,15 +30,6 @@ use Rattle.wan_edge.specs.Frames.{Command, IsCommand}
 use Rattle.rollout_book.specs.Commands.{command_of}
 use Rattle.switch_laws.specs.Runs.{IsBegunCommand}
 use Rattle.switch_laws.proofs.Begun.{begun_within}
-
--- a sum of so many numbers, each at most this, and each of them is at most their sum
-few_sum : (n : ℕ) (f : ℕ → ℕ) (most : ℕ) → ((k : ℕ) → k < n → f k ≤ most) → sum_below n f ≤ n * most
-few_sum zero f most each = omega arith
-few_sum (suc n) f most each = omega (arith, few_sum n f most (λ k lt. each k (omega arith)), each n (omega arith))
-
-rate_within : (rate : Option ℕ) → IsRate rate → unwrap_or rate 0 ≤ LARGEST_RATE
-rate_within None within = omega arith
-rate_within (Some n) within = within
 
 bit_fits : (b : Bool) → (if b then 1 else 0) < 2 ^ 64
 bit_fits true = omega arith
@@ -48,6 +40,12 @@ record IsBrought (rates : List ℕ) : Type 0 where
   some : 0 < length rates
   few : length rates ≤ 16
   each : All (λ rate. rate < 2 ^ 64) rates
+
+-- a flow without tunnels never changes
+pub none_to_change : (p : Problem) (plan : Plan) (f : ℕ) → (flow_at p f).tunnels ≡ 0 → operations p plan (item.Flow f) ≡ 0
+none_to_change p plan f none =
+    sum_below-zero (last_stage plan) (λ s. if changes_behind p plan (item.Flow f) s then 1 else 0)
+    (λ s lt. ap (λ (n : ℕ). if not (same_numbers (list_below n (λ j. rate_at plan s (tunnel_of p f j))) (list_below n (λ j. rate_at plan (s + 1) (tunnel_of p f j)))) then 1 else 0) none)
 
 module _ (p : Problem) (plan : Plan) (net : IsNetwork p) (valid : is_valid_plan p plan ≡ true) where
   shape : has_shape p plan ≡ true
@@ -76,7 +74,7 @@ module _ (p : Problem) (plan : Plan) (net : IsNetwork p) (valid : is_valid_plan 
   -- a flow's total of rates that are within the limit
   total_within : (f : ℕ) → f < length p.flows → (rate : ℕ → ℕ) → ((t : ℕ) → t < length p.tunnels → rate t ≤ LARGEST_RATE) → plan.scale * flow_total p rate f ≤ 65536 * (16 * 1000000000)
   total_within f inside rate each =
-      let sum = few_sum (flow_at p f).tunnels (λ j. rate (tunnel_of p f j)) LARGEST_RATE (λ j few. each (tunnel_of p f j) (tunnel_of-below p f j net inside few)) in
+      let sum = sum_below-most (flow_at p f).tunnels LARGEST_RATE (λ j. rate (tunnel_of p f j)) (λ j few. each (tunnel_of p f j) (tunnel_of-below p f j net inside few)) in
       let most = mul-le (flow_at p f).tunnels LARGEST_RATE 16 1000000000 (omega (arith, net.flows.few f inside)) (omega arith) in
       mul-le plan.scale (flow_total p rate f) 65536 (16 * 1000000000) (omega (arith, scale_within)) (omega (arith, sum, most))
 
@@ -92,16 +90,10 @@ module _ (p : Problem) (plan : Plan) (net : IsNetwork p) (valid : is_valid_plan 
       let one = sum_below-at (flow_at p f).tunnels (λ k. rate_at plan s (tunnel_of p f k)) j few in
       omega (arith, high, old, new, one)
 
-  -- a flow without tunnels never changes
-  none_to_change : (f : ℕ) → (flow_at p f).tunnels ≡ 0 → operations p plan (item.Flow f) ≡ 0
-  none_to_change f none =
-      sum_below-zero (last_stage plan) (λ s. if changes_behind p plan (item.Flow f) s then 1 else 0)
-      (λ s lt. ap (λ (n : ℕ). if not (same_numbers (list_below n (λ j. rate_at plan s (tunnel_of p f j))) (list_below n (λ j. rate_at plan (s + 1) (tunnel_of p f j)))) then 1 else 0) none)
-
   some_tunnel : (f : ℕ) → 0 < operations p plan (item.Flow f) → 0 < (flow_at p f).tunnels
   some_tunnel f some = elim (cases_lt 0 (flow_at p f).tunnels) as (λ c. 0 < (flow_at p f).tunnels) [
     | inl more ↦ more
-    | inr none ↦ absurd (omega (arith, some, none_to_change f (omega arith)))
+    | inr none ↦ absurd (omega (arith, some, none_to_change p plan f (omega arith)))
   ]
 
   brought : (i : Item) → is_item p i ≡ true → 0 < operations p plan i → (s : ℕ) → s ≤ last_stage plan → IsBrought (content p plan i s)
@@ -113,7 +105,7 @@ module _ (p : Problem) (plan : Plan) (net : IsNetwork p) (valid : is_valid_plan 
         some = omega (arith, long, some_tunnel f some);
         few = omega (arith, long, net.flows.few f inside);
         each = All-from_get_or (λ rate. rate < 2 ^ 64) (list_below (flow_at p f).tunnels rates) 0 (λ k lt.
-            subst (λ (rate : ℕ). rate < 2 ^ 64) (sym (list_below-at (flow_at p f).tunnels rates 0 k (omega (arith, long, lt)))) (rate_fits s f k most inside (omega (arith, long, lt))));
+            subst (λ (rate : ℕ). rate < 2 ^ 64) (sym (list_below-at (flow_at p f).tunnels rates k 0 (omega (arith, long, lt)))) (rate_fits s f k most inside (omega (arith, long, lt))));
       }
     where
       is_flow : (g : ℕ) → is_item p (item.Flow g) ≡ true → g < length p.flows
@@ -126,17 +118,13 @@ module _ (p : Problem) (plan : Plan) (net : IsNetwork p) (valid : is_valid_plan 
 
   few_items : item_count p < 2 ^ 32
   few_items =
-      let entries = few_sum (length p.tunnels) (hops p) 17 (λ t lt. omega (arith, (net.tunnels t lt).path.most)) in
+      let entries = sum_below-most (length p.tunnels) 17 (hops p) (λ t lt. omega (arith, (net.tunnels t lt).path.most)) in
       omega (arith, entries, net.few, net.flows.count)
 
   few_operations : (i : Item) → operations p plan i < 2 ^ 32
   few_operations i =
-      let changes = few_sum (last_stage plan) (λ s. if changes_behind p plan i s then 1 else 0) 1 (λ s lt. one_at_most (changes_behind p plan i s)) in
+      let changes = sum_below-most (last_stage plan) 1 (λ s. if changes_behind p plan i s then 1 else 0) (λ s lt. one_at_most (changes_behind p plan i s)) in
       omega (arith, changes, stages_within)
-    where
-      one_at_most : (b : Bool) → (if b then 1 else 0) ≤ 1
-      one_at_most true = omega arith
-      one_at_most false = omega arith
 
 module _ (r : Rollout) (migration : ℕ) (h : History) (net : IsNetwork r.problem) (valid : is_valid_plan r.problem r.plan ≡ true) (legal : is_legal r.problem r.plan h ≡ true) (small : migration < 2 ^ 32) where
   begun_fits : (op : Op) → Contains h.entries (Begin op) → IsCommand (migration, command_of r op)

@@ -12,13 +12,14 @@ use Rattle.rollout_rules.specs.History.{with_entries}
 use Rattle.wan_edge.specs.Frames.{Answer, CommandFrame, IsAnswer, IsCommand, answer_bytes, command_bytes, command_head}
 use Rattle.wan_edge.specs.Ports.{AnswersHeld, GoesOn, IsOffered, MovesByRule}
 use Rattle.wan_edge.specs.Switches.{after_command, holding_nothing}
+use Rattle.wan_edge.proofs.Commands.{IsHeld}
 use Rattle.wire_frames.proofs.OneSpelling.{one_answer}
 use Rattle.port_session.specs.Offers.{frames_of}
 use Rattle.port_session.specs.Reading.{answers_of}
 use Rattle.switch_ports.specs.Stories.{Tells}
 use Rattle.switch_laws.specs.Runs.{IsAnswered, IsBegunCommand, MayCome, RunsAt, StartsAsFound}
 use Rattle.switch_laws.specs.Worked.{answering, begun_and_done, both_at_first, first_answer, first_command, silent, two_flows, unused}
-use Rattle.switch_laws.proofs.Answered.{IsHeld, all_told, none_in_nothing, told_before}
+use Rattle.switch_laws.proofs.Answered.{all_told, none_in_nothing, told_before}
 
 pub unused_starts : StartsAsFound two_flows 4 both_at_first (fresh []) unused
 unused_starts = record {

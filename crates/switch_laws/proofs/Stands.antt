@@ -4,6 +4,7 @@ use Rattle.std.proofs.lemmas.Bool.{OnTrue_at, false≢true}
 use Rattle.std.proofs.lemmas.List.Elements.{All-append, All-contains, All-filter, All-weaker}
 use Rattle.std.proofs.lemmas.Option.{same_Some}
 use Rattle.std.specs.List.{All, Contains, flat_map}
+use Rattle.lists.proofs.Options.{of_some}
 use Rattle.rollout_rules.specs.Wan.{Rollout}
 use Rattle.rollout_rules.specs.Network.{IsNetwork}
 use Rattle.rollout_rules.specs.Items.{item_at, item_count}
@@ -25,13 +26,14 @@ use Rattle.wan_edge.specs.Frames.{Command, CommandFrame, IsCommand, command_byte
 use Rattle.wan_edge.specs.Ports.{IsHonestStep, IsOffered, MovesByRule, PortTrace}
 use Rattle.wan_edge.specs.Streams.{KeepsTelling}
 use Rattle.wan_edge.specs.Switches.{Holdings}
+use Rattle.wan_edge.proofs.Commands.{IsHeld}
 use Rattle.port_session.specs.Offers.{frames_of}
 use Rattle.switch_ports.specs.Outboxes.{home_at, is_switch, own}
 use Rattle.switch_ports.specs.Views.{SessionTrace}
 use Rattle.switch_laws.specs.Holdings.{AreHeldAt, AreHeldAtEnd, HasGoneOn, HaveGoneOn, IsHeldAt, IsHeldAtEnd, IsMovedWithin, operations_of}
 use Rattle.switch_laws.specs.Runs.{AreCommands, IsBegunCommand, MayCome, RunsAt}
 use Rattle.switch_laws.proofs.Offered.{all_framed, frames-framed, framed, one_offered}
-use Rattle.switch_laws.proofs.Answered.{IsHeld, some_at, told_before, told_is_held}
+use Rattle.switch_laws.proofs.Answered.{told_before, told_is_held}
 use Rattle.switch_laws.proofs.Begun.{settled_told}
 use Rattle.switch_laws.proofs.Fitting.{has_frame}
 use Rattle.switch_laws.proofs.Listed.{begun_stays}
@@ -76,7 +78,7 @@ module _ (r : Rollout) (migration : ℕ) (homes : List (Option ℕ)) (found : Hi
     may_be_offered c is =
         let part = run.story.part in
         let was = told_before first.port.offered now.port.offered (take part.count (frames_of migration mine)) offered part.appended offered_is in
-        let commands : AreCommands r migration found before was.0 = some_at (λ holdings. AreCommands r migration found holdings was.0) first.port.held before before_is (some_at (λ bytes. IfSome first.port.held (λ holdings. AreCommands r migration found holdings bytes)) first.port.offered was.0 was.1 run.starts.offered) in
+        let commands : AreCommands r migration found before was.0 = of_some (λ holdings. AreCommands r migration found holdings was.0) first.port.held before before_is (of_some (λ bytes. IfSome first.port.held (λ holdings. AreCommands r migration found holdings bytes)) first.port.offered was.0 was.1 run.starts.offered) in
         let there = commands.commands in
         let bytes : offered ≡ flat_map command_bytes there ++ take part.count (flat_map command_bytes (framed migration mine))
         = was.2 ∙ ap₂ (λ (xs ys : List ℕ). xs ++ take part.count ys) (commands.whole.parts ∙ append-nil (flat_map command_bytes there)) (frames-framed migration mine) in
@@ -86,7 +88,7 @@ module _ (r : Rollout) (migration : ℕ) (homes : List (Option ℕ)) (found : Hi
 
     module _ (n : ℕ) (inside : n < item_count r.problem) (home : home_at homes n ≡ Some first.switch) where
       held_first : IsHeldAt r migration found n (before n)
-      held_first = some_at (AreHeldAt r migration homes first.switch found) first.port.held before before_is run.starts.held n inside home
+      held_first = of_some (AreHeldAt r migration homes first.switch found) first.port.held before before_is run.starts.held n inside home
 
       abbrev Come : Holding → Type 0
       Come holding = HasCome r migration (settled found n) (begun (with_entries found added) n) n (before n) holding
@@ -96,9 +98,9 @@ module _ (r : Rollout) (migration : ℕ) (homes : List (Option ℕ)) (found : Hi
           let alike : before ≡ after = same_Some before after (sym before_is ∙ sym (ap (λ (t : PortTrace). t.held) same) ∙ after_is) in
           subst (λ (holdings : Holdings). Come (holdings n)) alike (come_first r migration found added before n legal held_first)
       come_by (inr step) =
-          let moves : MovesByRule offered before after = some_at (MovesByRule offered before) now.port.held after after_is
-          (some_at (λ earlier. IfSome now.port.held (MovesByRule offered earlier)) first.port.held before before_is
-          (some_at (λ bytes. IfSome first.port.held (λ earlier. IfSome now.port.held (MovesByRule bytes earlier))) now.port.offered offered offered_is step.moves)) in
+          let moves : MovesByRule offered before after = of_some (MovesByRule offered before) now.port.held after after_is
+          (of_some (λ earlier. IfSome now.port.held (MovesByRule offered earlier)) first.port.held before before_is
+          (of_some (λ bytes. IfSome first.port.held (λ earlier. IfSome now.port.held (MovesByRule bytes earlier))) now.port.offered offered offered_is step.moves)) in
           let each : All May moves.delivered = All-weaker (IsOffered offered) May may_be_offered moves.delivered moves.each_offered in
           subst (λ (holdings : Holdings). Come (holdings n)) (sym moves.moved)
           (come_behind r migration found added before n legal held_first moves.delivered each before (come_first r migration found added before n legal held_first))

@@ -1,5 +1,5 @@
 -- Berths whose ports were given, and those that are given back.
-use Rattle.std.proofs.Common.{◌≡◌, ℕ, zero, suc, ◌<◌, length, take, drop, get_or, arith, Bool, true, false, cond, List, [], ◌∷◌, ◌++◌, Option, Some, None, nat_eq, refl, sym, ap, ◌∙◌, subst, option_map, append-nil, append_assoc}
+use Rattle.std.proofs.Common.{◌≡◌, ℕ, arith, Bool, true, false, cond, List, [], ◌∷◌, ◌++◌, Option, Some, None, nat_eq, refl, sym, ap, ◌∙◌, subst, option_map, append-nil, append_assoc}
 use Rattle.std.specs.Cmp.{nat_eq_equiv}
 use Rattle.std.specs.Prelude.{IfSome}
 use Rattle.std.specs.List.{AllByRecursion, IsDistinct}
@@ -30,12 +30,6 @@ module _ {X : Type 0} (R : X → Type 0) where
 pub all_to : {X : Type 0} (R Q : X → Type 0) → ((x : X) → R x → Q x) → (xs : List X) → AllByRecursion R xs → AllByRecursion Q xs
 all_to R Q to [] each = tt
 all_to R Q to (x ∷ xs) each = (to x each.0, all_to R Q to xs each.1)
-
--- a list is what stands before a place, what stands there, and what stands after
-pub parted : {A : Type 0} (xs : List A) (i : ℕ) (d : A) → i < length xs → xs ≡ take i xs ++ get_or xs i d ∷ drop (suc i) xs
-parted [] i d inside = absurd (omega (arith, inside))
-parted (x ∷ xs) zero d inside = refl
-parted {A = A} (x ∷ xs) (suc i) d inside = ap (λ (ys : List A). x ∷ ys) (parted xs i d (omega (arith, inside)))
 
 -- ---- no two of one switch
 module _ {P : Type 0} where
@@ -146,7 +140,7 @@ module _ {P : Type 0} where
       subst (λ (lent : ℕ → Bool). AreLent lent rest) (sym (ap (λ (p : FleetPorts P). p.lent) is))
       (lent_front before.lent rest row (subst (λ (bs : List (Berth P)). AreApart bs) parts apart) (subst (λ (bs : List (Berth P)). AreLent before.lent bs) parts each))
 
-  berths_append : (ts us : List (SessionView P)) → berths_of (ts ++ us) ≡ berths_of ts ++ berths_of us
+  pub berths_append : (ts us : List (SessionView P)) → berths_of (ts ++ us) ≡ berths_of ts ++ berths_of us
   berths_append [] us = refl
   berths_append (t ∷ ts) us = ap (λ (bs : List (Berth P)). record { switch = t.switch; port = t.port } ∷ bs) (berths_append ts us)
 

@@ -4,9 +4,10 @@ use Rattle.std.specs.Prelude.{All, IfOk, Result}
 use Rattle.std.proofs.lemmas.List.Elements.{All-from_recursion}
 use Rattle.std.proofs.lemmas.Bool.{ne_eqb}
 use Rattle.std.specs.List.{AllByRecursion, IsDistinct}
+use Rattle.lists.proofs.Rows.{parted}
 use Rattle.rollout_rules.specs.Wan.{Plan, Problem}
 use Rattle.switch_ports.specs.Homes.{is_working_home, passing_below, some_below, working_homes}
-use Rattle.switch_ports.proofs.Given.{all_both, all_front, all_behind, all_to, parted}
+use Rattle.switch_ports.proofs.Given.{all_both, all_front, all_behind, all_to}
 use Rattle.switch_ports.proofs.Places.{swapped}
 
 pub passing_more : (n : ℕ) (test : ℕ → Bool) → passing_below (n + 1) test ≡ passing_below n test ++ cond (test n) (n ∷ []) []

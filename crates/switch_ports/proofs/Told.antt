@@ -1,6 +1,6 @@
 -- From what a session's call says of its port to what a worker sees of it.
 use Rattle.std.proofs.Math.Seq.{drop-append_seam, take-length}
-use Rattle.std.proofs.Common.{◌≡◌, ℕ, ◌<◌, zero, suc, ◌+◌, ◌∷◌, List, [], ◌++◌, length, take, drop, get_or, Option, Some, ◌-◌, refl, sym, ap, ap₂, ◌∙◌, length-append, subst, arith}
+use Rattle.std.proofs.Common.{◌≡◌, ℕ, ◌+◌, List, [], ◌++◌, length, take, drop, Option, Some, ◌-◌, refl, sym, ap, ap₂, ◌∙◌, length-append, subst, arith}
 use Rattle.wan_edge.specs.Frames.{Answer, Command}
 use Rattle.wan_edge.specs.Ports.{AppendsFront, GoesOn, PortTrace}
 use Rattle.wan_edge.specs.Streams.{Appends, Rose}
@@ -15,12 +15,6 @@ use Rattle.switch_ports.specs.Views.{SessionTrace, view}
 use Rattle.switch_ports.specs.Causes.{cause_of}
 use Rattle.switch_ports.specs.Hearing.{IsHearCause, Listens}
 use Rattle.switch_ports.specs.Offering.{Offers}
-
--- a list is what stands before a place, what stands there, and what stands after
-pub parted : {A : Type 0} (xs : List A) (i : ℕ) (d : A) → i < length xs → xs ≡ take i xs ++ get_or xs i d ∷ drop (suc i) xs
-parted [] i d inside = absurd (omega (arith, inside))
-parted (x ∷ xs) zero d inside = refl
-parted {A = A} (x ∷ xs) (suc i) d inside = ap (λ (ys : List A). x ∷ ys) (parted xs i d (omega (arith, inside)))
 
 pub none_sent : (before now : Option (List ℕ)) (bytes : List ℕ) → now ≡ before → AppendsFront before bytes now
 none_sent before now bytes same = record { count = 0; within = omega arith; appended = same ∙ Appends-nothing before }

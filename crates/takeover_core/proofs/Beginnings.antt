@@ -9,10 +9,9 @@ use Rattle.rollout_rules.specs.Legal.{is_sound}
 use Rattle.rollout_rules.specs.Agent.{first_pair}
 use Rattle.rollout_rules.specs.World.{World, first_world, are_first_pairs, held_of}
 use Rattle.rollout_rules.specs.declared.held.Held.{Held}
-use Rattle.rollout_rules.proofs.Rows.{list_below-length}
+use Rattle.rollout_rules.proofs.Rows.{list_below-length, list_below-at}
 use Rattle.rollout_laws.specs.Kept.{IsKept}
 use Rattle.rollout_laws.specs.SafeWorlds.{pairs_held}
-use Rattle.rollout_laws.proofs.Contents.{list_below-at}
 use Rattle.rollout_laws.proofs.Keeping.{first_world_is_kept}
 use Rattle.rollout_core.specs.Worlds.{Standing}
 use Rattle.takeover_rules.specs.Takeovers.{takeover_of, newer_world, no_fences, first_takeover}
@@ -26,7 +25,7 @@ pairs_all p plan w kept =
     (list_below-length (item_count p) (λ n. (held_of w n).held) ∙ sym kept.items ∙ sym (length-map w.held (λ v. v.held)))
     (λ n few.
     let lt = subst (λ (k : ℕ). n < k) (list_below-length (item_count p) (λ k. (held_of w k).held)) few in
-    list_below-at (item_count p) (λ k. (held_of w k).held) first_pair n lt ∙ sym (nth_pair p plan w kept n lt))
+    list_below-at (item_count p) (λ k. (held_of w k).held) n first_pair lt ∙ sym (nth_pair p plan w kept n lt))
 
 module _ (r : Rollout) (fenced : List Bool) (older : Standing) (newer : Option Standing) (start : List ℕ) (migration : ℕ) (first : List Held)
     (marks : fenced ≡ no_fences r.problem)

@@ -1,9 +1,9 @@
 -- Laws of terms, command by command.
-use Rattle.std.proofs.Common.{◌≡◌, ℕ, ◌+◌, ◌<◌, ◌≤◌, nat_lt, List, [], ◌∷◌, refl, sym, ap, ◌∙◌, ⊎_elim, arith, le_refl}
-use Rattle.std.proofs.lemmas.Bool.{cond_both, cond-true, cond-false, lt-ltb, le-ltb, ltb-false, false_from_ne_true}
-use Rattle.rollout_rules.specs.Agent.{pair_of, Holding, is_next_command, held_after}
+use Rattle.std.proofs.Common.{◌≡◌, ℕ, ◌<◌, ◌≤◌, nat_lt, List, [], ◌∷◌, refl, sym, ap, ◌∙◌, arith, le_refl}
+use Rattle.std.proofs.lemmas.Bool.{cond_both, cond-true, cond-false, lt-ltb, le-ltb, ltb-false}
+use Rattle.rollout_rules.specs.Agent.{pair_of, Holding, held_after}
 use Rattle.rollout_rules.specs.declared.held.Held.{Held}
-use Rattle.rollout_rules.proofs.Pairs.{IsNextCommand, next_command-is}
+use Rattle.rollout_rules.proofs.Pairs.{held_after-probe}
 use Rattle.takeover_rules.specs.Terms.{Guarded, floor_after, guarded_after, Asked, held_after_all, guarded_after_all}
 
 -- a command of a term that isn't below the floor, and one of a term that is
@@ -40,23 +40,10 @@ pub none_carried : (g : Guarded) (term : ℕ) (cs : List Asked) → term < g.flo
 none_carried g term [] lt = refl
 none_carried g term (c ∷ cs) lt = ap (λ (v : Guarded). guarded_after_all v term cs) (passed g term c.pair c.content lt) ∙ none_carried g term cs lt
 
--- number 0 is the next of none
-no_next : (held : Held) (migration : ℕ) → IsNextCommand held (pair_of migration 0) → ⊥
-no_next held migration next =
-    ⊎_elim
-    (λ (same : (migration ≡ held.migration) × (0 ≡ held.number + 1)). omega (arith, same.1))
-    (λ (later : (held.migration < migration) × (1 ≤ 0)). omega (arith, later.1))
-    next
-
-pub probe-held : (holding : Holding) (migration : ℕ) (content : List ℕ) → held_after holding (pair_of migration 0) content ≡ holding
-probe-held holding migration content =
-    cond-false (is_next_command holding.held (pair_of migration 0)) (record { held = pair_of migration 0; content = content }) holding
-    (false_from_ne_true (is_next_command holding.held (pair_of migration 0)) (λ e. no_next holding.held migration (next_command-is holding.held (pair_of migration 0) e)))
-
 pub probe-guarded : (g : Guarded) (term migration : ℕ) (content : List ℕ) → g.floor ≤ term → guarded_after g term (pair_of migration 0) content ≡ record g { floor = term }
 probe-guarded g term migration content le =
     carried g term (pair_of migration 0) content le
-    ∙ ap (λ (v : Holding). guarded_at term v) (probe-held g.holding migration content)
+    ∙ ap (λ (v : Holding). guarded_at term v) (held_after-probe g.holding migration content)
   where
     guarded_at : ℕ → Holding → Guarded
     guarded_at floor holding = record { floor = floor; holding = holding }

@@ -12,9 +12,9 @@ use Rattle.rollout_rules.specs.World.{World, number_at, pair_at, first_world, ar
 use Rattle.rollout_rules.specs.declared.held.Held.{Held}
 use Rattle.rollout_rules.specs.declared.event.Event.{Event}
 use Rattle.rollout_rules.proofs.Pairs.{at_most-trans}
+use Rattle.rollout_rules.proofs.Rows.{list_below-at}
 use Rattle.rollout_laws.specs.Kept.{IsKept}
 use Rattle.rollout_laws.specs.SafeWorlds.{applied, pairs_held}
-use Rattle.rollout_laws.proofs.Contents.{list_below-at}
 use Rattle.rollout_laws.proofs.Keeping.{first_world_is_kept}
 use Rattle.rollout_laws.proofs.Worlds.{after_events-push}
 use Rattle.rollout_laws.proofs.Durable.{goes_on_from, held_never_falls}
@@ -33,7 +33,7 @@ module _ (p : Problem) (plan : Plan) where
     nth_pair = get_or-map (λ v. v.held) w.held n nothing_held first_pair (subst (λ k. n < k) (sym kept.items) lt)
 
     pub nth_applied : slice_index (applied p w) n ≡ now w n
-    nth_applied = list_below-at (item_count p) (now w) 0 n lt
+    nth_applied = list_below-at (item_count p) (now w) n 0 lt
 
   module _ (net : IsNetwork p) (migration : ℕ) where
     -- The newer world begins as a rollout from a sound start does, which is what the older world's switches hold.

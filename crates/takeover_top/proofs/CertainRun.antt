@@ -4,6 +4,7 @@ use Rattle.std.specs.List.{All, AllByRecursion, Contains}
 use Rattle.std.proofs.lemmas.Bool.{cases_eq}
 use Rattle.std.proofs.lemmas.List.Elements.{All-cons, All-contains, All-nil}
 use Rattle.std.proofs.lemmas.Option.{same_Some}
+use Rattle.lists.proofs.Options.{of_some}
 use Rattle.rollout_rules.specs.History.{History, started}
 use Rattle.rollout_rules.specs.Items.{item_count}
 use Rattle.rollout_rules.specs.Legal.{is_sound, unsettled}
@@ -13,6 +14,7 @@ use Rattle.rollout_rules.specs.Wan.{Rollout}
 use Rattle.rollout_rules.specs.declared.held.Held.{Held}
 use Rattle.rollout_rules.specs.declared.op.OpView.{OpView}
 use Rattle.rollout_laws.specs.Waiting.{HoldsNothing}
+use Rattle.wan_edge.proofs.Faults.{rose_since}
 use Rattle.disk_model.specs.Traces.{DiskTrace}
 use Rattle.wan_edge.specs.Ports.{PortTrace}
 use Rattle.wan_edge.specs.Streams.{Rose, SinkTrace}
@@ -22,7 +24,6 @@ use Rattle.intent_journal.specs.Recovered.{IsCause}
 use Rattle.intent_journal.specs.Verdicts.{Stands, Verdict, verdict}
 use Rattle.intent_journal.specs.declared.fault.JournalFault.{JournalFault}
 use Rattle.intent_journal.specs.declared.fault.JournalFault.TheVariants as fault
-use Rattle.shared_book.specs.declared.note.Cause.{Cause}
 use Rattle.shared_book.specs.declared.note.Cause.TheVariants as cause
 use Rattle.shared_book.specs.declared.call_reply.Halt.{Halt}
 use Rattle.shared_book.specs.Homes.{homes_of}
@@ -53,9 +54,8 @@ use Rattle.text_commands.specs.Runs.{EndsWith}
 use Rattle.text_commands.specs.declared.command_end.CommandEnd.{CommandEnd}
 use Rattle.text_commands.proofs.Programs.{follows-ends}
 use Rattle.swanroll_top.specs.Ready.{CountsNoFault}
-use Rattle.swanroll_top.specs.Rollouts.{FleetSeen, by_answer, ending_of_stop}
-use Rattle.swanroll_top.proofs.Outcomes.{rose-later}
-use Rattle.swanroll_top.proofs.Certain.{of-some}
+use Rattle.swanroll_top.specs.Rollouts.{FleetSeen, by_answer}
+use Rattle.swanroll_top.proofs.CertainBack.{wanting-never}
 use Rattle.takeover_top.specs.Endings.{taken_at, taken_or_ending}
 use Rattle.takeover_top.specs.Lines.{start_total}
 use Rattle.takeover_top.specs.ReadyToTake.{IsReadyToTell}
@@ -123,7 +123,7 @@ module _ {D P : Type 0} (trace : D → DiskTrace) (tell : P → PortTrace)
 
     -- the book begins there
     found-is : has.book.history ≡ started start
-    found-is = same_Some has.book.history (started start) (sym (of-some (λ all. found_by r (verdict r (digest_for r limits.migration) all) ≡ Some has.book.history) image (trace placed).bytes told has.opened.found) ∙ begins)
+    found-is = same_Some has.book.history (started start) (sym (of_some (λ all. found_by r (verdict r (digest_for r limits.migration) all) ≡ Some has.book.history) (trace placed).bytes image told has.opened.found) ∙ begins)
 
     rollout-is : has.book.rollout ≡ r
     rollout-is = has.opened.rollout
@@ -152,12 +152,12 @@ module _ {D P : Type 0} (trace : D → DiskTrace) (tell : P → PortTrace)
 
       without : IsWithoutFault tell (Rose (trace has.book.disk).faults (trace has.run.closed.disk).faults) (first_sessions ran.berths) now.ports.kept
       without = record {
-        disk = λ rose. counts.disk (rose-later count (trace has.book.disk).faults (trace disk_now).faults (omega (arith, later, has.opened.on.count))
+        disk = λ rose. counts.disk (rose_since count (trace has.book.disk).faults (trace disk_now).faults (omega (arith, later, has.opened.on.count))
             (subst (λ (d : D). Rose (trace has.book.disk).faults (trace d).faults) (sym has.run.back) rose));
         ports = λ t at back kept rose.
             let first = All-contains WasFirst (first_sessions ran.berths) t (opened-first ran.berths given-here each-here) at in
-            of-some (λ (waiting : ℕ → Option P). (switch : ℕ) (first back : P) → waiting switch ≡ Some first → now.ports.kept switch ≡ Some back → Rose (tell first).faults (tell back).faults → ⊥)
-            firsts before.ports.waiting waits counts.ports t.switch first.0 back first.1 kept (rose-later (tell first.0).faults (tell t.port).faults (tell back).faults first.2 rose);
+            of_some (λ (waiting : ℕ → Option P). (switch : ℕ) (first back : P) → waiting switch ≡ Some first → now.ports.kept switch ≡ Some back → Rose (tell first).faults (tell back).faults → ⊥)
+            before.ports.waiting firsts waits counts.ports t.switch first.0 back first.1 kept (rose_since (tell first.0).faults (tell t.port).faults (tell back).faults first.2 rose);
       }
 
     abbrev Ended : RunEnd → Type 0
@@ -192,15 +192,6 @@ module _ {D P : Type 0} (trace : D → DiskTrace) (tell : P → PortTrace)
   unopened-never fault.Disk v is cause device memory = device refl
   unopened-never fault.Memory v is cause device memory = memory refl
 
-  stopped-never : (e : CommandEnd) (other : Rollout) (why : Cause) → e ≡ ending_of_stop other why → IsWant why → (status_of e ≡ 12 → ⊥) → ⊥
-  stopped-never e other (cause.Spent rounds item number) is want memory = want
-  stopped-never e other (cause.Port switch) is want memory = want
-  stopped-never e other (cause.Above item held begun) is want memory = want
-  stopped-never e other (cause.NotMine switch item) is want memory = want
-  stopped-never e other (cause.NoAnswer switch byte) is want memory = want
-  stopped-never e other cause.Disk is want memory = want
-  stopped-never e other cause.Memory is want memory = memory (ap status_of is)
-
   -- ---- how it ends
 
   module _ (ending : TakeoverEnding) (sink sink_now : SinkTrace) (runs : RunsOn trace tell r limits policy start placed disk_now mid now ending sink sink_now) (unfailed : Rose sink.faults sink_now.faults → ⊥) where
@@ -218,8 +209,8 @@ module _ {D P : Type 0} (trace : D → DiskTrace) (tell : P → PortTrace)
     by-end memory a has missing run.Finished is (inl done) = inl (ap status_of done.0)
     by-end memory a has missing run.Finished is (inr cut) = absurd (unfailed (runs.write_fault cut.0))
     by-end memory a has missing run.Held is ends = inr (ap status_of ends.0, λ free. held-never runs.valid a has free is)
-    by-end memory a has missing (run.Stopped halt) is ends = absurd (stopped-never e a.plan halt.cause ends.0 (stop-wants runs.valid a has halt is) memory)
-    by-end memory a has missing (run.NoPort switch) is ends = absurd (counts.fleet (rose-later before.faults mid.faults now.faults fleet_later (missing switch is)))
+    by-end memory a has missing (run.Stopped halt) is ends = absurd (wanting-never e a.plan halt.cause ends.0 (stop-wants runs.valid a has halt is) memory)
+    by-end memory a has missing (run.NoPort switch) is ends = absurd (counts.fleet (rose_since before.faults mid.faults now.faults fleet_later (missing switch is)))
     by-end memory a has missing run.Memory is ends = absurd (memory (ap status_of ends.0))
 
     by-answer : (status_of e ≡ 12 → ⊥) → (a : Result RunOutcome JournalFault) → IfOk a HasRolledTo → IfErr a (λ why. IsLeft trace r (digest_for r limits.migration) placed why disk_now × (now ≡ mid))
@@ -228,8 +219,8 @@ module _ {D P : Type 0} (trace : D → DiskTrace) (tell : P → PortTrace)
     by-answer memory (Ok o) has unopened missing ends = by-end memory o has missing o.end refl ends
     by-answer memory (Err why) has unopened missing ends =
         absurd (unopened-never why (verdict r (digest_for r limits.migration) image) stands
-        (of-some (λ all. IsCause why (digest_for r limits.migration) (verdict r (digest_for r limits.migration) all)) image (trace placed).bytes told unopened.0.refusal)
-        (λ is. counts.disk (rose-later count (trace placed).faults (trace disk_now).faults later (unopened.0.failed is)))
+        (of_some (λ all. IsCause why (digest_for r limits.migration) (verdict r (digest_for r limits.migration) all)) (trace placed).bytes image told unopened.0.refusal)
+        (λ is. counts.disk (rose_since count (trace placed).faults (trace disk_now).faults later (unopened.0.failed is)))
         (λ is. memory (ap status_of (ends.0 ∙ ap ending_of_journal is))))
 
     pub run-well : (status_of e ≡ 12) ⊎ ((status_of e ≡ 0) ⊎ ((status_of e ≡ 14) × (HoldsNothing policy → ⊥)))

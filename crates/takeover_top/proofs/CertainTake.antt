@@ -2,10 +2,12 @@
 use Rattle.std.proofs.Common.{◌≡◌, ℕ, ◌≤◌, Bool, true, List, length, Option, Some, None, Result, Ok, Err, is_some, inl, inr, refl, sym, ap, ◌∙◌, subst, arith}
 use Rattle.std.specs.Prelude.{IfSome, IsErrOf}
 use Rattle.std.proofs.lemmas.Bool.{false≢true}
+use Rattle.lists.proofs.Options.{of_some}
 use Rattle.rollout_rules.specs.Legal.{is_sound}
 use Rattle.rollout_rules.specs.Network.{IsNetwork}
 use Rattle.rollout_rules.specs.Wan.{Rollout}
 use Rattle.rollout_rules.specs.declared.op.OpView.{OpView}
+use Rattle.wan_edge.proofs.Faults.{rose_since}
 use Rattle.disk_model.specs.Traces.{DiskTrace}
 use Rattle.wan_edge.specs.Ports.{PortTrace}
 use Rattle.wan_edge.specs.Streams.{Rose, SinkTrace, SourceTrace}
@@ -35,9 +37,7 @@ use Rattle.text_commands.proofs.Inputs.{beyond-input, told-within}
 use Rattle.retarget_service.specs.JournalRoom.{journal_room}
 use Rattle.swanroll_top.specs.Ready.{CountsNoFault}
 use Rattle.swanroll_top.specs.Rollouts.{FleetSeen}
-use Rattle.swanroll_top.proofs.Outcomes.{rose-later}
 use Rattle.swanroll_top.proofs.Reporting.{rolled-within, short-rollout}
-use Rattle.swanroll_top.proofs.Certain.{of-some}
 use Rattle.takeover_top.specs.Endings.{Told, ending_of_not_begun}
 use Rattle.takeover_top.specs.ReadyToTake.{EndsWell, IsGivenFor, IsReadyToTake, WaitsToTell}
 use Rattle.takeover_top.specs.Takings.{ByBeginning, ByInput, ByRollout, RunsOn, Takes, TakesRollout}
@@ -95,8 +95,8 @@ module _ {D P : Type 0} (trace : D → DiskTrace) (tell : P → PortTrace)
 
     port-never : HasFailed tell r net limits.migration ready.small start limits.rounds ready.some ready.ports mid.ports → ⊥
     port-never failed =
-        of-some (λ (waiting : ℕ → Option P). (switch : ℕ) (first back : P) → waiting switch ≡ Some first → now.ports.kept switch ≡ Some back → Rose (tell first).faults (tell back).faults → ⊥)
-        ready.ports before.ports.waiting ready.told counts.ports failed.switch failed.first failed.back failed.first_is (ap (λ (f : FleetSeen P). f.ports.kept failed.switch) same ∙ failed.kept) failed.rose
+        of_some (λ (waiting : ℕ → Option P). (switch : ℕ) (first back : P) → waiting switch ≡ Some first → now.ports.kept switch ≡ Some back → Rose (tell first).faults (tell back).faults → ⊥)
+        before.ports.waiting ready.ports ready.told counts.ports failed.switch failed.first failed.back failed.first_is (ap (λ (f : FleetSeen P). f.ports.kept failed.switch) same ∙ failed.kept) failed.rose
 
     unfenced : (there : Rollout) (end : FenceEnd) → Excused end → ((other : Rollout) (switch : ℕ) → IsErrOf {T = Rollout × List ℕ} (Err (why.Fence there end)) (why.Fence other (fence.NoPort switch)) → Rose before.faults mid.faults)
         → ending ≡ ending_of_not_begun (why.Fence there end) → IsWellEnd policy ending
@@ -112,7 +112,7 @@ module _ {D P : Type 0} (trace : D → DiskTrace) (tell : P → PortTrace)
   -- ---- where no journal was placed
 
   unplaced : (cause : JournalFault) (told : Option (List ℕ)) (old new : ℕ) → told ≡ Some image → IsPlacingFault cause told old new → (Rose old new → ⊥) → ending ≡ Ended (ending_of_journal cause) → IsWellEnd policy ending
-  unplaced (fault.NotJournal first) told old new told_is placing failed is = absurd (neither-placed first image may (of-some (IsNeither first) image told told_is placing))
+  unplaced (fault.NotJournal first) told old new told_is placing failed is = absurd (neither-placed first image may (of_some (IsNeither first) told image told_is placing))
   unplaced fault.Memory told old new told_is placing failed is = wanted policy ending is
   unplaced fault.Disk told old new told_is placing failed is = absurd (failed placing)
   unplaced (fault.OtherPlan kept named) told old new told_is placing failed is = absurd placing
@@ -135,8 +135,8 @@ module _ {D P : Type 0} (trace : D → DiskTrace) (tell : P → PortTrace)
     | inl none ↦ absurd (counts.disk (subst (λ (d : D). Rose (trace disk).faults (trace d).faults) (sym ends.1) none.failed))
     | inr opens ↦
         unplaced cause (trace opens.opened).bytes (trace opens.opened).faults (trace begun).faults
-        (of-some (λ all. (trace opens.opened).bytes ≡ Some all) image (trace disk).bytes stored opens.opens.same) opens.places.cause_is.why
-        (λ rose. counts.disk (subst (λ (d : D). Rose (trace disk).faults (trace d).faults) (sym ends.1) (rose-later (trace disk).faults (trace opens.opened).faults (trace begun).faults opens.opens.count rose)))
+        (of_some (λ all. (trace opens.opened).bytes ≡ Some all) (trace disk).bytes image stored opens.opens.same) opens.places.cause_is.why
+        (λ rose. counts.disk (subst (λ (d : D). Rose (trace disk).faults (trace d).faults) (sym ends.1) (rose_since (trace disk).faults (trace opens.opened).faults (trace begun).faults opens.opens.count rose)))
         ends.0
   ]
   by-beginning (Ok taken) begun mid begins missing count runs =
@@ -145,10 +145,10 @@ module _ {D P : Type 0} (trace : D → DiskTrace) (tell : P → PortTrace)
       let own : taken ≡ (r, start) = λ i. (places.same i, (places.own ∙ found.0) i) in
       let runs_own : RunsOn trace tell r limits policy start begun disk_now mid now ending sink sink_now
       = subst (λ (t : Rollout × List ℕ). RunsOn trace tell t.0 limits policy t.1 begun disk_now mid now ending sink sink_now) own runs in
-      let opened_told = of-some (λ all. (trace begins.begins.tries.opened).bytes ≡ Some all) image (trace disk).bytes stored begins.begins.tries.opens.same in
+      let opened_told = of_some (λ all. (trace begins.begins.tries.opened).bytes ≡ Some all) (trace disk).bytes image stored begins.begins.tries.opens.same in
       let told = still-told (trace begins.begins.tries.opened).bytes (trace begun).bytes image opened_told places.may.told in
       let keeps : journal_in told.0 ≡ Some (taken_kept r limits.migration start)
-      = (of-some (λ all. journal_in all ≡ Some (taken_kept r limits.migration begins.start)) told.0 (trace begun).bytes told.1 (fresh-keeps (trace begun).bytes (taken_kept r limits.migration begins.start) places.placed.fresh))
+      = (of_some (λ all. journal_in all ≡ Some (taken_kept r limits.migration begins.start)) (trace begun).bytes told.0 told.1 (fresh-keeps (trace begun).bytes (taken_kept r limits.migration begins.start) places.placed.fresh))
       ∙ ap (λ (s : List ℕ). Some (taken_kept r limits.migration s)) found.0 in
       record {
         own = runs_own.ended;

@@ -6,6 +6,7 @@ use Rattle.rollout_rules.specs.Wan.{Rollout}
 use Rattle.rollout_rules.specs.declared.op.OpView.{OpView}
 use Rattle.wan_edge.specs.Ports.{PortTrace}
 use Rattle.wan_edge.specs.Streams.{Rose, SinkTrace, SourceTrace}
+use Rattle.wan_edge.proofs.Faults.{rose_since}
 use Rattle.disk_model.specs.Traces.{DiskTrace}
 use Rattle.dependency_graph.specs.declared.start_fault.StartFault.{StartFault}
 use Rattle.dependency_graph.specs.declared.start_fault.StartFault.TheVariants as fault
@@ -30,7 +31,7 @@ use Rattle.text_commands.proofs.Answering.{is_answer, rollout-answers}
 use Rattle.text_commands.proofs.Statuses.{is-disk-fault, is-read-fault, is-write-fault}
 use Rattle.retarget_service.specs.JournalRoom.{journal_room}
 use Rattle.swanroll_top.specs.Rollouts.{FleetSeen, by_answer, may_end}
-use Rattle.swanroll_top.proofs.Outcomes.{journal-disk, journal-may, rose-later, stop-may}
+use Rattle.swanroll_top.proofs.Outcomes.{journal-disk, journal-may, stop-may}
 use Rattle.takeover_top.specs.Endings.{Told, ending_of_fence, ending_of_not_begun, ending_of_start, taken_at, taken_or_ending}
 use Rattle.takeover_top.specs.Takings.{ByBeginning, ByInput, ByRollout, Takes, TakesRollout}
 use Rattle.takeover_top.specs.declared.ending.TakeoverEnding.{TakeoverEnding}
@@ -172,7 +173,7 @@ module _ {D P : Type 0} (trace : D → DiskTrace) (tell : P → PortTrace)
 
   opened-disk : (start : List ℕ) → OpensAt (Err (why.Journal journal.Disk)) trace r limits.migration start (journal_room r) disk takes.begun → Rose (trace disk).faults (trace takes.begun).faults
   opened-disk start (inl unopened) = unopened.failed
-  opened-disk start (inr tried) = rose-later (trace disk).faults (trace tried.opened).faults (trace takes.begun).faults tried.opens.count tried.places.cause_is.why
+  opened-disk start (inr tried) = rose_since (trace disk).faults (trace tried.opened).faults (trace takes.begun).faults tried.opens.count tried.places.cause_is.why
 
   cause-disk : (cause : NotBegun) → Begun (Err cause) → ending_of_not_begun cause ≡ Ended DiskFault → Rose (trace disk).faults (trace takes.begun).faults
   cause-disk (why.Fence s end) begins is = absurd (fence-disk s end is)
@@ -188,7 +189,7 @@ module _ {D P : Type 0} (trace : D → DiskTrace) (tell : P → PortTrace)
       by (Ok taken) begins runs =
           let tried = begins.begins.tries in
           let rose = runs.disk_fault (own-ending runs.ended DiskFault (sym runs.is ∙ is_e)) in
-          rose-later (trace disk).faults (trace takes.begun).faults (trace disk_now).faults (omega (arith, tried.opens.count, tried.places.may.count)) rose
+          rose_since (trace disk).faults (trace takes.begun).faults (trace disk_now).faults (omega (arith, tried.opens.count, tried.places.may.count)) rose
       by (Err cause) begins ends = subst (λ (d : D). Rose (trace disk).faults (trace d).faults) (sym ends.1) (cause-disk cause begins (sym ends.0 ∙ is_e))
 
 -- ---- an ending that came before any switch was asked

@@ -1,10 +1,10 @@
 -- An image on which the journal of a takeover was placed is no refused one: its start and its empty list stand.
-use Rattle.std.proofs.Common.{◌≡◌, ◌==◌, ◌&&◌, ℕ, Bool, true, false, List, [], length, drop, Option, Some, None, if◌then◌else◌, inl, inr, refl, sym, ap, ◌∙◌}
+use Rattle.std.proofs.Common.{◌≡◌, ◌==◌, ℕ, Bool, true, List, [], length, drop, Option, Some, None, if◌then◌else◌, inl, inr, refl, sym, ap, ◌∙◌}
 use Rattle.std.proofs.lemmas.Bool.{cases_Bool, eq-eqb}
 use Rattle.std.proofs.lemmas.Slice.Eq.{bytes_eq-Decides}
 use Rattle.std.specs.Option.{option_map}
 use Rattle.std.specs.Prelude.{bytes_eq}
-use Rattle.lists.proofs.Conditions.{some_same_is}
+use Rattle.lists.proofs.Conditions.{some_same_is, and_true}
 use Rattle.rollout_rules.specs.Items.{item_count}
 use Rattle.rollout_rules.specs.Legal.{is_sound}
 use Rattle.rollout_rules.specs.Wan.{Rollout}
@@ -17,10 +17,6 @@ use Rattle.intent_journal.specs.Reading.{live_side, nothing_read, with_rows}
 use Rattle.intent_journal.specs.Verdicts.{NoJournal, NoStart, OfAnother, Stands, is_own, is_start, judged_at, judged_list, judged_start, start_of, verdict}
 use Rattle.intent_journal.proofs.Blanks.{live_part-side}
 use Rattle.takeover_top.proofs.Placed.{judged, of-part}
-
-and-true : (a b : Bool) → a ≡ true → b ≡ true → (a && b) ≡ true
-and-true true b is also = also
-and-true false b is also = absurd (let no : ◌≡◌ {A = Bool} false true = is in cc no)
 
 none-kept : (kept : Kept) → ◌≡◌ {A = Option Kept} None (Some kept) → ⊥
 none-kept kept is = cc is
@@ -62,14 +58,14 @@ module _ (r : Rollout) (digest : Digest) (start image : List ℕ) (is : journal_
   part = drop slot.start image
 
   own-is : is_own digest slot part ≡ true
-  own-is = and-true (bytes_eq (digest_in part) digest.bytes) (migration_in slot part == digest.migration)
+  own-is = and_true (bytes_eq (digest_in part) digest.bytes) (migration_in slot part == digest.migration)
       ((bytes_eq-Decides (digest_in part) digest.bytes).1 (ap (λ (k : Kept). k.digest) found.keeps)) (eq-eqb (migration_in slot part) digest.migration (ap (λ (k : Kept). k.migration) found.keeps))
 
   start-is : start_of r.problem slot part ≡ start
   start-is = of-part r digest start slot part (start_of r.problem slot part) long (ap (λ (k : Kept). k.starts) found.keeps) refl
 
   may-start : is_start r start ≡ true
-  may-start = and-true (length start == item_count r.problem) (is_sound r.problem r.plan start) (eq-eqb (length start) (item_count r.problem) long) sound
+  may-start = and_true (length start == item_count r.problem) (is_sound r.problem r.plan start) (eq-eqb (length start) (item_count r.problem) long) sound
 
   rows-are : part_rows slot part ≡ []
   rows-are = ap (λ (k : Kept). k.rows) found.keeps

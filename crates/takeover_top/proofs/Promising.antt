@@ -1,5 +1,5 @@
 -- How the promise of a takeover follows from what it brought about, step by step.
-use Rattle.std.proofs.Common.{◌≡◌, ◌⊎◌, ℕ, List, [], true, false, Bool, Option, Some, None, Result, Ok, Err, refl, sym, ap, ◌∙◌, subst, inl, inr, arith}
+use Rattle.std.proofs.Common.{◌≡◌, ℕ, List, true, false, Bool, Result, Ok, Err, refl, sym, ap, ◌∙◌, subst, inl, inr, arith}
 use Rattle.rollout_rules.specs.Wan.{Rollout}
 use Rattle.rollout_rules.specs.declared.op.OpView.{OpView}
 use Rattle.wan_edge.specs.Ports.{PortTrace}
@@ -10,17 +10,15 @@ use Rattle.dependency_graph.specs.declared.start_fault.StartFault.{StartFault}
 use Rattle.dependency_graph.specs.declared.start_fault.StartFault.TheVariants as fault
 use Rattle.dependency_graph.specs.FirstFault.{TellsSound}
 use Rattle.rollout_rules.specs.Legal.{is_sound}
-use Rattle.switch_ports.specs.Berths.{FleetPorts}
 use Rattle.controller_run.specs.declared.running.Limits.{Limits}
 use Rattle.fence_takeover.specs.Fences.{Fences, IsFencedOff}
 use Rattle.fence_takeover.specs.declared.end.FenceEnd.{FenceEnd}
 use Rattle.fence_takeover.specs.declared.end.FenceEnd.TheVariants as fence
-use Rattle.fence_takeover.specs.Beginnings.{Begins, HasBegun, IsRefused}
+use Rattle.fence_takeover.specs.Beginnings.{Begins}
 use Rattle.fence_takeover.specs.declared.begun.NotBegun.{NotBegun}
 use Rattle.fence_takeover.specs.declared.begun.NotBegun.TheVariants as why
 use Rattle.text_commands.specs.Answers.{rollout_in, rollout_to}
 use Rattle.text_commands.specs.CommandEnds.{ending_of_journal, status_of}
-use Rattle.text_commands.specs.Lines.{IsToldAs}
 use Rattle.text_commands.specs.Reading.{IsCut, IsShortInput, ReadsInput}
 use Rattle.text_commands.specs.Runs.{Gives, IsInput, IsTold}
 use Rattle.text_commands.specs.declared.command_end.CommandEnd.{CommandEnd}
@@ -33,7 +31,7 @@ use Rattle.swanroll_top.specs.Targets.{BeginsNothing, StaysSafe}
 use Rattle.swanroll_top.proofs.Reporting.{short-rollout}
 use Rattle.intent_journal.specs.declared.fault.JournalFault.{JournalFault}
 use Rattle.takeover_top.specs.Endings.{Told, ending_of_fence, ending_of_not_begun, ending_of_start}
-use Rattle.takeover_top.specs.Takings.{ByBeginning, ByInput, ByRollout, RunsOn, Takes, TakesInput, TakesRollout}
+use Rattle.takeover_top.specs.Takings.{ByBeginning, ByInput, ByRollout, RunsOn, Takes, TakesRollout}
 use Rattle.takeover_top.specs.TakenTargets.{AsksOnly, EndsTaken, IsOfTaken, RefusesStart, TakesSafely, TakesToTarget}
 use Rattle.takeover_top.specs.declared.ending.TakeoverEnding.{TakeoverEnding}
 use Rattle.takeover_top.specs.declared.ending.TakeoverEnding.TheVariants.{Ended, Later, Unsound}

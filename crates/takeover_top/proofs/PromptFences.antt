@@ -2,6 +2,7 @@
 use Rattle.std.proofs.Common.{◌≡◌, ℕ, ◌<◌, ◌^◌, Bool, true, List, length, slice_index, Option, Some, None, is_some, option_map, if◌then◌else◌, Ok, Err, inl, inr, refl, sym, ap, ◌∙◌, subst, arith, lt-ltb}
 use Rattle.std.specs.Prelude.{IfSome}
 use Rattle.std.proofs.lemmas.Bool.{cases_lt, eq-eqb, false≢true, ne_eqb}
+use Rattle.lists.proofs.Conditions.{some_same_is}
 use Rattle.rollout_rules.specs.Agent.{pair_of}
 use Rattle.rollout_rules.specs.History.{settled, started}
 use Rattle.rollout_rules.specs.Items.{item_at, item_count}
@@ -104,14 +105,11 @@ module _ {P : Type 0} (tell : P → PortTrace) (r : Rollout) (net : IsNetwork r.
     not-later : (n found : ℕ) (o : Option Held) → noted_at notes n ≡ o → option_map (λ (h : Held). h.migration) o ≡ Some found → migration < found → ⊥
     not-later n found None is found_is later = let no : ◌≡◌ {A = Option ℕ} None (Some found) = found_is in cc no
     not-later n found (Some held) is found_is later =
-        let same : held.migration ≡ found = same-number held.migration found found_is in
+        let same : held.migration ≡ found = some_same_is held.migration found found_is in
         elim (right-at n held is).pair [
           | inl own ↦ omega (arith, later, same, ap (λ (h : Held). h.migration) own)
           | inr earlier ↦ omega (arith, later, same, earlier.0)
         ]
-      where
-        same-number : (a b : ℕ) → Some a ≡ Some b → a ≡ b
-        same-number a b both = cc both
 
     refused-never : (end : FenceEnd) (n : ℕ) → n < item_count r.problem → IsRefused migration n (operations r.problem r.plan (item_at r.problem n)) (noted_at notes n) end → ⊥
     refused-never (fence.NoPort w) n low refused = refused

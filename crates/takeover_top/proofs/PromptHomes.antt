@@ -1,25 +1,24 @@
 -- Which switches are asked about which items, and that these are the switches at which a rollout has work.
-use Rattle.std.proofs.Common.{◌≡◌, ℕ, zero, suc, ◌+◌, ◌*◌, ◌<◌, ◌≤◌, ◌^◌, ◌==◌, ◌&&◌, ◌||◌, nat_lt, not, Bool, true, false, List, [], ◌∷◌, length, Option, Some, None, if◌then◌else◌, inl, inr, refl, sym, ap, ◌∙◌, subst, arith, ltb-true, lt-ltb}
+use Rattle.std.proofs.Common.{◌≡◌, ℕ, zero, suc, ◌<◌, ◌^◌, ◌==◌, ◌||◌, nat_lt, Bool, true, false, List, [], ◌∷◌, length, Option, Some, None, if◌then◌else◌, inl, inr, refl, sym, ap, ◌∙◌, subst, arith, ltb-true, lt-ltb}
 use Rattle.std.proofs.lemmas.Bool.{and_parts, cases_lt, eq-eqb, false≢true, ne_eqb}
 use Rattle.std.proofs.lemmas.List.Elements.{All-append, All-cons, All-contains, All-nil, Contains-append_left, Contains-append_right}
 use Rattle.std.specs.List.{All, AllByRecursion, Contains}
-use Rattle.lists.proofs.Conditions.{or_second}
+use Rattle.lists.proofs.Conditions.{or_second, and_true, some_same_is}
 use Rattle.rollout_rules.specs.Items.{home_of, is_item, item_at, item_count}
 use Rattle.rollout_rules.specs.Network.{IsNetwork}
-use Rattle.rollout_rules.specs.Operations.{changes_behind, operations}
-use Rattle.rollout_rules.specs.Sums.{list_below, same_numbers, sum_below}
-use Rattle.rollout_rules.specs.Wan.{Plan, Problem, flow_at, hops, last_stage, rate_at, switch_of, tunnel_of}
+use Rattle.rollout_rules.specs.Operations.{operations}
+use Rattle.rollout_rules.specs.Wan.{Plan, Problem, flow_at, hops, switch_of, tunnel_of}
 use Rattle.rollout_rules.specs.declared.item.Item.{Item}
 use Rattle.rollout_rules.specs.declared.item.Item.TheVariants as item
-use Rattle.rollout_rules.proofs.Below.{sum_below-zero}
+use Rattle.rollout_rules.proofs.Below.{sum_below-most}
 use Rattle.rollout_rules.proofs.Numbers.{is_item-item_at}
 use Rattle.rollout_rules.proofs.Tunnels.{tunnel_of-below}
-use Rattle.rollout_rules.proofs.Rows.{list_below-length}
-use Rattle.rollout_laws.proofs.Contents.{list_below-at}
+use Rattle.rollout_rules.proofs.Rows.{list_below-length, list_below-at}
 use Rattle.switch_ports.specs.Homes.{has_work, is_working_home, passing_below, some_below, working_homes, works_at}
 use Rattle.switch_ports.specs.Outboxes.{home_at, is_switch}
 use Rattle.switch_ports.proofs.Numbers.{passing_inside}
 use Rattle.shared_book.specs.Homes.{homes_of}
+use Rattle.switch_laws.proofs.Fitting.{none_to_change}
 use Rattle.controller_run.proofs.AtHome.{read-home}
 use Rattle.controller_run.proofs.Chains.{is-home}
 use Rattle.held_service.specs.Questions.{asked_home, asked_homes, has_items, is_asked, items_at}
@@ -48,10 +47,6 @@ or-left : (a b : Bool) → a ≡ true → (a || b) ≡ true
 or-left true b is = refl
 or-left false b is = absurd (false≢true is)
 
-and-true : (a b : Bool) → a ≡ true → b ≡ true → (a && b) ≡ true
-and-true true b is also = also
-and-true false b is also = absurd (false≢true is)
-
 some-has : (n : ℕ) (test : ℕ → Bool) (m : ℕ) → m < n → test m ≡ true → some_below n test ≡ true
 some-has zero test m low is = absurd (omega (arith, low))
 some-has (suc n) test m low is = elim (cases_lt m n) [
@@ -70,17 +65,10 @@ unless-none : (b : Bool) (o : Option ℕ) (s : ℕ) → (if b then None else o) 
 unless-none true o s is = absurd (let no : ◌≡◌ {A = Option ℕ} None (Some s) = is in cc no)
 unless-none false o s is = (refl, is)
 
-same-switch : (a b : ℕ) → Some a ≡ Some b → a ≡ b
-same-switch a b is = cc is
-
 module _ (p : Problem) (net : IsNetwork p) where
-  few_sum : (n : ℕ) (f : ℕ → ℕ) (most : ℕ) → ((k : ℕ) → k < n → f k ≤ most) → sum_below n f ≤ n * most
-  few_sum zero f most each = omega arith
-  few_sum (suc n) f most each = omega (arith, few_sum n f most (λ k lt. each k (omega arith)), each n (omega arith))
-
   -- the number of each item fits a frame
   pub few-items : item_count p < 2 ^ 32
-  few-items = omega (arith, few_sum (length p.tunnels) (hops p) 17 (λ t lt. omega (arith, (net.tunnels t lt).path.most)), net.few, net.flows.count)
+  few-items = omega (arith, sum_below-most (length p.tunnels) 17 (hops p) (λ t lt. omega (arith, (net.tunnels t lt).path.most)), net.few, net.flows.count)
 
   on-path : (t h s : ℕ) → t < length p.tunnels → h < hops p t → switch_of p t h ≡ s → s < length p.switches
   on-path t h s lt low is = subst (λ (w : ℕ). w < length p.switches) is ((net.tunnels t lt).path.switches h low)
@@ -95,16 +83,16 @@ module _ (p : Problem) (net : IsNetwork p) where
         | inr none ↦ absurd (false≢true (sym parts.0 ∙ eq-eqb (flow_at p f).tunnels 0 (omega (arith, none))))
       ] in
       let lt = tunnel_of-below p f 0 net inside some in
-      on-path (tunnel_of p f 0) 0 s lt (omega (arith, (net.tunnels (tunnel_of p f 0) lt).path.least)) (same-switch (switch_of p (tunnel_of p f 0) 0) s parts.1)
+      on-path (tunnel_of p f 0) 0 s lt (omega (arith, (net.tunnels (tunnel_of p f 0) lt).path.least)) (some_same_is (switch_of p (tunnel_of p f 0) 0) s parts.1)
   low-of (item.Entry t h) s there home =
       let parts = and_parts (nat_lt t (length p.tunnels)) (nat_lt h (hops p t)) there in
-      on-path t h s (ltb-true t (length p.tunnels) parts.0) (ltb-true h (hops p t) parts.1) (same-switch (switch_of p t h) s home)
+      on-path t h s (ltb-true t (length p.tunnels) parts.0) (ltb-true h (hops p t) parts.1) (some_same_is (switch_of p t h) s home)
 
   pub home-low : (n s : ℕ) → n < item_count p → home_of p (item_at p n) ≡ Some s → s < length p.switches
   home-low n s low home = low-of (item_at p n) s (is_item-item_at p n low) home
 
   pub homes-at : (n : ℕ) → n < item_count p → home_at (homes_of p) n ≡ home_of p (item_at p n)
-  homes-at n low = read-home (homes_of p) n ∙ list_below-at (item_count p) (λ k. home_of p (item_at p k)) None n low
+  homes-at n low = read-home (homes_of p) n ∙ list_below-at (item_count p) (λ k. home_of p (item_at p k)) n None low
 
   module _ (plan : Plan) where
     abbrev homes : List (Option ℕ)
@@ -114,7 +102,7 @@ module _ (p : Problem) (net : IsNetwork p) where
     homes-long = list_below-length (item_count p) (asked_home p plan)
 
     asked-at : (n : ℕ) → n < item_count p → home_at homes n ≡ asked_home p plan n
-    asked-at n low = read-home homes n ∙ list_below-at (item_count p) (asked_home p plan) None n low
+    asked-at n low = read-home homes n ∙ list_below-at (item_count p) (asked_home p plan) n None low
 
     -- an item about which a switch is asked
     pub record IsAskedAt (switch n : ℕ) : Type 0 where
@@ -146,7 +134,7 @@ module _ (p : Problem) (net : IsNetwork p) where
     working-at switch n at =
         passing-has (length p.switches) (is_working_home p plan) switch (home-low n switch at.inside at.home)
         (some-has (item_count p) (λ k. works_at p plan switch (item_at p k)) n at.inside
-        (and-true (has_work p plan (item_at p n)) (is_switch switch (home_of p (item_at p n))) (lt-ltb 0 (operations p plan (item_at p n)) at.some) (ap (is_switch switch) at.home ∙ eq-eqb switch switch refl)))
+        (and_true (has_work p plan (item_at p n)) (is_switch switch (home_of p (item_at p n))) (lt-ltb 0 (operations p plan (item_at p n)) at.some) (ap (is_switch switch) at.home ∙ eq-eqb switch switch refl)))
 
     pub items-asked : (switch n : ℕ) → Contains (items_at homes switch) n → IsAskedAt switch n × (is_asked homes switch n ≡ true)
     items-asked switch n at =
@@ -165,15 +153,10 @@ module _ (p : Problem) (net : IsNetwork p) where
 
     -- ---- an item with an operation has a home
 
-    none-to-change : (f : ℕ) → (flow_at p f).tunnels ≡ 0 → operations p plan (item.Flow f) ≡ 0
-    none-to-change f none =
-        sum_below-zero (last_stage plan) (λ s. if changes_behind p plan (item.Flow f) s then 1 else 0)
-        (λ s lt. ap (λ (n : ℕ). if not (same_numbers (list_below n (λ j. rate_at plan s (tunnel_of p f j))) (list_below n (λ j. rate_at plan (s + 1) (tunnel_of p f j)))) then 1 else 0) none)
-
     some-home : (i : Item) → 0 < operations p plan i → (s : ℕ) × (home_of p i ≡ Some s)
     some-home (item.Flow f) some = elim (cases_lt 0 (flow_at p f).tunnels) [
       | inl more ↦ (switch_of p (tunnel_of p f 0) 0, ap (λ (b : Bool). if b then None else Some (switch_of p (tunnel_of p f 0) 0)) (ne_eqb (flow_at p f).tunnels 0 (λ none. omega (arith, more, none))))
-      | inr none ↦ absurd (omega (arith, some, none-to-change f (omega (arith, none))))
+      | inr none ↦ absurd (omega (arith, some, none_to_change p plan f (omega (arith, none))))
     ]
     some-home (item.Entry t h) some = (switch_of p t h, refl)
 

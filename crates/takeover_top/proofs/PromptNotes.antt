@@ -6,6 +6,7 @@ use Rattle.std.proofs.lemmas.List.{get_or-set_other, get_or-set_same, length-map
 use Rattle.std.proofs.lemmas.List.Elements.{All-head, All-tail}
 use Rattle.std.proofs.lemmas.Option.{slice_get_past}
 use Rattle.std.specs.List.{All, Contains}
+use Rattle.lists.proofs.Rows.{none_of_length_0}
 use Rattle.rollout_rules.specs.declared.held.Held.{Held}
 use Rattle.wan_edge.specs.Frames.{AnswerFrame}
 use Rattle.wan_edge.specs.Switches.{Holdings, pair_given}
@@ -14,7 +15,7 @@ use Rattle.controller_run.proofs.Elements.{inside-later}
 use Rattle.held_service.specs.Noting.{Notes, held_in, is_untold, noted_at, untold, with_answer, with_answers}
 use Rattle.held_service.specs.Talks.{AskUntold, Round, answers_of, asked_of}
 use Rattle.held_service.proofs.Noted.{length-with}
-use Rattle.takeover_top.proofs.PromptReplies.{no-length, reply}
+use Rattle.takeover_top.proofs.PromptReplies.{reply}
 
 read-note : (notes : Notes) (n : ℕ) → noted_at notes n ≡ get_or notes n None
 read-note [] n = refl
@@ -103,7 +104,7 @@ none-more : (items : List ℕ) (notes : Notes) (rounds : List Round) → untold 
 none-more items notes [] none asks = (refl, refl)
 none-more items notes (r ∷ rounds) none asks =
     let asked : r.asked ≡ [] = asks.0 ∙ none in
-    let answers : r.answers ≡ [] = no-length r.answers (omega (arith, asks.1, ap length asked)) in
+    let answers : r.answers ≡ [] = none_of_length_0 r.answers (omega (arith, asks.1, ap length asked)) in
     let rest = none-more items (with_answers notes r.answers) rounds (ap (λ (told : List AnswerFrame). untold (with_answers notes told) items) answers ∙ none) asks.2 in
     (ap₂ (λ (xs ys : List ℕ). xs ++ ys) asked rest.0, ap₂ (λ (xs ys : List AnswerFrame). xs ++ ys) answers rest.1)
 

@@ -1,25 +1,27 @@
 -- What switches tell over prompt ports that have answered all: each question is answered by the pair that is held.
-use Rattle.std.proofs.Common.{◌≡◌, ◌⊎◌, ℕ, suc, ◌*◌, ◌<◌, ◌≤◌, ◌^◌, List, [], ◌∷◌, ◌++◌, map, length, take, drop, Option, Some, None, is_some, option_map, inl, inr, refl, sym, ap, ap₂, ◌∙◌, subst, arith, append_assoc, append-nil, length-append, take-append-drop}
+use Rattle.std.proofs.Common.{◌≡◌, ◌⊎◌, ℕ, ◌*◌, ◌<◌, ◌≤◌, ◌^◌, List, [], ◌∷◌, ◌++◌, map, length, take, drop, Option, Some, option_map, inl, inr, refl, sym, ap, ap₂, ◌∙◌, subst, arith, append_assoc, append-nil, length-append, take-append-drop}
 use Rattle.std.specs.Prelude.{IfSome}
 use Rattle.std.proofs.Math.Seq.{take-length}
-use Rattle.std.proofs.lemmas.Bool.{OnTrue_at, false≢true}
+use Rattle.std.proofs.lemmas.Bool.{OnTrue_at}
 use Rattle.std.proofs.lemmas.Grind.{flat_map-append}
 use Rattle.std.proofs.lemmas.List.Elements.{All-append, All-head, All-tail}
 use Rattle.std.specs.List.{All, flat_map}
+use Rattle.std.proofs.lemmas.List.{length-map}
+use Rattle.lists.proofs.Options.{of_some, known_as_well}
+use Rattle.lists.proofs.Rows.{none_of_length_0}
 use Rattle.wan_edge.specs.Frames.{AnswerFrame, CommandFrame, IsAnswer, IsCommand, Splits, answer_bytes, command_bytes}
 use Rattle.wan_edge.specs.Ports.{AnswersInOrder, AppendsFront, GoesOn, IsPromptState, PortTrace}
 use Rattle.wan_edge.specs.Streams.{Appends}
 use Rattle.wan_edge.specs.Switches.{Holdings, after_commands, answer_of, answers_to}
-use Rattle.wan_edge.proofs.Commands.{nothing_begins_no_command}
+use Rattle.wan_edge.proofs.Commands.{nothing_begins_no_command, answers_to-append, after_commands-append}
 use Rattle.wan_edge.proofs.Sizes.{command-some}
 use Rattle.wire_frames.proofs.OneSpelling.{one_command, same_parts}
 use Rattle.port_session.proofs.Hearing.{length-answers}
 use Rattle.switch_ports.specs.Views.{SessionTrace}
-use Rattle.switch_laws.proofs.Answered.{some_at}
 use Rattle.held_service.specs.Questions.{question_bytes, questions}
 use Rattle.held_service.proofs.Idle.{after-question, after-questions, answers-held, questions-fit}
 use Rattle.completion_laws.specs.Answering.{HasAnswered}
-use Rattle.completion_laws.proofs.Prompt.{after-append, all-carried, answers-append, as-many, front-read}
+use Rattle.completion_laws.proofs.Prompt.{all-carried, as-many, front-read}
 
 -- ---- rows of frames
 
@@ -32,10 +34,6 @@ commands-front (x ∷ xs) (c ∷ cs) behind xs_fit cs_fit e =
     let parts = one_command x c (flat_map command_bytes xs ++ behind) (flat_map command_bytes cs) (All-head IsCommand x xs xs_fit) (All-head IsCommand c cs cs_fit) (sym (append_assoc (command_bytes x) (flat_map command_bytes xs) behind) ∙ e) in
     let rest = commands-front xs cs behind (All-tail IsCommand x xs xs_fit) (All-tail IsCommand c cs cs_fit) parts.1 in
     (rest.0, ap₂ (λ (y : CommandFrame) (ys : List CommandFrame). y ∷ ys) (sym parts.0) rest.1)
-
-pub no-length : {X : Type 0} (xs : List X) → length xs ≡ 0 → xs ≡ []
-no-length [] none = refl
-no-length (x ∷ xs) none = absurd (omega (arith, none))
 
 -- ---- the answers to questions
 
@@ -73,7 +71,7 @@ module _ (start now : Holdings) (cs : List CommandFrame) (offered missing heard 
   -- what was heard is a front of all answers
   pub all-behind : (behind : List ℕ) × (heard ++ behind ≡ flat_map answer_bytes (answers_to start cs))
   all-behind =
-      let whole : answers_to start cs ≡ answers_to start carried ++ answers_to (after_commands start carried) left = ap (answers_to start) parted ∙ answers-append start carried left in (
+      let whole : answers_to start cs ≡ answers_to start carried ++ answers_to (after_commands start carried) left = ap (answers_to start) parted ∙ answers_to-append start carried left in (
         state.to_come ++ more,
         sym (append_assoc heard state.to_come more) ∙ ap (λ (xs : List ℕ). xs ++ more) (sym state.heard_front)
             ∙ sym (flat_map-append answer_bytes (answers_to start carried) (answers_to (after_commands start carried) left)) ∙ ap (flat_map answer_bytes) (sym whole),
@@ -110,11 +108,7 @@ module _ (migration : ℕ) (fits : migration < 2 ^ 32) (first : SessionTrace) (n
   now-heard = came ∙ ap (λ (o : Option (List ℕ)). option_map (λ (xs : List ℕ). xs ++ bytes) o) was.heard
 
   pub now-told : (after : Holdings) × (now.held ≡ Some after)
-  now-told = kept now.held first.port.held was.held goes.told
-    where
-      kept : (told before : Option Holdings) → before ≡ Some held → is_some told ≡ is_some before → (after : Holdings) × (told ≡ Some after)
-      kept None before is keeps = absurd (false≢true (keeps ∙ ap is_some is))
-      kept (Some after) before is keeps = (after, refl)
+  now-told = known_as_well now.held first.port.held held was.held goes.told
 
   -- the state that it was found in
   own-order : AnswersInOrder first.port.start (flat_map command_bytes cs) earlier held
@@ -144,13 +138,13 @@ module _ (migration : ℕ) (fits : migration < 2 ^ 32) (first : SessionTrace) (n
 
   pub in-order : (offered : List ℕ) → now.offered ≡ Some offered → in-all offered
   in-order offered is =
-      some_at (λ h. AnswersInOrder first.port.start offered (earlier ++ bytes) h) now.held now-told.0 now-told.1
-      (some_at (λ b. IfSome now.held (λ h. AnswersInOrder first.port.start offered b h)) now.heard (earlier ++ bytes) now-heard
-      (some_at (λ o. IfSome now.heard (λ b. IfSome now.held (λ h. AnswersInOrder first.port.start o b h))) now.offered offered is (by-rule (OnTrue_at was.prompt goes.in_order))))
+      of_some (λ h. AnswersInOrder first.port.start offered (earlier ++ bytes) h) now.held now-told.0 now-told.1
+      (of_some (λ b. IfSome now.held (λ h. AnswersInOrder first.port.start offered b h)) now.heard (earlier ++ bytes) now-heard
+      (of_some (λ o. IfSome now.heard (λ b. IfSome now.held (λ h. AnswersInOrder first.port.start o b h))) now.offered offered is (by-rule (OnTrue_at was.prompt goes.in_order))))
 
   pub all-answers : flat_map answer_bytes (answers_to first.port.start (cs ++ questions migration asked)) ≡ earlier ++ flat_map answer_bytes (map (reply held) asked)
   all-answers =
-      ap (flat_map answer_bytes) (answers-append first.port.start cs (questions migration asked)) ∙ flat_map-append answer_bytes (answers_to first.port.start cs) (answers_to held (questions migration asked))
+      ap (flat_map answer_bytes) (answers_to-append first.port.start cs (questions migration asked)) ∙ flat_map-append answer_bytes (answers_to first.port.start cs) (answers_to held (questions migration asked))
       ∙ ap (λ (xs : List AnswerFrame). earlier ++ flat_map answer_bytes xs) (replies-are held migration asked)
 
   -- what came is a front of the answers to the questions
@@ -168,20 +162,16 @@ module _ (migration : ℕ) (fits : migration < 2 ^ 32) (first : SessionTrace) (n
 
     -- where all questions went out, and as many answers came
     module _ (out : Appends first.port.offered (question_bytes migration asked) now.offered) (many : length asked ≤ length answers) where
-      map-long : {X Y : Type 0} (f : X → Y) (xs : List X) → length (map f xs) ≡ length xs
-      map-long f [] = refl
-      map-long f (x ∷ xs) = ap suc (map-long f xs)
-
       none-later : answers-came.0 ≡ []
       none-later =
-          no-length answers-came.0 (omega (arith, many, ap length answers-came.1, length-append answers answers-came.0, map-long (reply held) asked))
+          none_of_length_0 answers-came.0 (omega (arith, many, ap length answers-came.1, length-append answers answers-came.0, length-map asked (reply held)))
 
       -- these are all answers
       pub answers-are : answers ≡ map (reply held) asked
       answers-are = sym (append-nil answers) ∙ ap (λ (xs : List AnswerFrame). answers ++ xs) (sym none-later) ∙ sym answers-came.1
 
       none-kept : kept ≡ []
-      none-kept = no-length kept (omega (arith, ap length answers-came.2, ap (λ (xs : List AnswerFrame). length (flat_map answer_bytes xs)) none-later, length-append kept front-came.0))
+      none-kept = none_of_length_0 kept (omega (arith, ap length answers-came.2, ap (λ (xs : List AnswerFrame). length (flat_map answer_bytes xs)) none-later, length-append kept front-came.0))
 
       pub bytes-are : bytes ≡ flat_map answer_bytes (map (reply held) asked)
       bytes-are = whole.parts ∙ ap (λ (xs : List ℕ). flat_map answer_bytes answers ++ xs) none-kept ∙ append-nil (flat_map answer_bytes answers) ∙ ap (flat_map answer_bytes) answers-are
@@ -215,4 +205,4 @@ module _ (migration : ℕ) (fits : migration < 2 ^ 32) (first : SessionTrace) (n
       -- and its switch holds what it held
       pub holds-still : after_commands now.start (cs ++ questions migration asked) ≡ held
       holds-still =
-          ap (λ (s : Holdings). after_commands s (cs ++ questions migration asked)) goes.start ∙ after-append first.port.start cs (questions migration asked) ∙ after-questions held migration asked
+          ap (λ (s : Holdings). after_commands s (cs ++ questions migration asked)) goes.start ∙ after_commands-append first.port.start cs (questions migration asked) ∙ after-questions held migration asked

@@ -6,23 +6,22 @@ use Rattle.std.proofs.lemmas.Grind.{flat_map-append}
 use Rattle.std.proofs.lemmas.List.{length-map}
 use Rattle.std.proofs.lemmas.List.Elements.{All-append, All-cons, All-filter, All-head, All-nil, All-tail}
 use Rattle.std.specs.List.{All, flat_map}
+use Rattle.lists.proofs.Options.{of_some}
 use Rattle.rollout_rules.specs.Items.{item_count}
 use Rattle.rollout_rules.specs.Wan.{Rollout}
 use Rattle.wan_edge.specs.Frames.{AnswerFrame, CommandFrame, IsAnswer, IsCommand, answer_bytes, command_bytes}
 use Rattle.wan_edge.specs.Ports.{AllAnswered, PortTrace}
 use Rattle.wan_edge.specs.Switches.{Holdings, after_commands, answers_to, pair_given}
-use Rattle.wan_edge.proofs.Commands.{nothing_begins_no_command}
+use Rattle.wan_edge.proofs.Commands.{nothing_begins_no_command, answers_to-append}
 use Rattle.wire_frames.proofs.OneSpelling.{same_parts}
 use Rattle.port_session.proofs.Hearing.{cut_short, length-answers}
 use Rattle.switch_ports.specs.Outboxes.{home_at}
 use Rattle.switch_ports.specs.Views.{SessionTrace}
 use Rattle.shared_book.specs.Homes.{homes_of}
-use Rattle.switch_laws.proofs.Answered.{some_at}
 use Rattle.held_service.specs.Noting.{Notes, is_untold, with_answers}
 use Rattle.held_service.specs.Questions.{is_asked, question_bytes, questions}
 use Rattle.held_service.specs.Talks.{AskUntold, GaveAll, Round, Talks, asked_of}
 use Rattle.held_service.proofs.Idle.{questions-fit}
-use Rattle.completion_laws.proofs.Prompt.{answers-append}
 use Rattle.takeover_top.specs.ReadyToTake.{IsOfStart, IsReadyToTell}
 use Rattle.takeover_top.proofs.PromptNotes.{IsFull}
 use Rattle.takeover_top.proofs.PromptReplies.{reply, replies-are}
@@ -84,14 +83,14 @@ module _ (r : Rollout) (migration : ℕ) (fits : migration < 2 ^ 32) (start : Li
     answered : earlier ++ gave.reads.bytes ≡ flat_map answer_bytes (answers_to first.port.start commands)
     answered =
         let all : AllAnswered first.port.start (flat_map command_bytes commands) (earlier ++ gave.reads.bytes)
-        = some_at (AllAnswered first.port.start (flat_map command_bytes commands)) gave.moment.heard (earlier ++ gave.reads.bytes) heard-is
-        (some_at (λ o. IfSome gave.moment.heard (AllAnswered first.port.start o)) gave.moment.offered (flat_map command_bytes commands) offered-is gave.none_left) in
+        = of_some (AllAnswered first.port.start (flat_map command_bytes commands)) gave.moment.heard (earlier ++ gave.reads.bytes) heard-is
+        (of_some (λ o. IfSome gave.moment.heard (AllAnswered first.port.start o)) gave.moment.offered (flat_map command_bytes commands) offered-is gave.none_left) in
         all commands [] (record { fit = all-fit; parts = sym (append-nil (flat_map command_bytes commands)) }) nothing_begins_no_command
 
     bytes-are : gave.reads.bytes ≡ flat_map answer_bytes (map (reply holdings) round.asked)
     bytes-are =
         (same_parts earlier earlier gave.reads.bytes (flat_map answer_bytes (map (reply holdings) round.asked)) refl
-        (answered ∙ ap (flat_map answer_bytes) (answers-append first.port.start ready.commands (questions migration round.asked))
+        (answered ∙ ap (flat_map answer_bytes) (answers_to-append first.port.start ready.commands (questions migration round.asked))
         ∙ flat_map-append answer_bytes (answers_to first.port.start ready.commands) (answers_to holdings (questions migration round.asked))
         ∙ ap (λ (xs : List AnswerFrame). earlier ++ flat_map answer_bytes xs) (replies-are holdings migration round.asked))).1
 

@@ -2,18 +2,20 @@
 use Rattle.std.proofs.Common.{◌≡◌, ℕ, ◌+◌, ◌<◌, ◌≤◌, ◌^◌, true, List, [], ◌∷◌, ◌++◌, map, length, slice_index, Option, Some, None, sym, ap, ◌∙◌, subst, arith, length-append}
 use Rattle.std.proofs.Math.Seq.{take-append-add}
 use Rattle.std.proofs.lemmas.Bool.{both_ways}
-use Rattle.std.proofs.lemmas.List.Elements.{All-append, All-filter, All-head, All-tail}
+use Rattle.std.proofs.lemmas.List.Elements.{All-append, All-filter, All-head}
 use Rattle.std.specs.List.{All, Contains, flat_map}
+use Rattle.lists.proofs.Elements.{All-left, All-right}
 use Rattle.rollout_rules.specs.Wan.{Rollout}
 use Rattle.wan_edge.specs.Frames.{AnswerFrame, IsAnswer, answer_bytes}
 use Rattle.wan_edge.specs.Ports.{AppendsFront, GoesOn, PortTrace}
 use Rattle.wan_edge.specs.Streams.{Appends, Rose}
 use Rattle.wan_edge.specs.Switches.{Holdings, pair_given}
 use Rattle.wan_edge.proofs.Chains.{Appends-chain}
+use Rattle.wan_edge.proofs.Faults.{rose_since}
 use Rattle.switch_ports.specs.Views.{SessionTrace}
 use Rattle.switch_ports.proofs.Stories.{goes_on_on}
 use Rattle.switch_ports.proofs.Told.{all_sent}
-use Rattle.completion_laws.proofs.PortTurns.{All-front, other-first}
+use Rattle.completion_laws.proofs.PortTurns.{other-first}
 use Rattle.held_service.specs.Hearing.{ReadsNone, ReadsOther}
 use Rattle.held_service.specs.Noting.{Notes, first_of, is_untold, untold, with_answers}
 use Rattle.held_service.specs.Questions.{is_asked, question_bytes, questions}
@@ -21,15 +23,10 @@ use Rattle.held_service.specs.Talks.{IsCutOff, IsNotTold, Round, StopsRound, Tal
 use Rattle.held_service.specs.declared.not_told.NotTold.{NotTold}
 use Rattle.held_service.specs.declared.not_told.NotTold.TheVariants as cause
 use Rattle.held_service.proofs.Bytes.{none-behind, other-behind, question-append}
-use Rattle.held_service.proofs.Heard.{rose-on}
 use Rattle.takeover_top.specs.ReadyToTake.{IsOfStart, IsReadyToTell}
 use Rattle.takeover_top.proofs.PromptNotes.{AreRight, right-all, whole-told}
 use Rattle.takeover_top.proofs.PromptRounds.{IsAtHome, all-asked, full-rounds, holdings, replies-fit, replies-own, replies-right}
 use Rattle.takeover_top.proofs.PromptReplies.{answered-all, answers-are, answers-came, front-came, holds-still, reply}
-
-All-behind : {X : Type 0} (P : X → Type 0) (xs ys : List X) → All P (xs ++ ys) → All P ys
-All-behind P [] ys all = all
-All-behind P (x ∷ xs) ys all = All-behind P xs ys (All-tail P x (xs ++ ys) all)
 
 some-first : (items : List ℕ) (item : ℕ) → items ≡ [] → first_of items ≡ Some item → ⊥
 some-first items item none first = let no : ◌≡◌ {A = Option ℕ} None (Some item) = sym (ap first_of none) ∙ first in cc
@@ -128,8 +125,8 @@ module _ (r : Rollout) (migration : ℕ) (fits : migration < 2 ^ 32) (start : Li
       other-never item other =
           let read = answers-came migration fits first end ready.commands ready.answered (asked ++ last) all-small all-sent all-goes other.reads.bytes other.reads.appended all-fit (other.earlier ++ other.answer ∷ []) other.kept_now other.reads.whole in
           let own = subst (All (λ a. is_asked homes first.switch a.1.item ≡ true)) read.1 (replies-own r migration fits start homes first ready (asked ++ last) all-home) in
-          let these = All-front (λ a. is_asked homes first.switch a.1.item ≡ true) (other.earlier ++ other.answer ∷ []) read.0 own in
-          let it = All-head (λ a. is_asked homes first.switch a.1.item ≡ true) other.answer [] (All-behind (λ a. is_asked homes first.switch a.1.item ≡ true) other.earlier (other.answer ∷ []) these) in
+          let these = All-left (λ a. is_asked homes first.switch a.1.item ≡ true) (other.earlier ++ other.answer ∷ []) read.0 own in
+          let it = All-head (λ a. is_asked homes first.switch a.1.item ≡ true) other.answer [] (All-right (λ a. is_asked homes first.switch a.1.item ≡ true) other.earlier (other.answer ∷ []) these) in
           both_ways (is_asked homes first.switch item) other.other (ap (is_asked homes first.switch) other.item_is ∙ it)
 
       -- no byte begins no answer
@@ -149,7 +146,7 @@ module _ (r : Rollout) (migration : ℕ) (fits : migration < 2 ^ 32) (start : Li
     fails-excused (cause.Spent item) spent =
         some-first (untold spent.notes_now items) item (told-all spent.talks.rounds spent.kept spent.notes_now now spent.talks.talks (omega (arith, some, spent.talks.counted))) spent.first
     fails-excused (cause.NoPort w) cut = cut.stops.cause
-    fails-excused (cause.Port w) cut = rose-on first.port.faults cut.moment.faults now.faults cut.talks.talks.goes_on.count cut.stops.cause.1
+    fails-excused (cause.Port w) cut = rose_since first.port.faults cut.moment.faults now.faults cut.talks.talks.goes_on.count cut.stops.cause.1
     fails-excused (cause.NotAsked w item) cut =
         other-never cut.talks.rounds cut.kept cut.notes_so_far cut.moment cut.talks.talks now (cause.NotAsked w item) cut.stops item
         (other-behind [] cut.kept first.port.heard cut.moment.heard now.heard (answers_of cut.talks.rounds) cut.talks.talks.reads homes first.switch item cut.stops.cause.1)

@@ -12,6 +12,7 @@ use Rattle.rollout_rules.specs.declared.held.Held.{Held}
 use Rattle.wan_edge.specs.Fleets.{with_one, without}
 use Rattle.wan_edge.specs.Ports.{PortTrace}
 use Rattle.wan_edge.specs.Streams.{Rose}
+use Rattle.wan_edge.proofs.Faults.{rose_since}
 use Rattle.port_session.specs.Sessions.{first_session}
 use Rattle.switch_ports.specs.Berths.{FleetPorts}
 use Rattle.switch_ports.specs.Homes.{working_homes}
@@ -25,7 +26,6 @@ use Rattle.held_service.specs.declared.not_told.NotTold.{NotTold}
 use Rattle.held_service.specs.declared.not_told.NotTold.TheVariants as cause
 use Rattle.held_service.proofs.Noted.{length-with}
 use Rattle.held_service.proofs.Visited.{tells-long}
-use Rattle.held_service.proofs.Heard.{rose-on}
 use Rattle.takeover_top.specs.ReadyToTake.{IsOfStart, IsReadyToTell}
 use Rattle.takeover_top.proofs.PromptHomes.{few-items, homes-at, homes-long, items-asked, passing-true, working-some}
 use Rattle.takeover_top.proofs.PromptNotes.{AreRight, each-told, told-still}
@@ -136,7 +136,7 @@ module _ {P : Type 0} (tell : P → PortTrace) (r : Rollout) (net : IsNetwork r.
       }
 
       pub failed-then : Rose (tell given).faults (tell back).faults → HasFailed now
-      failed-then rose = record { switch = switch; first = own.first; first_is = own.first_is; back = back; kept = now-kept; rose = rose-on (tell own.first).faults (tell given).faults (tell back).faults count rose }
+      failed-then rose = record { switch = switch; first = own.first; first_is = own.first_is; back = back; kept = now-kept; rose = rose_since (tell own.first).faults (tell given).faults (tell back).faults count rose }
 
   -- ---- switches that told
 

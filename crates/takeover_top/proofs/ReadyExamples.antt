@@ -1,5 +1,5 @@
 -- Small fleets that a takeover may find, of which the worked examples speak.
-use Rattle.std.proofs.Common.{◌≡◌, ℕ, ◌<◌, List, [], ◌∷◌, ◌==◌, if◌then◌else◌, length, slice_index, Option, Some, None, refl, sym, ap, ◌∙◌, subst, inl, inr, arith, length-append}
+use Rattle.std.proofs.Common.{◌≡◌, ℕ, ◌<◌, List, [], ◌∷◌, ◌==◌, if◌then◌else◌, length, slice_index, Some, None, refl, sym, ap, ◌∙◌, subst, inl, inr, arith, length-append}
 use Rattle.std.proofs.lemmas.List.Elements.{All-nil}
 use Rattle.std.specs.List.{flat_map}
 use Rattle.rollout_rules.specs.Agent.{pair_of}
@@ -7,7 +7,7 @@ use Rattle.rollout_rules.specs.History.{started}
 use Rattle.rollout_rules.specs.Items.{item_count}
 use Rattle.rollout_rules.specs.Legal.{unsettled}
 use Rattle.rollout_rules.specs.declared.held.Held.{Held}
-use Rattle.plan_check.proofs.Rows.{list_below-at}
+use Rattle.rollout_rules.proofs.Rows.{list_below-at}
 use Rattle.wan_edge.specs.Frames.{CommandFrame, IsCommand, answer_bytes, command_bytes}
 use Rattle.wan_edge.specs.Ports.{PortTrace}
 use Rattle.wan_edge.specs.Switches.{Holdings, after_commands, answers_to}
@@ -19,6 +19,7 @@ use Rattle.switch_ports.specs.Views.{view}
 use Rattle.switch_laws.specs.Worked.{first_command, two_flows}
 use Rattle.completion_laws.proofs.Prompt.{as-many}
 use Rattle.swanroll_top.specs.Worked.{in_rounds, itself, never_used, unanswered, waiting_at_first}
+use Rattle.swanroll_top.proofs.ReadyFleets.{at_first}
 use Rattle.takeover_top.specs.ReadyToTake.{IsOfStart, IsReadyToTake, IsReadyToTell}
 use Rattle.takeover_top.specs.WorkedTakeovers.{ahead, left_by_fifth, none_settled}
 
@@ -46,17 +47,13 @@ never-ready = record {
 }
   where
     none-settled : (n : ℕ) → n < item_count two_flows.problem → slice_index none_settled n ≡ 0
-    none-settled n low = list_below-at (item_count two_flows.problem) (λ _. 0) n low
+    none-settled n low = list_below-at (item_count two_flows.problem) (λ _. 0) n 0 low
 
 pub few-not : IsReadyToTake itself (in_rounds 3) (waiting_at_first never_used) two_flows none_settled → ⊥
 few-not ready = let four : unsettled two_flows.problem two_flows.plan (started none_settled) ≡ 4 = refl in omega (arith, four, ready.enough)
 
 pub untold-not : IsReadyToTake itself (in_rounds 4) None two_flows none_settled → ⊥
 untold-not ready = absurd (cc (ready.told))
-
-abbrev at_first : Option (ℕ → Option PortTrace) → Option PortTrace
-at_first None = None
-at_first (Some waiting) = waiting 0
 
 -- what is so of the port that waits
 first-port : (port : PortTrace) (rounds : ℕ) → IsReadyToTake itself (in_rounds rounds) (waiting_at_first port) two_flows none_settled → IsReadyToTell two_flows 4 none_settled (view itself (first_session 0 port))

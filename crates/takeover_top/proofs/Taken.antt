@@ -1,7 +1,7 @@
 -- What stands after a takeover that was begun, by what came of the rollout that was run from its journal.
-use Rattle.std.proofs.Common.{◌≡◌, ◌⊎◌, ℕ, ◌<◌, List, [], length, true, false, Bool, Option, Some, None, IfSome, IsSome, Result, Ok, Err, IfOk, refl, sym, ap, ◌∙◌, subst, inl, inr, arith}
-use Rattle.std.specs.List.{AllByRecursion}
-use Rattle.rollout_rules.specs.History.{History, started}
+use Rattle.std.proofs.Common.{◌≡◌, ℕ, List, [], Option, Some, None, IfSome, Result, Ok, IfOk, refl, sym, ap, ◌∙◌, subst, inl, inr, arith}
+use Rattle.lists.proofs.Options.{some_itself}
+use Rattle.rollout_rules.specs.History.{started}
 use Rattle.rollout_rules.specs.Items.{item_count}
 use Rattle.rollout_rules.specs.Wan.{Rollout}
 use Rattle.rollout_rules.specs.declared.op.OpView.{OpView}
@@ -11,7 +11,7 @@ use Rattle.disk_model.specs.Moments.{GoesOn}
 use Rattle.disk_model.specs.Traces.{DiskTrace}
 use Rattle.disk_mirror.specs.Openings.{IsTold, Opens}
 use Rattle.dependency_graph.specs.Graph.{op_total}
-use Rattle.intent_journal.specs.Phases.{IsFresh, kept_of}
+use Rattle.intent_journal.specs.Phases.{IsFresh}
 use Rattle.intent_journal.specs.Openings.{found_by}
 use Rattle.intent_journal.specs.declared.fault.JournalFault.{JournalFault}
 use Rattle.intent_journal.specs.Verdicts.{verdict}
@@ -32,13 +32,13 @@ use Rattle.text_commands.specs.declared.command_end.CommandEnd.{CommandEnd}
 use Rattle.text_commands.specs.declared.command_end.CommandEnd.TheVariants.{Done}
 use Rattle.swanroll_top.specs.Rollouts.{FleetSeen, RollsAs, RollsOut, RollsOutOf, by_answer, ending_at}
 use Rattle.swanroll_top.specs.NextStarts.{NextStart}
-use Rattle.swanroll_top.specs.Targets.{BeginsNothing, EndsSafely, ReachesTarget, StaysSafe}
+use Rattle.swanroll_top.specs.Targets.{EndsSafely, ReachesTarget, StaysSafe}
 use Rattle.swanroll_top.proofs.NextStarting.{rolls-next}
 use Rattle.swanroll_top.proofs.Reaching.{is-told, rolls-ends, rolls-safe, rolls-target}
 use Rattle.takeover_top.specs.Endings.{taken_or_ending}
 use Rattle.takeover_top.specs.Lines.{start_total, taken_line}
 use Rattle.takeover_top.specs.Takings.{RunsOn}
-use Rattle.takeover_top.specs.TakenTargets.{IsOfTaken, TakesSafely, TakesToTarget}
+use Rattle.takeover_top.specs.TakenTargets.{IsOfTaken, TakesSafely}
 use Rattle.takeover_top.specs.declared.ending.TakeoverEnding.{TakeoverEnding}
 use Rattle.takeover_top.proofs.Fitting.{begun-as, done-as, ending_as, follows-as, text_as}
 use Rattle.takeover_top.proofs.Placed.{found-taken}
@@ -46,16 +46,12 @@ use Rattle.takeover_top.proofs.Placed.{found-taken}
 -- a disk that isn't called is opened
 opens-same : {D : Type 0} (trace : D → DiskTrace) (disk : D) → Opens (trace disk) (trace disk)
 opens-same trace disk = record {
-  same = same-bytes (trace disk).bytes;
+  same = some_itself (trace disk).bytes;
   crash = within (trace disk).bytes;
   time = goes (trace disk).bytes;
   count = omega arith;
 }
   where
-    same-bytes : (told : Option (List ℕ)) → IfSome told (λ all. told ≡ Some all)
-    same-bytes None = tt
-    same-bytes (Some all) = refl
-
     within : (told : Option (List ℕ)) → IfSome told (λ _. (c : List ℕ) → (trace disk).may_leave c → (trace disk).may_leave c)
     within None = tt
     within (Some all) = λ c may. may

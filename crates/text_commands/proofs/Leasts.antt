@@ -1,6 +1,7 @@
 -- The plan that is chosen for a problem, with what shows that fewer rate steps are impossible.
 use Rattle.std.proofs.Common.{◌≡◌, ℕ, ◌<◌, ◌≤◌, ◌==◌, List, true, Result, Ok, Err, IfOk, None, ap, sym, ◌∙◌, subst, arith, le-leb}
 use Rattle.std.proofs.lemmas.Bool.{lt-leb}
+use Rattle.lists.proofs.Numbers.{at_most_through}
 use Rattle.rollout_rules.specs.Wan.{Problem, Plan, Rollout}
 use Rattle.rollout_rules.specs.Network.{IsNetwork}
 use Rattle.scratch_plan.specs.Frame.{has_equal_rates}
@@ -70,11 +71,8 @@ module _ (p : Problem) (plan : Plan) (q : ℕ) where
       ap (λ b. where_few b (with_proof p plan q (least_of p q))) (le-leb (rate_steps p plan) q within)
 
   -- what no plan has fewer of than were chosen, none has fewer of than this one
-  chained : (a b c : ℕ) → a ≤ b → b ≤ c → a ≤ c
-  chained a b c h k = omega arith
-
   few-least : rate_steps p plan ≤ q → TakesAtLeast p q → HasLeast p plan
-  few-least few least = λ other valid rest. chained (rate_steps p plan) q (rate_steps p other) few (least other valid rest)
+  few-least few least = λ other valid rest. at_most_through (rate_steps p plan) q (rate_steps p other) few (least other valid rest)
 
   pub few-answer : {A : Type 0} (steps : ℕ) (r : Result A CommandEnd) → steps ≡ rate_steps p plan → steps ≤ q → IfOk r (λ text. TakesAtLeast p q) → IfOk r (λ text. HasLeast p plan)
   few-answer steps (Ok text) count few least = few-least (subst (λ n. n ≤ q) count few) least

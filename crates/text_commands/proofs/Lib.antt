@@ -1,3 +1,4 @@
+pub mod FirstWords
 pub mod Steps
 pub mod Planned
 pub mod Documents

@@ -1,9 +1,10 @@
 -- A whole run, from its ending and what was noted.
-use Rattle.std.proofs.Common.{◌≡◌, ℕ, List, [], true, false, Option, Some, None, Result, Ok, Err, IsTrue, refl, sym, ap, ◌∙◌, subst, inl, inr, arith, append-nil}
-use Rattle.wan_edge.specs.Streams.{Appends, Rose, SourceTrace}
+use Rattle.std.proofs.Common.{◌≡◌, ℕ, List, true, false, Option, Some, None, Result, Ok, Err, IsTrue, refl, sym, ap, ◌∙◌, subst, inl, inr, arith}
+use Rattle.wan_edge.specs.Streams.{Rose, SourceTrace}
+use Rattle.wan_edge.proofs.Chains.{Appends-nothing}
 use Rattle.text_commands.specs.CommandEnds.{status_of, tells_place}
 use Rattle.text_commands.specs.Lines.{IsLineOf, IsToldAs}
-use Rattle.text_commands.specs.Program.{Streams, IsStatus, IsRun, IsEnded, NotesLine, IsUnfinished}
+use Rattle.text_commands.specs.Program.{Streams, IsStatus, IsRun, IsEnded, IsUnfinished}
 use Rattle.text_commands.specs.Uses.{Uses}
 use Rattle.text_commands.specs.Runs.{EndsWith, Follows, FollowsInput, IsTold, Notes, Runs}
 use Rattle.text_commands.specs.declared.command_end.CommandEnd.{CommandEnd}
@@ -118,11 +119,6 @@ told-silent out out_now e t (inr none) silent done cut = let place = place-silen
 pub told-by : (e t : CommandEnd) (line : Line) (status : ℕ) (before now : Option (List ℕ)) (faults faults_now : ℕ) → IsLineOf e t line → status ≡ status_of t → Notes t before now faults faults_now → IsTold e status before now faults faults_now
 told-by e t line status before now faults faults_now is s n = record { told = t; is = is.is; is_status = s; line = n }
 
--- nothing written is all of a line of nothing
-pub appends-nothing : (before : Option (List ℕ)) → Appends before [] before
-appends-nothing None = refl
-appends-nothing (Some bytes) = ap Some (sym (append-nil bytes))
-
 -- an ending that isn't lack of memory is the one that was told
 pub told-same : (e t : CommandEnd) → IsToldAs e t → (t ≡ OutOfMemory → ⊥) → e ≡ t
 told-same e t (inl same) h = sym same
@@ -195,4 +191,4 @@ usage-run uses asked before after status is source written told =
       noted = record { ending = Usage; is_status = e.is_status; line = e.line };
     }
 
-pub ruleset telling = (told-by, appends-nothing, is-done)
+pub ruleset telling = (told-by, Appends-nothing, is-done)

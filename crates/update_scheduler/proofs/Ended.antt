@@ -3,6 +3,7 @@ use Rattle.std.proofs.Common.{◌≡◌, ℕ, ◌+◌, ◌<◌, ◌≤◌, Bool,
 use Rattle.std.specs.List.{list_any}
 use Rattle.std.proofs.lemmas.Bool.{cases_Bool, cases_eq, ne_eqb, and_parts, and_from, ltb-false, le-leb, lt-leb}
 use Rattle.std.proofs.lemmas.List.Folds.{list_any-append}
+use Rattle.lists.proofs.Conditions.{and_second_false}
 use Rattle.rollout_rules.specs.Wan.{Problem}
 use Rattle.rollout_rules.specs.Items.{item_count}
 use Rattle.rollout_rules.specs.History.{History, with_entries, settled, begun, flies}
@@ -86,12 +87,8 @@ module _ (p : Problem) (h : History) (answers : List Op) (answer : Op) where
   tells-covers : (settled h answer.item + 1 ≡ begun h answer.item) → nat_lt (settled h answer.item) answer.number ≡ covers answer.item
   tells-covers is = elim (cases_Bool (nat_lt (settled h answer.item) answer.number)) as (λ c. nat_lt (settled h answer.item) answer.number ≡ covers answer.item) [
     | inl low ↦ low ∙ sym (and_from (answer.item == answer.item) (nat_le (begun h answer.item) answer.number) (eq-eqb answer.item answer.item refl) (le-leb (begun h answer.item) answer.number (omega (arith, is, ltb-true _ _ low))))
-    | inr high ↦ high ∙ sym (no-and (answer.item == answer.item) (nat_le (begun h answer.item) answer.number) (lt-leb (begun h answer.item) answer.number (omega (arith, is, ltb-false _ _ high))))
+    | inr high ↦ high ∙ sym (and_second_false (answer.item == answer.item) (nat_le (begun h answer.item) answer.number) (lt-leb (begun h answer.item) answer.number (omega (arith, is, ltb-false _ _ high))))
   ]
-    where
-      no-and : (a b : Bool) → b ≡ false → (a && b) ≡ false
-      no-and true b e = e
-      no-and false b e = refl
 
   open-covers : (flies h answer.item && nat_lt (settled h answer.item) answer.number) ≡ (flies h answer.item && covers answer.item)
   open-covers = either (flies h answer.item) refl

@@ -1,8 +1,8 @@
 -- Candidates in order: which is before which, and that a list in order is known by what it has.
-use Rattle.std.proofs.Common.{◌≡◌, ℕ, suc, ◌+◌, ◌<◌, ◌≤◌, ◌⊎◌, Bool, true, false, ◌&&◌, ◌||◌, ◌==◌, nat_lt, if◌then◌else◌, cond, List, [], ◌∷◌, length, get_or, IsSorted, refl, inl, inr, sym, ap, ap₂, ◌∙◌, subst, arith, lt-ltb, ltb-true, eq-eqb, eqb-true, Ordering, Less, Equal, Greater, is_lt, nat_cmp}
+use Rattle.std.proofs.Common.{◌≡◌, ℕ, suc, ◌+◌, ◌<◌, ◌≤◌, ◌⊎◌, Bool, true, false, ◌&&◌, ◌||◌, ◌==◌, nat_lt, if◌then◌else◌, cond, List, [], ◌∷◌, IsSorted, refl, inl, inr, sym, ap, ap₂, ◌∙◌, subst, arith, ltb-true, eq-eqb, eqb-true, Less, Equal, Greater, is_lt}
 use Rattle.std.specs.List.{AllByRecursion}
 use Rattle.std.specs.Ordering.{ordering_then}
-use Rattle.std.proofs.lemmas.Bool.{cases_Bool, and_parts, and_from, or_parts, and_cases, both_ways, cases_lt}
+use Rattle.std.proofs.lemmas.Bool.{cases_Bool, and_parts, and_from, or_parts, and_cases, both_ways, cases_lt, ltb-false}
 use Rattle.update_scheduler.specs.declared.candidate.Candidate.{Candidate}
 use Rattle.update_scheduler.specs.Candidates.{compared}
 
@@ -55,15 +55,12 @@ before-most a b e = elim (cases_Bool (nat_lt a.rank b.rank)) as (λ c. AtMost a 
 pub behind-most : (a b : Candidate) → is_before a b ≡ false → AtMost b a
 behind-most a b e =
     let parts = or_parts (nat_lt a.rank b.rank) ((a.rank == b.rank) && nat_lt a.item b.item) e in
-    let high : b.rank ≤ a.rank = not-low a.rank b.rank parts.0 in
+    let high : b.rank ≤ a.rank = ltb-false a.rank b.rank parts.0 in
     elim (and_cases (a.rank == b.rank) (nat_lt a.item b.item) parts.1) as (λ c. AtMost b a) [
       | inl other ↦ inl (apart high other)
-      | inr later ↦ at-or-below high (not-low a.item b.item later)
+      | inr later ↦ at-or-below high (ltb-false a.item b.item later)
     ]
   where
-    not-low : (x y : ℕ) → nat_lt x y ≡ false → y ≤ x
-    not-low x y no' = elim (cases_lt x y) as (λ c. y ≤ x) [ inl lt ↦ absurd (both_ways (nat_lt x y) no' (lt-ltb x y lt)) | inr le ↦ omega (arith, le) ]
-
     apart : b.rank ≤ a.rank → (a.rank == b.rank) ≡ false → b.rank < a.rank
     apart le no' = elim (cases_lt b.rank a.rank) as (λ c. b.rank < a.rank) [ inl lt ↦ lt | inr ge ↦ absurd (both_ways (a.rank == b.rank) no' (eq-eqb a.rank b.rank (omega (arith, le, ge)))) ]
 

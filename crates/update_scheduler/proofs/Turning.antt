@@ -39,11 +39,6 @@ batch-graph g policy answers =
     let whole = with_both g.history (dones g.rollout.problem g.history answers) (released_by (with_dones g answers) policy) in
     λ i. record { rollout = g.rollout; history = whole i }
 
--- no entries
-pub no-entries : (es : List Entry) → length es ≡ 0 → es ≡ []
-no-entries [] none = refl
-no-entries (e ∷ es) none = absurd (omega (arith, none))
-
 -- ---- at first
 pub first-turning : (g : Followed) (bench : Begun) (flights : Flown) (told : Acks) (entries : List Entry) (room items : ℕ) → is_legal g.rollout.problem g.rollout.plan g.history ≡ true
     → bench ≡ record { items = item_count g.rollout.problem; begun = [] } → flights ≡ record { items = item_count g.rollout.problem; ops = in_flight g.rollout.problem g.history } → told ≡ record { items = items; row = []; answers = [] } → entries ≡ []

@@ -1,22 +1,14 @@
 -- A network with other rates is one still.
-use Rattle.std.proofs.Common.{◌≡◌, ℕ, zero, suc, ◌+◌, ◌-◌, ◌<◌, List, [], ◌∷◌, length, map, get_or, slice_index, Option, None, inl, inr, sym, ap, ◌∙◌, subst, arith}
-use Rattle.std.proofs.lemmas.Bool.{cases_lt}
-use Rattle.std.proofs.lemmas.List.{get_or_append_left, get_or_push, ext_get_or, length-map, get_or-map}
+use Rattle.std.proofs.Common.{◌≡◌, ℕ, ◌+◌, ◌-◌, ◌<◌, List, length, map, slice_index, Option, None, sym, ap, ◌∙◌, subst, arith}
+use Rattle.std.proofs.lemmas.List.{ext_get_or, length-map, get_or-map}
 use Rattle.rollout_rules.specs.Sums.{list_below}
 use Rattle.rollout_rules.specs.Wan.{Problem, Tunnel, no_tunnel, flow_at, tunnel_at, tunnel_of}
 use Rattle.rollout_rules.specs.Network.{IsNetwork, IsPath, IsWidth, IsRate, IsTunnel}
-use Rattle.rollout_rules.proofs.Rows.{list_below-length}
+use Rattle.rollout_rules.proofs.Rows.{list_below-length, list_below-at}
 use Rattle.wan_model.specs.Rates.{rated, with_rates, AreRates}
 use Rattle.wan_model.specs.Sides.{rate_on}
 use Rattle.wan_model.specs.declared.side.Side.{Side}
 use Rattle.wan_model.specs.declared.side.Side.TheVariants.{Old, New}
-
-pub list_below-at : {A : Type 0} (n : ℕ) (f : ℕ → A) (d : A) (k : ℕ) → k < n → get_or (list_below n f) k d ≡ f k
-list_below-at zero f d k lt = absurd (omega arith)
-list_below-at (suc n) f d k lt = elim (cases_lt k n) as (λ c. get_or (list_below (suc n) f) k d ≡ f k) [
-  | inl below ↦ get_or_append_left (list_below n f) (f n ∷ []) d k (omega (arith, list_below-length n f)) ∙ list_below-at n f d k below
-  | inr above ↦ let at : k ≡ n = omega arith in rw at (get_or_push (list_below n f) (f n) d n (list_below-length n f))
-]
 
 module _ (p : Problem) (old new : List (Option ℕ)) where
   abbrev q : Problem
@@ -26,7 +18,7 @@ module _ (p : Problem) (old new : List (Option ℕ)) where
   rated-count = list_below-length (length p.tunnels) (rated p old new)
 
   pub rated-at : (t : ℕ) → t < length p.tunnels → tunnel_at q t ≡ rated p old new t
-  rated-at t lt = list_below-at (length p.tunnels) (rated p old new) no_tunnel t lt
+  rated-at t lt = list_below-at (length p.tunnels) (rated p old new) t no_tunnel lt
 
   module _ (net : IsNetwork p) (are_old : AreRates p old) (are_new : AreRates p new) where
     path-rated : (path along : List ℕ) → IsPath p path along → IsPath q path along

@@ -2,7 +2,7 @@ use Rattle.std.proofs.Common.{◌≡◌, inl, length, rules, subst, sym}
 use Rattle.fenced_agent.specs.Agents.{fenced_holding}
 use Rattle.agent_state.specs.Stored.{IsBeforeOrAfter, IsKept}
 use Rattle.agent_state.proofs.KeptFiles.{kept_reads}
-use Rattle.agent_state.proofs.Passages.{still_run}
+use Rattle.disk_model.proofs.Passages.{still_run}
 use Rattle.agent_service.specs.Keeping.{IsOnDisk}
 use Rattle.agent_service.proofs.KeptRows.{none_stored}
 use Rattle.agent_service.proofs.keeping.keep_batch.Goals as goal

@@ -1,13 +1,14 @@
 use Rattle.std.proofs.Common.{◌≡◌, ◌+◌, List, None, Ok, refl, rules, subst, arith}
+use Rattle.lists.proofs.Options.{of_some}
 use Rattle.wan_edge.specs.Fleets.{GivesGuest}
 use Rattle.agent_service.specs.Services.{SitsFrom, guests_of, table_of}
-use Rattle.agent_service.proofs.Rows.{found_holds, none_of, same_table}
+use Rattle.agent_service.proofs.Rows.{none_of, same_table}
 use Rattle.agent_service.proofs.seats.sit_down.Goals as goal
 
 -- the fleet knows of one guest more than sit
 pub seat-now-requires-clause-visiting : goal.seat-now-requires-clause-visiting
 seat-now-requires-clause-visiting g c =
-    let place = found_holds (λ guest. (g.F.Fleet.told c.guest.new.self).visiting ≡ (g.F.Fleet.told c.args.fleet.now).visiting + 1) c.in_ok-found.found c.in-Some.guest c.in-Some.is c.in_ok-found.ensures.place in
+    let place = of_some (λ guest. (g.F.Fleet.told c.guest.new.self).visiting ≡ (g.F.Fleet.told c.args.fleet.now).visiting + 1) c.in_ok-found.found c.in-Some.guest c.in-Some.is c.in_ok-found.ensures.place in
     omega (arith, c.requires.visiting, place)
 
 pub returns-in_err-found-clause-visiting : goal.returns-in_err-found-clause-visiting
@@ -32,7 +33,7 @@ pub returns-clause-sits : goal.returns-clause-sits
 returns-clause-sits g c = λ items. record {
   guest = c.in-Some.guest;
   coming = (g.F.Fleet.told c.guest.new.self).coming;
-  given = found_holds (λ guest. GivesGuest g.F.Guest.Source.told g.F.Guest.Sink.told (g.F.Fleet.told c.args.fleet.now).coming guest (g.F.Fleet.told c.guest.new.self).coming) c.in_ok-found.found c.in-Some.guest c.in-Some.is c.in_ok-found.ensures.given;
+  given = of_some (λ guest. GivesGuest g.F.Guest.Source.told g.F.Guest.Sink.told (g.F.Fleet.told c.args.fleet.now).coming guest (g.F.Fleet.told c.guest.new.self).coming) c.in_ok-found.found c.in-Some.guest c.in-Some.is c.in_ok-found.ensures.given;
   sits = subst
       (λ (back : List _).
       SitsFrom (table_of items c.args.seated.now.items c.args.talks.now.items (record { coming = (g.F.Fleet.told c.guest.new.self).coming; served = back }) c.args.service) c.in-Some.guest
@@ -41,5 +42,5 @@ returns-clause-sits g c = λ items. record {
 
 pub returns-clause-visiting : goal.returns-clause-visiting
 returns-clause-visiting g c =
-    let place = found_holds (λ guest. (g.F.Fleet.told c.guest.new.self).visiting ≡ (g.F.Fleet.told c.args.fleet.now).visiting + 1) c.in_ok-found.found c.in-Some.guest c.in-Some.is c.in_ok-found.ensures.place in
+    let place = of_some (λ guest. (g.F.Fleet.told c.guest.new.self).visiting ≡ (g.F.Fleet.told c.args.fleet.now).visiting + 1) c.in_ok-found.found c.in-Some.guest c.in-Some.is c.in_ok-found.ensures.place in
     omega (arith, c.seat-now.ensures.visiting, place)

@@ -1,7 +1,7 @@
 use Rattle.std.proofs.Common.{◌≡◌, ◌∙◌, ◌+◌, inl, ℕ, ap, length, refl, rules}
 use Rattle.agent_state.specs.Stored.{IsBeforeOrAfter, IsKept}
 use Rattle.agent_state.proofs.KeptFiles.{add_run, added, kept_reads}
-use Rattle.agent_state.proofs.Passages.{still_run}
+use Rattle.disk_model.proofs.Passages.{still_run}
 use Rattle.agent_state.proofs.keeping.add.Goals as goal
 
 pub returns-in_err-near-clause-any_moment : goal.returns-in_err-near-clause-any_moment

@@ -1,7 +1,7 @@
 use Rattle.std.proofs.Common.{inr, ℕ, List}
 use Rattle.fenced_agent.specs.Agents.{fenced_holding}
 use Rattle.agent_state.specs.Stored.{IsBeforeOrAfter, IsReadAs}
-use Rattle.agent_state.proofs.Passages.{chained_run}
+use Rattle.disk_model.proofs.Passages.{chained_run}
 use Rattle.agent_state.proofs.keeping.append.Goals as goal
 
 pub returns-in_err-next-clause-any_moment : goal.returns-in_err-next-clause-any_moment

@@ -3,7 +3,7 @@ use Rattle.fenced_agent.specs.Agents.{fenced_holding}
 use Rattle.agent_state.specs.Stored.{IsBatch, IsKept, IsReadAs, last_batch}
 use Rattle.agent_state.specs.declared.place.Place.{Place}
 use Rattle.agent_state.proofs.KeptFiles.{anew_run, kept_reads, renewed}
-use Rattle.agent_state.proofs.Passages.{still_run}
+use Rattle.disk_model.proofs.Passages.{still_run}
 use Rattle.agent_state.proofs.keeping.write_anew.Goals as goal
 
 pub returns-in_err-batch-clause-any_moment : goal.returns-in_err-batch-clause-any_moment

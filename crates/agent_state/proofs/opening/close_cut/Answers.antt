@@ -1,9 +1,9 @@
 use Rattle.std.proofs.Common.{rules, ◌≡◌, Bool, true, false, refl, subst, [], ◌∷◌}
-use Rattle.agent_state.specs.Disks.{Holds}
+use Rattle.disk_model.specs.Crashes.{Holds}
 use Rattle.agent_state.specs.Opened.{IsFound, ReadsAlike}
 use Rattle.agent_state.specs.Stored.{IsKept}
 use Rattle.agent_state.proofs.Openings.{closing_done, closing_torn, found_kept}
-use Rattle.agent_state.proofs.Passages.{holds_still, still_run, write_holds, write_run}
+use Rattle.disk_model.proofs.Passages.{holds_still, still_run, write_holds, write_run}
 use Rattle.agent_state.proofs.opening.close_cut.Goals as goal
 
 pub returns-in_err-put-clause-any_moment : goal.returns-in_err-put-clause-any_moment

@@ -3,7 +3,7 @@ use Rattle.agent_state.specs.Stored.{IsKept, nothing_yet}
 use Rattle.std.proofs.Common.{ap, length, ◌≡◌, ℕ, subst}
 use Rattle.disk_model.specs.Writes.{Torn}
 use Rattle.agent_state.proofs.Openings.{blank_torn, made_done}
-use Rattle.agent_state.proofs.Passages.{write_holds, write_run}
+use Rattle.disk_model.proofs.Passages.{write_holds, write_run}
 use Rattle.agent_state.proofs.opening.make.Goals as goal
 
 pub returns-in_err-put-clause-any_moment : goal.returns-in_err-put-clause-any_moment

@@ -1,7 +1,8 @@
 use Rattle.std.proofs.Common.{refl, sym, subst}
 use Rattle.std.proofs.lemmas.Result.{err_from_is_err_and}
 use Rattle.fenced_agent.specs.Agents.{FencedHoldings, fenced_holding}
-use Rattle.agent_state.specs.Disks.{Holds, fault_of_read}
+use Rattle.disk_model.specs.Crashes.{Holds}
+use Rattle.agent_state.specs.Disks.{fault_of_read}
 use Rattle.agent_state.specs.Opened.{IsBlank, IsFound}
 use Rattle.agent_state.specs.Stored.{IsKept, IsReadAs}
 use Rattle.agent_state.proofs.Openings.{found_read, holds_read, nothing_read, quiet_run, read_told, then_alike}

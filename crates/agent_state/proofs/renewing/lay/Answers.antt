@@ -3,7 +3,7 @@ use Rattle.agent_state.specs.Renewals.{IsLaid}
 use Rattle.agent_state.specs.States.{IsAtRest, IsEither}
 use Rattle.agent_state.specs.Stored.{home_of}
 use Rattle.agent_state.proofs.Heads.{rest_reads}
-use Rattle.agent_state.proofs.Passages.{write_holds, write_run}
+use Rattle.disk_model.proofs.Passages.{write_holds, write_run}
 use Rattle.agent_state.proofs.Renewed.{laid, torn_aside}
 use Rattle.agent_state.proofs.renewing.lay.Goals as goal
 

@@ -1,9 +1,9 @@
 use Rattle.std.proofs.Common.{[], ◌∷◌, length, ap, ◌∙◌}
+use Rattle.disk_model.proofs.FourBytes.{length-bytes_4}
 use Rattle.agent_state.specs.Renewals.{IsLaid, IsNamed}
 use Rattle.agent_state.specs.States.{IsEither}
 use Rattle.agent_state.specs.Stored.{home_of}
-use Rattle.agent_state.proofs.Passages.{write_holds, write_run}
-use Rattle.agent_state.proofs.Reading.{length-bytes_4}
+use Rattle.disk_model.proofs.Passages.{write_holds, write_run}
 use Rattle.agent_state.proofs.Renewed.{named_at, torn_laid_at}
 use Rattle.agent_state.proofs.renewing.name.Goals as goal
 

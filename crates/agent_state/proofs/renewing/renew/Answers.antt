@@ -1,6 +1,6 @@
 use Rattle.std.proofs.Common.{ℕ, List, [], ◌∷◌, ◌∙◌}
 use Rattle.agent_state.specs.States.{IsEither}
-use Rattle.agent_state.proofs.Passages.{chained_run}
+use Rattle.disk_model.proofs.Passages.{chained_run}
 use Rattle.agent_state.proofs.renewing.renew.Goals as goal
 
 pub returns-in_err-lay-clause-any_moment : goal.returns-in_err-lay-clause-any_moment

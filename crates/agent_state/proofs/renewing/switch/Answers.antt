@@ -2,7 +2,7 @@ use Rattle.std.proofs.Common.{[], ◌∷◌}
 use Rattle.agent_state.specs.Renewals.{IsNamed, new_gate, new_home}
 use Rattle.agent_state.specs.States.{IsAtRest, IsEither}
 use Rattle.agent_state.specs.Stored.{home_of}
-use Rattle.agent_state.proofs.Passages.{write_holds, write_run}
+use Rattle.disk_model.proofs.Passages.{write_holds, write_run}
 use Rattle.agent_state.proofs.Renewed.{switch_torn, switched_at}
 use Rattle.agent_state.proofs.renewing.switch.Goals as goal
 

@@ -1,11 +1,11 @@
 use Rattle.std.proofs.Common.{◌++◌, ◌∙◌, eqb-true, subst, sym, refl, arith}
 use Rattle.std.specs.Prelude.{IsTrue, vec_len}
+use Rattle.lists.proofs.Rows.{none_of_length_0}
 use Rattle.port_session.specs.Sessions.{SessionView}
 use Rattle.switch_ports.specs.Hands.{first_sessions}
 use Rattle.controller_run.specs.Workers.{all_ports, workers_ports}
 use Rattle.controller_run.proofs.Crews.{no_ports}
 use Rattle.controller_run.proofs.LeadingOn.{served_alone, stopped_alone}
-use Rattle.controller_run.proofs.Rows.{none_long}
 use Rattle.controller_run.proofs.together.work_alone.Goals as goal
 
 pub stop-requires-clause-lock : goal.stop-requires-clause-lock
@@ -40,4 +40,4 @@ returns-clause-led g c =
     served_alone g.T.Port.told g.M.Marker.opening c.args.terms.migration c.args.terms.homes.now c.args.terms.rounds c.args.book.now.lock
     g.M.Marker.seats 0 c.args.pass.pass c.serve-pass.result.pass.pass c.args.pass.calls c.serve-pass.result.pass.calls c.requires.leader c.serve-pass.ensures.lock c.serve-pass.ensures.pass c.serve-pass.ensures.calls
     c.args.team.own.ports c.serve-pass.result.ports (first_sessions c.args.team.own.spare.items ++ all_ports c.args.team.crews.items) c.serve-pass.result.end c.requires.fresh
-    (no_ports c.args.team.own.spare.items c.args.team.crews.items (none_long c.args.team.own.spare.items (let none = eqb-true (vec_len c.args.team.own.spare) 0 (sym c.is_empty.ensures ∙ c.if-not-is_empty.false) in omega (arith, none, c.args.team.own.spare.ok.0))) c.requires.alone) c.serve-pass.ensures.served
+    (no_ports c.args.team.own.spare.items c.args.team.crews.items (none_of_length_0 c.args.team.own.spare.items (let none = eqb-true (vec_len c.args.team.own.spare) 0 (sym c.is_empty.ensures ∙ c.if-not-is_empty.false) in omega (arith, none, c.args.team.own.spare.ok.0))) c.requires.alone) c.serve-pass.ensures.served

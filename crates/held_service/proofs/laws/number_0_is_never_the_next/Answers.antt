@@ -1,5 +1,5 @@
-use Rattle.switch_laws.proofs.Unmoved.{kept-by-rule, never-next}
+use Rattle.rollout_rules.proofs.Pairs.{held_after-probe, probe_never_next}
 use Rattle.held_service.proofs.laws.number_0_is_never_the_next.Goals as goal
 
 pub returns : goal.returns
-returns c = record { next = never-next; kept = kept-by-rule }
+returns c = record { next = probe_never_next; kept = held_after-probe }

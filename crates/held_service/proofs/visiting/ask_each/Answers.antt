@@ -1,9 +1,9 @@
 use Rattle.std.proofs.Common.{◌≡◌, ℕ, None, length, refl, ap, ◌∙◌, subst, arith}
 use Rattle.std.proofs.lemmas.List.{length-replicate}
+use Rattle.wan_edge.proofs.Faults.{rose_since}
 use Rattle.switch_ports.specs.Berths.{ports_of}
 use Rattle.held_service.specs.Noting.{Notes}
 use Rattle.held_service.specs.Visits.{TellsBelow}
-use Rattle.held_service.proofs.Heard.{rose-on}
 use Rattle.held_service.proofs.Visited.{below-more, below-none, fails-for, one-rows, stops-below}
 use Rattle.held_service.proofs.visiting.ask_each.Goals as goal
 
@@ -52,7 +52,7 @@ returns-in_err-ask_one-clause-guests g c =
 
 pub returns-in_err-ask_one-clause-cause : goal.returns-in_err-ask_one-clause-cause
 returns-in_err-ask_one-clause-cause g c = λ w is.
-    rose-on _ _ _ c.loop-switch.invariant.count (c.in_err-ask_one.ensures.cause w (fails-for c.in_err-ask_one.field-0.0 w c.from_residual.result c.from_residual.ensures.1 is))
+    rose_since _ _ _ c.loop-switch.invariant.count (c.in_err-ask_one.ensures.cause w (fails-for c.in_err-ask_one.field-0.0 w c.from_residual.result c.from_residual.ensures.1 is))
 
 pub returns-clause-asks : goal.returns-clause-asks
 returns-clause-asks g c =

@@ -1,7 +1,8 @@
 use Rattle.std.proofs.Common.{ℕ, ◌+◌, ◌-◌, List, length, take, drop, subst}
 use Rattle.std.specs.Io.KnownBytes.{Appends}
 use Rattle.std.proofs.KnownBytes.{Appends-trans}
-use Rattle.host_edge.proofs.Noting.{added_further, take_further}
+use Rattle.lists.proofs.Rows.{take_further}
+use Rattle.host_edge.proofs.Noting.{added_further}
 use Rattle.host_edge.proofs.unbroken.write_whole.Goals as goal
 
 pub loop-done-preserved : goal.loop-done-preserved

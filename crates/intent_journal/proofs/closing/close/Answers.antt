@@ -1,7 +1,7 @@
 use Rattle.std.proofs.Common.{ℕ, List, ◌∙◌}
 use Rattle.intent_journal.specs.Images.{journal_in}
 use Rattle.intent_journal.specs.Phases.{IsOld}
-use Rattle.intent_journal.proofs.Passages.{chained_run}
+use Rattle.disk_model.proofs.Passages.{chained_run}
 use Rattle.intent_journal.proofs.closing.close.Goals as goal
 
 pub returns-in_err-close_cut-clause-any_moment : goal.returns-in_err-close_cut-clause-any_moment

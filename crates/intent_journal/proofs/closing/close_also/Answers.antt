@@ -3,7 +3,7 @@ use Rattle.intent_journal.specs.Images.{journal_in}
 use Rattle.intent_journal.specs.Phases.{IsFound, IsOld}
 use Rattle.intent_journal.specs.Renewals.{IsCut}
 use Rattle.intent_journal.proofs.Closings.{also_done, also_torn, found_closed}
-use Rattle.intent_journal.proofs.Passages.{holds_still, still_run, write_holds, write_run}
+use Rattle.disk_model.proofs.Passages.{holds_still, still_run, write_holds, write_run}
 use Rattle.intent_journal.proofs.closing.close_also.Goals as goal
 
 pub returns-in_err-put-clause-any_moment : goal.returns-in_err-put-clause-any_moment

@@ -3,7 +3,7 @@ use Rattle.intent_journal.specs.Images.{journal_in}
 use Rattle.intent_journal.specs.Phases.{IsOld}
 use Rattle.intent_journal.specs.Renewals.{IsClosed, IsCut}
 use Rattle.intent_journal.proofs.Closings.{cut_closed, cut_done, cut_torn}
-use Rattle.intent_journal.proofs.Passages.{holds_still, still_run, write_holds, write_run}
+use Rattle.disk_model.proofs.Passages.{holds_still, still_run, write_holds, write_run}
 use Rattle.intent_journal.proofs.closing.close_cut.Goals as goal
 
 pub returns-in_err-put-clause-any_moment : goal.returns-in_err-put-clause-any_moment

@@ -3,7 +3,7 @@ use Rattle.intent_journal.specs.Images.{journal_in}
 use Rattle.intent_journal.specs.Phases.{IsOld, end_of}
 use Rattle.intent_journal.specs.Renewals.{IsClosed, IsFilled}
 use Rattle.intent_journal.proofs.Closings.{fill_done, fill_torn, reaches}
-use Rattle.intent_journal.proofs.Passages.{holds_still, still_run, write_holds, write_run}
+use Rattle.disk_model.proofs.Passages.{holds_still, still_run, write_holds, write_run}
 use Rattle.intent_journal.proofs.closing.fill_up.Goals as goal
 
 pub returns-in_err-put-clause-any_moment : goal.returns-in_err-put-clause-any_moment

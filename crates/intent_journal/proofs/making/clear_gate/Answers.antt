@@ -1,8 +1,9 @@
 use Rattle.std.proofs.Common.{rules, ◌≡◌, inl, Bool, true, false, [], ◌∷◌, subst}
+use Rattle.disk_model.specs.Crashes.{Holds}
 use Rattle.intent_journal.specs.Makings.{IsBlankOrTorn, IsClear}
-use Rattle.intent_journal.specs.Phases.{Holds, IsBlankFound}
+use Rattle.intent_journal.specs.Phases.{IsBlankFound}
 use Rattle.intent_journal.proofs.Clearings.{clear_found, first_done, first_torn}
-use Rattle.intent_journal.proofs.Passages.{holds_still, still_run, write_holds, write_run}
+use Rattle.disk_model.proofs.Passages.{holds_still, still_run, write_holds, write_run}
 use Rattle.intent_journal.proofs.making.clear_gate.Goals as goal
 
 pub returns-in_err-put-clause-any_moment : goal.returns-in_err-put-clause-any_moment

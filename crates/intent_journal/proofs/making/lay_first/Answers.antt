@@ -1,7 +1,7 @@
 use Rattle.std.proofs.Common.{rules, ◌≡◌, length, ap, ◌∙◌}
 use Rattle.intent_journal.specs.Makings.{IsClear, IsReady, slots_bytes}
 use Rattle.intent_journal.proofs.Made.{both_run, clear_run, long_slots, part_clear, ready, slots_clear, slots_run}
-use Rattle.intent_journal.proofs.Passages.{writes_ok}
+use Rattle.disk_model.proofs.Passages.{writes_ok}
 use Rattle.intent_journal.proofs.making.lay_first.Goals as goal
 
 pub returns-in_err-write_at-clause-any_moment : goal.returns-in_err-write_at-clause-any_moment

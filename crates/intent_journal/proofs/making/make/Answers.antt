@@ -4,7 +4,7 @@ use Rattle.intent_journal.specs.Makings.{IsBlank, IsBlankOrNew, IsBlankOrTorn, I
 use Rattle.intent_journal.specs.Phases.{IsBlankOrMade}
 use Rattle.intent_journal.specs.Renewals.{IsMoved}
 use Rattle.intent_journal.proofs.Made.{made_done, made_torn}
-use Rattle.intent_journal.proofs.Passages.{chained_run, weaker_run, write_holds, write_run}
+use Rattle.disk_model.proofs.Passages.{chained_run, weaker_run, write_holds, write_run}
 use Rattle.intent_journal.proofs.Renewed.{renewed}
 use Rattle.intent_journal.proofs.making.make.Goals as goal
 

@@ -2,7 +2,7 @@ use Rattle.std.proofs.Common.{◌≡◌, inl, inr, true, refl, sym, subst, ◌�
 use Rattle.intent_journal.specs.Images.{is_blank, journal_in}
 use Rattle.intent_journal.specs.Phases.{IsBlankFound, IsBlankOrMade, IsFound, IsOldOrNew}
 use Rattle.intent_journal.specs.Placements.{IsStoodOrPlaced}
-use Rattle.intent_journal.proofs.Passages.{holds_still, still_run}
+use Rattle.disk_model.proofs.Passages.{holds_still, still_run}
 use Rattle.intent_journal.proofs.Placings.{found_some, known_run}
 use Rattle.intent_journal.proofs.placing.write_over.Goals as goal
 

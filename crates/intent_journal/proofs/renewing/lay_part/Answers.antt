@@ -2,7 +2,7 @@ use Rattle.intent_journal.specs.Images.{journal_in}
 use Rattle.intent_journal.specs.Phases.{IsOld}
 use Rattle.intent_journal.specs.Renewals.{IsFilled, IsLaid, new_start}
 use Rattle.intent_journal.proofs.Laying.{lay_done, lay_torn}
-use Rattle.intent_journal.proofs.Passages.{write_ok, write_run}
+use Rattle.disk_model.proofs.Passages.{write_ok, write_run}
 use Rattle.intent_journal.proofs.renewing.lay_part.Goals as goal
 
 pub returns-clause-any_moment : goal.returns-clause-any_moment

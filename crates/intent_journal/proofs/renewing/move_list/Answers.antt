@@ -1,7 +1,7 @@
 use Rattle.std.proofs.Common.{inl, inr, ⊎_elim, ℕ, List, ◌∙◌}
 use Rattle.intent_journal.specs.Images.{journal_in}
 use Rattle.intent_journal.specs.Phases.{IsOld, IsOldOrNew}
-use Rattle.intent_journal.proofs.Passages.{chained_run, weaker_run}
+use Rattle.disk_model.proofs.Passages.{chained_run, weaker_run}
 use Rattle.intent_journal.proofs.renewing.move_list.Goals as goal
 
 pub returns-in_err-lay_part-clause-any_moment : goal.returns-in_err-lay_part-clause-any_moment

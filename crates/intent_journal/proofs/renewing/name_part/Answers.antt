@@ -3,7 +3,7 @@ use Rattle.intent_journal.specs.Images.{journal_in}
 use Rattle.intent_journal.specs.Phases.{IsOld}
 use Rattle.intent_journal.specs.Renewals.{IsLaid, IsNamed}
 use Rattle.intent_journal.proofs.Laying.{long_name, name_bytes, name_done, name_torn, start_small}
-use Rattle.intent_journal.proofs.Passages.{write_ok, write_run}
+use Rattle.disk_model.proofs.Passages.{write_ok, write_run}
 use Rattle.intent_journal.proofs.renewing.name_part.Goals as goal
 
 pub returns-clause-any_moment : goal.returns-clause-any_moment

@@ -3,7 +3,7 @@ use Rattle.intent_journal.specs.Images.{journal_in}
 use Rattle.intent_journal.specs.Phases.{IsOld, IsOldOrNew}
 use Rattle.intent_journal.specs.Renewals.{new_start}
 use Rattle.intent_journal.proofs.Laying.{start_small}
-use Rattle.intent_journal.proofs.Passages.{chained_run, weaker_run}
+use Rattle.disk_model.proofs.Passages.{chained_run, weaker_run}
 use Rattle.intent_journal.proofs.Renewed.{renewed}
 use Rattle.intent_journal.proofs.renewing.renew.Goals as goal
 

@@ -2,7 +2,7 @@ use Rattle.std.proofs.Common.{inl, inr, ⊎_elim, ℕ, List, [], ◌∷◌, ◌�
 use Rattle.intent_journal.specs.Images.{journal_in, open_slot}
 use Rattle.intent_journal.specs.Phases.{IsOldOrNew}
 use Rattle.intent_journal.specs.Renewals.{IsMoved, IsNamed, IsOpened, new_home}
-use Rattle.intent_journal.proofs.Passages.{chained_run, write_holds, write_ok, write_run}
+use Rattle.disk_model.proofs.Passages.{chained_run, write_holds, write_ok, write_run}
 use Rattle.intent_journal.proofs.Switches.{open_done, open_torn, shut_done, shut_torn}
 use Rattle.intent_journal.proofs.renewing.switch_parts.Goals as goal
 

@@ -1,8 +1,8 @@
 use Rattle.std.proofs.Common.{ℕ, ap, ap₂, ◌∙◌}
 use Rattle.rollout_rules.specs.Wan.{Plan, Rollout}
 use Rattle.rollout_rules.specs.Items.{item_count}
+use Rattle.text_writer.proofs.Pushing.{said_so}
 use Rattle.plan_texts.specs.Explain.{op_count, counts_line}
-use Rattle.plan_texts.proofs.Pushes.{said_so}
 use Rattle.plan_texts.proofs.explaining.push_counts.Goals as goal
 
 pub returns : goal.returns

@@ -1,5 +1,5 @@
+use Rattle.text_writer.proofs.Pushing.{both}
 use Rattle.plan_texts.specs.Explain.{explain_text}
-use Rattle.plan_texts.proofs.Pushes.{both}
 use Rattle.plan_texts.proofs.explaining.push_explanation.Goals as goal
 
 pub push_counts-requires : goal.push_counts-requires

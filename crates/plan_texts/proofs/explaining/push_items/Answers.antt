@@ -1,8 +1,9 @@
 use Rattle.std.proofs.Common.{◌≡◌, ap, arith}
 use Rattle.rollout_rules.specs.Wan.{Rollout}
 use Rattle.rollout_rules.specs.Items.{item_count}
+use Rattle.text_writer.proofs.Pushing.{said_so}
 use Rattle.plan_texts.specs.Explain.{item_lines, lines_of_items}
-use Rattle.plan_texts.proofs.Pushes.{row-pushed, said_so}
+use Rattle.plan_texts.proofs.Pushes.{row-pushed}
 use Rattle.plan_texts.proofs.explaining.push_items.Goals as goal
 
 pub push_item-requires-clause-lookup : goal.push_item-requires-clause-lookup

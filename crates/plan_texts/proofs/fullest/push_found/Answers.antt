@@ -1,6 +1,6 @@
 use Rattle.std.proofs.Common.{ℕ, Option, ap}
+use Rattle.text_writer.proofs.Pushing.{said_so}
 use Rattle.plan_texts.specs.Loads.{fullest_text}
-use Rattle.plan_texts.proofs.Pushes.{said_so}
 use Rattle.plan_texts.proofs.fullest.push_found.Goals as goal
 
 pub returns-in-Some : goal.returns-in-Some

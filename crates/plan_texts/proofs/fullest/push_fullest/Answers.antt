@@ -1,4 +1,4 @@
-use Rattle.plan_texts.proofs.Pushes.{both}
+use Rattle.text_writer.proofs.Pushing.{both}
 use Rattle.plan_texts.proofs.fullest.push_fullest.Goals as goal
 
 pub returns : goal.returns

@@ -1,6 +1,6 @@
+use Rattle.text_writer.proofs.Pushing.{said_so, both}
 use Rattle.plan_texts.specs.Loads.{greatest_total, room_of, fullest_step}
 use Rattle.plan_texts.proofs.Lines.{share-same}
-use Rattle.plan_texts.proofs.Pushes.{both, said_so}
 use Rattle.plan_texts.proofs.fullest.push_fullness.Goals as goal
 
 pub returns : goal.returns

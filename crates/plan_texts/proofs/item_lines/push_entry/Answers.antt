@@ -1,6 +1,7 @@
 use Rattle.rollout_rules.proofs.OverItems.{entry-is_item}
+use Rattle.text_writer.proofs.Pushing.{at_value}
 use Rattle.wan_text.specs.Names.{switch_text}
-use Rattle.plan_texts.proofs.Pushes.{at_value, by_four}
+use Rattle.plan_texts.proofs.Pushes.{by_four}
 use Rattle.plan_texts.proofs.item_lines.push_entry.Goals as goal
 
 pub switch_of-requires-clause-tunnel : goal.switch_of-requires-clause-tunnel

@@ -1,4 +1,4 @@
-use Rattle.plan_texts.proofs.Pushes.{at_value, both}
+use Rattle.text_writer.proofs.Pushing.{at_value, both}
 use Rattle.plan_texts.proofs.item_lines.push_flow.Goals as goal
 
 pub returns : goal.returns

@@ -2,9 +2,10 @@ use Rattle.std.proofs.Common.{◌≡◌, length, ap, arith}
 use Rattle.std.specs.List.{flat_map}
 use Rattle.rollout_rules.specs.Sums.{list_below}
 use Rattle.rollout_rules.specs.Wan.{hops}
+use Rattle.text_writer.proofs.Pushing.{at_value, said_so, both}
 use Rattle.wan_text.specs.Names.{switch_text}
 use Rattle.plan_texts.specs.Explain.{hop_text}
-use Rattle.plan_texts.proofs.Pushes.{at_value, both, row-pushed, said_so}
+use Rattle.plan_texts.proofs.Pushes.{row-pushed}
 use Rattle.plan_texts.proofs.item_lines.push_path.Goals as goal
 
 pub switch_of-requires-clause-hop : goal.switch_of-requires-clause-hop

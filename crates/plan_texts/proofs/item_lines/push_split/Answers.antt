@@ -1,6 +1,7 @@
 use Rattle.rollout_rules.proofs.OverItems.{is_item-flow}
+use Rattle.text_writer.proofs.Pushing.{at_value}
 use Rattle.plan_texts.specs.Explain.{home_text}
-use Rattle.plan_texts.proofs.Pushes.{at_value, by_three}
+use Rattle.plan_texts.proofs.Pushes.{by_three}
 use Rattle.plan_texts.proofs.item_lines.push_split.Goals as goal
 
 pub home_of_item-home-requires : goal.home_of_item-home-requires

@@ -1,5 +1,6 @@
+use Rattle.text_writer.proofs.Pushing.{at_value}
 use Rattle.plan_texts.specs.Explain.{flow_text, place_text}
-use Rattle.plan_texts.proofs.Pushes.{at_value, by_three}
+use Rattle.plan_texts.proofs.Pushes.{by_three}
 use Rattle.plan_texts.proofs.item_lines.push_tunnel.Goals as goal
 
 pub returns : goal.returns

@@ -1,7 +1,7 @@
 use Rattle.std.proofs.Common.{◌≡◌, true, length, sym, ap, subst, ltb-true}
 use Rattle.rollout_rules.specs.Items.{is_item}
+use Rattle.text_writer.proofs.Pushing.{said_so}
 use Rattle.plan_texts.specs.Explain.{item_text}
-use Rattle.plan_texts.proofs.Pushes.{said_so}
 use Rattle.plan_texts.proofs.item_lines.push_what.Goals as goal
 
 pub push_split-requires-clause-flow : goal.push_split-requires-clause-flow

@@ -1,6 +1,7 @@
 use Rattle.std.proofs.Common.{ap₂}
+use Rattle.text_writer.proofs.Pushing.{said_so}
 use Rattle.plan_texts.specs.Loads.{loads_text, sizes_line}
-use Rattle.plan_texts.proofs.Pushes.{by_four, said_so}
+use Rattle.plan_texts.proofs.Pushes.{by_four}
 use Rattle.plan_texts.proofs.load_lines.push_all.Goals as goal
 
 pub returns : goal.returns

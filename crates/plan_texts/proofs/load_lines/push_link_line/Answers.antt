@@ -1,6 +1,7 @@
+use Rattle.text_writer.proofs.Pushing.{said_so}
 use Rattle.plan_texts.proofs.Cells.{links-long}
 use Rattle.plan_texts.proofs.Lines.{link-totals}
-use Rattle.plan_texts.proofs.Pushes.{by_three, said_so}
+use Rattle.plan_texts.proofs.Pushes.{by_three}
 use Rattle.plan_texts.proofs.load_lines.push_link_line.Goals as goal
 
 pub push_totals-requires-clause-taken : goal.push_totals-requires-clause-taken

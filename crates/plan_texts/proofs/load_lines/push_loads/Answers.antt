@@ -1,9 +1,9 @@
 use Rattle.std.proofs.Common.{ap₂, sym, subst}
 use Rattle.rollout_rules.specs.Wan.{Problem, Plan}
+use Rattle.text_writer.proofs.Pushing.{said_so}
 use Rattle.plan_texts.specs.Loads.{loads_text}
 use Rattle.plan_texts.specs.LookedUp.{AreLoadsIn}
 use Rattle.plan_texts.proofs.Cells.{checked-from}
-use Rattle.plan_texts.proofs.Pushes.{said_so}
 use Rattle.plan_texts.proofs.load_lines.push_loads.Goals as goal
 
 pub push_all-requires-clause-checked : goal.push_all-requires-clause-checked

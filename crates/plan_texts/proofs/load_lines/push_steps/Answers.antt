@@ -1,7 +1,8 @@
 use Rattle.std.proofs.Common.{◌≡◌, ap, arith}
+use Rattle.text_writer.proofs.Pushing.{said_so}
 use Rattle.plan_texts.specs.Loads.{step_texts}
 use Rattle.plan_texts.specs.Rows.{cell}
-use Rattle.plan_texts.proofs.Pushes.{said_so, step-pushed}
+use Rattle.plan_texts.proofs.Pushes.{step-pushed}
 use Rattle.plan_texts.proofs.load_lines.push_steps.Goals as goal
 
 pub read-taken-requires-clause-stage : goal.read-taken-requires-clause-stage

@@ -1,7 +1,8 @@
 use Rattle.std.proofs.Common.{◌∙◌}
+use Rattle.text_writer.proofs.Pushing.{said_so}
 use Rattle.plan_texts.proofs.Cells.{tables-long}
 use Rattle.plan_texts.proofs.Lines.{table-totals}
-use Rattle.plan_texts.proofs.Pushes.{by_three, said_so}
+use Rattle.plan_texts.proofs.Pushes.{by_three}
 use Rattle.plan_texts.proofs.load_lines.push_table_line.Goals as goal
 
 pub push_totals-requires-clause-taken : goal.push_totals-requires-clause-taken

@@ -1,7 +1,8 @@
 use Rattle.std.proofs.Common.{◌≡◌, length, ap, arith}
 use Rattle.rollout_rules.specs.Items.{the_table}
+use Rattle.text_writer.proofs.Pushing.{said_so}
 use Rattle.plan_texts.specs.Loads.{load_lines}
-use Rattle.plan_texts.proofs.Pushes.{line-pushed, said_so}
+use Rattle.plan_texts.proofs.Pushes.{line-pushed}
 use Rattle.plan_texts.proofs.load_lines.push_tables.Goals as goal
 
 pub loop-switch-init : goal.loop-switch-init

@@ -1,6 +1,7 @@
 use Rattle.std.proofs.Common.{arith}
+use Rattle.text_writer.proofs.Pushing.{at_value}
 use Rattle.plan_texts.specs.Loads.{last_text}
-use Rattle.plan_texts.proofs.Pushes.{at_value, by_three}
+use Rattle.plan_texts.proofs.Pushes.{by_three}
 use Rattle.plan_texts.proofs.load_lines.push_totals.Goals as goal
 
 pub read-requires-clause-stage : goal.read-requires-clause-stage

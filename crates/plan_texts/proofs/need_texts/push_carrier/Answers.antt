@@ -1,7 +1,7 @@
 use Rattle.std.proofs.Common.{eq-eqb}
 use Rattle.std.proofs.lemmas.Bool.{ne_eqb}
+use Rattle.text_writer.proofs.Pushing.{said_so}
 use Rattle.plan_texts.proofs.Needs.{carrier-none, carrier-some}
-use Rattle.plan_texts.proofs.Pushes.{said_so}
 use Rattle.plan_texts.proofs.need_texts.push_carrier.Goals as goal
 
 pub returns-then-rate-eq0 : goal.returns-then-rate-eq0

@@ -2,9 +2,10 @@ use Rattle.std.proofs.Common.{◌≡◌, ◌+◌, ap, arith}
 use Rattle.std.specs.List.{flat_map}
 use Rattle.rollout_rules.specs.Sums.{list_below}
 use Rattle.rollout_rules.specs.Wan.{flow_at, tunnel_of}
+use Rattle.text_writer.proofs.Pushing.{at_value, said_so}
 use Rattle.plan_texts.specs.Explain.{need_text, needs_text}
 use Rattle.plan_texts.specs.Needs.{carrier_needs}
-use Rattle.plan_texts.proofs.Pushes.{at_value, rows-pushed, said_so}
+use Rattle.plan_texts.proofs.Pushes.{rows-pushed}
 use Rattle.plan_texts.proofs.need_texts.push_carriers.Goals as goal
 
 pub loop-j-init : goal.loop-j-init

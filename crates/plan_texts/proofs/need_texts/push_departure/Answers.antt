@@ -1,5 +1,5 @@
+use Rattle.text_writer.proofs.Pushing.{said_so}
 use Rattle.plan_texts.proofs.Needs.{arrival-told, departure-told}
-use Rattle.plan_texts.proofs.Pushes.{said_so}
 use Rattle.plan_texts.proofs.need_texts.push_departure.Goals as goal
 
 pub returns-then-mark : goal.returns-then-mark

@@ -1,10 +1,11 @@
 use Rattle.std.proofs.Common.{◌≡◌, ◌<◌, length, sym, ap, subst, arith}
 use Rattle.rollout_rules.specs.Sums.{list_below}
 use Rattle.rollout_rules.specs.Wan.{Rollout, hops}
+use Rattle.text_writer.proofs.Pushing.{at_value, said_so}
 use Rattle.plan_texts.specs.Explain.{stood_text, need_text, needs_text}
 use Rattle.plan_texts.specs.Needs.{entry_need}
 use Rattle.plan_texts.proofs.Needs.{entry-number}
-use Rattle.plan_texts.proofs.Pushes.{at_value, row-pushed, said_so}
+use Rattle.plan_texts.proofs.Pushes.{row-pushed}
 use Rattle.plan_texts.proofs.need_texts.push_entries.Goals as goal
 
 pub first_entry-first-requires : goal.first_entry-first-requires

@@ -1,9 +1,9 @@
 use Rattle.std.proofs.Common.{◌≡◌, true, length, sym, ap, subst, ltb-true}
 use Rattle.rollout_rules.specs.Items.{is_item}
 use Rattle.rollout_rules.proofs.OverItems.{entry-is_item}
+use Rattle.text_writer.proofs.Pushing.{said_so}
 use Rattle.plan_texts.specs.Explain.{needs_text}
 use Rattle.plan_texts.specs.Needs.{needs_of}
-use Rattle.plan_texts.proofs.Pushes.{said_so}
 use Rattle.plan_texts.proofs.need_texts.push_needs.Goals as goal
 
 pub push_carriers-requires-clause-flow : goal.push_carriers-requires-clause-flow

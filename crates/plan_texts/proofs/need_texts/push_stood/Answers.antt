@@ -1,6 +1,6 @@
 use Rattle.std.proofs.lemmas.Bool.{ne_eqb}
+use Rattle.text_writer.proofs.Pushing.{said_so}
 use Rattle.plan_texts.proofs.Needs.{stood-none, stood-some}
-use Rattle.plan_texts.proofs.Pushes.{said_so}
 use Rattle.plan_texts.proofs.need_texts.push_stood.Goals as goal
 
 pub returns-then-stage-eq0 : goal.returns-then-stage-eq0

@@ -1,8 +1,8 @@
 use Rattle.std.proofs.Common.{◌≡◌, ◌+◌, true, length, if◌then◌else◌, sym, ap, subst, ◌∙◌, ltb-true}
 use Rattle.rollout_rules.specs.Items.{content, is_item}
 use Rattle.rollout_rules.proofs.OverItems.{entry-is_item}
+use Rattle.text_writer.proofs.Pushing.{said_so}
 use Rattle.plan_texts.specs.Explain.{entry_text, change_text}
-use Rattle.plan_texts.proofs.Pushes.{said_so}
 use Rattle.plan_texts.proofs.op_lines.push_change.Goals as goal
 
 pub push_rates-requires-clause-flow : goal.push_rates-requires-clause-flow

@@ -1,8 +1,9 @@
 use Rattle.std.proofs.Common.{◌≡◌, ap, ◌∙◌, arith}
 use Rattle.rollout_rules.specs.Sums.{list_below}
 use Rattle.rollout_rules.specs.Wan.{flow_at, rate_at, tunnel_of}
+use Rattle.text_writer.proofs.Pushing.{at_value, said_so}
 use Rattle.plan_texts.specs.Explain.{rate_text, contents_text}
-use Rattle.plan_texts.proofs.Pushes.{at_value, row-pushed, said_so}
+use Rattle.plan_texts.proofs.Pushes.{row-pushed}
 use Rattle.plan_texts.proofs.op_lines.push_contents.Goals as goal
 
 pub loop-j-init : goal.loop-j-init

@@ -1,7 +1,8 @@
 use Rattle.std.proofs.Common.{◌≡◌, ap, arith}
 use Rattle.rollout_laws.proofs.Standing.{stand-left, stand-most}
+use Rattle.text_writer.proofs.Pushing.{at_value, said_so}
 use Rattle.plan_texts.specs.Explain.{step_line, op_line, op_lines}
-use Rattle.plan_texts.proofs.Pushes.{at_value, row-pushed, said_so}
+use Rattle.plan_texts.proofs.Pushes.{row-pushed}
 use Rattle.plan_texts.proofs.op_lines.push_operations.Goals as goal
 
 pub push_step-requires-clause-stage : goal.push_step-requires-clause-stage

@@ -2,8 +2,9 @@ use Rattle.std.proofs.Common.{◌≡◌, ◌<◌, true, sym, ap, subst, ◌∙�
 use Rattle.rollout_rules.specs.Wan.{Rollout, last_stage}
 use Rattle.rollout_rules.specs.Items.{is_item}
 use Rattle.rollout_rules.specs.Release.{chain}
+use Rattle.text_writer.proofs.Pushing.{at_value}
 use Rattle.plan_texts.specs.Explain.{chain_text}
-use Rattle.plan_texts.proofs.Pushes.{at_value, by_five}
+use Rattle.plan_texts.proofs.Pushes.{by_five}
 use Rattle.plan_texts.proofs.op_lines.push_step.Goals as goal
 
 pub chain-requires-clause-item : goal.chain-requires-clause-item

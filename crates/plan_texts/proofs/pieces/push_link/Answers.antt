@@ -1,5 +1,6 @@
+use Rattle.text_writer.proofs.Pushing.{at_value}
 use Rattle.wan_text.specs.Names.{switch_text}
-use Rattle.plan_texts.proofs.Pushes.{at_value, by_three}
+use Rattle.plan_texts.proofs.Pushes.{by_three}
 use Rattle.plan_texts.proofs.pieces.push_link.Goals as goal
 
 pub returns : goal.returns

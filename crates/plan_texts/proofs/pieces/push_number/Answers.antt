@@ -1,4 +1,4 @@
-use Rattle.plan_texts.proofs.Pushes.{at_value}
+use Rattle.text_writer.proofs.Pushing.{at_value}
 use Rattle.plan_texts.proofs.pieces.push_number.Goals as goal
 
 pub returns : goal.returns

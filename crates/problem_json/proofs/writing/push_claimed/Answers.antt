@@ -1,6 +1,7 @@
+use Rattle.text_writer.proofs.Pushing.{at_value}
 use Rattle.json.specs.Print.{escape_byte}
 use Rattle.problem_json.specs.WritingLeast.{claimed_data, claimed_text}
-use Rattle.problem_json.proofs.Rows.{at_value, by_seven}
+use Rattle.problem_json.proofs.Rows.{by_seven}
 use Rattle.problem_json.proofs.writing.push_claimed.Goals as goal
 
 pub returns-clause-text : goal.returns-clause-text

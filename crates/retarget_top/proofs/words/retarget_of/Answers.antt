@@ -1,6 +1,6 @@
 use Rattle.std.proofs.Common.{◌-◌, ℕ, List, length, map, string_bytes, take, drop, refl, sym, ap, ◌∙◌}
 use Rattle.retarget_top.specs.Words.{retarget_at, retarget_in}
-use Rattle.retarget_top.proofs.FirstWords.{first-read}
+use Rattle.text_commands.proofs.FirstWords.{first-read}
 use Rattle.retarget_top.proofs.words.retarget_of.Goals as goal
 
 pub returns-in-len1-up-clause-asked : goal.returns-in-len1-up-clause-asked

@@ -1,11 +1,11 @@
 use Rattle.std.proofs.Common.{◌≡◌, ◌∙◌, [], true, List, length, vec_capacity, IfSome, sym, ap, subst, refl, arith, eqb-true, append-nil}
+use Rattle.lists.proofs.Rows.{none_of_length_0}
 use Rattle.rollout_rules.specs.History.{with_entries}
 use Rattle.rollout_rules.specs.Legal.{is_legal}
 use Rattle.rollout_rules.specs.declared.op.Entry.{Entry}
 use Rattle.disk_model.specs.Moments.{LeavesOnly}
 use Rattle.order_policy.specs.Answers.{rank_by}
 use Rattle.update_scheduler.specs.Rounds.{Turning, batch_of}
-use Rattle.update_scheduler.proofs.Turning.{no-entries}
 use Rattle.rollout_book.specs.Lists.{HasBeforeOrAfter, IsKeptList}
 use Rattle.intent_journal.specs.Entries.{entry_rows}
 use Rattle.rollout_book.proofs.Owners.{owner-appended, owner-still}
@@ -58,7 +58,7 @@ returns-clause-own g c =
           (chronicle-written g.D.Disk.told t.history.start es batch t c.round.new.self j j' w.write_batch.new.entries.items (vec_capacity c.args.entries.now) (vec_capacity w.write_batch.new.entries)
           own rollout-is history-is w.write_batch.ensures.most w.write_batch.ensures.room live w.in_ok-write_batch.ensures.added w.in_ok-write_batch.ensures.count kept)
       | else-not-is_empty w ↦
-          let none = no-entries batch (eqb-true (length batch) 0 (sym c.is_empty.ensures ∙ w.if-not-is_empty.false)) in
+          let none = none_of_length_0 batch (eqb-true (length batch) 0 (sym c.is_empty.ensures ∙ w.if-not-is_empty.false)) in
           let kept = subst (λ (all : List Entry). IfSome (g.D.Disk.told j.disk).bytes (IsKeptList t.history.start all (g.D.Disk.told j.disk).may_leave)) (sym (append-nil es)) (own.kept live) in
           rw (w.journal-is, w.entries-is)
           (chronicle-written g.D.Disk.told t.history.start es [] t c.round.new.self j j es (vec_capacity c.args.entries.now) (vec_capacity c.args.entries.now)

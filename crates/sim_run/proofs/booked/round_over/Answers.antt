@@ -1,8 +1,9 @@
 use Rattle.std.proofs.Common.{ap, ◌∙◌}
+use Rattle.lists.proofs.Results.{of_ok}
 use Rattle.disk_model.specs.Memory.{Storing}
 use Rattle.order_policy.specs.Answers.{rank_by}
 use Rattle.rollout_book.specs.JournaledRounds.{Journaled, batch_of, graph_of}
-use Rattle.sim_run.proofs.Books.{dead-refused, err-value, is-disk, ok-fact, ok-value, own-behind, own-refused}
+use Rattle.sim_run.proofs.Books.{dead-refused, err-value, is-disk, ok-fact, own-behind, own-refused}
 use Rattle.sim_run.proofs.booked.round_over.Goals as goal
 
 pub round-requires : goal.round-requires
@@ -17,7 +18,7 @@ pub returns-in-Ok-clause-graph : goal.returns-in-Ok-clause-graph
 returns-in-Ok-clause-graph g c = ap (λ (b : Journaled Storing). graph_of b) (ok-fact c.round.result c.in-Ok.turn _ c.in-Ok.is c.round.ensures.written)
 
 pub returns-in-Ok-clause-turn : goal.returns-in-Ok-clause-turn
-returns-in-Ok-clause-turn g c = ok-value c.round.result c.in-Ok.turn _ c.in-Ok.is c.round.ensures.turn
+returns-in-Ok-clause-turn g c = of_ok c.round.result c.in-Ok.turn _ c.in-Ok.is c.round.ensures.turn
 
 pub returns-in-Err-clause-own : goal.returns-in-Err-clause-own
 returns-in-Err-clause-own g c =

@@ -1,6 +1,6 @@
 use Rattle.std.proofs.Common.{ℕ, refl, subst, inl, inr}
+use Rattle.wan_edge.proofs.Faults.{rose_since}
 use Rattle.disk_mirror.specs.Openings.{OpensWithin}
-use Rattle.swanroll_top.proofs.Outcomes.{rose-later}
 use Rattle.swanroll_top.proofs.drain.drain_plan.Goals as goal
 
 pub returns-in-Ok-clause-rolls : goal.returns-in-Ok-clause-rolls
@@ -13,7 +13,7 @@ returns-in-Ok-clause-rolls g c = inr (record {
 })
 
 pub returns-in-Ok-clause-disk_fault : goal.returns-in-Ok-clause-disk_fault
-returns-in-Ok-clause-disk_fault g c = λ e. rose-later _ _ _ c.open.ensures.opens.count (c.drain_opened.ensures.disk_fault e)
+returns-in-Ok-clause-disk_fault g c = λ e. rose_since _ _ _ c.open.ensures.opens.count (c.drain_opened.ensures.disk_fault e)
 
 pub returns-in-Err-clause-rolls : goal.returns-in-Err-clause-rolls
 returns-in-Err-clause-rolls g c = inl (record { is = refl; opens = c.open.ensures.opens; failed = c.in-Err.ensures.cause; fleet_is = refl; silent = refl })

@@ -1,6 +1,6 @@
 use Rattle.std.proofs.Common.{Ok, refl, arith}
+use Rattle.wan_edge.proofs.Faults.{rose_since}
 use Rattle.swanroll_top.proofs.Leaving.{untouched-leaves}
-use Rattle.swanroll_top.proofs.Outcomes.{rose-later}
 use Rattle.swanroll_top.proofs.Reporting.{reported-late}
 use Rattle.swanroll_top.proofs.journal_report.report_plan.Goals as goal
 
@@ -14,7 +14,7 @@ returns-in-Ok-clause-reports g c = record {
 }
 
 pub returns-in-Ok-clause-disk_fault : goal.returns-in-Ok-clause-disk_fault
-returns-in-Ok-clause-disk_fault g c = λ e. rose-later _ _ _ c.open.ensures.opens.count (c.report_opened.ensures.disk_fault e)
+returns-in-Ok-clause-disk_fault g c = λ e. rose_since _ _ _ c.open.ensures.opens.count (c.report_opened.ensures.disk_fault e)
 
 pub returns-in-Err-clause-reports : goal.returns-in-Err-clause-reports
 returns-in-Err-clause-reports g c = record {

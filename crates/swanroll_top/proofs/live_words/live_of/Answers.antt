@@ -1,6 +1,6 @@
 use Rattle.std.proofs.Common.{◌-◌, ℕ, List, length, map, string_bytes, take, drop, refl, sym, ap, ◌∙◌}
 use Rattle.swanroll_top.specs.LiveWords.{live_at, live_in}
-use Rattle.swanroll_top.proofs.FirstWords.{first-read}
+use Rattle.text_commands.proofs.FirstWords.{first-read}
 use Rattle.swanroll_top.proofs.live_words.live_of.Goals as goal
 
 pub returns-in-len1-up : goal.returns-in-len1-up

@@ -1,6 +1,6 @@
 use Rattle.std.proofs.Common.{◌≡◌, suc, ◌++◌, ◌∷◌, take, drop, ap, sym, ◌∙◌}
+use Rattle.lists.proofs.Rows.{parted}
 use Rattle.wan_edge.specs.Frames.{Answer}
-use Rattle.switch_ports.proofs.Told.{parted}
 use Rattle.switch_ports.proofs.exchange.alien_item.Goals as goal
 
 pub returns-then-not-is_own-clause-some : goal.returns-then-not-is_own-clause-some

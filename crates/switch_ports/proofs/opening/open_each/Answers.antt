@@ -2,10 +2,11 @@ use Rattle.std.proofs.Common.{◌≡◌, ◌∷◌, ◌++◌, [], List, ℕ, Som
 use Rattle.std.specs.Prelude.{IfSome}
 use Rattle.std.proofs.Math.Seq.{take-length}
 use Rattle.std.proofs.lemmas.List.{take_more}
+use Rattle.lists.proofs.Rows.{parted}
 use Rattle.wan_edge.specs.Fleets.{with_one}
 use Rattle.switch_ports.specs.Berths.{ports_of}
 use Rattle.switch_ports.specs.Opening.{Opens}
-use Rattle.switch_ports.proofs.Given.{opened_none, opened_one, opened_until, parted}
+use Rattle.switch_ports.proofs.Given.{opened_none, opened_one, opened_until}
 use Rattle.switch_ports.proofs.Numbers.{distinct_at}
 use Rattle.switch_ports.proofs.opening.open_each.Goals as goal
 

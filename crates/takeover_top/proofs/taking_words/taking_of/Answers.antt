@@ -1,6 +1,6 @@
 use Rattle.std.proofs.Common.{◌-◌, ℕ, List, length, map, string_bytes, take, drop, refl, sym, ap, ◌∙◌}
 use Rattle.order_policy.specs.Named.{answers_in}
-use Rattle.swanroll_top.proofs.FirstWords.{first-read}
+use Rattle.text_commands.proofs.FirstWords.{first-read}
 use Rattle.takeover_top.specs.TakingWords.{taking_at, taking_by, taking_in}
 use Rattle.takeover_top.proofs.taking_words.taking_of.Goals as goal
 

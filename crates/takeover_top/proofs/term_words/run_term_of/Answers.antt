@@ -1,5 +1,5 @@
 use Rattle.std.proofs.Common.{◌-◌, ℕ, List, length, map, string_bytes, take, drop, refl, sym, ap, ◌∙◌}
-use Rattle.swanroll_top.proofs.FirstWords.{first-read}
+use Rattle.text_commands.proofs.FirstWords.{first-read}
 use Rattle.takeover_top.specs.TermWords.{run_term_at, run_term_by, run_term_in}
 use Rattle.takeover_top.proofs.term_words.run_term_of.Goals as goal
 

@@ -1,7 +1,7 @@
 use Rattle.std.proofs.Common.{subst, sym}
 use Rattle.rollout_rules.specs.Wan.{Problem}
+use Rattle.text_writer.proofs.Pushing.{said_so, both}
 use Rattle.wan_text.specs.Named.{AreNamesOf}
-use Rattle.plan_texts.proofs.Pushes.{both, said_so}
 use Rattle.text_commands.proofs.Drawing.{read-back, same-text}
 use Rattle.text_commands.proofs.drawn.push_drawn.Goals as goal
 

@@ -1,8 +1,8 @@
 use Rattle.std.proofs.Common.{ap₂, sym, subst}
 use Rattle.rollout_rules.specs.Wan.{Problem, Plan}
+use Rattle.text_writer.proofs.Pushing.{said_so, both}
 use Rattle.problem_json.specs.WritingLeast.{claimed_text}
 use Rattle.wan_text.specs.Named.{AreNamesOf}
-use Rattle.plan_texts.proofs.Pushes.{both, said_so}
 use Rattle.text_commands.proofs.shown.push_shown.Goals as goal
 
 pub push_claimed-requires : goal.push_claimed-requires

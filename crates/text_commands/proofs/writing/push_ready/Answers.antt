@@ -1,5 +1,5 @@
 use Rattle.std.proofs.Common.{IfSome, sym, ap, subst, ◌∙◌}
-use Rattle.plan_texts.proofs.Pushes.{said_so}
+use Rattle.text_writer.proofs.Pushing.{said_so}
 use Rattle.text_commands.specs.Drawn.{IsReadBack}
 use Rattle.text_commands.specs.Ready.{IsReady, drawn_ready, ready_text}
 use Rattle.text_commands.proofs.writing.push_ready.Goals as goal

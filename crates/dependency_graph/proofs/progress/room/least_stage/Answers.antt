@@ -1,21 +1,17 @@
-use Rattle.std.proofs.Common.{◌≡◌, ◌∙◌, List, [], ◌∷◌, length, slice_index, refl, sym, ap, arith, eqb-true}
+use Rattle.std.proofs.Common.{◌∙◌, [], length, slice_index, refl, sym, ap, arith, eqb-true}
 use Rattle.std.specs.Arc.{arc_value}
+use Rattle.lists.proofs.Rows.{none_of_length_0}
 use Rattle.rollout_rules.specs.Sums.{least_below}
-use Rattle.rollout_rules.specs.declared.op.Entry.{Entry}
 use Rattle.dependency_graph.specs.Fits.{least_stand}
 use Rattle.dependency_graph.proofs.StageCounts.{least-kept}
 use Rattle.dependency_graph.proofs.progress.room.least_stage.Goals as goal
-
-nothing : (es : List Entry) → length es ≡ 0 → es ≡ []
-nothing [] e = refl
-nothing (e ∷ es) some = absurd (omega arith)
 
 pub returns-then-is_empty : goal.returns-then-is_empty
 returns-then-is_empty c =
     let r = arc_value c.progress.inside.index in
     let stages = c.progress.inside.stands.stages in
     let now = c.args.progress.now in
-    let empty = nothing c.args.ahead.now (eqb-true (length c.args.ahead.now) 0 (sym c.is_empty.ensures ∙ c.if-is_empty.true)) in
+    let empty = none_of_length_0 c.args.ahead.now (eqb-true (length c.args.ahead.now) 0 (sym c.is_empty.ensures ∙ c.if-is_empty.true)) in
     c.least.ensures
     ∙ ap (λ m. least_below (length stages) m (slice_index stages)) c.progress.invariant.last
     ∙ least-kept r (record { rollout = r; settled = c.progress.inside.settled.items; begun = c.progress.inside.begun.items }) stages c.progress.invariant.stands

@@ -1,6 +1,6 @@
-use Rattle.std.proofs.Common.{◌≡◌, ℕ, Bool, true, false, List, [], Option, Some, None, IfSome, Result, Ok, Err, IsErrAnd, take, refl, sym, ap, subst, ◌∙◌, arith}
-use Rattle.std.specs.Prelude.{OnErr}
+use Rattle.std.proofs.Common.{◌≡◌, ℕ, Bool, true, false, List, [], Option, Some, None, IfSome, take, refl, sym, ap, subst, ◌∙◌, arith}
 use Rattle.std.proofs.lemmas.List.{length-take-le}
+use Rattle.lists.proofs.Results.{on_err}
 use Rattle.wan_edge.specs.Frames.{Answer, IsCutAnswer}
 use Rattle.wan_edge.specs.Ports.{FailsToHear, GoesOn, Hears, LooksAt, PortTrace, Steps}
 use Rattle.wan_edge.specs.Streams.{Appends}
@@ -16,11 +16,6 @@ use Rattle.port_session.proofs.Chaining.{if_err}
 use Rattle.port_session.proofs.Hearing.{heard_all, heard_late, heard_quiet, hears_further, hears_none, hears_nothing, hears_on, nearer}
 use Rattle.port_session.proofs.Standing.{ends-still, told-stand}
 use Rattle.port_session.proofs.session.Session.read_all.Goals as goal
-
--- what holds after an error
-on_err : {X E : Type 0} (answer : Result X E) (given : E) (P : Type 0) → IsErrAnd answer (λ e. e ≡ given) → P → OnErr answer P
-on_err (Ok x) given P is holds = tt
-on_err (Err e) given P is holds = holds
 
 -- a port that was ready is as it was
 as_ready : (ready : Bool) (before now : PortTrace) → ready ≡ true → LooksAt ready before now → now ≡ before

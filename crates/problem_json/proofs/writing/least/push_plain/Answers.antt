@@ -1,6 +1,7 @@
 use Rattle.std.proofs.Common.{decimal}
+use Rattle.text_writer.proofs.Pushing.{at_value}
 use Rattle.json.specs.Print.{escape_byte}
-use Rattle.problem_json.proofs.Rows.{at_value, by_three}
+use Rattle.problem_json.proofs.Rows.{by_three}
 use Rattle.problem_json.proofs.writing.least.push_plain.Goals as goal
 
 pub returns : goal.returns

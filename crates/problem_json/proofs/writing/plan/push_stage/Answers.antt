@@ -1,10 +1,11 @@
 use Rattle.std.proofs.Common.{map, ap, ◌∙◌}
+use Rattle.text_writer.proofs.Pushing.{at_value}
 use Rattle.json.specs.Print.{escape_byte}
 use Rattle.rollout_rules.specs.Wan.{Stage}
 use Rattle.serde_json.specs.Data.{boolean}
 use Rattle.serde_json.specs.Written.{compact_text}
 use Rattle.problem_json.specs.Writing.{number_data, list_data}
-use Rattle.problem_json.proofs.Rows.{at_value, by_five}
+use Rattle.problem_json.proofs.Rows.{by_five}
 use Rattle.problem_json.proofs.writing.plan.push_stage.Goals as goal
 
 pub returns-clause-text : goal.returns-clause-text

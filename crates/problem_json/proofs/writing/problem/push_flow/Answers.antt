@@ -1,5 +1,6 @@
 use Rattle.std.proofs.Common.{◌≡◌, ◌+◌, ◌-◌, length, slice_index_or, suc, ap, refl, ◌∙◌, arith}
 use Rattle.std.proofs.lemmas.List.{get_or_read_under}
+use Rattle.text_writer.proofs.Pushing.{at_value}
 use Rattle.json.specs.Print.{escape_byte}
 use Rattle.rollout_rules.specs.Sums.{list_below}
 use Rattle.rollout_rules.specs.Wan.{Flow, flow_at, no_flow}
@@ -8,7 +9,7 @@ use Rattle.rollout_rules.proofs.Tunnels.{tunnels_of}
 use Rattle.serde_json.specs.Data.{string}
 use Rattle.serde_json.specs.Written.{compact_text}
 use Rattle.problem_json.specs.Writing.{tunnel_data, list_data}
-use Rattle.problem_json.proofs.Rows.{at_value, by_five, quoted_flow_at}
+use Rattle.problem_json.proofs.Rows.{by_five, quoted_flow_at}
 use Rattle.problem_json.proofs.writing.problem.push_flow.Goals as goal
 
 pub push_tunnels-requires-clause-inside : goal.push_tunnels-requires-clause-inside

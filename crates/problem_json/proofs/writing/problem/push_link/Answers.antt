@@ -1,9 +1,10 @@
 use Rattle.std.proofs.Common.{◌≡◌, ◌<◌, decimal, length, subst, sym, ap, ◌∙◌}
+use Rattle.text_writer.proofs.Pushing.{at_value}
 use Rattle.json.specs.Print.{escape_byte}
 use Rattle.rollout_rules.specs.Wan.{Link}
 use Rattle.serde_json.specs.Written.{compact_text}
 use Rattle.problem_json.specs.Writing.{name_data}
-use Rattle.problem_json.proofs.Rows.{at_value, by_seven, quoted_at}
+use Rattle.problem_json.proofs.Rows.{by_seven, quoted_at}
 use Rattle.problem_json.proofs.writing.problem.push_link.Goals as goal
 
 pub returns : goal.returns

@@ -1,8 +1,9 @@
 use Rattle.std.proofs.Common.{◌≤◌, length, map, get_or, ◌∙◌, arith}
 use Rattle.std.proofs.lemmas.List.{length-map}
+use Rattle.text_writer.proofs.Pushing.{at_value}
 use Rattle.serde_json.specs.Written.{compact_text}
 use Rattle.problem_json.specs.Writing.{list_data, name_data}
-use Rattle.problem_json.proofs.Rows.{at_value, begins, ends, goes_on, of_map, quoted_at}
+use Rattle.problem_json.proofs.Rows.{begins, ends, goes_on, of_map, quoted_at}
 use Rattle.problem_json.proofs.writing.problem.push_path.Goals as goal
 
 pub loop-number-init : goal.loop-number-init

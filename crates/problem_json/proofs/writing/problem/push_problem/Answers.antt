@@ -1,10 +1,11 @@
 use Rattle.std.proofs.Common.{◌++◌, ◌==◌, codes, length, map, ap, sym, ◌∙◌}
+use Rattle.text_writer.proofs.Pushing.{at_value, said_so}
 use Rattle.json.specs.Print.{escape_byte}
 use Rattle.rollout_rules.specs.Sums.{list_below}
 use Rattle.serde_json.specs.Data.{no_members, member}
 use Rattle.serde_json.specs.Written.{compact_text}
 use Rattle.problem_json.specs.Writing.{switch_data, link_data, flow_data, list_data, format_text}
-use Rattle.problem_json.proofs.Rows.{at_value, said_so, by_eight, format_member}
+use Rattle.problem_json.proofs.Rows.{by_eight, format_member}
 use Rattle.problem_json.proofs.writing.problem.push_problem.Goals as goal
 
 pub returns-clause-text : goal.returns-clause-text

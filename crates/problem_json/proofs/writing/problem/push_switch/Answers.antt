@@ -1,7 +1,8 @@
 use Rattle.std.proofs.Common.{decimal, ap, ◌∙◌}
+use Rattle.text_writer.proofs.Pushing.{at_value}
 use Rattle.json.specs.Print.{escape_byte}
 use Rattle.rollout_rules.specs.Wan.{Switch}
-use Rattle.problem_json.proofs.Rows.{at_value, by_five}
+use Rattle.problem_json.proofs.Rows.{by_five}
 use Rattle.problem_json.proofs.writing.problem.push_switch.Goals as goal
 
 pub returns : goal.returns

@@ -1,11 +1,12 @@
 use Rattle.std.proofs.Common.{◌≡◌, ◌<◌, ◌++◌, ◌==◌, ℕ, List, codes, map, length, slice_index, slice_index_or, subst, sym, ap, refl, ◌∙◌}
 use Rattle.std.proofs.lemmas.List.{get_or_read_under, length-map}
+use Rattle.text_writer.proofs.Pushing.{at_value, said_so}
 use Rattle.json.specs.Print.{escape_byte}
 use Rattle.rollout_rules.specs.Wan.{Tunnel, tunnel_at, no_tunnel}
 use Rattle.serde_json.specs.Written.{compact_text}
 use Rattle.problem_json.specs.Writing.{rate_data, list_data, name_data, width_text}
 use Rattle.wan_text.specs.Named.{quoted_name}
-use Rattle.problem_json.proofs.Rows.{at_value, said_so, by_eight, width_of_member}
+use Rattle.problem_json.proofs.Rows.{by_eight, width_of_member}
 use Rattle.problem_json.proofs.writing.problem.push_tunnel.Goals as goal
 
 pub push_path-requires : goal.push_path-requires

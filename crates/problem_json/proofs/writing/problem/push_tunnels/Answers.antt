@@ -1,10 +1,11 @@
 use Rattle.std.proofs.Common.{◌≡◌, ◌<◌, ◌≤◌, ◌+◌, ◌-◌, ℕ, length, subst, arith}
 use Rattle.rollout_rules.specs.Sums.{list_below}
+use Rattle.text_writer.proofs.Pushing.{at_value}
 use Rattle.serde_json.specs.Data.{Data}
 use Rattle.serde_json.specs.Written.{compact_text}
 use Rattle.rollout_rules.proofs.Rows.{list_below-length}
 use Rattle.problem_json.specs.Writing.{tunnel_data, list_data}
-use Rattle.problem_json.proofs.Rows.{Leads, at_value, begins, ends, goes_on, of_below}
+use Rattle.problem_json.proofs.Rows.{Leads, begins, ends, goes_on, of_below}
 use Rattle.problem_json.proofs.writing.problem.push_tunnels.Goals as goal
 
 pub loop-number-init : goal.loop-number-init

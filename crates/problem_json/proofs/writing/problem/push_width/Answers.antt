@@ -1,6 +1,6 @@
 use Rattle.std.proofs.Common.{rules, [], ◌++◌, ◌==◌, codes, decimal, sym}
 use Rattle.std.proofs.lemmas.Bool.{cond-false, ne_eqb}
-use Rattle.problem_json.proofs.Rows.{at_value, both, said_so}
+use Rattle.text_writer.proofs.Pushing.{at_value, said_so, both}
 use Rattle.problem_json.proofs.writing.problem.push_width.Goals as goal
 
 pub returns : goal.returns

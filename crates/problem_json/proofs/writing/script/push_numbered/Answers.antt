@@ -1,5 +1,6 @@
 use Rattle.std.proofs.Common.{decimal, arith}
-use Rattle.problem_json.proofs.Rows.{at_value, by_three}
+use Rattle.text_writer.proofs.Pushing.{at_value}
+use Rattle.problem_json.proofs.Rows.{by_three}
 use Rattle.problem_json.proofs.writing.script.push_numbered.Goals as goal
 
 pub returns-clause-text : goal.returns-clause-text

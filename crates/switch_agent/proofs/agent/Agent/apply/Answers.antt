@@ -1,15 +1,13 @@
 use Rattle.std.proofs.Common.{◌≡◌, ◌∙◌, ◌==◌, ◌||◌, ℕ, Option, Some, is_some, length, nat_lt, sym, ap, ap₂}
+use Rattle.lists.proofs.Results.{at_err}
 use Rattle.rollout_rules.specs.Agent.{held_after, is_next_command}
 use Rattle.wan_edge.specs.Frames.{Command, CommandFrame}
 use Rattle.wan_edge.specs.Switches.{after_command, pair_asked}
 use Rattle.switch_agent.specs.Items.{Items, held_by, holding, last_command, most_items, seen}
-use Rattle.switch_agent.proofs.Carrying.{carried, passed_over, holding_now, on_err, seen_now}
+use Rattle.switch_agent.proofs.Carrying.{carried, passed_over, holding_now, seen_now, some_command}
 use Rattle.switch_agent.proofs.Rooms.{few-more, unseen-without}
 use Rattle.switch_agent.proofs.agent.Agent.apply.Goals as goal
 use Rattle.switch_agent.proofs.agent.Agent.apply.Goals.{then-is_next, else-is_next}
-
-some_command : ℕ → Command → Option CommandFrame
-some_command migration c = Some (migration, c)
 
 pub returns-clause-applied : goal.returns-clause-applied
 unfolding some_command
@@ -37,7 +35,7 @@ returns-clause-seen c q =
 
 pub returns-in_err-insert-clause-memory : goal.returns-in_err-insert-clause-memory
 returns-in_err-insert-clause-memory c =
-    on_err c.from_residual.result
+    at_err c.from_residual.result
     (ap₂ (λ (xs : Items) (x : Command). seen xs x.item) (sym c.self.view_is) (sym c.command.view_is) ∙ ap is_some c.in_err-insert.ensures.absent)
 
 pub returns-then-not-has_room-clause-memory : goal.returns-then-not-has_room-clause-memory

@@ -1,12 +1,9 @@
 use Rattle.std.proofs.Common.{◌≡◌, ◌∙◌, ◌||◌, ℕ, Option, Some, length, nat_lt, sym, ap}
 use Rattle.wan_edge.specs.Frames.{Command, CommandFrame}
 use Rattle.switch_agent.specs.Items.{Items, holding, most_items, seen, with_stored}
-use Rattle.switch_agent.proofs.Carrying.{stored_now}
+use Rattle.switch_agent.proofs.Carrying.{stored_now, some_command}
 use Rattle.switch_agent.proofs.Rooms.{few-more}
 use Rattle.switch_agent.proofs.agent.Agent.restore.Goals as goal
-
-some_command : ℕ → Command → Option CommandFrame
-some_command migration c = Some (migration, c)
 
 -- what is held of the item is what the command left
 pub returns-clause-restored : goal.returns-clause-restored

@@ -1,4 +1,4 @@
--- What a valid plan says of its rates. Only this module opens the clauses P0 to P5, and it keeps no upper limit on scale or stages.
+-- What a valid plan says of its rates. Only this file opens the clauses P0 to P5 for planning, and it keeps no upper limit on scale or stages.
 use Rattle.std.proofs.Common.{◌≡◌, ℕ, ◌+◌, ◌*◌, ◌<◌, ◌≤◌, min, max, Bool, true, ◌&&◌, length, subst, arith, leb-true, eqb-true, lt-ltb, nat_le, ◌==◌}
 use Rattle.std.proofs.lemmas.Bool.{and_parts}
 use Rattle.rollout_rules.specs.declared.limits.TheConstants.{MOST_STAGES, LARGEST_SCALE}

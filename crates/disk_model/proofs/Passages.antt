@@ -2,12 +2,11 @@
 use Rattle.std.proofs.Common.{◌≡◌, ℕ, ◌≤◌, List, Option, Some, None, IfSome, Result, Ok, Err, OnOk, refl}
 use Rattle.wan_edge.specs.Streams.{KeepsTelling}
 use Rattle.disk_model.specs.Traces.{DiskTrace}
-use Rattle.disk_model.specs.Crashes.{IsDurable, Only, Stepped}
+use Rattle.disk_model.specs.Crashes.{Holds, IsDurable, Only, Stepped}
 use Rattle.disk_model.specs.Moments.{GoesOn, LeavesOnly}
 use Rattle.disk_model.specs.Writes.{Torn, Writes, written}
 use Rattle.disk_model.proofs.Running.{LeavesOnly-chain, LeavesOnly-durable, LeavesOnly-torn, LeavesOnly-weaker}
 use Rattle.disk_model.proofs.Telling.{at_told, told_by}
-use Rattle.intent_journal.specs.Phases.{Holds}
 
 -- what stands after a write that was done and synced
 pub write_holds : (S T : List ℕ → Type 0) (at : ℕ) (bytes : List ℕ) (told now : Option (List ℕ)) (left left_now : List ℕ → Type 0)
